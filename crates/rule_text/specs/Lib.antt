@@ -1,0 +1,3 @@
+pub mod Neighbourhood
+pub mod CountRule
+pub mod DigitMarks
