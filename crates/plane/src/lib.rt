@@ -1,13 +1,13 @@
-// A library with one function.
+//! A plane of cells: the cells that are alive, their generations, the range of coordinates, the
+//! refusals of the whole project and the devices that bytes are read from and written to.
 #![tactic(auto)]
 
-ghost use Rattle.std.specs.Prelude.{◌≡◌};
-ghost use Rattle.plane.specs.Echo.{echo_of};
+mod cell;
+mod fault;
+mod range;
+mod refusal;
 
-// The `ensures` clause is the contract: what `echo` returns is `echo_of` of its argument, a definition
-// in `specs/Echo.antt`, which a caller's clause can cite too.
-pub fn echo(x: usize) -> usize
-    ensures { result ≡ echo_of x }
-{
-    x
-}
+pub use cell::{Bounds, Cell};
+pub use fault::Fault;
+pub use range::{COORDINATE_LIMIT, GENERATION_LIMIT, LIVE_CELL_LIMIT};
+pub use refusal::Refusal;

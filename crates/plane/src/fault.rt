@@ -1,0 +1,24 @@
+use crate::refusal::Refusal;
+use std::error::Error;
+use std::fmt;
+
+/// A refusal and its place, if it has one: the index, from 0, of the first byte of the line or item
+/// that was refused.
+#[derive(Clone, Copy, Debug, PartialEq, Eq)]
+pub struct Fault {
+    pub refusal: Refusal,
+    pub place: Option<u64>,
+}
+
+impl fmt::Display for Fault {
+    fn fmt<W: fmt::Write>(&self, f: &mut fmt::Formatter<W>) -> fmt::Result {
+        let number = self.refusal.number();
+        let name = self.refusal.name();
+        match self.place {
+            Some(place) => write!(f, "refused {number} at {place}: {name}"),
+            None => write!(f, "refused {number}: {name}"),
+        }
+    }
+}
+
+impl Error for Fault {}
