@@ -3,11 +3,13 @@
 #![tactic(auto)]
 
 mod cell;
+mod device;
 mod fault;
 mod range;
 mod refusal;
 
 pub use cell::{Bounds, Cell};
+pub use device::{Counted, FailAt, Failed, Memory, Sink, Source};
 pub use fault::Fault;
 pub use range::{COORDINATE_LIMIT, GENERATION_LIMIT, LIVE_CELL_LIMIT};
 pub use refusal::Refusal;

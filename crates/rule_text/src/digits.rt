@@ -43,6 +43,6 @@ impl Digits {
     pub(crate) fn contains(self, count: u8) -> bool
         ensures { result ≡ has self count }
     {
-        self.listed.get(count as usize) == Some(&true)
+        self.listed.get(count as usize).copied().unwrap_or(false)
     }
 }

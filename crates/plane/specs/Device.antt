@@ -1,0 +1,25 @@
+use Rattle.std.specs.Prelude.{◌≡◌, ℕ, ◌+◌, ◌-◌, ◌^◌, ◌<◌, ◌⊎◌, min, Result, Ok, Err, Option, Some, List, drop}
+
+-- the largest count of failures: it stays there
+abbrev pub most_failures : ℕ
+most_failures = 2 ^ 64 - 1
+
+-- a failed call raises the count of failures by one, up to the largest, and no other call does
+abbrev pub failures_after : {T E : Type 0} → Result T E → ℕ → ℕ
+failures_after (Ok value) count = count
+failures_after (Err error) count = min (count + 1) most_failures
+
+-- some call failed between the two counts
+abbrev pub HasFailed : ℕ → ℕ → Type 0
+HasFailed before after = (before < after) ⊎ (after ≡ most_failures)
+
+-- what a memory holds: its bytes, how many of them were read, the bytes that it has room for, and how many calls failed
+pub record MemoryContents : Type 0 where
+  pub bytes : List ℕ
+  pub position : ℕ
+  pub room : ℕ
+  pub failures : ℕ
+
+-- the bytes that were not read yet
+abbrev pub memory_remaining : MemoryContents → Option (List ℕ)
+memory_remaining memory = Some (drop memory.position memory.bytes)

@@ -1,0 +1,60 @@
+ghost use Rattle.std.specs.Prelude.{◌≡◌, ℕ, ◌<◌, List, Option, length, IfOk};
+ghost use Rattle.std.specs.Io.{ReadsAtMost, WritesAtMost};
+ghost use Rattle.std.specs.Io.KnownBytes.{ReadConsumes, WriteAppends};
+ghost use Rattle.plane.specs.Device.{failures_after};
+
+use std::error::Error;
+use std::fmt;
+
+/// A call of a device failed. What the device holds is as it was.
+#[derive(Clone, Copy, Debug, PartialEq, Eq)]
+pub struct Failed;
+
+impl fmt::Display for Failed {
+    fn fmt<W: fmt::Write>(&self, f: &mut fmt::Formatter<W>) -> fmt::Result {
+        f.write_str("the device failed")
+    }
+}
+
+impl Error for Failed {}
+
+/// What bytes are read from.
+pub trait Source {
+    // The bytes that are still to come, where the device tells them.
+    ghost remaining: { Self → Option (List ℕ) };
+
+    // How many calls have failed, or 2^64 - 1 for any more.
+    ghost failure_count: { Self → ℕ };
+
+    /// Reads some bytes into the front of the buffer, and says how many: none only at the end, or
+    /// where the buffer has no room. A call that fails takes none from the device.
+    fn read_some(&mut self, buffer: &mut [u8]) -> Result<usize, Failed>
+        ensures bound { ReadsAtMost result buffer.new }
+        ensures bytes { ReadConsumes (remaining self.old) (remaining self.new) result buffer.new }
+        ensures failures { failure_count self.new ≡ failures_after result (failure_count self.old) };
+
+    /// How many calls have failed, or 2^64 - 1 for any more.
+    fn failures(&self) -> u64
+        ensures { result ≡ failure_count self.now };
+}
+
+/// What bytes are written to.
+pub trait Sink {
+    // The bytes that were taken so far, where the device tells them.
+    ghost taken: { Self → Option (List ℕ) };
+
+    // How many calls have failed, or 2^64 - 1 for any more.
+    ghost failure_count: { Self → ℕ };
+
+    /// Takes some of the first bytes, at least one of some, and says how many. A call that fails
+    /// takes none.
+    fn write_some(&mut self, bytes: &[u8]) -> Result<usize, Failed>
+        ensures bound { WritesAtMost result bytes.now }
+        ensures progress { 0 < length bytes.now → IfOk result (λ count. 0 < count) }
+        ensures bytes { WriteAppends (taken self.old) (taken self.new) result bytes.now }
+        ensures failures { failure_count self.new ≡ failures_after result (failure_count self.old) };
+
+    /// How many calls have failed, or 2^64 - 1 for any more.
+    fn failures(&self) -> u64
+        ensures { result ≡ failure_count self.now };
+}
