@@ -3,12 +3,15 @@
 #![tactic(auto)]
 
 mod cell;
+mod cell_set;
 mod device;
 mod fault;
+mod generation;
 mod range;
 mod refusal;
 
 pub use cell::{Bounds, Cell};
+pub use cell_set::CellSet;
 pub use device::{Counted, FailAt, Failed, Memory, Sink, Source};
 pub use fault::Fault;
 pub use range::{COORDINATE_LIMIT, GENERATION_LIMIT, LIVE_CELL_LIMIT};

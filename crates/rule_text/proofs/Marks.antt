@@ -9,7 +9,7 @@ use Rattle.rule_text.specs.DigitMarks.{has-digits_listed, listed_again}
 marked_too : (listed : List Bool) (digit k : ℕ) → digit < length listed → slice_index_or (slice_set listed digit true) k false ≡ ((digit == k) || slice_index_or listed k false)
 marked_too listed digit k inside =
     elim (cases_eq digit k) [
-        inl same ↦ rw (← same, eq-eqb digit digit refl) (get_or-set_same listed digit true false inside)
+      | inl same ↦ rw (← same, eq-eqb digit digit refl) (get_or-set_same listed digit true false inside)
       | inr other ↦ rw (ne_eqb digit k other) (get_or-set_other listed digit k true false (λ same. other (sym same)))
     ]
 

@@ -28,7 +28,7 @@ pub has-digits_listed : (listed : List Bool) (d : ℕ) → length listed ≡ 9 �
 unfolding digits_listed
 has-digits_listed listed d nine =
     elim (cases_lt d 9) [
-        inl small ↦ has-filter_counts (λ digit. slice_index_or listed digit false) d small
+      | inl small ↦ has-filter_counts (λ digit. slice_index_or listed digit false) d small
       | inr large ↦
           has-filter (λ digit. slice_index_or listed digit false) counts d
           ∙ ap (λ b. b && has counts d) (get_or_past listed d false (omega arith))

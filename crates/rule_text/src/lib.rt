@@ -5,5 +5,5 @@ mod digits;
 mod neighbourhood;
 mod rule;
 
-pub use neighbourhood::Neighbourhood;
+pub use neighbourhood::{Neighbourhood, Offset};
 pub use rule::Rule;

@@ -1,5 +1,5 @@
-ghost use Rattle.std.specs.Prelude.{◌≡◌};
-ghost use Rattle.rule_text.specs.Neighbourhood.{neighbour_count};
+ghost use Rattle.std.specs.Prelude.{◌≡◌, length, All};
+ghost use Rattle.rule_text.specs.Neighbourhood.{neighbour_count, offsets, IsStep};
 
 /// Which cells count as the neighbours of a cell (Golly's help, "QuickLife").
 #[derive(Clone, Copy, Debug, PartialEq, Eq)]
@@ -12,6 +12,49 @@ pub enum Neighbourhood {
     Hexagonal,
 }
 
+/// The way from a cell to another: how far to the right, and how far down.
+#[derive(Clone, Copy, Debug, PartialEq, Eq)]
+pub struct Offset {
+    pub right: i64,
+    pub down: i64,
+}
+
+// The eight cells round a cell, row by row.
+const MOORE: [Offset; 8] = [
+    Offset {
+        right: -1,
+        down: -1,
+    },
+    Offset { right: 0, down: -1 },
+    Offset { right: 1, down: -1 },
+    Offset { right: -1, down: 0 },
+    Offset { right: 1, down: 0 },
+    Offset { right: -1, down: 1 },
+    Offset { right: 0, down: 1 },
+    Offset { right: 1, down: 1 },
+];
+
+// The four cells that share a side with it.
+const VON_NEUMANN: [Offset; 4] = [
+    Offset { right: 0, down: -1 },
+    Offset { right: -1, down: 0 },
+    Offset { right: 1, down: 0 },
+    Offset { right: 0, down: 1 },
+];
+
+// All of the eight but the upper right and the lower left.
+const HEXAGONAL: [Offset; 6] = [
+    Offset {
+        right: -1,
+        down: -1,
+    },
+    Offset { right: 0, down: -1 },
+    Offset { right: -1, down: 0 },
+    Offset { right: 1, down: 0 },
+    Offset { right: 0, down: 1 },
+    Offset { right: 1, down: 1 },
+];
+
 impl Neighbourhood {
     /// How many neighbours a cell has: the largest digit of a rule.
     pub fn neighbour_count(self) -> u8
@@ -21,6 +64,20 @@ impl Neighbourhood {
             Neighbourhood::Moore => 8,
             Neighbourhood::VonNeumann => 4,
             Neighbourhood::Hexagonal => 6,
+        }
+    }
+
+    /// The ways from a cell to each of its neighbours, row by row.
+    #[tactic(auto, unfolding(crate::specs::Neighbourhood::offsets))]
+    pub fn offsets(self) -> &'static [Offset]
+        ensures offsets { result.now ≡ offsets self }
+        ensures count { length result.now ≡ neighbour_count self }
+        ensures steps { All IsStep result.now }
+    {
+        match self {
+            Neighbourhood::Moore => &MOORE,
+            Neighbourhood::VonNeumann => &VON_NEUMANN,
+            Neighbourhood::Hexagonal => &HEXAGONAL,
         }
     }
 }

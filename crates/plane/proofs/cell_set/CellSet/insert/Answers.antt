@@ -1,0 +1,19 @@
+use Rattle.std.proofs.Common.{subst, sym, List}
+use Rattle.std.specs.List.{AllByRecursion}
+use Rattle.plane.specs.declared.cell.Cell.{Cell}
+use Rattle.plane.specs.Listing.{reading_order}
+use Rattle.plane.specs.Range.{IsInRange}
+use Rattle.plane.proofs.Listings.{plane_of-one_more, AllByRecursion-insert_key}
+use Rattle.plane.proofs.cell_set.CellSet.insert.Goals as goal
+
+pub invariant_of-self-2 : goal.invariant_of-self-2
+invariant_of-self-2 c = record {
+  rising = c.in-Ok.ensures.ordered;
+  in_range = rw c.in-Ok.ensures.keys (AllByRecursion-insert_key IsInRange reading_order _ _ c.requires c.self.invariant.in_range);
+}
+
+pub returns-clause-ok : goal.returns-clause-ok
+returns-clause-ok c = rw (← c.self.view_is) (record {
+  rising = c.in-Ok.ensures.ordered;
+  live = plane_of-one_more _ _ _ c.in-Ok.ensures.updates.0;
+})

@@ -1,0 +1,26 @@
+-- The smallest box round some cells.
+use Rattle.std.specs.Prelude.{◌≤ℤ◌, Option, None, Some, List, fold}
+use Rattle.std.specs.Int.{int_min, int_max}
+use Rattle.plane.specs.declared.cell.Cell.{Cell}
+use Rattle.plane.specs.declared.cell.Bounds.{Bounds}
+
+-- the smallest box that also holds the cell
+abbrev pub box_with : Option Bounds → Cell → Option Bounds
+box_with None cell = Some (record { left = cell.x; top = cell.y; right = cell.x; bottom = cell.y })
+box_with (Some box) cell = Some (record {
+  left = int_min box.left cell.x;
+  top = int_min box.top cell.y;
+  right = int_max box.right cell.x;
+  bottom = int_max box.bottom cell.y;
+})
+
+-- the smallest box that holds the cells, if there are any
+abbrev pub bounds_of : List Cell → Option Bounds
+bounds_of cells = fold box_with None cells
+
+-- the cell lies in the box
+pub record IsWithin (box : Bounds) (cell : Cell) : Type 0 where
+  pub left : box.left ≤ℤ cell.x
+  pub top : box.top ≤ℤ cell.y
+  pub right : cell.x ≤ℤ box.right
+  pub bottom : cell.y ≤ℤ box.bottom
