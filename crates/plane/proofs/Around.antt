@@ -21,7 +21,7 @@ HasAround-kept neighbourhood cell old new kept has = record {
 }
 
 -- a cell that the list has at a place, and what holds of it
-record CellAt (P : Cell → Type 0) (x y : ℤ) : Type 0 where
+pub record CellAt (P : Cell → Type 0) (x y : ℤ) : Type 0 where
   pub cell : Cell
   pub holds : P cell
   pub x_is : x ≡ cell.x
@@ -37,7 +37,7 @@ at_place x y cell here =
     let both = and_both (int_eq y cell.y) (int_eq x cell.x) here in
     ((signed_Decides x cell.x).0 both.1, (signed_Decides y cell.y).0 both.0)
 
-live_cell : (P : Cell → Type 0) (cells : List Cell) (x y : ℤ) → AllByRecursion P cells → plane_of cells x y ≡ true → CellAt P x y
+pub live_cell : (P : Cell → Type 0) (cells : List Cell) (x y : ℤ) → AllByRecursion P cells → plane_of cells x y ≡ true → CellAt P x y
 unfolding plane_of
 live_cell P [] x y all live = cc
 live_cell P (cell ∷ cells) x y all live =
@@ -47,7 +47,7 @@ live_cell P (cell ∷ cells) x y all live =
     ] refl live
 
 -- a count that is not 0 counted something
-some_counted : (p : Offset → Bool) (xs : List Offset) → count_by p xs ≢ 0 → (k : ℕ) × (k < length xs) × ((d : Offset) → p (get_or xs k d) ≡ true)
+pub some_counted : (p : Offset → Bool) (xs : List Offset) → count_by p xs ≢ 0 → (k : ℕ) × (k < length xs) × ((d : Offset) → p (get_or xs k d) ≡ true)
 some_counted p [] more = absurd (more refl)
 some_counted p (x ∷ xs) more =
     elim (p x) as (λ b. p x ≡ b → (k : ℕ) × (k < suc (length xs)) × ((d : Offset) → p (get_or (x ∷ xs) k d) ≡ true)) [
@@ -62,11 +62,11 @@ back_again x by u e = omega (arith, ints)
 moved : (plane : Plane) (x y u v : ℤ) → x ≡ u → y ≡ v → plane u v ≡ true → plane x y ≡ true
 moved plane x y u v p q live = ap (λ a. plane a y) p ∙ ap (λ b. plane u b) q ∙ live
 
-abbrev no_step : Offset
+abbrev pub no_step : Offset
 no_step = step stay stay
 
 -- a cell is born only of some neighbours
-born_of : (rule : CountRule) → has rule.birth 0 ≡ false → (n : ℕ) → has rule.birth n ≡ true → n ≢ 0
+pub born_of : (rule : CountRule) → has rule.birth 0 ≡ false → (n : ℕ) → has rule.birth n ≡ true → n ≢ 0
 born_of rule zero n born none = let twice = sym born ∙ ap (has rule.birth) none ∙ zero in cc
 
 -- where the candidates have each live cell and what is round it, they have each cell of the next generation

@@ -1,7 +1,10 @@
 pub mod Around
 pub mod Boxes
 pub mod Cells
+pub mod Cones
+pub mod Growth
 pub mod Listings
 pub mod Living
 pub mod Reading
 pub mod Turns
+pub mod Uniqueness

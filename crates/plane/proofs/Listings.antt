@@ -71,7 +71,7 @@ or-true true = refl
 or-true false = refl
 
 -- a cell lies at its own place
-is_at-own : (k : Cell) → is_at k.x k.y k ≡ true
+pub is_at-own : (k : Cell) → is_at k.x k.y k ≡ true
 is_at-own k = ap (λ b. b && int_eq k.x k.x) (int_eq_equiv.refl k.y) ∙ int_eq_equiv.refl k.x
 
 -- cells stay when one more comes in

@@ -1,8 +1,9 @@
 -- The smallest box round some cells.
-use Rattle.std.specs.Prelude.{◌≤ℤ◌, Option, None, Some, List, fold}
+use Rattle.std.specs.Prelude.{ℕ, IfSome, ◌≤ℤ◌, Option, None, Some, List, fold}
 use Rattle.std.specs.Int.{int_min, int_max}
 use Rattle.plane.specs.declared.cell.Cell.{Cell}
 use Rattle.plane.specs.declared.cell.Bounds.{Bounds}
+use Rattle.plane.specs.Range.{IsBoxInRange, widened}
 
 -- the smallest box that also holds the cell
 abbrev pub box_with : Option Bounds → Cell → Option Bounds
@@ -24,3 +25,7 @@ pub record IsWithin (box : Bounds) (cell : Cell) : Type 0 where
   pub top : box.top ≤ℤ cell.y
   pub right : cell.x ≤ℤ box.right
   pub bottom : cell.y ≤ℤ box.bottom
+
+-- so many generations of the cells stay in the range
+abbrev pub HasReach : ℕ → List Cell → Type 0
+HasReach generations cells = IfSome (bounds_of cells) (λ box. IsBoxInRange (widened generations box))

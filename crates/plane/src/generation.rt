@@ -1,11 +1,11 @@
-ghost use Rattle.std.specs.Prelude.{◌≡◌, ℤ, ◌+ℤ◌, ◌-ℤ◌, true, IfOk, IfSome, OnOk, IsOkUnless};
+ghost use Rattle.std.specs.Prelude.{◌≡◌, ℕ, ◌+◌, ℤ, ◌+ℤ◌, ◌-ℤ◌, true, IfOk, OnOk, IsOkUnless};
 ghost use Rattle.std.specs.List.{AllByRecursion};
 ghost use Rattle.rule_text.specs.Neighbourhood.{IsStep};
-ghost use Rattle.plane.specs.Bounds.{bounds_of};
+ghost use Rattle.plane.specs.Bounds.{HasReach};
 ghost use Rattle.plane.specs.Generation.{HasAround, HasRoom, IsKept};
 ghost use Rattle.plane.specs.Listing.{plane_of, IsListing};
 ghost use Rattle.plane.specs.Plane.{live_neighbours, next};
-ghost use Rattle.plane.specs.Range.{widened, IsBoxInRange, IsInRange};
+ghost use Rattle.plane.specs.Range.{IsInRange};
 
 use crate::cell::Cell;
 use crate::cell_set::CellSet;
@@ -90,10 +90,12 @@ impl CellSet {
         Ok(candidates)
     }
 
-    /// The next generation of the cells by the rule. `NoMemory` if there is no room for it.
+    /// The next generation of the cells by the rule. `NoMemory` if there is no room for it. The box of
+    /// the cells, widened by one, has to lie in the range.
     pub fn next(&self, alloc: Global, rule: &Rule) -> Result<CellSet, Refusal>
-        requires { IfSome (bounds_of self.now) (λ bounds. IsBoxInRange (widened 1 bounds)) }
+        requires { HasReach 1 self.now }
         ensures ok { IfOk result (λ cells. IsListing cells (next rule.now (plane_of self.now))) }
+        ensures reach { IfOk result (λ cells. (generations : ℕ) → HasReach (generations + 1) self.now → HasReach generations cells) }
         ensures memory { IsOkUnless result Refusal.NoMemory }
     {
         let candidates = self.candidates(alloc, rule.neighbourhood())?;

@@ -7,6 +7,7 @@ mod cell_set;
 mod device;
 mod fault;
 mod generation;
+pub mod laws;
 mod range;
 mod refusal;
 
@@ -14,5 +15,5 @@ pub use cell::{Bounds, Cell};
 pub use cell_set::CellSet;
 pub use device::{Counted, FailAt, Failed, Memory, Sink, Source};
 pub use fault::Fault;
-pub use range::{COORDINATE_LIMIT, GENERATION_LIMIT, LIVE_CELL_LIMIT};
+pub use range::{COORDINATE_LIMIT, GENERATION_LIMIT, LIVE_CELL_LIMIT, reach};
 pub use refusal::Refusal;

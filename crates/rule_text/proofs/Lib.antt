@@ -1,1 +1,10 @@
+pub mod Canonical
+pub mod Capitals
+pub mod Codes
+pub mod CountUp
+pub mod Found
+pub mod Fronts
 pub mod Marks
+pub mod Readings
+pub mod RisingDigits
+pub mod Spelled

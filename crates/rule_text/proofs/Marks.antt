@@ -2,7 +2,7 @@
 use Rattle.std.proofs.Common.{◌≡◌, ℕ, ◌≤◌, ◌<◌, ◌==◌, ◌||◌, Bool, true, false, List, ◌∷◌, length, slice_index_or, slice_set, sym, ◌∙◌, ap, refl, arith, inl, inr, get_or-set_same, get_or-set_other}
 use Rattle.std.proofs.lemmas.Bool.{eq-eqb, ne_eqb, cases_eq}
 use Rattle.std.proofs.lemmas.List.Elements.{filter_agree}
-use Rattle.rule_text.specs.CountRule.{counts, has, rising, digits_listed, listed_digits}
+use Rattle.rule_text.specs.CountRule.{counts, rising, digits_listed, listed_digits}
 use Rattle.rule_text.specs.DigitMarks.{has-digits_listed, listed_again}
 
 -- a mark after one more digit is marked

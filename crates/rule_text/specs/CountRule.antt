@@ -1,4 +1,4 @@
-use Rattle.std.specs.Prelude.{◌≡◌, ℕ, ◌≤◌, ◌==◌, Bool, false, if◌then◌else◌, List, [], ◌∷◌, length, filter, map, All, slice_index_or}
+use Rattle.std.specs.Prelude.{◌≡◌, ℕ, ◌≤◌, ◌==◌, Bool, false, if◌then◌else◌, List, [], ◌∷◌, filter, map, All, slice_index_or}
 use Rattle.std.specs.List.{list_any}
 use Rattle.rule_text.specs.Neighbourhood.{neighbour_count}
 use Rattle.rule_text.specs.declared.neighbourhood.Neighbourhood.{Neighbourhood}

@@ -1,3 +1,6 @@
 pub mod Neighbourhood
 pub mod CountRule
 pub mod DigitMarks
+pub mod RuleText
+pub mod RuleCut
+pub mod RuleCode

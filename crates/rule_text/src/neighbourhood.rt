@@ -1,5 +1,8 @@
 ghost use Rattle.std.specs.Prelude.{◌≡◌, length, All};
 ghost use Rattle.rule_text.specs.Neighbourhood.{neighbour_count, offsets, IsStep};
+ghost use Rattle.std.specs.Option.{option_to_list};
+ghost use Rattle.rule_text.specs.RuleCode.{number};
+ghost use Rattle.rule_text.specs.RuleText.{suffix};
 
 /// Which cells count as the neighbours of a cell (Golly's help, "QuickLife").
 #[derive(Clone, Copy, Debug, PartialEq, Eq)]
@@ -78,6 +81,28 @@ impl Neighbourhood {
             Neighbourhood::Moore => &MOORE,
             Neighbourhood::VonNeumann => &VON_NEUMANN,
             Neighbourhood::Hexagonal => &HEXAGONAL,
+        }
+    }
+
+    /// The letter that names it in a rule's canonical text.
+    pub(crate) fn suffix(self) -> Option<char>
+        ensures { option_to_list result ≡ suffix self }
+    {
+        match self {
+            Neighbourhood::Moore => None,
+            Neighbourhood::VonNeumann => Some('V'),
+            Neighbourhood::Hexagonal => Some('H'),
+        }
+    }
+
+    /// Its number in a rule's code.
+    pub(crate) fn number(self) -> u32
+        ensures { result ≡ number self }
+    {
+        match self {
+            Neighbourhood::Moore => 0,
+            Neighbourhood::VonNeumann => 1,
+            Neighbourhood::Hexagonal => 2,
         }
     }
 }

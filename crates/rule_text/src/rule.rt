@@ -1,8 +1,13 @@
-ghost use Rattle.std.specs.Prelude.{◌≡◌, ◌↔◌, if◌then◌else◌, IsTrue};
+ghost use Rattle.std.specs.Prelude.{◌≡◌, ◌^◌, ◌<◌, IfOk};
 ghost use Rattle.rule_text.specs.CountRule.{IsRule, lives};
+ghost use Rattle.rule_text.specs.RuleCode.{code_of};
+ghost use Rattle.rule_text.specs.RuleText.{Reads, canonical_text};
 
 use crate::digits::Digits;
+use crate::fault::RuleFault;
 use crate::neighbourhood::Neighbourhood;
+use crate::parts::find_parts;
+use arrayvec::ArrayString;
 use std::marker::Model;
 
 /// A rule that counts live neighbours: a dead cell becomes live if their number is a digit of
@@ -28,6 +33,37 @@ impl Model for Rule {
 }
 
 impl Rule {
+    /// Reads a rule's text: the digits of birth and of survival as `B3/S23`, `S23/B3`, `B3S23`,
+    /// `S23B3` or, survival first, `23/3`, and then the letter `V` or `H` of a neighbourhood other
+    /// than Moore's, or `M`. Letters stand in either case, digits in any order, also repeated, and
+    /// spaces and tabs at the ends are left out.
+    ///
+    /// A text in no such form, or with a digit above the number of neighbours, is a `BadRule`. Any
+    /// other text with 0 among the digits of birth is `BirthOnZero`.
+    pub fn read(text: &[u8]) -> Result<Rule, RuleFault>
+        ensures reads { Reads text.now result }
+        ensures rule { IfOk result IsRule }
+    {
+        let Some(parts) = find_parts(text) else {
+            return Err(RuleFault::BadRule);
+        };
+        let neighbourhood = parts.neighbourhood;
+        let Some(birth) = Digits::read(parts.birth, neighbourhood) else {
+            return Err(RuleFault::BadRule);
+        };
+        let Some(survival) = Digits::read(parts.survival, neighbourhood) else {
+            return Err(RuleFault::BadRule);
+        };
+        if birth.contains(0) {
+            return Err(RuleFault::BirthOnZero);
+        }
+        Ok(Rule {
+            neighbourhood,
+            birth,
+            survival,
+        })
+    }
+
     /// Which cells it counts as neighbours.
     pub fn neighbourhood(&self) -> Neighbourhood
         ensures neighbourhood { result ≡ self.now.neighbourhood }
@@ -44,5 +80,33 @@ impl Rule {
     {
         let digits = if alive { self.survival } else { self.birth };
         digits.contains(count)
+    }
+
+    /// The canonical text, as `B3/S23` or `B2/S34H`: `B`, the digits of birth, `/S`, the digits of
+    /// survival, both rising, and then `V` or `H` for a neighbourhood other than Moore's.
+    pub fn text(&self) -> ArrayString<24>
+        ensures text { result.bytes ≡ canonical_text self.now }
+        ensures rule { IsRule self.now }
+    {
+        let mut text = ArrayString::new();
+        text.push('B');
+        self.birth.write(&mut text);
+        text.push_str("/S");
+        self.survival.write(&mut text);
+        if let Some(letter) = self.neighbourhood.suffix() {
+            text.push(letter);
+        }
+        text
+    }
+
+    /// The rule as a number below 2^20: bit `d` for a digit `d` of birth, bit `9 + d` for a digit
+    /// `d` of survival, and from bit 18 on the neighbourhood, 0 for Moore's, 1 for von Neumann's
+    /// and 2 for the hexagonal one.
+    pub fn code(&self) -> u32
+        ensures code { result ≡ code_of self.now }
+        ensures bound { result < 2 ^ 20 }
+        ensures rule { IsRule self.now }
+    {
+        self.birth.bits() + (self.survival.bits() << 9) + (self.neighbourhood.number() << 18)
     }
 }

@@ -2,12 +2,13 @@ use Rattle.std.proofs.Common.{◌≡◌, ◌++◌, ◌∷◌, refl, sym, ◌∙�
 use Rattle.std.specs.Map.Iter.{deref}
 use Rattle.std.proofs.lemmas.Map.Iter.{rest_more, rest_all}
 use Rattle.std.proofs.lemmas.List.{append-nil, map-append}
-use Rattle.plane.specs.Listing.{plane_of}
+use Rattle.plane.specs.Listing.{plane_of, IsListing}
 use Rattle.plane.specs.Plane.{next}
 use Rattle.plane.specs.Range.{IsInRange}
 use Rattle.plane.proofs.Around.{candidates_cover}
 use Rattle.plane.proofs.Boxes.{room_for_next}
 use Rattle.plane.proofs.Living.{LiveAmong, none_live, none_rise, one_lives, one_dies, all_live}
+use Rattle.plane.proofs.Growth.{reach_after}
 use Rattle.plane.proofs.Turns.{one_done, holds_of_item}
 use Rattle.plane.proofs.cell_set.CellSet.next.Goals as goal
 
@@ -51,8 +52,9 @@ loop-cell-preserved c =
       rising = c.loop-cell.invariant.rising;
     }
 
-pub returns-clause-ok : goal.returns-clause-ok
-returns-clause-ok c =
+-- the living cells are the next generation
+listing_of : (c : goal.After-drop-candidates-inside-2) → IsListing c.loop-cell.living (next c.args.rule.now (plane_of c.args.self.now))
+listing_of c =
     let plane = next c.args.rule.now (plane_of c.args.self.now) in
     let done = map deref c.loop-cell.yielded in
     let all : done ≡ c.in_ok-candidates.candidates =
@@ -64,3 +66,9 @@ returns-clause-ok c =
           (candidates_cover c.args.rule.now c.args.self.now c.in_ok-candidates.candidates c.neighbourhood.ensures.rule.no_birth_on_zero
           (rw (← c.neighbourhood.ensures.neighbourhood) c.in_ok-candidates.ensures.ok));
     }
+
+pub returns-clause-ok : goal.returns-clause-ok
+returns-clause-ok c = listing_of c
+
+pub returns-clause-reach : goal.returns-clause-reach
+returns-clause-reach c = reach_after c.args.rule.now c.args.self.now c.loop-cell.living c.neighbourhood.ensures.rule.no_birth_on_zero (listing_of c)

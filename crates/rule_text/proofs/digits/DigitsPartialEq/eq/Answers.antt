@@ -1,4 +1,4 @@
-use Rattle.std.proofs.Common.{rules, arith}
+use Rattle.std.proofs.Common.{arith}
 use Rattle.rule_text.proofs.Marks.{listed_of_view}
 use Rattle.rule_text.proofs.digits.DigitsPartialEq.eq.Goals as goal
 
