@@ -7,13 +7,16 @@ mod cell_set;
 mod device;
 mod fault;
 mod generation;
-pub mod laws;
+mod laws;
 mod range;
 mod refusal;
+#[cfg(test)]
+mod tests;
 
 pub use cell::{Bounds, Cell};
 pub use cell_set::CellSet;
 pub use device::{Counted, FailAt, Failed, Memory, Sink, Source};
 pub use fault::Fault;
+pub use laws::{light_cone, one_listing, smallest_box, translation};
 pub use range::{COORDINATE_LIMIT, GENERATION_LIMIT, LIVE_CELL_LIMIT, reach};
 pub use refusal::Refusal;
