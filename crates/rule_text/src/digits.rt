@@ -17,7 +17,7 @@ pub(crate) struct Digits {
 }
 
 impl Model for Digits {
-    ghost use Rattle.std.specs.Prelude.{◌≡◌, ℕ, List, length, filter, slice_index_or};
+    ghost use Rattle.std.specs.Prelude.{◌≡◌, ℕ, List, length};
     ghost use Rattle.std.proofs.Common.{ap};
     ghost use Rattle.rule_text.specs.CountRule.{digits_listed, listed_digits};
     ghost use Rattle.rule_text.specs.DigitMarks.{listed_again};
@@ -34,6 +34,7 @@ impl Model for Digits {
 }
 
 impl Digits {
+    /// No digits.
     pub(crate) fn new() -> Self
         ensures { result ≡ [] }
     {
@@ -59,6 +60,7 @@ impl Digits {
         Some(digits)
     }
 
+    /// Puts a digit into the set, if it is not there yet.
     pub(crate) fn insert(&mut self, digit: u8)
         requires { digit ≤ 8 }
         ensures { self.new ≡ rising (digit ∷ self.old) }
@@ -66,6 +68,7 @@ impl Digits {
         self.listed[digit as usize] = true;
     }
 
+    /// Whether a number is one of the digits.
     pub(crate) fn contains(self, count: u8) -> bool
         ensures { result ≡ has self count }
     {
