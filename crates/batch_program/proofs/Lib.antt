@@ -1,0 +1,3 @@
+pub mod BodyText
+pub mod Empty
+pub mod Runs

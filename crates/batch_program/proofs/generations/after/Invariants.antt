@@ -1,0 +1,8 @@
+use Rattle.std.proofs.Common.{◌-◌}
+use Rattle.plane.specs.Bounds.{HasReach}
+use Rattle.plane.specs.Listing.{plane_of, IsListing}
+use Rattle.plane.specs.Plane.{after}
+use Rattle.batch_program.proofs.generations.after.Given as goal
+
+abbrev pub invariant-loop-done : goal.invariant-loop-done
+invariant-loop-done l = IsListing l.cells (after l.rule (plane_of l.initial.cells) l._done) × HasReach (l.generations - l._done) l.cells

@@ -1,0 +1,46 @@
+//! The program `lifebatch`: it hands its words, standard output and standard error to
+//! [`batch_program::program`], and ends with the status that this answers.
+#![tactic(auto)]
+
+#[cfg(test)]
+mod tests;
+
+use batch_program::{program, refused_status, tell_fault};
+use plane::{Counted, Fault, Refusal, Sink};
+use std::process::ExitCode;
+use std::rt::{Env, Files};
+use std::{env, io};
+
+fn main(rt: HostRuntime) -> ExitCode {
+    let mut out = Counted::new(rt.stdout());
+    let mut err = Counted::new(rt.stderr());
+    match run_words(&rt, &mut out, &mut err) {
+        Ok(status) => ExitCode::from(status),
+        Err(error) if error.kind() == io::ErrorKind::InvalidData => {
+            let _ = eprintln!(rt; "lifebatch: bad words: a word is not UTF-8");
+            ExitCode::from(2)
+        }
+        Err(_) => {
+            tell_fault(&mut err, NO_MEMORY);
+            ExitCode::from(refused_status(NO_MEMORY.refusal))
+        }
+    }
+}
+
+// Want of memory while the words are read.
+const NO_MEMORY: Fault = Fault {
+    refusal: Refusal::NoMemory,
+    place: None,
+};
+
+// Runs the program on its words, and answers its exit status. An error says that there are no words.
+fn run_words<R: Env + Files + AllocGlobal, O: Sink, E: Sink>(
+    rt: &R,
+    out: &mut O,
+    err: &mut E,
+) -> io::Result<u8> {
+    let alloc = rt.alloc();
+    let words: Vec<String> = env::args(rt)?.collect(alloc)?;
+    let words: Vec<&str> = words.iter().map(|word| word.as_str()).collect(alloc)?;
+    Ok(program(rt, alloc, words.as_slice(), out, err))
+}

@@ -1,0 +1,8 @@
+use Rattle.std.proofs.Common.{◌≡◌, ◌≤◌, ◌-◌, length}
+use Rattle.rle_reader.proofs.item.read_count.Given as goal
+
+abbrev pub invariant-loop-next : goal.invariant-loop-next
+invariant-loop-next l = (l.body.source.now ≡ l.fn.body.source.now) × (l.fn.body.at ≤ l.body.at)
+
+abbrev pub decreases-loop-next : goal.decreases-loop-next
+decreases-loop-next l = length l.body.source.now - l.body.at

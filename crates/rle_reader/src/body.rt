@@ -1,0 +1,89 @@
+//! The bytes of a body that count: without blanks, line ends and comments.
+
+ghost use Rattle.std.specs.Prelude.{◌≡◌, ◌<◌, ◌≤◌, length, MatchOption};
+
+use crate::bytes::is_blank;
+use crate::lines::line_length;
+
+/// A byte and its place.
+#[derive(Clone, Copy, Debug)]
+pub(crate) struct Placed {
+    pub(crate) place: usize,
+    pub(crate) byte: u8,
+}
+
+/// What is left of a body.
+#[derive(Clone, Copy, Debug)]
+pub(crate) struct Body<'a> {
+    source: &'a [u8],
+    at: usize,
+    /// Whether a line begins at `at`.
+    line_begins: bool,
+    ghost in_range: { at ≤ length source.now },
+}
+
+impl<'a> Body<'a> {
+    /// The body that begins, with a line of its own, at this place.
+    pub(crate) fn new(source: &'a [u8], at: usize) -> Self
+        requires { at ≤ length source.now }
+        ensures source { result.source.now ≡ source.now }
+    {
+        Body {
+            source,
+            at,
+            line_begins: true,
+        }
+    }
+
+    /// The text that the body belongs to.
+    pub(crate) fn source(&self) -> &'a [u8]
+        ensures { result.now ≡ self.now.source.now }
+    {
+        self.source
+    }
+
+    /// Drops what is left.
+    pub(crate) fn close(&mut self)
+        ensures source { self.new.source.now ≡ self.old.source.now }
+        ensures closed { self.new.at ≡ length self.old.source.now }
+    {
+        self.at = self.source.len();
+    }
+
+    /// Takes the next byte that is no blank, CR or LF and stands in no comment.
+    pub(crate) fn next_byte(&mut self) -> Option<Placed>
+        ensures source { self.new.source.now ≡ self.old.source.now }
+        ensures place { MatchOption result (self.old.at ≤ self.new.at) (λ next. (self.old.at ≤ next.place) × (next.place < self.new.at)) }
+        ensures within { self.new.at ≤ length self.new.source.now }
+    {
+        while self.at < self.source.len() {
+            let place = self.at;
+            let byte = self.source[place];
+            if self.line_begins && byte == b'#' {
+                self.skip_line();
+                continue;
+            }
+            self.at = place + 1;
+            self.line_begins = byte == b'\n';
+            if !is_skipped(byte) {
+                return Some(Placed { place, byte });
+            }
+        }
+        None
+    }
+
+    /// Passes over the rest of a line and its LF.
+    fn skip_line(&mut self)
+        requires { self.old.at < length self.old.source.now }
+        ensures source { self.new.source.now ≡ self.old.source.now }
+        ensures place { self.old.at < self.new.at }
+    {
+        let rest = &self.source[self.at..];
+        self.at += (line_length(rest) + 1).min(rest.len());
+    }
+}
+
+/// Whether the byte is a blank, a CR or an LF.
+fn is_skipped(byte: u8) -> bool {
+    is_blank(byte) || byte == b'\r' || byte == b'\n'
+}

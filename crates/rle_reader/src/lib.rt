@@ -1,0 +1,24 @@
+//! RLE pattern files: [`RleFile::open`] checks a whole text once and copies nothing, and its comments,
+//! its rule and its items are slices of that text.
+#![tactic(auto)]
+
+mod body;
+mod bytes;
+mod comments;
+mod faults;
+mod header;
+mod item;
+mod lines;
+mod number;
+mod pen;
+mod preamble;
+mod rle_file;
+mod runs;
+mod settings;
+#[cfg(test)]
+mod tests;
+
+pub use comments::Comments;
+pub use item::{Run, Tag};
+pub use rle_file::RleFile;
+pub use runs::Runs;

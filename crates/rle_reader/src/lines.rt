@@ -1,0 +1,70 @@
+//! The lines of a text.
+
+ghost use Rattle.std.specs.Prelude.{◌≡◌, ◌<◌, ◌≤◌, length, MatchOption};
+
+use memchr::memchr;
+
+/// A line: the place of its first byte, and its bytes without its line end.
+#[derive(Clone, Copy, Debug)]
+pub(crate) struct Line<'a> {
+    pub(crate) place: usize,
+    pub(crate) text: &'a [u8],
+}
+
+/// The lines of a text from a place on. A line goes up to the next LF or to the end of the text, and one
+/// CR at its end is left out.
+#[derive(Clone, Copy, Debug)]
+pub(crate) struct Lines<'a> {
+    source: &'a [u8],
+    at: usize,
+    ghost in_range: { at ≤ length source.now },
+}
+
+impl<'a> Lines<'a> {
+    pub(crate) fn new(source: &'a [u8]) -> Self
+        ensures source { result.source.now ≡ source.now }
+    {
+        Lines { source, at: 0 }
+    }
+
+    /// Where the next line begins.
+    pub(crate) fn place(&self) -> usize
+        ensures place { result ≡ self.now.at }
+        ensures within { result ≤ length self.now.source.now }
+    {
+        self.at
+    }
+
+    /// Takes the next line, if there is one.
+    pub(crate) fn next_line(&mut self) -> Option<Line<'a>>
+        ensures source { self.new.source.now ≡ self.old.source.now }
+        ensures place { MatchOption result (self.new.at ≡ self.old.at) (λ line. (line.place ≡ self.old.at) × (self.old.at < self.new.at)) }
+    {
+        let rest = &self.source[self.at..];
+        if rest.is_empty() {
+            return None;
+        }
+        let place = self.at;
+        let length = line_length(rest);
+        self.at = place + (length + 1).min(rest.len());
+        Some(Line {
+            place,
+            text: without_return(&rest[..length]),
+        })
+    }
+}
+
+/// How many bytes stand before the first LF, or how many there are if there is none.
+pub(crate) fn line_length(text: &[u8]) -> usize
+    ensures { result ≤ length text.now }
+{
+    memchr(b'\n', text).unwrap_or(text.len())
+}
+
+/// The line without one CR at its end.
+fn without_return(line: &[u8]) -> &[u8] {
+    match line.split_last() {
+        Some((b'\r', front)) => front,
+        _ => line,
+    }
+}

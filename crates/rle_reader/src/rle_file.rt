@@ -1,0 +1,105 @@
+//! A checked RLE file.
+
+ghost use Rattle.std.specs.Prelude.{◌≡◌, ◌≤◌, List, ℕ, length, IfOk};
+
+use crate::body::Body;
+use crate::comments::Comments;
+use crate::item::next_run;
+use crate::pen::Pen;
+use crate::preamble::Preamble;
+use crate::runs::Runs;
+use plane::{Cell, Fault};
+use std::marker::Model;
+
+/// An RLE file whose whole text was checked. What it hands out are slices of that text, and they stay
+/// good after it is gone.
+#[derive(Debug, Drop)]
+pub struct RleFile<'a> {
+    source: &'a [u8],
+    preamble: Preamble<'a>,
+}
+
+impl<'a> Model for RleFile<'a> {
+    ghost use Rattle.std.specs.Prelude.{ℕ, List, ◌≤◌, length};
+
+    ghost Value = { List ℕ };
+
+    ghost view = { λ file. file.source.now };
+
+    ghost invariant = { λ file. (file.preamble.header ≤ length file.source.now)
+        × (file.preamble.body ≤ length file.source.now) };
+}
+
+impl<'a> RleFile<'a> {
+    /// Checks a text. It refuses
+    ///
+    /// - `NotAPattern` where no line is the header, at the end of the text, and at the first line that is
+    ///   not blank, no comment and does not begin with `x` or `X`;
+    /// - `BadHeader` at any other malformed header line, and at a `#CXRLE` line with a malformed `Pos=`;
+    /// - `OutOfRange` at a `#CXRLE` line whose `Pos=` is outside the range, and at an item after which
+    ///   the column or the row is above the limit, or of live cells in the row of the limit;
+    /// - `BadGen` at a `#CXRLE` line whose `Gen=` is no number or above the last generation;
+    /// - `BadTag`, `MoreStates` and `BadCount` at an item whose tag is none, is one of more than two
+    ///   states, or whose count is 0, and `BadCount` at a count that no tag follows;
+    /// - `TooManyCells` at the item with which there are more live cells than a file may have.
+    ///
+    /// The first line or item with a fault is answered, and of its faults the one of the lowest number.
+    pub fn open(source: &'a [u8]) -> Result<RleFile<'a>, Fault>
+        ensures { IfOk result (λ file. file ≡ source.now) }
+    {
+        let preamble = Preamble::read(source)?;
+        check_body(source, &preamble)?;
+        Ok(RleFile { source, preamble })
+    }
+
+    /// The cell of the first item, the upper left corner of the pattern's box; (0, 0) if the file does
+    /// not say.
+    pub fn pos(&self) -> Cell {
+        self.preamble.settings.pos
+    }
+
+    /// The generation of the pattern, 0 if the file does not say.
+    pub fn generation(&self) -> u64 {
+        self.preamble.settings.generation
+    }
+
+    /// The text of the rule, as it stands in the header, if it names one.
+    pub fn rule_slice(&self) -> Option<&'a [u8]> {
+        self.preamble.rule
+    }
+
+    /// The place of the header line, whether or not it names a rule.
+    pub fn rule_place(&self) -> u64 {
+        self.preamble.header as u64
+    }
+
+    /// The comments that are kept: the lines before the header that begin with `#C`, `#D`, `#N` or `#O`,
+    /// and not with `#CXRLE`.
+    pub fn comments(&self) -> Comments<'a> {
+        Comments::new(&self.source[..self.preamble.header])
+    }
+
+    /// The items of the body.
+    pub fn runs(&self) -> Runs<'a>
+        ensures { result.body.source.now ≡ self.now }
+    {
+        Runs::new(self.source, self.preamble.body)
+    }
+}
+
+/// Goes through the items, each with what comes before it.
+fn check_body(source: &[u8], preamble: &Preamble<'_>) -> Result<(), Fault>
+    requires { preamble.now.body ≤ length source.now }
+{
+    let mut body = Body::new(source, preamble.body);
+    let mut pen = Pen::new(preamble.settings.pos);
+    while let Some(run) = next_run(&mut body)? {
+        if let Err(refusal) = pen.pass(&run) {
+            return Err(Fault {
+                refusal,
+                place: Some(run.place),
+            });
+        }
+    }
+    Ok(())
+}
