@@ -1,5 +1,5 @@
 -- The generations of listed cells, and of none.
-use Rattle.std.proofs.Common.{◌≡◌, ℕ, zero, suc, ◌+◌, ◌-◌, ◌≤◌, ℤ, ◌+ℤ◌, Bool, true, false, List, [], refl, sym, ◌∙◌, ap, subst, count_by, inl, inr, arith}
+use Rattle.std.proofs.Common.{◌≡◌, ℕ, zero, suc, ◌+◌, ◌-◌, ◌≤◌, ℤ, ◌+ℤ◌, Bool, false, List, [], sym, ◌∙◌, ap, subst, count_by, inl, inr, arith}
 use Rattle.std.proofs.lemmas.Bool.{cases_eq}
 use Rattle.rule_text.specs.declared.neighbourhood.Offset.{Offset}
 use Rattle.rule_text.specs.Neighbourhood.{offsets, step, stay}

@@ -1,5 +1,5 @@
 -- The runs of cells, found one cell after the other.
-use Rattle.std.proofs.Common.{◌≡◌, ℤ, pos, ◌+ℤ◌, Bool, true, false, Option, None, Some, List, [], ◌∷◌, refl, sym, ◌∙◌, ap, subst}
+use Rattle.std.proofs.Common.{◌≡◌, pos, ◌+ℤ◌, Bool, true, false, Option, None, Some, List, [], ◌∷◌, refl, sym, ◌∙◌, ap, subst}
 use Rattle.std.specs.Prelude.{if◌then◌else◌}
 use Rattle.plane.specs.declared.cell.Cell.{Cell}
 use Rattle.plane.specs.Listing.{is_at}
@@ -31,8 +31,8 @@ goes_on : (run : RowRun) (runs : List RowRun) → joined run (joined (run_at (ne
 goes_on run [] = if_true (is_at run.end run.row (next_cell run)) _ _ (is_at-own (next_cell run))
 goes_on run (next ∷ runs) =
     elim (is_at (run.end +ℤ pos 1) run.row (first_cell next)) as (λ b.
-        joined run (if b then (record (run_at (next_cell run)) { end = next.end } ∷ runs) else (run_at (next_cell run) ∷ next ∷ runs))
-        ≡ (if b then (record run { end = next.end } ∷ runs) else (one_longer run ∷ next ∷ runs))) [
+    joined run (if b then (record (run_at (next_cell run)) { end = next.end } ∷ runs) else (run_at (next_cell run) ∷ next ∷ runs))
+    ≡ (if b then (record run { end = next.end } ∷ runs) else (one_longer run ∷ next ∷ runs))) [
       | true ↦ if_true (is_at run.end run.row (next_cell run)) _ _ (is_at-own (next_cell run))
       | false ↦ if_true (is_at run.end run.row (next_cell run)) _ _ (is_at-own (next_cell run))
     ]
@@ -49,8 +49,8 @@ begins : (run : RowRun) (cell : Cell) (runs : List RowRun) → (next_cell run �
 begins run cell [] other = if_false (is_at run.end run.row cell) _ _ (elsewhere run cell other)
 begins run cell (next ∷ runs) other =
     elim (is_at (cell.x +ℤ pos 1) cell.y (first_cell next)) as (λ b.
-        joined run (if b then (record (run_at cell) { end = next.end } ∷ runs) else (run_at cell ∷ next ∷ runs))
-        ≡ run ∷ (if b then (record (run_at cell) { end = next.end } ∷ runs) else (run_at cell ∷ next ∷ runs))) [
+    joined run (if b then (record (run_at cell) { end = next.end } ∷ runs) else (run_at cell ∷ next ∷ runs))
+    ≡ run ∷ (if b then (record (run_at cell) { end = next.end } ∷ runs) else (run_at cell ∷ next ∷ runs))) [
       | true ↦ if_false (is_at run.end run.row cell) _ _ (elsewhere run cell other)
       | false ↦ if_false (is_at run.end run.row cell) _ _ (elsewhere run cell other)
     ]

@@ -1,5 +1,5 @@
 -- The runs of live cells in rows.
-use Rattle.std.specs.Prelude.{pos, ◌+ℤ◌, Option, None, Some, List, [], ◌∷◌, if◌then◌else◌}
+use Rattle.std.specs.Prelude.{pos, ◌+ℤ◌, List, [], ◌∷◌, if◌then◌else◌}
 use Rattle.plane.specs.declared.cell.Cell.{Cell}
 use Rattle.plane.specs.Listing.{is_at}
 use Rattle.batch_program.specs.declared.rle_text.row_run.RowRun.{RowRun}

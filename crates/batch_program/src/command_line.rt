@@ -1,3 +1,5 @@
+ghost use Rattle.std.specs.Prelude.{◌≡◌, is_some, IfOk};
+
 use crate::options::{Asked, Format, Options};
 use clap::error::ErrorKind;
 use clap::{Arg, ArgMatches, Command, value_parser};
@@ -58,7 +60,10 @@ impl From<clap::Error> for WordsFault {
 /// Reads the words of a command line, the program's name first. It answers `Clap` for words that are
 /// not of its form and for a request for help, `Unfit` for an output whose name does not end with
 /// `.rle`, and `Refused` with `NoMemory`.
-pub fn asked<'a>(alloc: Global, words: &'a [&'a str]) -> Result<Asked, WordsFault> {
+pub fn asked<'a>(alloc: Global, words: &'a [&'a str]) -> Result<Asked, WordsFault>
+    // A format is asked for exactly with an output.
+    ensures format { IfOk result (λ asked. is_some asked.options.format ≡ is_some asked.output) }
+{
     let matches = command(alloc)?.try_get_matches_from(words)?;
     let output = output_name(&matches)?;
     let options = Options {
@@ -107,7 +112,9 @@ fn output_name<'a>(matches: &ArgMatches<'a>) -> Result<Option<&'a str>, WordsFau
     }
 }
 
-fn copied(alloc: Global, text: Option<&str>) -> Result<Option<String>, AllocError> {
+fn copied(alloc: Global, text: Option<&str>) -> Result<Option<String>, AllocError>
+    ensures { IfOk result (λ copy. is_some copy ≡ is_some text.entry) }
+{
     match text {
         Some(text) => Ok(Some(String::from_str(alloc, text)?)),
         None => Ok(None),

@@ -1,5 +1,6 @@
-ghost use Rattle.std.specs.Prelude.{IfOk};
+ghost use Rattle.std.specs.Prelude.{◌≡◌, ◌⊎◌, None, Some, IfOk, IfErr, OnOk};
 ghost use Rattle.rule_text.specs.CountRule.{IsRule};
+ghost use Rattle.batch_program.specs.Frame.{FitsRle};
 
 use crate::faults::placeless;
 use crate::generations::after;
@@ -40,7 +41,16 @@ pub fn run<R, W: Sink, V: Sink>(
     options: &Options,
     report: &mut W,
     file: &mut V,
-) -> Result<Summary, Fault> {
+) -> Result<Summary, Fault>
+    // What is refused for another reason than a sink that failed leaves the file as it was, and so
+    // does a run with no format.
+    ensures refused { IfErr result (λ fault. (fault.refusal ≡ Refusal.WriteFailed) ⊎ (file.new ≡ file.old)) }
+    ensures no_format { options.now.format ≡ None → file.new ≡ file.old }
+    // A pattern that is written fits its format, and no sink failed in a run that ends well.
+    ensures fits { IfOk result (λ summary. options.now.format ≡ Some Format.Rle → FitsRle summary.bounds) }
+    ensures unfailed { OnOk result (V.failure_count file.new ≡ V.failure_count file.old
+        × W.failure_count report.new ≡ W.failure_count report.old) }
+{
     let text = RleFile::open(bytes)?;
     let rule = rule_of(&text)?;
     let cells = live_cells(alloc, &text)?;

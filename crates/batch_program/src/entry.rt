@@ -1,3 +1,5 @@
+ghost use Rattle.std.specs.Prelude.{◌≤◌};
+
 use crate::command_line::{WordsFault, asked};
 use crate::engine::{Summary, run};
 use crate::faults::placeless;
@@ -27,7 +29,9 @@ pub fn program<R: Files, O: Sink, E: Sink>(
     words: &[&str],
     out: &mut O,
     err: &mut E,
-) -> u8 {
+) -> u8
+    ensures { result ≤ 3 }
+{
     let outcome = match asked(alloc, words) {
         Ok(asked) => run_asked(rt, alloc, &asked, out).map(|_| ()),
         Err(WordsFault::Refused(refusal)) => Err(placeless(refusal)),
@@ -58,7 +62,14 @@ fn run_asked<R: Files, O: Sink>(
     let bytes = read_file(rt, alloc, asked.file.as_str()).map_err(placeless)?;
     let name = asked.output.as_ref().map_or("", |name| name.as_str());
     let mut output = OutputFile::new(rt, name);
-    run(rt, alloc, bytes.as_slice(), &asked.options, out, &mut output)
+    run(
+        rt,
+        alloc,
+        bytes.as_slice(),
+        &asked.options,
+        out,
+        &mut output,
+    )
 }
 
 fn read_file<R: Files>(rt: &R, alloc: Global, path: &str) -> Result<Vec<u8>, Refusal> {

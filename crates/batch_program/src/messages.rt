@@ -1,3 +1,6 @@
+ghost use Rattle.std.specs.Prelude.{◌≡◌};
+ghost use Rattle.batch_program.specs.Status.{refused_status};
+
 use crate::command_line::WordsFault;
 use crate::writing::write_all;
 use arrayvec::ArrayString;
@@ -16,7 +19,9 @@ pub fn tell_fault<E: Sink>(messages: &mut E, fault: Fault) {
 }
 
 /// The exit status of a program whose run was refused: 3 where a device failed, else 1.
-pub fn refused_status(refusal: Refusal) -> u8 {
+pub fn refused_status(refusal: Refusal) -> u8
+    ensures { result ≡ refused_status refusal }
+{
     match refusal {
         Refusal::ReadFailed | Refusal::WriteFailed => 3,
         _ => 1,

@@ -1,6 +1,9 @@
 //! The text of a pattern in RLE.
 
-ghost use Rattle.std.specs.Prelude.{◌≡◌};
+ghost use Rattle.std.specs.Prelude.{◌≡◌, ◌⊎◌, OnOk, IfErr};
+ghost use Rattle.plane.specs.Bounds.{bounds_of};
+ghost use Rattle.batch_program.specs.Devices.{IsWriteRefusal};
+ghost use Rattle.batch_program.specs.Frame.{FitsRle};
 
 mod frame;
 mod items;
@@ -28,7 +31,15 @@ pub(crate) fn write_rle<V: Sink>(
     rule: &Rule,
     generation: u64,
     file: &mut V,
-) -> Result<(), Refusal> {
+) -> Result<(), Refusal>
+    // It writes all where the sides fit, or stops where the sink failed.
+    ensures fits { OnOk result (FitsRle (bounds_of cells.now)) }
+    ensures unfailed { OnOk result (V.failure_count file.new ≡ V.failure_count file.old) }
+    ensures refused { IfErr result (λ refusal.
+        (refusal ≡ Refusal.BoxTooLarge × ¬ FitsRle (bounds_of cells.now) × file.new ≡ file.old)
+        ⊎ (refusal ≡ Refusal.NoMemory × file.new ≡ file.old)
+        ⊎ IsWriteRefusal (V.failure_count file.old) (V.failure_count file.new) refusal) }
+{
     let frame = Frame::round(cells.bounds())?;
     let Ok(runs) = row_runs(alloc, cells) else {
         return Err(Refusal::NoMemory);
@@ -45,7 +56,10 @@ pub(crate) fn write_rle<V: Sink>(
 }
 
 // Writes each comment as a line.
-fn write_comments<V: Sink>(file: &mut V, comments: Comments<'_>) -> Result<(), Refusal> {
+fn write_comments<V: Sink>(file: &mut V, comments: Comments<'_>) -> Result<(), Refusal>
+    ensures unfailed { OnOk result (V.failure_count file.new ≡ V.failure_count file.old) }
+    ensures refused { IfErr result (IsWriteRefusal (V.failure_count file.old) (V.failure_count file.new)) }
+{
     for comment in comments {
         write_all(file, comment)?;
         write_all(file, b"\n")?;

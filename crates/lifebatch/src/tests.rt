@@ -1,2 +1,8 @@
-#[test]
-fn starts() {}
+//! What no clause says: worked runs from a file's bytes to the written texts, the words of the command
+//! line with their messages and statuses, and devices that fail.
+
+mod devices;
+mod folder;
+mod programs;
+mod refusals;
+mod runs;

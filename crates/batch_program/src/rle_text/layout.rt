@@ -31,11 +31,7 @@ pub(crate) fn write_body<V: Sink>(file: &mut V, items: &[Item]) -> Result<(), Re
 }
 
 // Puts a piece on the line, or writes the line out and begins a new one with the piece.
-fn put<V: Sink>(
-    file: &mut V,
-    line: &mut ArrayString<LINE_ROOM>,
-    piece: &str,
-) -> Result<(), Refusal>
+fn put<V: Sink>(file: &mut V, line: &mut ArrayString<LINE_ROOM>, piece: &str) -> Result<(), Refusal>
     requires line { array_string_len line.old ≤ 70 }
     requires piece { length piece.now ≤ 70 }
     ensures line { OnOk result (array_string_len line.new ≤ 70) }

@@ -1,5 +1,4 @@
-use Rattle.std.proofs.Common.{pos, ◌∙◌, ap, ◌++◌, drop, rules}
-use Rattle.batch_program.specs.Items.{items_of}
+use Rattle.std.proofs.Common.{pos, ◌∙◌, rules}
 use Rattle.batch_program.proofs.BodyText.{items_of-more}
 use Rattle.batch_program.proofs.rle_text.items.items.Goals as goal
 
