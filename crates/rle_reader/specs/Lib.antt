@@ -1,3 +1,15 @@
 pub mod Slices
 pub mod Range
+pub mod Bytes
+pub mod Lines
+pub mod Numbers
 pub mod Words
+pub mod Settings
+pub mod Header
+pub mod Faults
+pub mod Opening
+pub mod Body
+pub mod Items
+pub mod State
+pub mod Meaning
+pub mod Seen

@@ -1,6 +1,7 @@
 //! The bytes of a body that count: without blanks, line ends and comments.
 
-ghost use Rattle.std.specs.Prelude.{◌≡◌, ◌<◌, ◌≤◌, length, MatchOption};
+ghost use Rattle.std.specs.Prelude.{◌≡◌, ◌<◌, ◌≤◌, [], ◌∷◌, true, length, slice_index, MatchOption, IsTrue};
+ghost use Rattle.rle_reader.specs.Body.{is_skipped, struck_from};
 
 use crate::bytes::is_blank;
 use crate::lines::line_length;
@@ -27,6 +28,8 @@ impl<'a> Body<'a> {
     pub(crate) fn new(source: &'a [u8], at: usize) -> Self
         requires { at ≤ length source.now }
         ensures source { result.source.now ≡ source.now }
+        ensures at { result.at ≡ at }
+        ensures begins { result.line_begins ≡ true }
     {
         Body {
             source,
@@ -45,7 +48,7 @@ impl<'a> Body<'a> {
     /// Drops what is left.
     pub(crate) fn close(&mut self)
         ensures source { self.new.source.now ≡ self.old.source.now }
-        ensures closed { self.new.at ≡ length self.old.source.now }
+        ensures closed { struck_from self.new.source.now self.new.at self.new.line_begins ≡ [] }
     {
         self.at = self.source.len();
     }
@@ -55,6 +58,11 @@ impl<'a> Body<'a> {
         ensures source { self.new.source.now ≡ self.old.source.now }
         ensures place { MatchOption result (self.old.at ≤ self.new.at) (λ next. (self.old.at ≤ next.place) × (next.place < self.new.at)) }
         ensures within { self.new.at ≤ length self.new.source.now }
+        ensures bytes { MatchOption result
+            ((struck_from self.old.source.now self.old.at self.old.line_begins ≡ [])
+                × (struck_from self.new.source.now self.new.at self.new.line_begins ≡ []))
+            (λ next. struck_from self.old.source.now self.old.at self.old.line_begins
+                ≡ record { place = next.place; byte = next.byte } ∷ struck_from self.new.source.now self.new.at self.new.line_begins) }
     {
         while self.at < self.source.len() {
             let place = self.at;
@@ -74,9 +82,13 @@ impl<'a> Body<'a> {
 
     /// Passes over the rest of a line and its LF.
     fn skip_line(&mut self)
-        requires { self.old.at < length self.old.source.now }
+        requires within { self.old.at < length self.old.source.now }
+        requires begins { IsTrue self.old.line_begins }
+        requires comment { slice_index self.old.source.now self.old.at ≡ 35 }
         ensures source { self.new.source.now ≡ self.old.source.now }
         ensures place { self.old.at < self.new.at }
+        ensures begins { self.new.line_begins ≡ true }
+        ensures bytes { struck_from self.new.source.now self.new.at true ≡ struck_from self.old.source.now self.old.at true }
     {
         let rest = &self.source[self.at..];
         self.at += (line_length(rest) + 1).min(rest.len());
@@ -84,6 +96,8 @@ impl<'a> Body<'a> {
 }
 
 /// Whether the byte is a blank, a CR or an LF.
-fn is_skipped(byte: u8) -> bool {
+fn is_skipped(byte: u8) -> bool
+    ensures { result ≡ is_skipped byte }
+{
     is_blank(byte) || byte == b'\r' || byte == b'\n'
 }

@@ -1,21 +1,38 @@
 //! The kept comments.
 
-ghost use Rattle.std.specs.Prelude.{◌-◌, length};
-ghost use Rattle.std.specs.Iterator.{at_most};
+ghost use Rattle.std.specs.Prelude.{◌≡◌, [], ◌∷◌, MatchOption};
+ghost use Rattle.std.specs.Iterator.{YieldsFirstRef, item_count};
+ghost use Rattle.rle_reader.specs.Opening.{comments_from, is_kept};
 
+use crate::bytes::begins_with;
 use crate::lines::Lines;
+use crate::preamble::stands_before_header;
+use crate::settings::is_settings_line;
+use std::marker::Model;
 
-/// The kept comments of a file, in order, each without its line end.
-#[derive(Clone, Copy, Debug)]
+/// The kept comments of a file, in order, each without its line end. A contract sees the comments that
+/// are still to come.
+#[derive(Debug, Drop)]
 pub struct Comments<'a> {
-    lines: Lines<'a>,
+    rest: Lines<'a>,
+}
+
+impl<'a> Model for Comments<'a> {
+    ghost use Rattle.std.specs.Prelude.{List, ℕ};
+    ghost use Rattle.rle_reader.specs.Opening.{comments_from};
+
+    ghost Value = { List (List ℕ) };
+
+    ghost view = { λ comments. comments_from comments.rest.source.now comments.rest.at };
 }
 
 impl<'a> Comments<'a> {
-    /// The kept comments among the lines of a text.
-    pub(crate) fn new(text: &'a [u8]) -> Self {
+    /// The kept comments before the header of a text.
+    pub(crate) fn new(text: &'a [u8]) -> Self
+        ensures { result ≡ comments_from text.now 0 }
+    {
         Comments {
-            lines: Lines::new(text),
+            rest: Lines::new(text),
         }
     }
 }
@@ -23,19 +40,42 @@ impl<'a> Comments<'a> {
 impl<'a> Iterator for Comments<'a> {
     type Item = &'a [u8];
 
-    ghost remaining = { λ comments. at_most (length comments.lines.source.now - comments.lines.at) };
+    ghost next_gives = { YieldsFirstRef (λ comments. comments) };
+
+    ghost remaining = { item_count (λ comments. comments) };
 
     fn next(&mut self) -> Option<&'a [u8]> {
-        while let Some(line) = self.lines.next_line() {
-            if is_kept(line.text) {
-                return Some(line.text);
-            }
-        }
-        None
+        next_comment(&mut self.rest)
     }
 }
 
+/// Takes lines up to the next kept comment, or all if the header comes before one.
+fn next_comment<'a>(lines: &mut Lines<'a>) -> Option<&'a [u8]>
+    ensures { MatchOption result
+        ((comments_from lines.old.source.now lines.old.at ≡ []) × (comments_from lines.new.source.now lines.new.at ≡ []))
+        (λ comment. comments_from lines.old.source.now lines.old.at
+            ≡ comment.now ∷ comments_from lines.new.source.now lines.new.at) }
+{
+    while let Some(line) = lines.next_line() {
+        if !stands_before_header(line.text) {
+            lines.close();
+            return None;
+        }
+        if is_kept(line.text) {
+            return Some(line.text);
+        }
+    }
+    None
+}
+
 /// Whether the line begins with `#C`, `#D`, `#N` or `#O`, and not with `#CXRLE`.
-fn is_kept(line: &[u8]) -> bool {
-    matches!(line, [b'#', b'C' | b'D' | b'N' | b'O', ..]) && !line.starts_with(b"#CXRLE")
+#[tactic(auto, unfolding(crate::specs::Opening::is_kept))]
+fn is_kept(line: &[u8]) -> bool
+    ensures { result ≡ is_kept line.now }
+{
+    !is_settings_line(line)
+        && (begins_with(line, b"#C")
+            || begins_with(line, b"#D")
+            || begins_with(line, b"#N")
+            || begins_with(line, b"#O"))
 }

@@ -1,7 +1,13 @@
 //! The items of a body.
 
-ghost use Rattle.std.specs.Prelude.{◌≡◌, ◌<◌, ◌≤◌, length, IfOk, IfSome, MatchOption};
-ghost use Rattle.rle_reader.specs.Slices.{StandsAt};
+ghost use Rattle.std.specs.Prelude.{◌≡◌, ◌<◌, ◌≤◌, ◌∷◌, if◌then◌else◌, length, IfOk, IfSome, OnSome};
+ghost use Rattle.std.specs.Option.{option_map};
+ghost use Rattle.std.specs.Result.{result_map_both};
+ghost use Rattle.plane.specs.declared.refusal.Refusal.TheVariants.{BadCount};
+ghost use Rattle.rle_reader.specs.Body.{struck_from};
+ghost use Rattle.rle_reader.specs.Faults.{fault_at};
+ghost use Rattle.rle_reader.specs.Items.{items_of, items_after, next_of, kept, drawn_from, tag_of};
+ghost use Rattle.rle_reader.specs.Seen.{seen_next, spot_seen, IsCount};
 
 use crate::body::{Body, Placed};
 use crate::faults::fault_at;
@@ -45,30 +51,66 @@ struct Count {
 /// Takes the next item. There is none where the body ends or has a `!`.
 pub(crate) fn next_run<'a>(body: &mut Body<'a>) -> Result<Option<Run<'a>>, Fault>
     ensures source { body.new.source.now ≡ body.old.source.now }
-    ensures slice { IfOk result (λ next. IfSome next (λ run. StandsAt body.old.source.now run.text.now run.place)) }
     ensures progress { IfOk result (λ next. IfSome next (λ run. body.old.at < body.new.at)) }
+    ensures next { seen_next result ≡ result_map_both (option_map kept) (λ fault. fault)
+        (next_of body.old.source.now (items_of (struck_from body.old.source.now body.old.at body.old.line_begins))) }
+    ensures rest { IfOk result (λ next. OnSome next (items_of (struck_from body.new.source.now body.new.at body.new.line_begins)
+        ≡ items_after (items_of (struck_from body.old.source.now body.old.at body.old.line_begins)))) }
 {
-    let Some(first) = body.next_byte() else {
-        return Ok(None);
+    match body.next_byte() {
+        Some(first) => {
+            let count = read_count(body, first);
+            match count.next {
+                Some(last) => {
+                    if last.byte == b'!' {
+                        untagged(first.place, count.is_written)
+                    } else {
+                        tagged_run(body.source(), first.place, count.value, last)
+                    }
+                }
+                None => untagged(first.place, count.is_written),
+            }
+        }
+        None => Ok(None),
+    }
+}
+
+/// The item from a place to its tag.
+#[tactic(auto, unfolding(crate::specs::Items::drawn_from))]
+fn tagged_run<'a>(
+    source: &'a [u8],
+    place: usize,
+    count: u64,
+    last: Placed,
+) -> Result<Option<Run<'a>>, Fault>
+    requires order { place ≤ last.place }
+    requires within { last.place < length source.now }
+    ensures { seen_next result ≡ result_map_both (λ run. Some run) (λ refusal. fault_at refusal place) (drawn_from source.now place count (spot_seen last)) }
+{
+    let tag = match tag_of(last.byte) {
+        Ok(tag) => tag,
+        Err(refusal) => return Err(fault_at(refusal, place)),
     };
-    let count = read_count(body, first);
-    let Some(last) = count.next.filter(|last| last.byte != b'!') else {
-        return if count.is_written {
-            Err(fault_at(Refusal::BadCount, first.place))
-        } else {
-            Ok(None)
-        };
-    };
-    let tag = tag_of(last.byte).map_err(|refusal| fault_at(refusal, first.place))?;
-    if count.value == 0 {
-        return Err(fault_at(Refusal::BadCount, first.place));
+    if count == 0 {
+        return Err(fault_at(Refusal::BadCount, place));
     }
     Ok(Some(Run {
-        text: &body.source()[first.place..last.place + 1],
-        place: first.place as u64,
-        count: count.value,
+        text: &source[place..last.place + 1],
+        place: place as u64,
+        count,
         tag,
     }))
+}
+
+/// The end of the body, where a count that no tag follows is a fault.
+fn untagged<'a>(place: usize, is_written: bool) -> Result<Option<Run<'a>>, Fault>
+    ensures { seen_next result ≡ (if is_written then Err (fault_at BadCount place) else Ok None) }
+{
+    if is_written {
+        Err(fault_at(Refusal::BadCount, place))
+    } else {
+        Ok(None)
+    }
 }
 
 /// Takes digits, of which `first` is the first if it is one, and the byte after them.
@@ -78,6 +120,8 @@ fn read_count(body: &mut Body<'_>, first: Placed) -> Count
     ensures place { body.old.at ≤ body.new.at }
     ensures within { body.new.at ≤ length body.new.source.now }
     ensures next { IfSome result.next (λ last. (first.place ≤ last.place) × (last.place < body.new.at)) }
+    ensures count { IsCount (spot_seen first ∷ struck_from body.old.source.now body.old.at body.old.line_begins) result
+        (struck_from body.new.source.now body.new.at body.new.line_begins) }
 {
     if !first.byte.is_ascii_digit() {
         return Count {
@@ -105,7 +149,10 @@ fn read_count(body: &mut Body<'_>, first: Placed) -> Count
 }
 
 /// The tag that a byte stands for.
-fn tag_of(byte: u8) -> Result<Tag, Refusal> {
+#[tactic(auto, unfolding(crate::specs::Items::tag_of))]
+fn tag_of(byte: u8) -> Result<Tag, Refusal>
+    ensures { result ≡ tag_of byte }
+{
     match byte {
         b'b' | b'.' => Ok(Tag::Dead),
         b'o' | b'A' => Ok(Tag::Live),

@@ -1,6 +1,8 @@
 //! The lines of a text.
 
-ghost use Rattle.std.specs.Prelude.{◌≡◌, ◌<◌, ◌≤◌, length, MatchOption};
+ghost use Rattle.std.specs.Prelude.{◌≡◌, ◌<◌, ◌≤◌, [], ◌∷◌, length, MatchOption};
+ghost use Rattle.std.specs.List.{position_or_len};
+ghost use Rattle.rle_reader.specs.Lines.{is_line_feed, lines_from, without_return};
 
 use memchr::memchr;
 
@@ -23,8 +25,17 @@ pub(crate) struct Lines<'a> {
 impl<'a> Lines<'a> {
     pub(crate) fn new(source: &'a [u8]) -> Self
         ensures source { result.source.now ≡ source.now }
+        ensures start { result.at ≡ 0 }
     {
         Lines { source, at: 0 }
+    }
+
+    /// Drops the lines that are left.
+    pub(crate) fn close(&mut self)
+        ensures source { self.new.source.now ≡ self.old.source.now }
+        ensures closed { lines_from self.new.source.now self.new.at ≡ [] }
+    {
+        self.at = self.source.len();
     }
 
     /// Where the next line begins.
@@ -39,6 +50,10 @@ impl<'a> Lines<'a> {
     pub(crate) fn next_line(&mut self) -> Option<Line<'a>>
         ensures source { self.new.source.now ≡ self.old.source.now }
         ensures place { MatchOption result (self.new.at ≡ self.old.at) (λ line. (line.place ≡ self.old.at) × (self.old.at < self.new.at)) }
+        ensures line { MatchOption result
+            (lines_from self.old.source.now self.old.at ≡ [])
+            (λ line. lines_from self.old.source.now self.old.at
+                ≡ record { place = line.place; text = line.text.now } ∷ lines_from self.new.source.now self.new.at) }
     {
         let rest = &self.source[self.at..];
         if rest.is_empty() {
@@ -56,15 +71,19 @@ impl<'a> Lines<'a> {
 
 /// How many bytes stand before the first LF, or how many there are if there is none.
 pub(crate) fn line_length(text: &[u8]) -> usize
-    ensures { result ≤ length text.now }
+    ensures value { result ≡ position_or_len is_line_feed text.now }
+    ensures within { result ≤ length text.now }
 {
     memchr(b'\n', text).unwrap_or(text.len())
 }
 
 /// The line without one CR at its end.
-fn without_return(line: &[u8]) -> &[u8] {
-    match line.split_last() {
-        Some((b'\r', front)) => front,
-        _ => line,
+#[tactic(auto, unfolding(crate::specs::Lines::without_return))]
+fn without_return(line: &[u8]) -> &[u8]
+    ensures { result.now ≡ without_return line.now }
+{
+    match line.strip_suffix(b"\r") {
+        Some(front) => front,
+        None => line,
     }
 }

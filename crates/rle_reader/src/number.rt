@@ -1,11 +1,14 @@
 //! Decimal numbers of any length.
 
-ghost use Rattle.std.specs.Prelude.{◌≡◌, min, pos};
+ghost use Rattle.std.specs.Prelude.{◌≡◌, ◌+◌, ◌-◌, ◌*◌, min, pos, neg_ℤ};
 ghost use Rattle.std.specs.Char.{IsAsciiDigit};
+ghost use Rattle.std.specs.Option.{option_map};
+ghost use Rattle.rle_reader.specs.Numbers.{number_of, integer_of, with_digit, capped, clamped};
 
 /// The number as it stands after one digit more. It stays at the largest `u64` once it is as large.
 pub(crate) fn with_digit(number: u64, digit: u8) -> u64
     requires { IsAsciiDigit digit }
+    ensures { result ≡ capped (with_digit number digit) }
 {
     number
         .saturating_mul(10)
@@ -14,7 +17,9 @@ pub(crate) fn with_digit(number: u64, digit: u8) -> u64
 
 /// The value of a text of one or more digits, or the largest `u64` if the value is larger. Other texts
 /// are no numbers.
-pub(crate) fn number(text: &[u8]) -> Option<u64> {
+pub(crate) fn number(text: &[u8]) -> Option<u64>
+    ensures { result ≡ option_map capped (number_of text.now) }
+{
     if text.is_empty() {
         return None;
     }
@@ -28,12 +33,32 @@ pub(crate) fn number(text: &[u8]) -> Option<u64> {
     Some(value)
 }
 
-/// The value of a number that may have a `-` before it. Beyond the range of `i64` it stays outside the
-/// range of coordinates.
-pub(crate) fn integer(text: &[u8]) -> Option<i64> {
-    match text.split_first() {
-        Some((b'-', digits)) => Some(-as_signed(number(digits)?)),
-        _ => Some(as_signed(number(text)?)),
+/// The value of a number that may have a `-` before it, or what is nearest to it in the range of `i64`
+/// without its least number.
+pub(crate) fn integer(text: &[u8]) -> Option<i64>
+    ensures { result ≡ option_map clamped (integer_of text.now) }
+{
+    match text.strip_prefix(b"-") {
+        Some(digits) => negative(number(digits)),
+        None => positive(number(text)),
+    }
+}
+
+fn positive(size: Option<u64>) -> Option<i64>
+    ensures { result ≡ option_map (λ size. pos (min size 9223372036854775807)) size }
+{
+    match size {
+        Some(size) => Some(as_signed(size)),
+        None => None,
+    }
+}
+
+fn negative(size: Option<u64>) -> Option<i64>
+    ensures { result ≡ option_map (λ size. neg_ℤ (pos (min size 9223372036854775807))) size }
+{
+    match size {
+        Some(size) => Some(-as_signed(size)),
+        None => None,
     }
 }
 

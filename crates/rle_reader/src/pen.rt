@@ -1,8 +1,10 @@
 //! Where the next item begins, and how many cells are live so far.
 
-ghost use Rattle.std.specs.Prelude.{◌≡◌, pos, ◌+ℤ◌, ◌<ℤ◌, ◌≤◌, MatchResult};
+ghost use Rattle.std.specs.Prelude.{◌≡◌, pos, ◌+ℤ◌, ◌≤◌, int_le, not, OnOk, IfErr, IsTrue};
+ghost use Rattle.rle_reader.specs.State.{state_at, start_at, after_item, motion_fault, passes_limit};
 ghost use Rattle.plane.specs.declared.range.TheConstants.{LIVE_CELL_LIMIT};
-ghost use Rattle.rle_reader.specs.Range.{IsWithinReach, IsInRange};
+ghost use Rattle.rle_reader.specs.Range.{IsWithinReach};
+ghost use Rattle.plane.specs.Range.{IsInRange};
 
 use crate::item::{Run, Tag};
 use plane::{COORDINATE_LIMIT, Cell, LIVE_CELL_LIMIT, Refusal};
@@ -24,6 +26,8 @@ impl Pen {
     /// Before the first item of a pattern whose upper left corner is at `pos`.
     pub(crate) fn new(pos: Cell) -> Self
         requires { IsInRange pos }
+        ensures left { result.left ≡ pos.x }
+        ensures state { state_at result.column result.row result.live ≡ start_at pos }
     {
         Pen {
             left: pos.x,
@@ -34,38 +38,106 @@ impl Pen {
     }
 
     /// Goes on past an item.
-    pub(crate) fn pass(&mut self, run: &Run<'_>) -> Result<(), Refusal> {
+    pub(crate) fn pass(&mut self, run: &Run<'_>) -> Result<(), Refusal>
+        ensures ok { OnOk result ((motion_fault (state_at self.old.column self.old.row self.old.live) run.now.tag run.now.count ≡ None)
+            × (state_at self.new.column self.new.row self.new.live
+                ≡ after_item self.old.left (state_at self.old.column self.old.row self.old.live) run.now.tag run.now.count)
+            × (self.new.left ≡ self.old.left)) }
+        ensures err { IfErr result (λ refusal. motion_fault (state_at self.old.column self.old.row self.old.live) run.now.tag run.now.count ≡ Some refusal) }
+    {
         match run.tag {
-            Tag::Row => {
-                self.row = moved(self.row, run.count)?;
-                self.column = self.left;
-            }
-            Tag::Dead => self.column = moved(self.column, run.count)?,
-            Tag::Live => {
-                let column = moved(self.column, run.count)?;
-                if self.row == COORDINATE_LIMIT {
-                    return Err(Refusal::OutOfRange);
-                }
-                if run.count > LIVE_CELL_LIMIT - self.live {
-                    return Err(Refusal::TooManyCells);
-                }
-                self.live += run.count;
-                self.column = column;
-            }
+            Tag::Row => self.pass_rows(run.count),
+            Tag::Dead => self.pass_dead(run.count),
+            Tag::Live => self.pass_live(run.count),
         }
+    }
+
+    #[tactic(auto, unfolding(crate::specs::State::motion_fault))]
+    fn pass_rows(&mut self, count: u64) -> Result<(), Refusal>
+        ensures ok { OnOk result ((motion_fault (state_at self.old.column self.old.row self.old.live) Tag.Row count ≡ None)
+            × (state_at self.new.column self.new.row self.new.live
+                ≡ after_item self.old.left (state_at self.old.column self.old.row self.old.live) Tag.Row count)
+            × (self.new.left ≡ self.old.left)) }
+        ensures err { IfErr result (λ refusal. motion_fault (state_at self.old.column self.old.row self.old.live) Tag.Row count ≡ Some refusal) }
+    {
+        if !can_move(self.row, count) {
+            return Err(Refusal::OutOfRange);
+        }
+        *self = Pen {
+            left: self.left,
+            column: self.left,
+            row: moved(self.row, count),
+            live: self.live,
+        };
+        Ok(())
+    }
+
+    #[tactic(auto, unfolding(crate::specs::State::motion_fault))]
+    fn pass_dead(&mut self, count: u64) -> Result<(), Refusal>
+        ensures ok { OnOk result ((motion_fault (state_at self.old.column self.old.row self.old.live) Tag.Dead count ≡ None)
+            × (state_at self.new.column self.new.row self.new.live
+                ≡ after_item self.old.left (state_at self.old.column self.old.row self.old.live) Tag.Dead count)
+            × (self.new.left ≡ self.old.left)) }
+        ensures err { IfErr result (λ refusal. motion_fault (state_at self.old.column self.old.row self.old.live) Tag.Dead count ≡ Some refusal) }
+    {
+        if !can_move(self.column, count) {
+            return Err(Refusal::OutOfRange);
+        }
+        *self = Pen {
+            left: self.left,
+            column: moved(self.column, count),
+            row: self.row,
+            live: self.live,
+        };
+        Ok(())
+    }
+
+    #[tactic(auto, unfolding(crate::specs::State::motion_fault))]
+    fn pass_live(&mut self, count: u64) -> Result<(), Refusal>
+        ensures ok { OnOk result ((motion_fault (state_at self.old.column self.old.row self.old.live) Tag.Live count ≡ None)
+            × (state_at self.new.column self.new.row self.new.live
+                ≡ after_item self.old.left (state_at self.old.column self.old.row self.old.live) Tag.Live count)
+            × (self.new.left ≡ self.old.left)) }
+        ensures err { IfErr result (λ refusal. motion_fault (state_at self.old.column self.old.row self.old.live) Tag.Live count ≡ Some refusal) }
+    {
+        if !can_move(self.column, count) || is_at_limit(self.row) {
+            return Err(Refusal::OutOfRange);
+        }
+        if count > LIVE_CELL_LIMIT - self.live {
+            return Err(Refusal::TooManyCells);
+        }
+        *self = Pen {
+            left: self.left,
+            column: moved(self.column, count),
+            row: self.row,
+            live: self.live + count,
+        };
         Ok(())
     }
 }
 
-/// The coordinate moved on by a count, if it is not above the limit then.
-fn moved(coordinate: i64, count: u64) -> Result<i64, Refusal>
-    requires { IsWithinReach coordinate }
-    ensures { MatchResult result
-        (λ next. IsWithinReach next × (next ≡ coordinate +ℤ pos count))
-        (λ refusal. (refusal ≡ Refusal.OutOfRange) × (COORDINATE_LIMIT <ℤ (coordinate +ℤ pos count))) }
+/// Whether the row lies below all cells.
+fn is_at_limit(row: i64) -> bool
+    ensures { result ≡ int_le COORDINATE_LIMIT row }
 {
-    if count > (COORDINATE_LIMIT - coordinate) as u64 {
-        return Err(Refusal::OutOfRange);
-    }
-    Ok(coordinate + count as i64)
+    row >= COORDINATE_LIMIT
+}
+
+/// The coordinate moved on by a count.
+fn moved(coordinate: i64, count: u64) -> i64
+    requires before { IsWithinReach coordinate }
+    requires after { IsWithinReach (coordinate +ℤ pos count) }
+    ensures value { result ≡ coordinate +ℤ pos count }
+    ensures in_reach { IsWithinReach result }
+{
+    coordinate + count as i64
+}
+
+/// Whether the coordinate moved on by a count is not above the limit.
+fn can_move(coordinate: i64, count: u64) -> bool
+    requires { IsWithinReach coordinate }
+    ensures value { result ≡ not (passes_limit coordinate count) }
+    ensures next { IsTrue result → IsWithinReach (coordinate +ℤ pos count) }
+{
+    count <= (COORDINATE_LIMIT - coordinate) as u64
 }

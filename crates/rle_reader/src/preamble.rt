@@ -1,6 +1,15 @@
 //! What stands before the body: blank lines, comments and the header line.
 
-ghost use Rattle.std.specs.Prelude.{◌≡◌, ◌≤◌, length, IfOk};
+ghost use Rattle.std.specs.Prelude.{◌≡◌, ◌≤◌, length, IfOk, IfErr};
+ghost use Rattle.std.specs.Option.{option_copied};
+ghost use Rattle.rle_reader.specs.Faults.{at_place};
+ghost use Rattle.rle_reader.specs.Header.{header_rule};
+ghost use Rattle.rle_reader.specs.Lines.{lines_from};
+ghost use Rattle.plane.specs.Range.{IsInRange};
+ghost use Rattle.rle_reader.specs.Seen.{seen_opening};
+ghost use Rattle.std.specs.List.{list_all};
+ghost use Rattle.rle_reader.specs.Bytes.{is_blank};
+ghost use Rattle.rle_reader.specs.Opening.{stands_before_header, is_comment, opening_of};
 
 use crate::bytes::is_blank;
 use crate::faults::fault_at;
@@ -24,8 +33,9 @@ pub(crate) struct Preamble<'a> {
 impl<'a> Preamble<'a> {
     /// Reads the lines up to the header.
     pub(crate) fn read(source: &'a [u8]) -> Result<Preamble<'a>, Fault>
-        ensures header { IfOk result (λ read. read.header ≤ length source.now) }
+        ensures opening { seen_opening source.now result ≡ opening_of (length source.now) (lines_from source.now 0) }
         ensures body { IfOk result (λ read. read.body ≤ length source.now) }
+        ensures in_range { IfOk result (λ read. IsInRange read.settings.pos) }
     {
         let mut lines = Lines::new(source);
         let mut settings = Settings::new();
@@ -39,8 +49,9 @@ impl<'a> Preamble<'a> {
     }
 
     fn with_header(settings: Settings, line: Line<'a>, body: usize) -> Result<Preamble<'a>, Fault>
-        ensures header { IfOk result (λ read. read.header ≡ line.entry.place) }
-        ensures body { IfOk result (λ read. read.body ≡ body) }
+        ensures ok { IfOk result (λ read. (read.settings ≡ settings) × (read.header ≡ line.entry.place) × (read.body ≡ body)
+            × (at_place line.entry.place (header_rule line.entry.text.now) ≡ Ok (option_copied read.rule))) }
+        ensures err { IfErr result (λ fault. at_place line.entry.place (header_rule line.entry.text.now) ≡ Err fault) }
     {
         match header_rule(line.text) {
             Ok(rule) => Ok(Preamble {
@@ -55,6 +66,24 @@ impl<'a> Preamble<'a> {
 }
 
 /// Whether the line is empty or blank, or a comment.
-fn stands_before_header(line: &[u8]) -> bool {
-    line.first() == Some(&b'#') || line.iter().all(|byte| is_blank(*byte))
+#[tactic(auto, unfolding(crate::specs::Opening::stands_before_header))]
+pub(crate) fn stands_before_header(line: &[u8]) -> bool
+    ensures { result ≡ stands_before_header line.now }
+{
+    is_comment(line) || is_blank_line(line)
+}
+
+fn is_comment(line: &[u8]) -> bool
+    ensures { result ≡ is_comment line.now }
+{
+    match line.first() {
+        Some(first) => *first == b'#',
+        None => false,
+    }
+}
+
+fn is_blank_line(line: &[u8]) -> bool
+    ensures { result ≡ list_all is_blank line.now }
+{
+    line.iter().all(|byte| is_blank(*byte))
 }

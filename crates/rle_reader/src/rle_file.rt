@@ -1,6 +1,11 @@
 //! A checked RLE file.
 
-ghost use Rattle.std.specs.Prelude.{◌≡◌, ◌≤◌, List, ℕ, length, IfOk};
+ghost use Rattle.std.specs.Prelude.{◌≡◌, ◌≤◌, length, true, IfErr, OnOk};
+ghost use Rattle.std.specs.Option.{option_copied};
+ghost use Rattle.rle_reader.specs.Body.{struck_from};
+ghost use Rattle.rle_reader.specs.Items.{items_of};
+ghost use Rattle.rle_reader.specs.Meaning.{body_fault, judged};
+ghost use Rattle.plane.specs.Range.{IsInRange};
 
 use crate::body::Body;
 use crate::comments::Comments;
@@ -20,14 +25,20 @@ pub struct RleFile<'a> {
 }
 
 impl<'a> Model for RleFile<'a> {
-    ghost use Rattle.std.specs.Prelude.{ℕ, List, ◌≤◌, length};
+    ghost use Rattle.std.specs.Prelude.{◌≡◌, ◌≤◌, None, true, length};
+    ghost use Rattle.rle_reader.specs.Body.{struck_from};
+    ghost use Rattle.rle_reader.specs.Items.{items_of};
+    ghost use Rattle.rle_reader.specs.Meaning.{Meaning, meaning_of, body_fault};
+    ghost use Rattle.plane.specs.Range.{IsInRange};
+    ghost use Rattle.rle_reader.specs.Seen.{opening_seen};
 
-    ghost Value = { List ℕ };
+    ghost Value = { Meaning };
 
-    ghost view = { λ file. file.source.now };
+    ghost view = { λ file. meaning_of file.source.now (opening_seen file.source.now file.preamble) };
 
-    ghost invariant = { λ file. (file.preamble.header ≤ length file.source.now)
-        × (file.preamble.body ≤ length file.source.now) };
+    ghost invariant = { λ file. (file.preamble.body ≤ length file.source.now)
+        × IsInRange file.preamble.settings.pos
+        × (body_fault file.preamble.settings.pos (items_of (struck_from file.source.now file.preamble.body true)) ≡ None) };
 }
 
 impl<'a> RleFile<'a> {
@@ -45,7 +56,7 @@ impl<'a> RleFile<'a> {
     ///
     /// The first line or item with a fault is answered, and of its faults the one of the lowest number.
     pub fn open(source: &'a [u8]) -> Result<RleFile<'a>, Fault>
-        ensures { IfOk result (λ file. file ≡ source.now) }
+        ensures { result ≡ judged source.now }
     {
         let preamble = Preamble::read(source)?;
         check_body(source, &preamble)?;
@@ -54,34 +65,48 @@ impl<'a> RleFile<'a> {
 
     /// The cell of the first item, the upper left corner of the pattern's box; (0, 0) if the file does
     /// not say.
-    pub fn pos(&self) -> Cell {
+    #[tactic(auto, unfolding(crate::specs::Meaning::meaning_of))]
+    pub fn pos(&self) -> Cell
+        ensures { result ≡ self.now.pos }
+    {
         self.preamble.settings.pos
     }
 
     /// The generation of the pattern, 0 if the file does not say.
-    pub fn generation(&self) -> u64 {
+    #[tactic(auto, unfolding(crate::specs::Meaning::meaning_of))]
+    pub fn generation(&self) -> u64
+        ensures { result ≡ self.now.generation }
+    {
         self.preamble.settings.generation
     }
 
     /// The text of the rule, as it stands in the header, if it names one.
-    pub fn rule_slice(&self) -> Option<&'a [u8]> {
+    #[tactic(auto, unfolding(crate::specs::Meaning::meaning_of))]
+    pub fn rule_slice(&self) -> Option<&'a [u8]>
+        ensures { option_copied result ≡ self.now.rule }
+    {
         self.preamble.rule
     }
 
     /// The place of the header line, whether or not it names a rule.
-    pub fn rule_place(&self) -> u64 {
+    #[tactic(auto, unfolding(crate::specs::Meaning::meaning_of))]
+    pub fn rule_place(&self) -> u64
+        ensures { result ≡ self.now.rule_place }
+    {
         self.preamble.header as u64
     }
 
     /// The comments that are kept: the lines before the header that begin with `#C`, `#D`, `#N` or `#O`,
     /// and not with `#CXRLE`.
-    pub fn comments(&self) -> Comments<'a> {
-        Comments::new(&self.source[..self.preamble.header])
+    #[tactic(auto, unfolding(crate::specs::Meaning::meaning_of, crate::specs::Opening::comments_from))]
+    pub fn comments(&self) -> Comments<'a>
+        ensures { result ≡ self.now.comments }
+    {
+        Comments::new(self.source)
     }
 
     /// The items of the body.
     pub fn runs(&self) -> Runs<'a>
-        ensures { result.body.source.now ≡ self.now }
     {
         Runs::new(self.source, self.preamble.body)
     }
@@ -89,7 +114,10 @@ impl<'a> RleFile<'a> {
 
 /// Goes through the items, each with what comes before it.
 fn check_body(source: &[u8], preamble: &Preamble<'_>) -> Result<(), Fault>
-    requires { preamble.now.body ≤ length source.now }
+    requires body { preamble.now.body ≤ length source.now }
+    requires in_range { IsInRange preamble.now.settings.pos }
+    ensures ok { OnOk result (body_fault preamble.now.settings.pos (items_of (struck_from source.now preamble.now.body true)) ≡ None) }
+    ensures err { IfErr result (λ fault. body_fault preamble.now.settings.pos (items_of (struck_from source.now preamble.now.body true)) ≡ Some fault) }
 {
     let mut body = Body::new(source, preamble.body);
     let mut pen = Pen::new(preamble.settings.pos);

@@ -27,9 +27,6 @@ impl<'a> Runs<'a> {
 impl<'a> Iterator for Runs<'a> {
     type Item = Run<'a>;
 
-    ghost next_gives = { λ old next new. (new.body.source.now ≡ old.body.source.now)
-        × IfSome next (λ run. StandsAt old.body.source.now run.text.now run.place) };
-
     ghost remaining = { λ runs. at_most (length runs.body.source.now - runs.body.at) };
 
     fn next(&mut self) -> Option<Run<'a>> {

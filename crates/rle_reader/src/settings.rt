@@ -1,10 +1,16 @@
 //! The words of the `#CXRLE` lines.
 
-ghost use Rattle.std.specs.Prelude.{◌≡◌, ◌↔◌, ◌≤◌, IsTrue, IfOk};
-ghost use Rattle.rle_reader.specs.Range.{IsCoordinate, IsInRange};
-ghost use Rattle.rle_reader.specs.Words.{GivesCellInRange};
+ghost use Rattle.std.specs.Prelude.{◌≡◌, ◌↔◌, ◌∷◌, ◌<◌, length, map, IfOk, IfSome, IsTrue};
+ghost use Rattle.std.specs.List.{position};
+ghost use Rattle.std.specs.Option.{option_copied};
+ghost use Rattle.rle_reader.specs.Bytes.{is_blank, words};
+ghost use Rattle.rle_reader.specs.Faults.{at_place};
+ghost use Rattle.rle_reader.specs.Numbers.{number_of};
+ghost use Rattle.plane.specs.Range.{IsInRange, IsCoordinate};
+ghost use Rattle.rle_reader.specs.Words.{GivesCellInRange, word_of, position_of, generation_at, cell_at, is_coordinate};
+ghost use Rattle.rle_reader.specs.Settings.{is_settings_line, nothing_said, after_word, after_readings, after_line, lower, words_left};
 
-use crate::bytes::{is_blank, split_at_byte};
+use crate::bytes::{begins_with, is_blank, split_at_byte};
 use crate::faults::fault_at;
 use crate::lines::Line;
 use crate::number::{integer, number};
@@ -16,12 +22,11 @@ pub(crate) struct Settings {
     /// Where the pattern's upper left corner lies.
     pub(crate) pos: Cell,
     pub(crate) generation: u64,
-    ghost in_range: { IsInRange pos },
 }
 
 /// What one word says.
 #[derive(Clone, Copy, Debug)]
-enum Word {
+pub(crate) enum Word {
     Pos(Cell),
     Gen(u64),
     Other,
@@ -29,7 +34,10 @@ enum Word {
 
 impl Settings {
     /// What holds where no word says otherwise.
-    pub(crate) fn new() -> Self {
+    pub(crate) fn new() -> Self
+        ensures value { result ≡ nothing_said }
+        ensures in_range { IsInRange result.pos }
+    {
         Settings {
             pos: Cell { y: 0, x: 0 },
             generation: 0,
@@ -37,8 +45,13 @@ impl Settings {
     }
 
     /// These settings after a line before the header.
-    pub(crate) fn after_line(self, line: Line<'_>) -> Result<Settings, Fault> {
-        if !line.text.starts_with(b"#CXRLE") {
+    #[tactic(auto, unfolding(crate::specs::Settings::after_line))]
+    pub(crate) fn after_line(self, line: Line<'_>) -> Result<Settings, Fault>
+        requires { IsInRange self.pos }
+        ensures value { result ≡ at_place line.entry.place (after_line self line.entry.text.now) }
+        ensures in_range { IfOk result (λ settings. IsInRange settings.pos) }
+    {
+        if !is_settings_line(line.text) {
             return Ok(self);
         }
         match self.after_words(line.text) {
@@ -48,14 +61,21 @@ impl Settings {
     }
 
     /// These settings after the words of a line, or the lowest fault of a word.
-    fn after_words(self, line: &[u8]) -> Result<Settings, Refusal> {
+    fn after_words(self, line: &[u8]) -> Result<Settings, Refusal>
+        requires { IsInRange self.pos }
+        ensures value { result ≡ after_readings self (map word_of (words line.now)) }
+        ensures in_range { IfOk result (λ settings. IsInRange settings.pos) }
+    {
         let mut settings = self;
         let mut worst = None;
-        for text in line.split(|byte| is_blank(*byte)) {
-            match read_word(text) {
+        let mut rest = Some(line);
+        while let Some(text) = rest {
+            let (word, others) = first_word(text);
+            match read_word(word) {
                 Ok(word) => settings = settings.after_word(word),
-                Err(refusal) => worst = Some(lower(worst, refusal)),
+                Err(refusal) => worst = lower(worst, refusal),
             }
+            rest = others;
         }
         match worst {
             Some(refusal) => Err(refusal),
@@ -65,7 +85,10 @@ impl Settings {
 
     /// These settings after a word.
     fn after_word(self, word: Word) -> Settings
-        requires { GivesCellInRange word }
+        requires word { GivesCellInRange word }
+        requires in_range { IsInRange self.pos }
+        ensures value { result ≡ after_word self word }
+        ensures in_range { IsInRange result.pos }
     {
         match word {
             Word::Pos(pos) => Settings {
@@ -81,50 +104,105 @@ impl Settings {
     }
 }
 
-/// The refusal of the lower number.
-fn lower(worst: Option<Refusal>, refusal: Refusal) -> Refusal {
+/// What stands before the first blank of a text, and what stands after it, if there is one.
+fn first_word(text: &[u8]) -> (&[u8], Option<&[u8]>)
+    ensures words { words text.now ≡ result.0.now ∷ words_left (option_copied result.1) }
+    ensures shorter { IfSome result.1 (λ others. length others.now < length text.now) }
+{
+    match first_blank(text) {
+        Some(at) => (&text[..at], Some(&text[at + 1..])),
+        None => (text, None),
+    }
+}
+
+/// The place of the first blank.
+fn first_blank(text: &[u8]) -> Option<usize>
+    ensures { result ≡ position is_blank text.now }
+{
+    text.iter().position(|byte| is_blank(*byte))
+}
+
+/// Whether the line begins with `#CXRLE`.
+pub(crate) fn is_settings_line(line: &[u8]) -> bool
+    ensures { result ≡ is_settings_line line.now }
+{
+    begins_with(line, b"#CXRLE")
+}
+
+/// Of two refusals the one of the lower number.
+fn lower(worst: Option<Refusal>, refusal: Refusal) -> Option<Refusal>
+    ensures { result ≡ lower worst refusal }
+{
     match worst {
-        Some(other) if other.number() <= refusal.number() => other,
-        _ => refusal,
+        Some(other) if other.number() <= refusal.number() => Some(other),
+        _ => Some(refusal),
     }
 }
 
 /// What a word says.
+#[tactic(auto, unfolding(crate::specs::Words::word_of))]
 fn read_word(text: &[u8]) -> Result<Word, Refusal>
-    ensures { IfOk result GivesCellInRange }
+    ensures value { result ≡ word_of text.now }
+    ensures in_range { IfOk result GivesCellInRange }
 {
     if let Some(value) = text.strip_prefix(b"Pos=") {
         return Ok(Word::Pos(position(value)?));
     }
     if let Some(value) = text.strip_prefix(b"Gen=") {
-        return Ok(Word::Gen(generation(value)?));
+        return Ok(Word::Gen(generation_of(value)?));
     }
     Ok(Word::Other)
 }
 
 /// Two whole numbers and a comma between them, both in the range of coordinates.
 fn position(text: &[u8]) -> Result<Cell, Refusal>
-    ensures { IfOk result IsInRange }
+    ensures value { result ≡ position_of text.now }
+    ensures in_range { IfOk result IsInRange }
 {
-    let (x, y) = split_at_byte(text, b',').ok_or(Refusal::BadHeader)?;
-    let x = integer(x).ok_or(Refusal::BadHeader)?;
-    let y = integer(y).ok_or(Refusal::BadHeader)?;
-    if is_coordinate(x) && is_coordinate(y) {
-        Ok(Cell { y, x })
-    } else {
-        Err(Refusal::OutOfRange)
+    match split_at_byte(text, b',') {
+        Some((x, y)) => cell(integer(x), integer(y)),
+        None => Err(Refusal::BadHeader),
+    }
+}
+
+/// The cell of two coordinates: first of all both have to be numbers, and then both in the range.
+#[tactic(auto, unfolding(crate::specs::Words::cell_at))]
+fn cell(x: Option<i64>, y: Option<i64>) -> Result<Cell, Refusal>
+    ensures value { result ≡ cell_at x y }
+    ensures in_range { IfOk result IsInRange }
+{
+    match (x, y) {
+        (Some(x), Some(y)) => {
+            if is_coordinate(x) && is_coordinate(y) {
+                Ok(Cell { y, x })
+            } else {
+                Err(Refusal::OutOfRange)
+            }
+        }
+        _ => Err(Refusal::BadHeader),
     }
 }
 
 fn is_coordinate(number: i64) -> bool
-    ensures { IsTrue result ↔ IsCoordinate number }
+    ensures value { result ≡ is_coordinate number }
+    ensures meaning { IsTrue result ↔ IsCoordinate number }
 {
     -COORDINATE_LIMIT <= number && number < COORDINATE_LIMIT
 }
 
-/// One or more digits whose value is no more than the last generation.
-fn generation(text: &[u8]) -> Result<u64, Refusal> {
-    match number(text) {
+/// The generation that a text of digits gives.
+fn generation_of(text: &[u8]) -> Result<u64, Refusal>
+    ensures { result ≡ generation_at (number_of text.now) }
+{
+    generation(number(text))
+}
+
+/// The generation, if there is a number and it is no more than the last generation.
+#[tactic(auto, unfolding(crate::specs::Words::generation_at))]
+fn generation(number: Option<u64>) -> Result<u64, Refusal>
+    ensures { result ≡ generation_at number }
+{
+    match number {
         Some(generation) if generation <= GENERATION_LIMIT => Ok(generation),
         _ => Err(Refusal::BadGen),
     }

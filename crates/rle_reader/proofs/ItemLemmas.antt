@@ -1,0 +1,241 @@
+-- The first item of a body, and the items after it.
+use Rattle.std.proofs.Common.{◌≡◌, ℕ, zero, suc, ◌<◌, ◌+◌, ◌==◌, ◌↔◌, Bool, true, false, cond, List, [], ◌∷◌, ◌++◌, length, map, drop, Option, None, Some, Result, Ok, Err, IfOk, IfSome, IfNone, OnSome, IsTrue, refl, ap, subst, sym, ◌∙◌, arith, fold, append_assoc, length-append, slice_range}
+use Rattle.std.proofs.lemmas.List.{map-append}
+use Rattle.std.proofs.lemmas.Bool.{eqb-true}
+use Rattle.std.specs.Char.{is_ascii_digit}
+use Rattle.std.specs.List.{AllByRecursion}
+use Rattle.std.specs.Option.{option_map}
+use Rattle.std.specs.Result.{result_map_both}
+use Rattle.std.proofs.lemmas.Bool.Decides.{nat_tests}
+use Rattle.rle_reader.proofs.NumberLemmas.{capped_step}
+use Rattle.plane.specs.declared.fault.Fault.{Fault}
+use Rattle.plane.specs.declared.refusal.Refusal.{Refusal}
+use Rattle.plane.specs.declared.refusal.Refusal.TheVariants.{BadCount}
+use Rattle.rle_reader.specs.Body.{Spot}
+use Rattle.rle_reader.specs.Faults.{fault_at}
+use Rattle.rle_reader.specs.Items.{Item, Items, Drawn, IsEnd, is_digit_spot, is_end_spot, items_of, with_digit, with_tag, place_of, count_of, tag_of, drawn_as, drawn_from, next_among, next_of, items_after, kept}
+use Rattle.rle_reader.specs.Numbers.{decimal_value, capped}
+use Rattle.rle_reader.specs.Numbers as numbers
+use Rattle.rle_reader.specs.Seen.{IsCount, spot_seen}
+use Rattle.rle_reader.specs.declared.body.Placed.{Placed}
+use Rattle.rle_reader.specs.declared.item.Count.{Count}
+use Rattle.std.specs.Option.{option_to_list}
+use Rattle.rle_reader.specs.declared.item.Tag.{Tag}
+
+-- all of these are digits
+abbrev pub AreDigits : List Spot → Type 0
+AreDigits digits = AllByRecursion (λ spot. is_digit_spot spot ≡ true) digits
+
+items_of-digit : (digit : Spot) (rest : List Spot) → is_digit_spot digit ≡ true → items_of (digit ∷ rest) ≡ with_digit digit (items_of rest)
+unfolding items_of
+items_of-digit digit rest is = rw is refl
+
+items_of-stop : (stop : Spot) (rest : List Spot) → is_digit_spot stop ≡ false → is_end_spot stop ≡ true → items_of (stop ∷ rest) ≡ record { items = []; left_over = [] }
+unfolding items_of
+items_of-stop stop rest no_digit ends = rw (no_digit, ends) refl
+
+items_of-other : (tag : Spot) (rest : List Spot) → is_digit_spot tag ≡ false → is_end_spot tag ≡ false → items_of (tag ∷ rest) ≡ with_tag tag (items_of rest)
+unfolding items_of
+items_of-other tag rest no_digit no_end = rw (no_digit, no_end) refl
+
+items_of-nil : items_of [] ≡ record { items = []; left_over = [] }
+unfolding items_of
+items_of-nil = refl
+
+-- digits and then a tag are the first item
+pub items_of-tag : (digits : List Spot) (tag : Spot) (rest : List Spot) → AreDigits digits → is_digit_spot tag ≡ false → is_end_spot tag ≡ false →
+    items_of (digits ++ tag ∷ rest) ≡ record { items = record { digits = digits; tag = tag } ∷ (items_of rest).items; left_over = (items_of rest).left_over }
+unfolding with_digit
+items_of-tag [] tag rest each no_digit no_end = items_of-other tag rest no_digit no_end
+items_of-tag (digit ∷ digits) tag rest each no_digit no_end =
+    items_of-digit digit (digits ++ tag ∷ rest) each.0
+    ∙ ap (with_digit digit) (items_of-tag digits tag rest each.1 no_digit no_end)
+
+-- digits and then the end are left over
+pub items_of-end : (digits rest : List Spot) → AreDigits digits → IsEnd rest → items_of (digits ++ rest) ≡ record { items = []; left_over = digits }
+unfolding with_digit
+items_of-end [] [] each ends = items_of-nil
+items_of-end [] (stop ∷ rest) each ends = items_of-stop stop rest (ap (λ b. is_ascii_digit b) (eqb-true stop.byte 33 ends)) ends
+items_of-end (digit ∷ digits) rest each ends =
+    items_of-digit digit (digits ++ rest) each.0
+    ∙ ap (with_digit digit) (items_of-end digits rest each.1 ends)
+
+first_place : (digits : List Spot) (first tag : Spot) (mid rest : List Spot) → first ∷ mid ≡ digits ++ tag ∷ rest → first.place ≡ place_of digits tag
+first_place [] first tag mid rest whole = cc
+first_place (digit ∷ digits) first tag mid rest whole = cc
+
+unfoldable pub seen_some : Result Drawn Refusal → ℕ → Result (Option Drawn) Fault
+seen_some found place = result_map_both (λ run. Some run) (λ refusal. fault_at refusal place) found
+
+unfoldable pub as_kept : Result (Option Drawn) Fault → Result (Option Drawn) Fault
+as_kept found = result_map_both (option_map kept) (λ fault. fault) found
+
+kept_if : (b : Bool) (run : Drawn) (place : ℕ) → seen_some (cond b (Err BadCount) (Ok (kept run))) place ≡ as_kept (seen_some (cond b (Err BadCount) (Ok run)) place)
+unfolding seen_some as_kept
+kept_if true run place = refl
+kept_if false run place = refl
+
+kept_as : (source : List ℕ) (place count end at : ℕ) (tag : Result Tag Refusal) → seen_some (drawn_as source place (capped count) end tag) at ≡ as_kept (seen_some (drawn_as source place count end tag) at)
+unfolding seen_some as_kept
+kept_as source place count end at (Err refusal) = refl
+kept_as source place count end at (Ok tag) =
+    let run : Drawn = record { text = slice_range source place end; place = place; count = count; tag = tag } in
+    let same : (capped count == 0) ≡ (count == 0) = grind (arith, nat_tests) in
+    ap (λ b. seen_some (cond b (Err BadCount) (Ok (kept run))) at) same ∙ kept_if (count == 0) run at
+
+-- capping the count before or after makes no difference
+kept-drawn_from : (source : List ℕ) (place count : ℕ) (tag : Spot) → seen_some (drawn_from source place (capped count) tag) place ≡ as_kept (seen_some (drawn_from source place count tag) place)
+unfolding seen_some as_kept drawn_from
+kept-drawn_from source place count tag = kept_as source place count (tag.place + 1) place (tag_of tag.byte)
+
+next_of-tag : (source : List ℕ) (digits : List Spot) (tag : Spot) (rest : List Spot) → AreDigits digits → is_digit_spot tag ≡ false → is_end_spot tag ≡ false →
+    next_of source (items_of (digits ++ tag ∷ rest)) ≡ seen_some (drawn_from source (place_of digits tag) (count_of digits) tag) (place_of digits tag)
+unfolding seen_some next_among
+next_of-tag source digits tag rest each no_digit no_end = ap (next_of source) (items_of-tag digits tag rest each no_digit no_end)
+
+pub next-tagged : (source : List ℕ) (all digits : List Spot) (first tag : Spot) (mid rest : List Spot) (value : ℕ) (found : Result (Option Drawn) Fault) →
+    all ≡ first ∷ mid → first ∷ mid ≡ digits ++ tag ∷ rest → AreDigits digits → is_digit_spot tag ≡ false → is_end_spot tag ≡ false → value ≡ capped (count_of digits) →
+    found ≡ result_map_both (λ run. Some run) (λ refusal. fault_at refusal first.place) (drawn_from source first.place value tag) →
+    found ≡ result_map_both (option_map kept) (λ fault. fault) (next_of source (items_of all))
+unfolding seen_some as_kept
+next-tagged source all digits first tag mid rest value found all_is whole each no_digit no_end value_is is =
+    is
+    ∙ ap (λ place. seen_some (drawn_from source place value tag) place) (first_place digits first tag mid rest whole)
+    ∙ ap (λ count. seen_some (drawn_from source (place_of digits tag) count tag) (place_of digits tag)) value_is
+    ∙ kept-drawn_from source (place_of digits tag) (count_of digits) tag
+    ∙ ap as_kept (sym (next_of-tag source digits tag rest each no_digit no_end))
+    ∙ ap (λ spots. as_kept (next_of source (items_of spots))) (sym (all_is ∙ whole))
+
+pub rest-tagged : (all digits : List Spot) (tag : Spot) (rest : List Spot) → all ≡ digits ++ tag ∷ rest → AreDigits digits → is_digit_spot tag ≡ false → is_end_spot tag ≡ false →
+    items_of rest ≡ items_after (items_of all)
+rest-tagged all digits tag rest whole each no_digit no_end =
+    ap items_after (sym (items_of-tag digits tag rest each no_digit no_end)) ∙ ap (λ spots. items_after (items_of spots)) (sym whole)
+
+pub on_next : {T E : Type 0} (r : Result (Option T) E) (P : Type 0) → P → IfOk r (λ next. OnSome next P)
+on_next (Ok None) P h = tt
+on_next (Ok (Some x)) P h = h
+on_next (Err e) P h = tt
+
+written_end : (source : List ℕ) (digits : List Spot) (first : Spot) (mid rest : List Spot) (written : Bool) → first ∷ mid ≡ digits ++ rest → (IsTrue written ↔ (0 < length digits)) →
+    cond {A = Result (Option Drawn) Fault} written (Err (fault_at BadCount first.place)) (Ok None) ≡ as_kept (next_among source [] digits)
+unfolding as_kept next_among
+written_end source [] first mid rest true whole is = absurd (omega (arith, is.0 refl))
+written_end source [] first mid rest false whole is = refl
+written_end source (digit ∷ digits) first mid rest true whole is = ap (λ place. Err (fault_at BadCount place)) cc
+written_end source (digit ∷ digits) first mid rest false whole is =
+    let some : 0 < length (digit ∷ digits) = omega arith in
+    let impossible = is.1 some in
+    cc
+
+pub next-untagged : (source : List ℕ) (all digits : List Spot) (first : Spot) (mid rest : List Spot) (written : Bool) (found : Result (Option Drawn) Fault) →
+    all ≡ first ∷ mid → first ∷ mid ≡ digits ++ rest → AreDigits digits → IsEnd rest → (IsTrue written ↔ (0 < length digits)) →
+    found ≡ cond written (Err (fault_at BadCount first.place)) (Ok None) →
+    found ≡ result_map_both (option_map kept) (λ fault. fault) (next_of source (items_of all))
+unfolding as_kept
+next-untagged source all digits first mid rest written found all_is whole each ends is_written is =
+    is ∙ written_end source digits first mid rest written whole is_written
+    ∙ ap (λ items. as_kept (next_of source items)) (sym (items_of-end digits rest each ends))
+    ∙ ap (λ spots. as_kept (next_of source (items_of spots))) (sym (all_is ∙ whole))
+
+pub next-nil : (source : List ℕ) (all : List Spot) → all ≡ [] → Ok None ≡ result_map_both (option_map kept) (λ fault. fault) (next_of source (items_of all))
+unfolding next_among
+next-nil source all none = ap (λ items. result_map_both (option_map kept) (λ fault. fault) (next_of source items)) (sym (ap items_of none ∙ items_of-nil))
+
+-- ---- the digits of a count, one after the other
+
+-- the digits at the front of these spots have this value, and these spots are left
+pub record IsRead (all : List Spot) (value : ℕ) (left : List Spot) : Type 0 where
+  pub digits : List Spot
+  pub each : AreDigits digits
+  pub whole : all ≡ digits ++ left
+  pub some : 0 < length digits
+  pub value_is : value ≡ capped (decimal_value (map (λ spot. spot.byte) digits))
+
+fold_push : (value : ℕ) (bytes : List ℕ) (last : ℕ) → fold numbers.with_digit value (bytes ++ last ∷ []) ≡ numbers.with_digit (fold numbers.with_digit value bytes) last
+fold_push value [] last = refl
+fold_push value (first ∷ rest) last = fold_push (numbers.with_digit value first) rest last
+
+pub read-first : (first : Spot) (left : List Spot) (value : ℕ) → is_digit_spot first ≡ true → value ≡ capped (numbers.with_digit 0 first.byte) → IsRead (first ∷ left) value left
+read-first first left value is value_is = record {
+  digits = first ∷ [];
+  each = (is, tt);
+  whole = refl;
+  some = omega arith;
+  value_is = value_is;
+}
+
+digits_push : (digits : List Spot) (digit : Spot) → AreDigits digits → is_digit_spot digit ≡ true → AreDigits (digits ++ digit ∷ [])
+digits_push [] digit each is = (is, tt)
+digits_push (first ∷ rest) digit each is = (each.0, digits_push rest digit each.1 is)
+
+pub read-more : (all left : List Spot) (value next : ℕ) (digit : Spot) → IsRead all value (digit ∷ left) → is_digit_spot digit ≡ true → next ≡ capped (numbers.with_digit value digit.byte) → IsRead all next left
+read-more all left value next digit read is next_is = record {
+  digits = read.digits ++ digit ∷ [];
+  each = digits_push read.digits digit read.each is;
+  whole = read.whole ∙ sym (append_assoc read.digits (digit ∷ []) left);
+  some = omega (arith, length-append read.digits (digit ∷ []));
+  value_is =
+    next_is ∙ ap (λ v. capped (numbers.with_digit v digit.byte)) read.value_is
+    ∙ capped_step (decimal_value (map (λ spot. spot.byte) read.digits)) digit.byte
+    ∙ ap capped (sym (fold_push 0 (map (λ spot. spot.byte) read.digits) digit.byte))
+    ∙ ap (λ bytes. capped (decimal_value bytes)) (sym (map-append (λ (spot : Spot). spot.byte) read.digits (digit ∷ [])));
+}
+
+count_of-some : (digits : List Spot) → 0 < length digits → count_of digits ≡ decimal_value (map (λ spot. spot.byte) digits)
+count_of-some [] some = absurd (omega arith)
+count_of-some (first ∷ rest) some = refl
+
+pub count-next : (all left : List Spot) (value : ℕ) (next : Placed) → IsRead all value (spot_seen next ∷ left) → is_ascii_digit next.byte ≡ false → IsCount all (record { value = value; is_written = true; next = Some next }) left
+count-next all left value next read other = record {
+  digits = read.digits;
+  each = read.each;
+  whole = read.whole;
+  next = other;
+  end = tt;
+  value = read.value_is ∙ ap capped (sym (count_of-some read.digits read.some));
+  written = (λ _. read.some, λ _. refl);
+}
+
+pub count-end : (all left after : List Spot) (value : ℕ) → IsRead all value left → left ≡ [] → after ≡ [] → IsCount all (record { value = value; is_written = true; next = None }) after
+count-end all left after value read none after_none = record {
+  digits = read.digits;
+  each = read.each;
+  whole = read.whole ∙ ap (λ rest. read.digits ++ rest) (none ∙ sym after_none);
+  next = tt;
+  end = after_none;
+  value = read.value_is ∙ ap capped (sym (count_of-some read.digits read.some));
+  written = (λ _. read.some, λ _. refl);
+}
+
+pub read-left : (all left other : List Spot) (value : ℕ) → IsRead all value left → left ≡ other → IsRead all value other
+read-left all left other value read same = record {
+  digits = read.digits;
+  each = read.each;
+  whole = read.whole ∙ ap (λ rest. read.digits ++ rest) same;
+  some = read.some;
+  value_is = read.value_is;
+}
+
+-- what a count says of the byte after its digits
+module _ (all left : List Spot) (count : Count) (is : IsCount all count left) where
+  pub counted-some : (last : Placed) → count.next ≡ Some last → (all ≡ is.digits ++ spot_seen last ∷ left) × (is_ascii_digit last.byte ≡ false)
+  counted-some last next = (
+      is.whole ∙ ap (λ o. is.digits ++ (option_to_list (option_map spot_seen o) ++ left)) next,
+      subst (λ o. IfSome o (λ placed. is_ascii_digit placed.byte ≡ false)) next is.next,
+    )
+
+  pub counted-none : count.next ≡ None → (all ≡ is.digits ++ left) × (left ≡ [])
+  counted-none next = (
+      is.whole ∙ ap (λ o. is.digits ++ (option_to_list (option_map spot_seen o) ++ left)) next,
+      subst (λ o. IfNone o (left ≡ [])) next is.end,
+    )
+
+pub end-nil : (rest : List Spot) → rest ≡ [] → IsEnd rest
+end-nil [] none = tt
+end-nil (first ∷ rest) none = cc
+
+pub drawn_from-source : (own source : List ℕ) (place value : ℕ) (tag : Spot) (found : Result (Option Drawn) Fault) → own ≡ source →
+    found ≡ result_map_both (λ run. Some run) (λ refusal. fault_at refusal place) (drawn_from own place value tag) →
+    found ≡ result_map_both (λ run. Some run) (λ refusal. fault_at refusal place) (drawn_from source place value tag)
+drawn_from-source own source place value tag found same is =
+    is ∙ ap (λ s. result_map_both (λ run. Some run) (λ refusal. fault_at refusal place) (drawn_from s place value tag)) same

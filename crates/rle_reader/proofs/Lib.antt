@@ -1,0 +1,12 @@
+mod TrimLemmas
+mod SplitLemmas
+mod NumberLemmas
+mod LineLemmas
+mod HeaderLemmas
+mod SettingsLemmas
+mod OpeningLemmas
+mod CommentLemmas
+mod BodyLemmas
+mod ItemLemmas
+mod FaultLemmas
+mod MeaningLemmas

@@ -1,0 +1,142 @@
+-- The items of a body: digits, none or more, and then a byte that is no digit and no `!`.
+use Rattle.std.specs.Prelude.{◌≡◌, ◌≢◌, ℕ, ◌+◌, ◌==◌, ◌||◌, true, false, Bool, if◌then◌else◌, List, [], ◌∷◌, ◌++◌, map, slice_range}
+use Rattle.std.specs.Prelude.{Result, Ok, Err, Option, None, Some, drop}
+use Rattle.std.specs.Char.{is_ascii_digit}
+use Rattle.std.specs.Int.{is_in_range}
+use Rattle.std.specs.List.{flat_map, AllByRecursion}
+use Rattle.std.specs.Str.{byte}
+use Rattle.plane.specs.declared.refusal.Refusal.{Refusal}
+use Rattle.plane.specs.declared.refusal.Refusal.TheVariants.{BadTag, MoreStates, BadCount}
+use Rattle.rle_reader.specs.Body.{Spot}
+use Rattle.rle_reader.specs.Numbers.{decimal_value, capped}
+use Rattle.rle_reader.specs.Faults.{fault_at}
+use Rattle.plane.specs.declared.fault.Fault.{Fault}
+use Rattle.std.specs.Result.{result_map_both}
+use Rattle.rle_reader.specs.declared.item.Tag.{Tag}
+use Rattle.rle_reader.specs.declared.item.Tag.TheVariants.{Dead, Live, Row}
+
+-- an item, also one whose tag is none
+pub record Item : Type 0 where
+  pub digits : List Spot
+  pub tag : Spot
+
+-- the items of a body, and the digits after them that no tag follows
+pub record Items : Type 0 where
+  pub items : List Item
+  pub left_over : List Spot
+
+abbrev pub is_digit_spot : Spot → Bool
+is_digit_spot spot = is_ascii_digit spot.byte
+
+abbrev pub is_end_spot : Spot → Bool
+is_end_spot spot = spot.byte == byte "!"
+
+-- ---- what the items of a body are
+
+-- the item is digits and then a byte that is no digit and no `!`
+pub record IsItem (item : Item) : Type 0 where
+  pub digits : AllByRecursion (λ spot. is_digit_spot spot ≡ true) item.digits
+  pub tag : is_digit_spot item.tag ≡ false
+  pub not_end : is_end_spot item.tag ≡ false
+
+-- nothing follows, or a `!` and anything
+abbrev pub IsEnd : List Spot → Type 0
+IsEnd [] = Unit {0}
+IsEnd (first ∷ rest) = is_end_spot first ≡ true
+
+-- the spots are the items one after the other, then the digits left over, and then the end
+pub record AreItemsOf (body : List Spot) (found : Items) : Type 0 where
+  pub each : AllByRecursion IsItem found.items
+  pub digits : AllByRecursion (λ spot. is_digit_spot spot ≡ true) found.left_over
+  pub whole : (rest : List Spot) × IsEnd rest
+      × (body ≡ flat_map (λ item. item.digits ++ item.tag ∷ []) found.items ++ found.left_over ++ rest)
+
+-- ---- the same, computed
+
+-- the items where one more digit stands before them
+unfoldable pub with_digit : Spot → Items → Items
+with_digit digit found = go found.items
+  where
+    go : List Item → Items
+    go [] = record { items = []; left_over = digit ∷ found.left_over }
+    go (item ∷ items) = record {
+      items = record { digits = digit ∷ item.digits; tag = item.tag } ∷ items;
+      left_over = found.left_over;
+    }
+
+-- the items where a tag stands before them
+abbrev pub with_tag : Spot → Items → Items
+with_tag tag found = record { items = record { digits = []; tag = tag } ∷ found.items; left_over = found.left_over }
+
+-- the items of a body
+unfoldable pub items_of : List Spot → Items
+items_of [] = record { items = []; left_over = [] }
+items_of (first ∷ rest) =
+    if is_digit_spot first then with_digit first (items_of rest)
+    else (if is_end_spot first then record { items = []; left_over = [] } else with_tag first (items_of rest))
+
+-- ---- what an item says
+
+-- where the digits begin, or else the tag
+abbrev pub place_of : List Spot → Spot → ℕ
+place_of [] tag = tag.place
+place_of (first ∷ rest) tag = first.place
+
+-- the value of the digits, 1 if there are none
+abbrev pub count_of : List Spot → ℕ
+count_of [] = 1
+count_of (first ∷ rest) = decimal_value (map (λ spot. spot.byte) (first ∷ rest))
+
+-- a tag of a file with more than two states
+abbrev pub is_more_states : ℕ → Bool
+is_more_states tag = is_in_range (byte "p") (byte "y") tag || is_in_range (byte "B") (byte "X") tag
+
+-- what a byte is as a tag
+unfoldable pub tag_of : ℕ → Result Tag Refusal
+tag_of tag =
+    if tag == byte "b" || tag == byte "." then Ok Dead
+    else (if tag == byte "o" || tag == byte "A" then Ok Live
+    else (if tag == byte "$" then Ok Row
+    else (if is_more_states tag then Err MoreStates else Err BadTag)))
+
+-- an item with its slice of the text
+pub record Drawn : Type 0 where
+  pub text : List ℕ
+  pub place : ℕ
+  pub count : ℕ
+  pub tag : Tag
+
+-- the item from this place up to the end of its tag, with this count, unless the count is 0
+abbrev pub drawn_as : List ℕ → ℕ → ℕ → ℕ → Result Tag Refusal → Result Drawn Refusal
+drawn_as source place count end (Err refusal) = Err refusal
+drawn_as source place count end (Ok tag) =
+    if count == 0 then Err BadCount
+    else Ok (record { text = slice_range source place end; place = place; count = count; tag = tag })
+
+-- the item from this place to its tag, if it has one
+unfoldable pub drawn_from : List ℕ → ℕ → ℕ → Spot → Result Drawn Refusal
+drawn_from source place count spot = drawn_as source place count (spot.place + 1) (tag_of spot.byte)
+
+-- the item in its text
+abbrev pub run_of : List ℕ → Item → Result Drawn Refusal
+run_of source item = drawn_from source (place_of item.digits item.tag) (count_of item.digits) item.tag
+
+-- ---- one item after the other
+
+-- the first of these items in their text, or its fault; digits that are left over are a fault
+unfoldable pub next_among : List ℕ → List Item → List Spot → Result (Option Drawn) Fault
+next_among source [] [] = Ok None
+next_among source [] (digit ∷ rest) = Err (fault_at BadCount digit.place)
+next_among source (item ∷ items) left_over =
+    result_map_both (λ run. Some run) (λ refusal. fault_at refusal (place_of item.digits item.tag)) (run_of source item)
+
+abbrev pub next_of : List ℕ → Items → Result (Option Drawn) Fault
+next_of source found = next_among source found.items found.left_over
+
+-- the items after the first
+abbrev pub items_after : Items → Items
+items_after found = record { items = drop 1 found.items; left_over = found.left_over }
+
+-- an item as a machine keeps it
+abbrev pub kept : Drawn → Drawn
+kept run = record run { count = capped run.count }

@@ -1,0 +1,100 @@
+-- What a text means, or its first fault.
+use Rattle.std.specs.Prelude.{ℕ, ◌==◌, length, List, [], ◌∷◌, map, ℤ, pos, ◌+ℤ◌, int_le, int_lt, Bool, true, false, ◌&&◌, ◌||◌, Option, None, Some}
+use Rattle.std.specs.Prelude.{Result, Ok, Err}
+use Rattle.std.specs.Option.{option_map, option_or}
+use Rattle.std.specs.Ordering.{int_eq}
+use Rattle.std.specs.Result.{ok_prefix}
+use Rattle.plane.specs.declared.cell.Cell.{Cell}
+use Rattle.plane.specs.declared.fault.Fault.{Fault}
+use Rattle.plane.specs.declared.refusal.Refusal.{Refusal}
+use Rattle.plane.specs.declared.refusal.Refusal.TheVariants.{BadCount}
+use Rattle.rle_reader.specs.Faults.{fault_at, ◌>>=◌}
+use Rattle.rle_reader.specs.Lines.{Line, lines}
+use Rattle.rle_reader.specs.Opening.{Opening, opening_of}
+use Rattle.rle_reader.specs.Body.{Spot, struck}
+use Rattle.rle_reader.specs.Items.{Item, Items, Drawn, items_of, place_of, count_of, tag_of, run_of}
+use Rattle.rle_reader.specs.State.{State, start_at, after_item, faults_of, first_fault}
+use Rattle.rle_reader.specs.declared.item.Tag.{Tag}
+use Rattle.rle_reader.specs.declared.item.Tag.TheVariants.{Dead, Live, Row}
+
+-- the first fault of an item in a state
+unfoldable pub item_fault : State → Item → Option Fault
+item_fault state item =
+    option_map (λ refusal. fault_at refusal (place_of item.digits item.tag))
+    (first_fault (faults_of state (tag_of item.tag.byte) (count_of item.digits)))
+
+-- the state after an item, also one whose tag is none
+unfoldable pub state_after : ℤ → State → Item → State
+state_after left state item = go (tag_of item.tag.byte)
+  where
+    go : Result Tag Refusal → State
+    go (Err refusal) = state
+    go (Ok tag) = after_item left state tag (count_of item.digits)
+
+-- the first fault of the items, and of the digits left over after them, from a state on
+unfoldable pub first_fault_from : ℤ → State → List Item → List Spot → Option Fault
+first_fault_from left state [] [] = None
+first_fault_from left state [] (first ∷ rest) = Some (fault_at BadCount first.place)
+first_fault_from left state (item ∷ items) left_over =
+    option_or (item_fault state item) (first_fault_from left (state_after left state item) items left_over)
+
+-- the first fault of a body whose first item begins at this cell
+unfoldable pub body_fault : Cell → Items → Option Fault
+body_fault corner found = first_fault_from corner.x (start_at corner) found.items found.left_over
+
+-- the items of a body in their text, up to the first that has no tag or has the count 0
+abbrev pub runs_of : List ℕ → List Spot → List Drawn
+runs_of source body = ok_prefix (map (run_of source) (items_of body).items)
+
+-- what an accepted text means
+pub record Meaning : Type 0 where
+  pub pos : Cell
+  pub generation : ℕ
+  pub rule : Option (List ℕ)
+  pub rule_place : ℕ
+  pub comments : List (List ℕ)
+  pub runs : List Drawn
+
+-- what a text with this opening means
+unfoldable pub meaning_of : List ℕ → Opening → Meaning
+meaning_of text opening = record {
+  pos = opening.settings.pos;
+  generation = opening.settings.generation;
+  rule = opening.rule;
+  rule_place = opening.header;
+  comments = opening.comments;
+  runs = runs_of text (struck opening.body);
+}
+
+-- the value, unless there is a fault
+abbrev pub unless : {A : Type 0} → Option Fault → A → Result A Fault
+unless None value = Ok value
+unless (Some fault) value = Err fault
+
+-- what a text means, or its first fault
+unfoldable pub judged : List ℕ → Result Meaning Fault
+judged text = do
+  opening ← opening_of (length text) (lines 0 text)
+  unless (body_fault opening.settings.pos (items_of (struck opening.body))) (meaning_of text opening)
+
+-- ---- the cells that a meaning makes live
+
+-- the item makes the cell live
+abbrev pub covers : State → Drawn → ℤ → ℤ → Bool
+covers state run x y = is_live run.tag && int_eq y state.row
+    && int_le state.column x && int_lt x (state.column +ℤ pos run.count)
+  where
+    is_live : Tag → Bool
+    is_live Live = true
+    is_live Dead = false
+    is_live Row = false
+
+-- one of the items, from a state on, makes the cell live
+unfoldable pub is_covered : ℤ → State → List Drawn → ℤ → ℤ → Bool
+is_covered left state [] x y = false
+is_covered left state (run ∷ runs) x y =
+    covers state run x y || is_covered left (after_item left state run.tag run.count) runs x y
+
+-- the cells that the items make live, x to the right and y downwards
+abbrev pub plane_of : Meaning → ℤ → ℤ → Bool
+plane_of meaning = is_covered meaning.pos.x (start_at meaning.pos) meaning.runs

@@ -1,0 +1,56 @@
+-- What the parts of a file that was read are seen as.
+use Rattle.std.specs.Prelude.{ℕ, List, map}
+use Rattle.std.specs.Prelude.{Result}
+use Rattle.std.specs.Option.{option_copied}
+use Rattle.std.specs.Result.{result_map_both}
+use Rattle.plane.specs.declared.fault.Fault.{Fault}
+use Rattle.rle_reader.specs.Lines.{lines_from}
+use Rattle.rle_reader.specs.Opening.{Opening, comments_of, before_header}
+use Rattle.std.specs.Prelude.{◌≡◌, ◌↔◌, ◌<◌, true, false, [], ◌++◌, length, IfSome, IfNone, IsTrue, Option}
+use Rattle.std.specs.Option.{option_map, option_to_list}
+use Rattle.std.specs.List.{AllByRecursion}
+use Rattle.std.specs.Char.{is_ascii_digit}
+use Rattle.rle_reader.specs.Body.{Spot}
+use Rattle.rle_reader.specs.Items.{Drawn, is_digit_spot, count_of}
+use Rattle.rle_reader.specs.Numbers.{capped}
+use Rattle.rle_reader.specs.declared.body.Placed.{Placed}
+use Rattle.rle_reader.specs.declared.item.Count.{Count}
+use Rattle.rle_reader.specs.declared.item.Run.{Run}
+use Rattle.rle_reader.specs.declared.preamble.Preamble.{Preamble}
+
+-- the opening of a source of which this was read
+abbrev pub opening_seen : List ℕ → Preamble → Opening
+opening_seen source preamble = record {
+  settings = preamble.settings;
+  comments = comments_of (before_header (lines_from source 0));
+  header = preamble.header;
+  rule = option_copied preamble.rule;
+  body = lines_from source preamble.body;
+}
+
+abbrev pub seen_opening : List ℕ → Result Preamble Fault → Result Opening Fault
+seen_opening source found = result_map_both (opening_seen source) (λ fault. fault) found
+
+-- a byte with its place
+abbrev pub spot_seen : Placed → Spot
+spot_seen placed = record { place = placed.place; byte = placed.byte }
+
+-- an item with the bytes of its slice
+abbrev pub run_seen : Run → Drawn
+run_seen run = record { text = run.text.now; place = run.place; count = run.count; tag = run.tag }
+
+abbrev pub seen_run : Result Run Fault → Result Drawn Fault
+seen_run found = result_map_both run_seen (λ fault. fault) found
+
+abbrev pub seen_next : Result (Option Run) Fault → Result (Option Drawn) Fault
+seen_next found = result_map_both (option_map run_seen) (λ fault. fault) found
+
+-- the count reads digits at the front of these spots, and the spot after them if there is one, and leaves these
+pub record IsCount (all : List Spot) (count : Count) (left : List Spot) : Type 0 where
+  pub digits : List Spot
+  pub each : AllByRecursion (λ spot. is_digit_spot spot ≡ true) digits
+  pub whole : all ≡ digits ++ (option_to_list (option_map spot_seen count.next) ++ left)
+  pub next : IfSome count.next (λ placed. is_ascii_digit placed.byte ≡ false)
+  pub end : IfNone count.next (left ≡ [])
+  pub value : count.value ≡ capped (count_of digits)
+  pub written : IsTrue count.is_written ↔ (0 < length digits)
