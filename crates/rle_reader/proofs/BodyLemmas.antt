@@ -1,13 +1,13 @@
 -- The bytes of a body that count, one after the other.
-use Rattle.std.proofs.Common.{◌≡◌, ◌≢◌, ℕ, zero, suc, ◌<◌, ◌≤◌, ◌+◌, ◌-◌, Bool, true, false, not, cond, min, List, [], ◌∷◌, ◌++◌, length, take, drop, get_or, filter, refl, ap, subst, sym, ◌∙◌, arith, one-add, add-one, ◌⊎◌, inl, inr, codes, ◌==◌, ◌&&◌}
-use Rattle.std.specs.List.{position_or_len, flat_map, before_first, after_first}
+use Rattle.std.proofs.Common.{◌≡◌, ℕ, zero, suc, ◌<◌, ◌≤◌, ◌+◌, ◌-◌, Bool, true, false, not, cond, min, List, [], ◌∷◌, ◌++◌, length, take, drop, get_or, refl, ap, subst, sym, ◌∙◌, arith, ◌⊎◌, inl, inr, codes, ◌==◌, ◌&&◌}
+use Rattle.std.specs.List.{position_or_len}
 use Rattle.std.specs.Str.{bytes_eq}
 use Rattle.std.proofs.lemmas.Bool.{cases_lt}
 use Rattle.std.proofs.lemmas.Bool.Decides.{nat_tests}
-use Rattle.std.proofs.lemmas.List.{drop_all, drop_more, drop-drop, take-append-drop, length_push, take_at}
+use Rattle.std.proofs.lemmas.List.{drop_all, drop_more, drop-drop, take-append-drop}
 use Rattle.std.proofs.lemmas.Slice.Eq.{bytes_eq-Decides}
 use Rattle.rle_reader.specs.Bytes.{ends_with}
-use Rattle.rle_reader.specs.Lines.{Line, is_line_feed, lines, lines_from, without_return}
+use Rattle.rle_reader.specs.Lines.{is_line_feed, lines, without_return}
 use Rattle.rle_reader.specs.Opening.{is_comment}
 use Rattle.rle_reader.specs.Body.{Spot, spots, counting, is_skipped, struck, struck_line, struck_inside, struck_from}
 use Rattle.rle_reader.proofs.LineLemmas.{lines-first, lines-nil}
@@ -91,9 +91,9 @@ module _ (place first : ℕ) (rest : List ℕ) (n step : ℕ) (is : n ≡ positi
       let other : is_line_feed first ≡ false = grind (arith, nat_tests) in
       ap struck first_line
       ∙ ap (λ found. found ++ struck (lines (place + step) (drop step (first ∷ rest))))
-        (struck_line-comment place (without_return (take n (first ∷ rest)))
-          (ap (λ m. is_comment (without_return (take m (first ∷ rest)))) (is ∙ position_step (is_line_feed first) (position_or_len is_line_feed rest) other)
-            ∙ is_comment-without_return (take (suc (position_or_len is_line_feed rest)) (first ∷ rest)) ∙ hash))
+      (struck_line-comment place (without_return (take n (first ∷ rest)))
+      (ap (λ m. is_comment (without_return (take m (first ∷ rest)))) (is ∙ position_step (is_line_feed first) (position_or_len is_line_feed rest) other)
+      ∙ is_comment-without_return (take (suc (position_or_len is_line_feed rest)) (first ∷ rest)) ∙ hash))
 
   later_lines : (n < length (first ∷ rest)) ⊎ (length (first ∷ rest) ≤ n) → struck (lines (place + step) (drop step (first ∷ rest))) ≡ struck (lines (place + n + 1) (drop (n + 1) (first ∷ rest)))
   later_lines (inl below) =
@@ -110,9 +110,9 @@ module _ (place first : ℕ) (rest : List ℕ) (n step : ℕ) (is : n ≡ positi
   struck-line other =
       ap struck first_line
       ∙ ap (λ found. found ++ struck (lines (place + step) (drop step (first ∷ rest))))
-        (struck_line-other place (without_return (take n (first ∷ rest)))
-          (is_comment-without_return (take n (first ∷ rest)) ∙ is_comment-take n first rest other)
-        ∙ counting-without_return place (take n (first ∷ rest)))
+      (struck_line-other place (without_return (take n (first ∷ rest)))
+      (is_comment-without_return (take n (first ∷ rest)) ∙ is_comment-take n first rest other)
+      ∙ counting-without_return place (take n (first ∷ rest)))
       ∙ ap (λ more. counting (spots place (take n (first ∷ rest))) ++ more) (later_lines (cases_lt n (length (first ∷ rest))))
       ∙ ap (λ m. counting (spots place (take m (first ∷ rest))) ++ struck (lines (place + m + 1) (drop (m + 1) (first ∷ rest)))) is
 
@@ -187,7 +187,7 @@ module _ (source : List ℕ) (at : ℕ) where
     inside true other =
         ap (λ rest. struck (lines at rest)) left
         ∙ struck-line at (get_or source at 0) (drop (at + 1) source) (position_or_len is_line_feed (get_or source at 0 ∷ drop (at + 1) source)) _ refl
-          (position_or_len-le is_line_feed (get_or source at 0 ∷ drop (at + 1) source)) refl other
+        (position_or_len-le is_line_feed (get_or source at 0 ∷ drop (at + 1) source)) refl other
     inside false other = ap (struck_inside at) left
 
     -- a byte that counts
@@ -222,6 +222,6 @@ module _ (source : List ℕ) (at : ℕ) where
         let hash_is : (get_or source at 0 == 35) ≡ true = grind (arith, nat_tests) in
         ap (λ rest. struck (lines at rest)) left
         ∙ struck-comment at (get_or source at 0) (drop (at + 1) source) n step
-          (is ∙ ap (position_or_len is_line_feed) left) (subst (λ rest. n ≤ length rest) left fits) (far ∙ ap (λ rest. min (n + 1) (length rest)) left) hash_is
+        (is ∙ ap (position_or_len is_line_feed) left) (subst (λ rest. n ≤ length rest) left fits) (far ∙ ap (λ rest. min (n + 1) (length rest)) left) hash_is
         ∙ ap (λ rest. struck (lines (at + step) (drop step rest))) (sym left)
         ∙ ap (λ rest. struck (lines (at + step) rest)) (drop-drop step at source)

@@ -1,5 +1,5 @@
 -- The kept comments before the header, one line after the other.
-use Rattle.std.proofs.Common.{◌≡◌, ℕ, Bool, true, false, cond, List, [], ◌∷◌, filter, map, take, refl, ap, sym, ◌∙◌}
+use Rattle.std.proofs.Common.{◌≡◌, ℕ, Bool, true, false, cond, List, [], ◌∷◌, refl, ap, ◌∙◌}
 use Rattle.std.specs.List.{prefix_len}
 use Rattle.rle_reader.specs.Lines.{Line, lines_from}
 use Rattle.rle_reader.specs.Opening.{may_stand, before_header, comments_of, comments_from, is_kept}

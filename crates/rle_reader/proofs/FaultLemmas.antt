@@ -1,5 +1,5 @@
 -- The first fault of the items, one item after the other.
-use Rattle.std.proofs.Common.{◌≡◌, ℕ, ◌==◌, ◌+◌, Bool, true, false, cond, List, [], ◌∷◌, ◌++◌, Option, None, Some, Result, Ok, Err, refl, ap, sym, ◌∙◌, arith, ℤ, pos, ◌+ℤ◌, nat_lt, ◌||◌, slice_range, int_lt, int_le, drop}
+use Rattle.std.proofs.Common.{◌≡◌, ℕ, ◌==◌, ◌+◌, Bool, true, false, cond, List, [], ◌∷◌, ◌++◌, None, Some, Result, Ok, Err, refl, ap, sym, ◌∙◌, arith, ℤ, pos, nat_lt, ◌||◌, slice_range, int_le, drop}
 use Rattle.std.specs.Option.{option_map, option_or}
 use Rattle.std.proofs.lemmas.Bool.Decides.{nat_tests}
 use Rattle.std.proofs.lemmas.Int.{ints}
@@ -8,7 +8,7 @@ use Rattle.plane.specs.declared.refusal.Refusal.{Refusal}
 use Rattle.plane.specs.declared.refusal.Refusal.TheVariants.{BadCount, OutOfRange, TooManyCells}
 use Rattle.rle_reader.specs.Body.{Spot}
 use Rattle.rle_reader.specs.Faults.{fault_at}
-use Rattle.rle_reader.specs.Items.{Item, Items, Drawn, place_of, count_of, tag_of, drawn_as, drawn_from, next_among, kept}
+use Rattle.rle_reader.specs.Items.{Item, Drawn, place_of, count_of, tag_of, drawn_as, drawn_from, next_among}
 use Rattle.rle_reader.specs.Meaning.{item_fault, state_after, first_fault_from}
 use Rattle.rle_reader.specs.Numbers.{capped}
 use Rattle.rle_reader.specs.Range.{IsWithinReach}
@@ -48,7 +48,7 @@ motion_fault-capped state tag count reach =
     ap (λ b. first_fault (when b OutOfRange ++ when (passes_cells state tag (capped count)) TooManyCells)) (leaves-capped state tag count reach)
     ∙ ap (λ b. first_fault (when (leaves_range state tag count) OutOfRange ++ when b TooManyCells)) (cells-capped state tag count)
 
-either_false : (a b : Bool) → (a || b) ≡ false → a ≡ false
+pub either_false : (a b : Bool) → (a || b) ≡ false → a ≡ false
 either_false true b h = h
 either_false false b h = refl
 
@@ -57,7 +57,7 @@ stays-capped state Dead count reach stays = small-count state.column count reach
 stays-capped state Live count reach stays = small-count state.column count reach.column (either_false _ _ stays)
 stays-capped state Row count reach stays = small-count state.row count reach.row stays
 
-no_fault : (a b : Bool) → first_fault (when a OutOfRange ++ when b TooManyCells) ≡ None → a ≡ false
+pub no_fault : (a b : Bool) → first_fault (when a OutOfRange ++ when b TooManyCells) ≡ None → a ≡ false
 no_fault true b h = cc
 no_fault false b h = refl
 
@@ -113,14 +113,14 @@ module _ (left : ℤ) (state : State) (reach : InReach state) (source : List ℕ
   reading_fault item read =
       item_fault-is state item run.tag read.tag read.counted
       ∙ ap (option_map (λ refusal. fault_at refusal (place_of item.digits item.tag)))
-        (sym (motion_fault-capped state run.tag (count_of item.digits) reach) ∙ ap (motion_fault state run.tag) (sym read.count_is))
+      (sym (motion_fault-capped state run.tag (count_of item.digits) reach) ∙ ap (motion_fault state run.tag) (sym read.count_is))
       ∙ ap (λ place. option_map (λ refusal. fault_at refusal place) (motion_fault state run.tag run.count)) (sym read.place_is)
 
   reading_state : (item : Item) → IsReading (tag_of item.tag.byte) (count_of item.digits) (place_of item.digits item.tag) run → motion_fault state run.tag run.count ≡ None →
       state_after left state item ≡ after_item left state run.tag run.count
   reading_state item read none =
       let fits = fits-capped state run.tag (count_of item.digits) reach
-        (sym (motion_fault-capped state run.tag (count_of item.digits) reach) ∙ ap (motion_fault state run.tag) (sym read.count_is) ∙ none) in
+      (sym (motion_fault-capped state run.tag (count_of item.digits) reach) ∙ ap (motion_fault state run.tag) (sym read.count_is) ∙ none) in
       state_after-is left state item run.tag read.tag ∙ ap (after_item left state run.tag) (sym fits ∙ sym read.count_is)
 
   -- the items after one without a fault have the first fault of all
@@ -132,8 +132,8 @@ module _ (left : ℤ) (state : State) (reach : InReach state) (source : List ℕ
   first_fault-on (item ∷ items) over is none =
       let read = reading_of source (place_of item.digits item.tag) (count_of item.digits) (item.tag.place + 1) (tag_of item.tag.byte) run is in
       sym (ap (λ o. option_or o (first_fault_from left (state_after left state item) items over))
-          (reading_fault item read ∙ ap (option_map (λ refusal. fault_at refusal run.place)) none)
-        ∙ ap (λ s. first_fault_from left s items over) (reading_state item read none))
+      (reading_fault item read ∙ ap (option_map (λ refusal. fault_at refusal run.place)) none)
+      ∙ ap (λ s. first_fault_from left s items over) (reading_state item read none))
 
   -- an item with a fault is the first
   pub first_fault-here : (items : List Item) (over : List Spot) (refusal : Refusal) → as_kept (next_among source items over) ≡ Ok (Some run) → motion_fault state run.tag run.count ≡ Some refusal →
@@ -144,7 +144,7 @@ module _ (left : ℤ) (state : State) (reach : InReach state) (source : List ℕ
   first_fault-here (item ∷ items) over refusal is some =
       let read = reading_of source (place_of item.digits item.tag) (count_of item.digits) (item.tag.place + 1) (tag_of item.tag.byte) run is in
       ap (λ o. option_or o (first_fault_from left (state_after left state item) items over))
-        (reading_fault item read ∙ ap (option_map (λ refusal. fault_at refusal run.place)) some)
+      (reading_fault item read ∙ ap (option_map (λ refusal. fault_at refusal run.place)) some)
 
 some_read : (found : Result Drawn Refusal) (place : ℕ) → as_kept (seen_some found place) ≡ Ok None → ⊥
 unfolding as_kept seen_some
@@ -179,4 +179,4 @@ module _ (left : ℤ) (state : State) (source : List ℕ) where
   first_fault-read [] (digit ∷ rest) fault is = ap Some (cc)
   first_fault-read (item ∷ items) over fault is =
       ap (λ o. option_or o (first_fault_from left (state_after left state item) items over))
-        (refused_read state source (place_of item.digits item.tag) (count_of item.digits) (item.tag.place + 1) (tag_of item.tag.byte) fault is)
+      (refused_read state source (place_of item.digits item.tag) (count_of item.digits) (item.tag.place + 1) (tag_of item.tag.byte) fault is)

@@ -1,9 +1,9 @@
 -- A header line without a comma.
-use Rattle.std.proofs.Common.{◌≡◌, ℕ, Bool, true, false, cond, ◌&&◌, List, [], Option, None, Result, Ok, Err, refl, ap, sym, ◌∙◌, codes}
-use Rattle.std.specs.List.{list_any, before_first, after_first}
+use Rattle.std.proofs.Common.{◌≡◌, ℕ, Bool, true, false, cond, ◌&&◌, List, [], Option, Result, Err, refl, codes}
+use Rattle.std.specs.List.{list_any, before_first}
 use Rattle.std.specs.Str.{byte}
 use Rattle.plane.specs.declared.refusal.Refusal.{Refusal}
-use Rattle.plane.specs.declared.refusal.Refusal.TheVariants.{NotAPattern, BadHeader}
+use Rattle.plane.specs.declared.refusal.Refusal.TheVariants.{BadHeader}
 use Rattle.rle_reader.specs.Bytes.{is_byte}
 use Rattle.rle_reader.specs.Header.{header_rule, begins_as_header, is_side, value_behind, rule_behind}
 use Rattle.rle_reader.proofs.SplitLemmas.{after_first-none}

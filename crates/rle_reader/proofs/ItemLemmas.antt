@@ -1,5 +1,5 @@
 -- The first item of a body, and the items after it.
-use Rattle.std.proofs.Common.{◌≡◌, ℕ, zero, suc, ◌<◌, ◌+◌, ◌==◌, ◌↔◌, Bool, true, false, cond, List, [], ◌∷◌, ◌++◌, length, map, drop, Option, None, Some, Result, Ok, Err, IfOk, IfSome, IfNone, OnSome, IsTrue, refl, ap, subst, sym, ◌∙◌, arith, fold, append_assoc, length-append, slice_range}
+use Rattle.std.proofs.Common.{◌≡◌, ℕ, ◌<◌, ◌+◌, ◌==◌, ◌↔◌, Bool, true, false, cond, List, [], ◌∷◌, ◌++◌, length, map, Option, None, Some, Result, Ok, Err, IfOk, IfSome, IfNone, OnSome, IsTrue, refl, ap, subst, sym, ◌∙◌, arith, fold, append_assoc, length-append, slice_range}
 use Rattle.std.proofs.lemmas.List.{map-append}
 use Rattle.std.proofs.lemmas.Bool.{eqb-true}
 use Rattle.std.specs.Char.{is_ascii_digit}
@@ -13,7 +13,7 @@ use Rattle.plane.specs.declared.refusal.Refusal.{Refusal}
 use Rattle.plane.specs.declared.refusal.Refusal.TheVariants.{BadCount}
 use Rattle.rle_reader.specs.Body.{Spot}
 use Rattle.rle_reader.specs.Faults.{fault_at}
-use Rattle.rle_reader.specs.Items.{Item, Items, Drawn, IsEnd, is_digit_spot, is_end_spot, items_of, with_digit, with_tag, place_of, count_of, tag_of, drawn_as, drawn_from, next_among, next_of, items_after, kept}
+use Rattle.rle_reader.specs.Items.{Drawn, IsEnd, is_digit_spot, is_end_spot, items_of, with_digit, with_tag, place_of, count_of, tag_of, drawn_as, drawn_from, next_among, next_of, items_after, kept}
 use Rattle.rle_reader.specs.Numbers.{decimal_value, capped}
 use Rattle.rle_reader.specs.Numbers as numbers
 use Rattle.rle_reader.specs.Seen.{IsCount, spot_seen}
@@ -175,10 +175,10 @@ read-more all left value next digit read is next_is = record {
   whole = read.whole ∙ sym (append_assoc read.digits (digit ∷ []) left);
   some = omega (arith, length-append read.digits (digit ∷ []));
   value_is =
-    next_is ∙ ap (λ v. capped (numbers.with_digit v digit.byte)) read.value_is
-    ∙ capped_step (decimal_value (map (λ spot. spot.byte) read.digits)) digit.byte
-    ∙ ap capped (sym (fold_push 0 (map (λ spot. spot.byte) read.digits) digit.byte))
-    ∙ ap (λ bytes. capped (decimal_value bytes)) (sym (map-append (λ (spot : Spot). spot.byte) read.digits (digit ∷ [])));
+      next_is ∙ ap (λ v. capped (numbers.with_digit v digit.byte)) read.value_is
+      ∙ capped_step (decimal_value (map (λ spot. spot.byte) read.digits)) digit.byte
+      ∙ ap capped (sym (fold_push 0 (map (λ spot. spot.byte) read.digits) digit.byte))
+      ∙ ap (λ bytes. capped (decimal_value bytes)) (sym (map-append (λ (spot : Spot). spot.byte) read.digits (digit ∷ [])));
 }
 
 count_of-some : (digits : List Spot) → 0 < length digits → count_of digits ≡ decimal_value (map (λ spot. spot.byte) digits)
@@ -220,15 +220,15 @@ read-left all left other value read same = record {
 module _ (all left : List Spot) (count : Count) (is : IsCount all count left) where
   pub counted-some : (last : Placed) → count.next ≡ Some last → (all ≡ is.digits ++ spot_seen last ∷ left) × (is_ascii_digit last.byte ≡ false)
   counted-some last next = (
-      is.whole ∙ ap (λ o. is.digits ++ (option_to_list (option_map spot_seen o) ++ left)) next,
-      subst (λ o. IfSome o (λ placed. is_ascii_digit placed.byte ≡ false)) next is.next,
-    )
+    is.whole ∙ ap (λ o. is.digits ++ (option_to_list (option_map spot_seen o) ++ left)) next,
+    subst (λ o. IfSome o (λ placed. is_ascii_digit placed.byte ≡ false)) next is.next,
+  )
 
   pub counted-none : count.next ≡ None → (all ≡ is.digits ++ left) × (left ≡ [])
   counted-none next = (
-      is.whole ∙ ap (λ o. is.digits ++ (option_to_list (option_map spot_seen o) ++ left)) next,
-      subst (λ o. IfNone o (left ≡ [])) next is.end,
-    )
+    is.whole ∙ ap (λ o. is.digits ++ (option_to_list (option_map spot_seen o) ++ left)) next,
+    subst (λ o. IfNone o (left ≡ [])) next is.end,
+  )
 
 pub end-nil : (rest : List Spot) → rest ≡ [] → IsEnd rest
 end-nil [] none = tt

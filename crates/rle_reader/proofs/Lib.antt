@@ -10,3 +10,5 @@ mod BodyLemmas
 mod ItemLemmas
 mod FaultLemmas
 mod MeaningLemmas
+mod RunLemmas
+mod FitLemmas

@@ -1,10 +1,10 @@
 -- The first line of a text, and the lines after it.
-use Rattle.std.proofs.Common.{◌≡◌, ℕ, zero, suc, ◌<◌, ◌≤◌, ◌+◌, ◌-◌, Bool, true, false, not, cond, min, List, [], ◌∷◌, length, take, drop, get_or, Option, Some, None, unwrap_or, refl, ap, sym, ◌∙◌, arith, one-add, ◌⊎◌, inl, inr}
+use Rattle.std.proofs.Common.{◌≡◌, ℕ, zero, suc, ◌<◌, ◌≤◌, ◌+◌, Bool, true, false, not, cond, min, List, [], ◌∷◌, length, take, drop, get_or, Option, Some, None, unwrap_or, refl, ap, sym, ◌∙◌, arith, one-add, ◌⊎◌, inl, inr}
 use Rattle.std.proofs.lemmas.Bool.{cases_lt}
 use Rattle.std.specs.List.{position_or_len, onto_first}
 use Rattle.std.proofs.lemmas.List.{drop_all, drop-drop, length-take-le, nil_from_length}
 use Rattle.memchr.specs.Find.{IsFirstByte}
-use Rattle.rle_reader.specs.Lines.{Line, is_line_feed, raw_lines, placed_lines, lines, without_return}
+use Rattle.rle_reader.specs.Lines.{is_line_feed, raw_lines, placed_lines, lines, without_return}
 
 first_place_step : (b : Bool) (n k : ℕ) → b ≡ false → n ≡ k → cond (not b) (1 + n) 0 ≡ suc k
 first_place_step true n k no_pass same = cc

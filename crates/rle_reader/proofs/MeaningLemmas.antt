@@ -1,5 +1,5 @@
 -- What a text means, from its opening and its items.
-use Rattle.std.proofs.Common.{◌≡◌, ℕ, true, List, length, Option, None, Some, Result, Ok, Err, refl, ap, sym, ◌∙◌}
+use Rattle.std.proofs.Common.{◌≡◌, ℕ, true, List, length, None, Some, Result, Ok, Err, refl, ap, sym, ◌∙◌}
 use Rattle.plane.specs.declared.fault.Fault.{Fault}
 use Rattle.rle_reader.specs.Body.{struck, struck_from}
 use Rattle.rle_reader.specs.Faults.{◌>>=◌}

@@ -1,5 +1,5 @@
 -- Numbers, digit by digit, and what a machine keeps of them.
-use Rattle.std.proofs.Common.{◌≡◌, ℕ, suc, zero, ◌<◌, ◌+◌, ◌-◌, ◌*◌, ◌&&◌, Bool, true, false, cond, min, List, [], ◌∷◌, length, drop, Option, Some, None, refl, ap, sym, ◌∙◌, arith, ℤ, pos, negsuc, neg_ℤ, nat_lt, fold, if◌then◌else◌, codes, get_or, ◌≤◌}
+use Rattle.std.proofs.Common.{◌≡◌, ℕ, suc, zero, ◌<◌, ◌+◌, Bool, true, false, cond, min, List, [], ◌∷◌, length, drop, Option, Some, None, refl, ap, sym, ◌∙◌, arith, pos, neg_ℤ, fold, if◌then◌else◌, codes, get_or, ◌≤◌}
 use Rattle.std.proofs.lemmas.List.{at_drop_more, at_drop_all}
 use Rattle.rle_reader.specs.Bytes.{begins_with}
 use Rattle.std.specs.Char.{is_ascii_digit}

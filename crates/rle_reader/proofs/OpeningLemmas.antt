@@ -1,5 +1,5 @@
 -- The lines before the body, one after the other.
-use Rattle.std.proofs.Common.{◌≡◌, ℕ, suc, ◌+◌, Bool, true, false, cond, List, [], ◌∷◌, take, drop, Result, Ok, Err, IfOk, IfErr, refl, ap, sym, ◌∙◌, one-add}
+use Rattle.std.proofs.Common.{◌≡◌, ℕ, ◌+◌, Bool, true, false, cond, List, [], ◌∷◌, take, drop, Result, Ok, Err, IfOk, IfErr, refl, ap, sym, ◌∙◌, one-add}
 use Rattle.std.specs.List.{prefix_len}
 use Rattle.plane.specs.declared.fault.Fault.{Fault}
 use Rattle.plane.specs.declared.refusal.Refusal.TheVariants.{NotAPattern}
@@ -90,8 +90,8 @@ pub seen_with_header : (source : List ℕ) (end : ℕ) (settings : Settings) (li
 unfolding with_header
 seen_with_header source end settings line body (Ok read) ok err =
     rw ok.3 (ap (λ (s : Settings). Ok (opening_at s read.header read.body)) ok.0
-      ∙ ap (λ (h : ℕ). Ok (opening_at settings h read.body)) ok.1
-      ∙ ap (λ (b : ℕ). Ok (opening_at settings line.place b)) ok.2)
+    ∙ ap (λ (h : ℕ). Ok (opening_at settings h read.body)) ok.1
+    ∙ ap (λ (b : ℕ). Ok (opening_at settings line.place b)) ok.2)
   where
     opening_at : Settings → ℕ → ℕ → Opening
     opening_at s h b = record { settings = s; comments = comments_of (before_header (lines_from source 0)); header = h; rule = option_copied read.rule; body = lines_from source b }

@@ -1,11 +1,11 @@
 -- The words of a line, one after the other.
-use Rattle.std.proofs.Common.{◌≡◌, ℕ, Bool, true, false, cond, ◌&&◌, ◌||◌, List, [], ◌∷◌, map, Option, None, Some, Result, Ok, Err, refl, ap, sym, ◌∙◌, fold, arith, ℤ, pos, negsuc, suc, zero, min, take, drop, length, ◌<◌, ◌+◌, ◌-◌, nat_le}
+use Rattle.std.proofs.Common.{◌≡◌, ℕ, Bool, true, false, cond, ◌&&◌, ◌||◌, List, [], ◌∷◌, map, Option, None, Some, Result, Ok, Err, refl, ap, sym, ◌∙◌, fold, arith, ℤ, pos, negsuc, min, take, drop, length, ◌<◌, ◌+◌, ◌-◌, nat_le}
 use Rattle.std.proofs.lemmas.List.{take_rest}
 use Rattle.std.specs.List.{filter_map, slice_split, list_any, position, position_or_len, before_first, after_first, onto_first}
 use Rattle.std.specs.Option.{option_map}
 use Rattle.std.specs.Result.{result_ok, result_err}
 use Rattle.plane.specs.declared.refusal.Refusal.{Refusal}
-use Rattle.rle_reader.specs.Settings.{after_readings, after_word, lower, unless_refused, words_left}
+use Rattle.rle_reader.specs.Settings.{after_readings, after_word, lower, unless_refused}
 use Rattle.rle_reader.specs.Bytes.{is_byte, is_blank, words}
 use Rattle.rle_reader.specs.Numbers.{capped, clamped, integer_of, number_of}
 use Rattle.rle_reader.specs.Words.{word_of, is_coordinate, cell_at, generation_at, position_of}
@@ -101,7 +101,7 @@ cell_at-clamped (Some x) (Some y) =
     ∙ ap (λ b. cell_if (b && is_coordinate (clamped y)) (clamped x) (clamped y)) hx.0
     ∙ ap (λ b. cell_if (is_coordinate x && b) (clamped x) (clamped y)) hy.0
     ∙ cell_if-same (is_coordinate x && is_coordinate y) (clamped x) (clamped y) x y
-      (λ both. let h = both_true (is_coordinate x) (is_coordinate y) both in (hx.1 h.0, hy.1 h.1))
+    (λ both. let h = both_true (is_coordinate x) (is_coordinate y) both in (hx.1 h.0, hy.1 h.1))
     ∙ sym (cell_at-some x y)
 
 generation_if : (b : Bool) (m n : ℕ) → (b ≡ true → m ≡ n) → cond {A = Result ℕ Refusal} b (Ok m) (Err BadGen) ≡ cond b (Ok n) (Err BadGen)

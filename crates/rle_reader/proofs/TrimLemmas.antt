@@ -1,5 +1,5 @@
 -- Blanks at the ends of a text.
-use Rattle.std.proofs.Common.{◌≡◌, ℕ, Bool, true, false, cond, List, [], ◌∷◌, ◌++◌, refl, ap, sym, ◌∙◌}
+use Rattle.std.proofs.Common.{◌≡◌, ℕ, true, false, List, [], ◌∷◌, ◌++◌, refl, ap, sym, ◌∙◌}
 use Rattle.std.proofs.lemmas.List.{nil_from_length, reverse-append, reverse-reverse}
 use Rattle.std.specs.Prelude.{reverse}
 use Rattle.rle_reader.specs.Bytes.{is_blank, trimmed_start, trimmed_end}

@@ -1,5 +1,5 @@
 -- The header line: `x = W, y = H` or `x = W, y = H, rule = R`.
-use Rattle.std.specs.Prelude.{ℕ, Bool, false, ◌==◌, ◌&&◌, ◌||◌, if◌then◌else◌, List, [], ◌∷◌, map, Option, None, Some, codes}
+use Rattle.std.specs.Prelude.{ℕ, Bool, false, ◌==◌, ◌&&◌, ◌||◌, if◌then◌else◌, List, [], ◌∷◌, Option, None, Some, codes}
 use Rattle.std.specs.Prelude.{Result, Ok, Err, is_some}
 use Rattle.std.specs.List.{list_any, before_first, after_first}
 use Rattle.std.specs.Option.{option_map_or, option_copied}
@@ -47,8 +47,8 @@ unfoldable pub header_rule : List ℕ → Result (Option (List ℕ)) Refusal
 header_rule line =
     let rest = after_first (is_byte (byte ",")) line in
     if begins_as_header line then
-      (if is_side (codes "x") (before_first (is_byte (byte ",")) line) && is_side (codes "y") (before_first (is_byte (byte ",")) rest)
-       then rule_behind rest else Err BadHeader)
+    (if is_side (codes "x") (before_first (is_byte (byte ",")) line) && is_side (codes "y") (before_first (is_byte (byte ",")) rest)
+    then rule_behind rest else Err BadHeader)
     else Err NotAPattern
 
 -- the bytes of a rule that was read

@@ -1,4 +1,3 @@
-pub mod Slices
 pub mod Range
 pub mod Bytes
 pub mod Lines

@@ -1,5 +1,5 @@
 -- What a text means, or its first fault.
-use Rattle.std.specs.Prelude.{ℕ, ◌==◌, length, List, [], ◌∷◌, map, ℤ, pos, ◌+ℤ◌, int_le, int_lt, Bool, true, false, ◌&&◌, ◌||◌, Option, None, Some}
+use Rattle.std.specs.Prelude.{ℕ, length, List, [], ◌∷◌, map, ℤ, pos, ◌+ℤ◌, int_le, int_lt, Bool, true, false, ◌&&◌, ◌||◌, Option, None, Some}
 use Rattle.std.specs.Prelude.{Result, Ok, Err}
 use Rattle.std.specs.Option.{option_map, option_or}
 use Rattle.std.specs.Ordering.{int_eq}
@@ -9,10 +9,10 @@ use Rattle.plane.specs.declared.fault.Fault.{Fault}
 use Rattle.plane.specs.declared.refusal.Refusal.{Refusal}
 use Rattle.plane.specs.declared.refusal.Refusal.TheVariants.{BadCount}
 use Rattle.rle_reader.specs.Faults.{fault_at, ◌>>=◌}
-use Rattle.rle_reader.specs.Lines.{Line, lines}
+use Rattle.rle_reader.specs.Lines.{lines}
 use Rattle.rle_reader.specs.Opening.{Opening, opening_of}
 use Rattle.rle_reader.specs.Body.{Spot, struck}
-use Rattle.rle_reader.specs.Items.{Item, Items, Drawn, items_of, place_of, count_of, tag_of, run_of}
+use Rattle.rle_reader.specs.Items.{Item, Items, Drawn, items_of, place_of, count_of, tag_of, run_of, kept}
 use Rattle.rle_reader.specs.State.{State, start_at, after_item, faults_of, first_fault}
 use Rattle.rle_reader.specs.declared.item.Tag.{Tag}
 use Rattle.rle_reader.specs.declared.item.Tag.TheVariants.{Dead, Live, Row}
@@ -45,6 +45,10 @@ body_fault corner found = first_fault_from corner.x (start_at corner) found.item
 -- the items of a body in their text, up to the first that has no tag or has the count 0
 abbrev pub runs_of : List ℕ → List Spot → List Drawn
 runs_of source body = ok_prefix (map (run_of source) (items_of body).items)
+
+-- the same as a machine keeps them
+unfoldable pub runs_kept : List ℕ → List Spot → List Drawn
+runs_kept source body = map kept (runs_of source body)
 
 -- what an accepted text means
 pub record Meaning : Type 0 where

@@ -1,5 +1,5 @@
 -- What stands before the body of a file, and the body's lines.
-use Rattle.std.specs.Prelude.{ℕ, ◌==◌, Bool, false, not, ◌&&◌, ◌||◌, if◌then◌else◌, List, [], ◌∷◌, length, map, filter, drop, Option, None, Some, codes}
+use Rattle.std.specs.Prelude.{ℕ, ◌==◌, Bool, false, not, ◌&&◌, ◌||◌, List, [], ◌∷◌, map, filter, drop, Option, codes}
 use Rattle.std.specs.Prelude.{Result, Ok, Err}
 use Rattle.std.specs.List.{list_all, take_while, prefix_len}
 use Rattle.std.specs.Str.{byte}
@@ -26,7 +26,7 @@ unfoldable pub is_kept : List ℕ → Bool
 is_kept line =
     not (is_settings_line line)
     && (begins_with (codes "#C") line || begins_with (codes "#D") line
-        || begins_with (codes "#N") line || begins_with (codes "#O") line)
+    || begins_with (codes "#N") line || begins_with (codes "#O") line)
 
 -- the kept comments among these lines
 abbrev pub comments_of : List Line → List (List ℕ)

@@ -1,5 +1,5 @@
 -- What the `#CXRLE` lines say together.
-use Rattle.std.specs.Prelude.{ℕ, pos, Bool, nat_le, if◌then◌else◌, List, [], ◌∷◌, map, fold, Option, None, Some, codes}
+use Rattle.std.specs.Prelude.{ℕ, pos, Bool, nat_le, if◌then◌else◌, List, [], map, fold, Option, None, Some, codes}
 use Rattle.std.specs.Prelude.{Result, Ok, Err}
 use Rattle.std.specs.List.{filter_map}
 use Rattle.std.specs.Result.{result_ok, result_err}

@@ -60,9 +60,9 @@ impl<'a> Body<'a> {
         ensures within { self.new.at ≤ length self.new.source.now }
         ensures bytes { MatchOption result
             ((struck_from self.old.source.now self.old.at self.old.line_begins ≡ [])
-                × (struck_from self.new.source.now self.new.at self.new.line_begins ≡ []))
+            × (struck_from self.new.source.now self.new.at self.new.line_begins ≡ []))
             (λ next. struck_from self.old.source.now self.old.at self.old.line_begins
-                ≡ record { place = next.place; byte = next.byte } ∷ struck_from self.new.source.now self.new.at self.new.line_begins) }
+            ≡ record { place = next.place; byte = next.byte } ∷ struck_from self.new.source.now self.new.at self.new.line_begins) }
     {
         while self.at < self.source.len() {
             let place = self.at;

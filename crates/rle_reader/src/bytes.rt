@@ -60,8 +60,8 @@ pub(crate) fn trimmed(text: &[u8]) -> &[u8]
 pub(crate) fn split_at_byte(text: &[u8], byte: u8) -> Option<(&[u8], &[u8])>
     ensures { MatchOption result (list_any (is_byte byte) text.now ≡ false)
         (λ parts. (list_any (is_byte byte) text.now ≡ true)
-            × (parts.0.now ≡ before_first (is_byte byte) text.now)
-            × (parts.1.now ≡ after_first (is_byte byte) text.now)) }
+        × (parts.0.now ≡ before_first (is_byte byte) text.now)
+        × (parts.1.now ≡ after_first (is_byte byte) text.now)) }
 {
     match place_of_byte(text, byte) {
         Some(at) => Some((&text[..at], &text[at + 1..])),

@@ -54,7 +54,7 @@ fn next_comment<'a>(lines: &mut Lines<'a>) -> Option<&'a [u8]>
     ensures { MatchOption result
         ((comments_from lines.old.source.now lines.old.at ≡ []) × (comments_from lines.new.source.now lines.new.at ≡ []))
         (λ comment. comments_from lines.old.source.now lines.old.at
-            ≡ comment.now ∷ comments_from lines.new.source.now lines.new.at) }
+        ≡ comment.now ∷ comments_from lines.new.source.now lines.new.at) }
 {
     while let Some(line) = lines.next_line() {
         if !stands_before_header(line.text) {

@@ -53,7 +53,7 @@ impl<'a> Lines<'a> {
         ensures line { MatchOption result
             (lines_from self.old.source.now self.old.at ≡ [])
             (λ line. lines_from self.old.source.now self.old.at
-                ≡ record { place = line.place; text = line.text.now } ∷ lines_from self.new.source.now self.new.at) }
+            ≡ record { place = line.place; text = line.text.now } ∷ lines_from self.new.source.now self.new.at) }
     {
         let rest = &self.source[self.at..];
         if rest.is_empty() {

@@ -41,7 +41,7 @@ impl Pen {
     pub(crate) fn pass(&mut self, run: &Run<'_>) -> Result<(), Refusal>
         ensures ok { OnOk result ((motion_fault (state_at self.old.column self.old.row self.old.live) run.now.tag run.now.count ≡ None)
             × (state_at self.new.column self.new.row self.new.live
-                ≡ after_item self.old.left (state_at self.old.column self.old.row self.old.live) run.now.tag run.now.count)
+            ≡ after_item self.old.left (state_at self.old.column self.old.row self.old.live) run.now.tag run.now.count)
             × (self.new.left ≡ self.old.left)) }
         ensures err { IfErr result (λ refusal. motion_fault (state_at self.old.column self.old.row self.old.live) run.now.tag run.now.count ≡ Some refusal) }
     {
@@ -56,7 +56,7 @@ impl Pen {
     fn pass_rows(&mut self, count: u64) -> Result<(), Refusal>
         ensures ok { OnOk result ((motion_fault (state_at self.old.column self.old.row self.old.live) Tag.Row count ≡ None)
             × (state_at self.new.column self.new.row self.new.live
-                ≡ after_item self.old.left (state_at self.old.column self.old.row self.old.live) Tag.Row count)
+            ≡ after_item self.old.left (state_at self.old.column self.old.row self.old.live) Tag.Row count)
             × (self.new.left ≡ self.old.left)) }
         ensures err { IfErr result (λ refusal. motion_fault (state_at self.old.column self.old.row self.old.live) Tag.Row count ≡ Some refusal) }
     {
@@ -76,7 +76,7 @@ impl Pen {
     fn pass_dead(&mut self, count: u64) -> Result<(), Refusal>
         ensures ok { OnOk result ((motion_fault (state_at self.old.column self.old.row self.old.live) Tag.Dead count ≡ None)
             × (state_at self.new.column self.new.row self.new.live
-                ≡ after_item self.old.left (state_at self.old.column self.old.row self.old.live) Tag.Dead count)
+            ≡ after_item self.old.left (state_at self.old.column self.old.row self.old.live) Tag.Dead count)
             × (self.new.left ≡ self.old.left)) }
         ensures err { IfErr result (λ refusal. motion_fault (state_at self.old.column self.old.row self.old.live) Tag.Dead count ≡ Some refusal) }
     {
@@ -96,7 +96,7 @@ impl Pen {
     fn pass_live(&mut self, count: u64) -> Result<(), Refusal>
         ensures ok { OnOk result ((motion_fault (state_at self.old.column self.old.row self.old.live) Tag.Live count ≡ None)
             × (state_at self.new.column self.new.row self.new.live
-                ≡ after_item self.old.left (state_at self.old.column self.old.row self.old.live) Tag.Live count)
+            ≡ after_item self.old.left (state_at self.old.column self.old.row self.old.live) Tag.Live count)
             × (self.new.left ≡ self.old.left)) }
         ensures err { IfErr result (λ refusal. motion_fault (state_at self.old.column self.old.row self.old.live) Tag.Live count ≡ Some refusal) }
     {

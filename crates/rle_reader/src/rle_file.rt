@@ -107,6 +107,7 @@ impl<'a> RleFile<'a> {
 
     /// The items of the body.
     pub fn runs(&self) -> Runs<'a>
+        ensures { result ≡ self.now.runs }
     {
         Runs::new(self.source, self.preamble.body)
     }

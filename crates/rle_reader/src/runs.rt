@@ -1,22 +1,36 @@
 //! The items of a file, one after the other.
 
-ghost use Rattle.std.specs.Prelude.{◌≡◌, ◌-◌, ◌≤◌, length, IfSome};
-ghost use Rattle.std.specs.Iterator.{at_most};
-ghost use Rattle.rle_reader.specs.Slices.{StandsAt};
+ghost use Rattle.std.specs.Prelude.{◌≡◌, ◌≤◌, [], ◌∷◌, true, length, map, MatchOption};
+ghost use Rattle.std.specs.Iterator.{YieldsFirstBy, item_count};
+ghost use Rattle.rle_reader.specs.Body.{struck_from};
+ghost use Rattle.rle_reader.specs.Meaning.{runs_kept};
+ghost use Rattle.rle_reader.specs.Seen.{run_seen};
 
 use crate::body::Body;
 use crate::item::{Run, next_run};
+use std::marker::Model;
 
-/// The items of a file, in order.
-#[derive(Clone, Copy, Debug)]
+/// The items of a file, in order. A contract sees the items that are still to come.
+#[derive(Debug, Drop)]
 pub struct Runs<'a> {
     body: Body<'a>,
+}
+
+impl<'a> Model for Runs<'a> {
+    ghost use Rattle.std.specs.Prelude.{List};
+    ghost use Rattle.rle_reader.specs.Body.{struck_from};
+    ghost use Rattle.rle_reader.specs.Items.{Drawn};
+    ghost use Rattle.rle_reader.specs.Meaning.{runs_kept};
+
+    ghost Value = { List Drawn };
+
+    ghost view = { λ runs. runs_kept runs.body.source.now (struck_from runs.body.source.now runs.body.at runs.body.line_begins) };
 }
 
 impl<'a> Runs<'a> {
     pub(crate) fn new(source: &'a [u8], at: usize) -> Self
         requires { at ≤ length source.now }
-        ensures { result.body.source.now ≡ source.now }
+        ensures { result ≡ runs_kept source.now (struck_from source.now at true) }
     {
         Runs {
             body: Body::new(source, at),
@@ -27,15 +41,32 @@ impl<'a> Runs<'a> {
 impl<'a> Iterator for Runs<'a> {
     type Item = Run<'a>;
 
-    ghost remaining = { λ runs. at_most (length runs.body.source.now - runs.body.at) };
+    ghost next_gives = { YieldsFirstBy run_seen (λ runs. runs) };
+
+    ghost remaining = { item_count (λ runs. runs) };
 
     fn next(&mut self) -> Option<Run<'a>> {
-        match next_run(&mut self.body) {
-            Ok(Some(run)) => Some(run),
-            _ => {
-                self.body.close();
-                None
-            }
+        take_run(&mut self.body)
+    }
+}
+
+/// Takes the next item, or all that is left if there is none.
+fn take_run<'a>(body: &mut Body<'a>) -> Option<Run<'a>>
+    ensures { MatchOption result
+        ((runs_kept body.old.source.now (struck_from body.old.source.now body.old.at body.old.line_begins) ≡ [])
+        × (runs_kept body.new.source.now (struck_from body.new.source.now body.new.at body.new.line_begins) ≡ []))
+        (λ run. runs_kept body.old.source.now (struck_from body.old.source.now body.old.at body.old.line_begins)
+        ≡ run_seen run ∷ runs_kept body.new.source.now (struck_from body.new.source.now body.new.at body.new.line_begins)) }
+{
+    match next_run(body) {
+        Ok(Some(run)) => Some(run),
+        Ok(None) => {
+            body.close();
+            None
+        }
+        Err(_) => {
+            body.close();
+            None
         }
     }
 }

@@ -288,8 +288,11 @@ fn reads_a_count_over_lines_and_comments(rt: HostRuntime) {
         let place = if text.as_bytes()[13] == b'\r' { 15 } else { 14 };
         assert_run(&rt, runs.next(), slice, place, 12, Tag::Live);
         assert!(rt; runs.next().is_none(), "{text:?}");
-        let file = RleFile::open(text.as_bytes());
-        assert!(rt; file.is_ok() && file.map_or(0, |file| file.comments().count()) == 0);
+        let read = RleFile::open(text.as_bytes());
+        assert!(rt; read.is_ok(), "{text:?}");
+        if let Ok(file) = read {
+            assert!(rt; file.comments().next().is_none(), "{text:?}");
+        }
     }
 }
 

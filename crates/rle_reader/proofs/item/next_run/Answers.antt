@@ -21,8 +21,8 @@ returns-else-last-eq33-clause-next c =
     next-tagged source _ _ (spot_seen c.in-Some.first) (spot_seen c.in-Some-next.last) _ _ c.read_count-count.result.value
     (seen_next c.tagged_run.result) c.in-Some.ensures.bytes h.0 count.each h.1 other count.value
     (drawn_from-source c.source.result.now source c.in-Some.first.place c.read_count-count.result.value (spot_seen c.in-Some-next.last)
-      (seen_next c.tagged_run.result)
-      (c.source.ensures ∙ c.read_count-count.ensures.source ∙ c.in-Some.ensures.source) c.tagged_run.ensures)
+    (seen_next c.tagged_run.result)
+    (c.source.ensures ∙ c.read_count-count.ensures.source ∙ c.in-Some.ensures.source) c.tagged_run.ensures)
 
 pub returns-else-last-eq33-clause-rest : goal.returns-else-last-eq33-clause-rest
 returns-else-last-eq33-clause-rest c =

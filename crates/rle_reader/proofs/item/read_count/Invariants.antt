@@ -8,7 +8,7 @@ abbrev pub invariant-loop-next : goal.invariant-loop-next
 invariant-loop-next l =
     (l.body.source.now ≡ l.fn.body.source.now) × (l.fn.body.at ≤ l.body.at)
     × IsRead (spot_seen l.fn.first ∷ struck_from l.fn.body.source.now l.fn.body.at l.fn.body.line_begins) l.value
-      (struck_from l.body.source.now l.body.at l.body.line_begins)
+    (struck_from l.body.source.now l.body.at l.body.line_begins)
 
 abbrev pub decreases-loop-next : goal.decreases-loop-next
 decreases-loop-next l = length l.body.source.now - l.body.at

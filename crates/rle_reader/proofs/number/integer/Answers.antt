@@ -1,6 +1,6 @@
 use Rattle.std.proofs.Common.{◌∙◌, ap}
 use Rattle.std.specs.Option.{option_map}
-use Rattle.std.proofs.Common.{ℤ, pos, neg_ℤ, min, ℕ, Option}
+use Rattle.std.proofs.Common.{pos, neg_ℤ, min, ℕ, Option}
 use Rattle.rle_reader.proofs.NumberLemmas.{integer_of-minus, integer_of-plain}
 use Rattle.rle_reader.proofs.number.integer.Goals as goal
 

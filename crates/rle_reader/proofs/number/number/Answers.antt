@@ -14,10 +14,12 @@ returns-then-not-is_ascii_digit c =
     c.loop-byte-test.true (sym c.is_ascii_digit.ensures.value ∙ c.if-not-is_ascii_digit.true)
 
 pub loop-byte-preserved : goal.loop-byte-preserved
-loop-byte-preserved c =
-    (read_on-next c.args.text.now c.loop-byte.value c.loop-byte.byte-index c.loop-byte.invariant.0
-    c.with_digit-value.result c.loop-byte-test.true
-    (sym c.is_ascii_digit.ensures.value ∙ c.if-not-is_ascii_digit.false) c.with_digit-value.ensures, omega (arith, c.with_digit-value.ensures))
+loop-byte-preserved c = (
+  read_on-next c.args.text.now c.loop-byte.value c.loop-byte.byte-index c.loop-byte.invariant.0
+      c.with_digit-value.result c.loop-byte-test.true
+      (sym c.is_ascii_digit.ensures.value ∙ c.if-not-is_ascii_digit.false) c.with_digit-value.ensures,
+  omega (arith, c.with_digit-value.ensures),
+)
 
 pub returns : goal.returns
 returns c =

@@ -1,11 +1,11 @@
-use Rattle.std.proofs.Common.{◌≡◌, Some, None, Ok, OnSome, ℤ, true, ap, sym, subst, ◌∙◌}
+use Rattle.std.proofs.Common.{◌≡◌, Ok, OnSome, true, ap, sym, subst, ◌∙◌}
 use Rattle.std.proofs.lemmas.Result.{err_from_is_err_and}
 use Rattle.std.specs.Option.{option_map}
-use Rattle.rle_reader.specs.Body.{Spot, struck_from}
+use Rattle.rle_reader.specs.Body.{struck_from}
 use Rattle.rle_reader.specs.Items.{Items, items_of, items_after}
 use Rattle.rle_reader.specs.Meaning.{body_fault, first_fault_from}
 use Rattle.rle_reader.specs.Seen.{run_seen}
-use Rattle.rle_reader.specs.State.{State, state_at, after_item}
+use Rattle.rle_reader.specs.State.{state_at}
 use Rattle.rle_reader.proofs.FaultLemmas.{InReach, first_fault-on, first_fault-here, first_fault-none, first_fault-read}
 use Rattle.rle_reader.proofs.ItemLemmas.{as_kept}
 use Rattle.rle_reader.proofs.rle_file.check_body.Goals as goal
@@ -17,13 +17,13 @@ loop-run-init c =
     let pen = c.new-pen.result in
     let found = items_of (struck_from c.args.source.now c.args.preamble.now.body true) in
     let same : items_of (struck_from body.source.now body.at body.line_begins) ≡ found =
-        ap (λ s. items_of (struck_from s body.at body.line_begins)) c.new-body.ensures.source
-        ∙ ap (λ a. items_of (struck_from c.args.source.now a body.line_begins)) c.new-body.ensures.at
-        ∙ ap (λ b. items_of (struck_from c.args.source.now c.args.preamble.now.body b)) c.new-body.ensures.begins in (
+    ap (λ s. items_of (struck_from s body.at body.line_begins)) c.new-body.ensures.source
+    ∙ ap (λ a. items_of (struck_from c.args.source.now a body.line_begins)) c.new-body.ensures.at
+    ∙ ap (λ b. items_of (struck_from c.args.source.now c.args.preamble.now.body b)) c.new-body.ensures.begins in (
       c.new-body.ensures.source,
       ap (λ (f : Items). first_fault_from pen.left (state_at pen.column pen.row pen.live) f.items f.left_over) same
-      ∙ ap (λ left. first_fault_from left (state_at pen.column pen.row pen.live) found.items found.left_over) c.new-pen.ensures.left
-      ∙ ap (λ s. first_fault_from c.args.preamble.now.settings.pos.x s found.items found.left_over) c.new-pen.ensures.state,
+          ∙ ap (λ left. first_fault_from left (state_at pen.column pen.row pen.live) found.items found.left_over) c.new-pen.ensures.left
+          ∙ ap (λ s. first_fault_from c.args.preamble.now.settings.pos.x s found.items found.left_over) c.new-pen.ensures.state,
     )
 
 pub returns-in_err-run-clause-err : goal.returns-in_err-run-clause-err
@@ -34,7 +34,7 @@ returns-in_err-run-clause-err c =
     let found = items_of (struck_from body.source.now body.at body.line_begins) in
     let p = err_from_is_err_and c.from_residual.result c.from_residual.ensures.1 in
     rw (p.1, p.2) (sym c.loop-run.invariant.1
-      ∙ first_fault-read pen.left (state_at pen.column pen.row pen.live) body.source.now found.items found.left_over c.in_err-run.field-0.0 (sym c.in_err-run.ensures.next))
+    ∙ first_fault-read pen.left (state_at pen.column pen.row pen.live) body.source.now found.items found.left_over c.in_err-run.field-0.0 (sym c.in_err-run.ensures.next))
 
 pub returns-in-Err-clause-err : goal.returns-in-Err-clause-err
 unfolding as_kept
@@ -46,7 +46,7 @@ returns-in-Err-clause-err c =
     let run = run_seen c.in-Some.run' in
     sym c.loop-run.invariant.1
     ∙ first_fault-here pen.left (state_at pen.column pen.row pen.live) reach body.source.now run found.items found.left_over c.in-Err.refusal
-      (sym c.in_ok-run.ensures.next ∙ ap (λ o. Ok (option_map run_seen o)) c.in-Some.is) c.in-Err.ensures.err
+    (sym c.in_ok-run.ensures.next ∙ ap (λ o. Ok (option_map run_seen o)) c.in-Some.is) c.in-Err.ensures.err
 
 pub loop-run-preserved : goal.loop-run-preserved
 unfolding as_kept
@@ -61,11 +61,11 @@ loop-run-preserved c =
     let rest : later ≡ items_after found = subst (λ o. OnSome o (later ≡ items_after found)) c.in-Some.is c.in_ok-run.ensures.rest in (
       c.in_ok-run.ensures.source ∙ c.loop-run.invariant.0,
       ap (λ (f : Items). first_fault_from next.left (state_at next.column next.row next.live) f.items f.left_over) rest
-      ∙ ap (λ left. first_fault_from left (state_at next.column next.row next.live) (items_after found).items found.left_over) c.in_default-pass.ensures.ok.2
-      ∙ ap (λ s. first_fault_from pen.left s (items_after found).items found.left_over) c.in_default-pass.ensures.ok.1
-      ∙ first_fault-on pen.left (state_at pen.column pen.row pen.live) reach body.source.now run found.items found.left_over
-        (sym c.in_ok-run.ensures.next ∙ ap (λ o. Ok (option_map run_seen o)) c.in-Some.is) c.in_default-pass.ensures.ok.0
-      ∙ c.loop-run.invariant.1,
+          ∙ ap (λ left. first_fault_from left (state_at next.column next.row next.live) (items_after found).items found.left_over) c.in_default-pass.ensures.ok.2
+          ∙ ap (λ s. first_fault_from pen.left s (items_after found).items found.left_over) c.in_default-pass.ensures.ok.1
+          ∙ first_fault-on pen.left (state_at pen.column pen.row pen.live) reach body.source.now run found.items found.left_over
+          (sym c.in_ok-run.ensures.next ∙ ap (λ o. Ok (option_map run_seen o)) c.in-Some.is) c.in_default-pass.ensures.ok.0
+          ∙ c.loop-run.invariant.1,
     )
 
 pub returns-clause-ok : goal.returns-clause-ok
@@ -76,4 +76,4 @@ returns-clause-ok c =
     let found = items_of (struck_from body.source.now body.at body.line_begins) in
     sym c.loop-run.invariant.1
     ∙ first_fault-none pen.left (state_at pen.column pen.row pen.live) body.source.now found.items found.left_over
-      (sym c.in_ok-run.ensures.next ∙ ap (λ o. Ok (option_map run_seen o)) c.in_default.is)
+    (sym c.in_ok-run.ensures.next ∙ ap (λ o. Ok (option_map run_seen o)) c.in_default.is)

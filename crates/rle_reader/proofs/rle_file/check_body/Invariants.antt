@@ -10,7 +10,7 @@ invariant-loop-run l =
     let left = items_of (struck_from l.body.source.now l.body.at l.body.line_begins) in
     (l.body.source.now ≡ l.source)
     × (first_fault_from l.pen.left (state_at l.pen.column l.pen.row l.pen.live) left.items left.left_over
-      ≡ body_fault l.preamble.settings.pos (items_of (struck_from l.source l.preamble.body true)))
+    ≡ body_fault l.preamble.settings.pos (items_of (struck_from l.source l.preamble.body true)))
 
 abbrev pub decreases-loop-run : goal.decreases-loop-run
 decreases-loop-run l = length l.source - l.body.at

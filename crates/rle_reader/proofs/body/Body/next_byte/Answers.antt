@@ -10,9 +10,9 @@ returns-then-not-is_skipped-clause-bytes c =
     let at = c.loop-self.self.at in
     let begins = c.loop-self.self.line_begins in
     let other : (begins && get_or source at 0 == 35) ≡ false = elim c.else-self.branch [
-        else-self-via-then-self+else-byte-eq35 w ↦ grind (arith, nat_tests)
+      | else-self-via-then-self+else-byte-eq35 w ↦ grind (arith, nat_tests)
       | else-self-via-else-self w ↦ grind (arith, nat_tests)
-      ] in
+    ] in
     sym c.loop-self.invariant.2
     ∙ struck_from-byte source at c.loop-self-test.true begins other (sym c.is_skipped.ensures ∙ c.if-not-is_skipped.true)
 
@@ -22,13 +22,13 @@ loop-self-preserved c =
     let at = c.loop-self.self.at in
     let begins = c.loop-self.self.line_begins in
     let other : (begins && get_or source at 0 == 35) ≡ false = elim c.else-self.branch [
-        else-self-via-then-self+else-byte-eq35 w ↦ grind (arith, nat_tests)
+      | else-self-via-then-self+else-byte-eq35 w ↦ grind (arith, nat_tests)
       | else-self-via-else-self w ↦ grind (arith, nat_tests)
-      ] in (
+    ] in (
       c.loop-self.invariant.0,
       omega (arith, c.loop-self.invariant.1),
       sym (struck_from-skipped source at c.loop-self-test.true begins other (sym c.is_skipped.ensures ∙ c.if-not-is_skipped.false))
-      ∙ c.loop-self.invariant.2,
+          ∙ c.loop-self.invariant.2,
     )
 
 pub returns-clause-bytes : goal.returns-clause-bytes

@@ -12,6 +12,6 @@ returns-clause-bytes c =
     let n = c.line_length.result in
     let rest_is = take_rest source at in
     sym (struck_from-comment source at c.requires.within n c.min.result c.requires.comment
-      (c.line_length.ensures.value ∙ ap (position_or_len is_line_feed) rest_is)
-      (subst (λ rest. n ≤ length rest) rest_is c.line_length.ensures.within)
-      (c.min.ensures ∙ ap (λ rest. min (n + 1) (length rest)) rest_is))
+    (c.line_length.ensures.value ∙ ap (position_or_len is_line_feed) rest_is)
+    (subst (λ rest. n ≤ length rest) rest_is c.line_length.ensures.within)
+    (c.min.ensures ∙ ap (λ rest. min (n + 1) (length rest)) rest_is))

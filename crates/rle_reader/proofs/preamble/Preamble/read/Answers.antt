@@ -13,8 +13,8 @@ loop-line-init c =
       c.new-lines.ensures.source,
       c.new-settings.ensures.in_range,
       ap (λ s. opening_on (length source) comments s (lines_from source c.new-lines.result.at)) c.new-settings.ensures.value
-      ∙ ap (λ at. opening_on (length source) comments _ (lines_from source at)) c.new-lines.ensures.start
-      ∙ opening_on-start (length source) (lines_from source 0),
+          ∙ ap (λ at. opening_on (length source) comments _ (lines_from source at)) c.new-lines.ensures.start
+          ∙ opening_on-start (length source) (lines_from source 0),
     )
 
 pub returns-then-not-stands_before_header-clause-opening : goal.returns-then-not-stands_before_header-clause-opening
@@ -56,8 +56,8 @@ loop-line-preserved c =
       c.in-Some.ensures.source ∙ c.loop-line.invariant.0,
       c.in_ok-settings.ensures.in_range,
       opening_on-line (length source) comments settings line (lines_from source at) c.in_ok-settings.settings (sym c.stands_before_header.ensures ∙ c.if-not-stands_before_header.false) c.in_ok-settings.ensures.value
-      ∙ ap (opening_on (length source) comments settings) (sym left)
-      ∙ c.loop-line.invariant.2,
+          ∙ ap (opening_on (length source) comments settings) (sym left)
+          ∙ c.loop-line.invariant.2,
     )
 
 pub returns-clause-opening : goal.returns-clause-opening

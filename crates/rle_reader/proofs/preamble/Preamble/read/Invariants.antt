@@ -9,7 +9,7 @@ abbrev pub invariant-loop-line : goal.invariant-loop-line
 invariant-loop-line l =
     (l.lines.source.now ≡ l.source) × IsInRange l.settings.pos
     × (opening_on (length l.source) (comments_of (before_header (lines_from l.source 0))) l.settings (lines_from l.source l.lines.at)
-      ≡ opening_of (length l.source) (lines_from l.source 0))
+    ≡ opening_of (length l.source) (lines_from l.source 0))
 
 abbrev pub decreases-loop-line : goal.decreases-loop-line
 decreases-loop-line l = length l.source - l.lines.at

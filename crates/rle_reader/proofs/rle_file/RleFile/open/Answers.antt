@@ -1,4 +1,3 @@
-use Rattle.std.proofs.Common.{ap, ◌∙◌}
 use Rattle.std.proofs.lemmas.Result.{err_from_is_err_and}
 use Rattle.rle_reader.proofs.MeaningLemmas.{judged-opening_fault, judged-body_fault, judged-accepted}
 use Rattle.rle_reader.proofs.rle_file.RleFile.open.Goals as goal

@@ -11,23 +11,23 @@ loop-rest-init c = (reading_on-start c.args.self (map word_of (words c.args.line
 
 pub loop-rest-preserved-in-Ok : goal.loop-rest-preserved-in-Ok
 loop-rest-preserved-in-Ok c = (
-    reading_on-word c.loop-rest.settings c.after_word-settings.result c.loop-rest.worst c.in-Some.text.now
-    c.first_word.result.0.now (words_left (option_copied c.first_word.result.1)) c.in-Ok.word
-    c.first_word.ensures.words c.in-Ok.ensures.value c.after_word-settings.ensures.value
-    ∙ ap (λ rest. reading_on c.loop-rest.settings c.loop-rest.worst (map word_of (words_left (option_copied rest)))) (sym c.in-Some.is)
-    ∙ c.loop-rest.invariant.0,
-    c.after_word-settings.ensures.in_range,
-  )
+  reading_on-word c.loop-rest.settings c.after_word-settings.result c.loop-rest.worst c.in-Some.text.now
+      c.first_word.result.0.now (words_left (option_copied c.first_word.result.1)) c.in-Ok.word
+      c.first_word.ensures.words c.in-Ok.ensures.value c.after_word-settings.ensures.value
+      ∙ ap (λ rest. reading_on c.loop-rest.settings c.loop-rest.worst (map word_of (words_left (option_copied rest)))) (sym c.in-Some.is)
+      ∙ c.loop-rest.invariant.0,
+  c.after_word-settings.ensures.in_range,
+)
 
 pub loop-rest-preserved : goal.loop-rest-preserved
 loop-rest-preserved c = (
-    reading_on-refused c.loop-rest.settings c.loop-rest.worst c.lower-worst.result c.in-Some.text.now
-    c.first_word.result.0.now (words_left (option_copied c.first_word.result.1)) c.in-Err.refusal
-    c.first_word.ensures.words c.in-Err.ensures.value c.lower-worst.ensures
-    ∙ ap (λ rest. reading_on c.loop-rest.settings c.loop-rest.worst (map word_of (words_left (option_copied rest)))) (sym c.in-Some.is)
-    ∙ c.loop-rest.invariant.0,
-    c.loop-rest.invariant.1,
-  )
+  reading_on-refused c.loop-rest.settings c.loop-rest.worst c.lower-worst.result c.in-Some.text.now
+      c.first_word.result.0.now (words_left (option_copied c.first_word.result.1)) c.in-Err.refusal
+      c.first_word.ensures.words c.in-Err.ensures.value c.lower-worst.ensures
+      ∙ ap (λ rest. reading_on c.loop-rest.settings c.loop-rest.worst (map word_of (words_left (option_copied rest)))) (sym c.in-Some.is)
+      ∙ c.loop-rest.invariant.0,
+  c.loop-rest.invariant.1,
+)
 
 pub returns-in-Some-worst-clause-value : goal.returns-in-Some-worst-clause-value
 returns-in-Some-worst-clause-value c =
