@@ -1,5 +1,5 @@
 -- In an accepted body each count fits a machine.
-use Rattle.std.proofs.Common.{◌≡◌, ℕ, ◌==◌, ◌+◌, Bool, true, false, List, [], ◌∷◌, ◌++◌, map, Option, None, Some, Result, Ok, Err, refl, ap, sym, ◌∙◌, arith, ℤ, pos, ◌+ℤ◌, append_assoc, slice_range}
+use Rattle.std.proofs.Common.{◌≡◌, ℕ, ◌==◌, ◌+◌, Bool, true, false, List, [], ◌∷◌, ◌++◌, map, Option, None, Some, Result, Ok, Err, refl, ap, sym, subst, ◌∙◌, arith, ℤ, pos, ◌+ℤ◌, append_assoc, slice_range}
 use Rattle.std.specs.Option.{option_map, option_or}
 use Rattle.std.specs.Result.{ok_prefix}
 use Rattle.std.proofs.lemmas.Int.{ints}
@@ -10,7 +10,7 @@ use Rattle.rle_reader.specs.Lines.{lines_from}
 use Rattle.rle_reader.specs.Seen.{opening_seen}
 use Rattle.rle_reader.specs.declared.preamble.Preamble.{Preamble}
 use Rattle.rle_reader.specs.Items.{Item, Drawn, place_of, count_of, tag_of, drawn_from, run_of, kept, items_of}
-use Rattle.rle_reader.specs.Meaning.{item_fault, state_after, first_fault_from, body_fault, meaning_of, runs_kept}
+use Rattle.rle_reader.specs.Meaning.{item_fault, state_after, first_fault_from, body_fault, meaning_of, runs_kept, StayInRange}
 use Rattle.rle_reader.specs.Range.{IsWithinReach}
 use Rattle.plane.specs.Range.{IsCoordinate, IsInRange}
 use Rattle.rle_reader.specs.State.{State, start_at, after_item, leaves_range, passes_cells, passes_limit, when, faults_of, first_fault, motion_fault}
@@ -29,7 +29,7 @@ mapped_none f (Some x) h = cc
 moved_on : (coordinate : ℤ) (count : ℕ) → IsWithinReach coordinate → passes_limit coordinate count ≡ false → IsWithinReach (coordinate +ℤ pos count)
 moved_on coordinate count reach below = record { low = omega (arith, ints, reach.low); high = grind (arith, ints) }
 
-reach_after : (left : ℤ) (state : State) (tag : Tag) (count : ℕ) → IsWithinReach left → InReach state → leaves_range state tag count ≡ false → InReach (after_item left state tag count)
+pub reach_after : (left : ℤ) (state : State) (tag : Tag) (count : ℕ) → IsWithinReach left → InReach state → leaves_range state tag count ≡ false → InReach (after_item left state tag count)
 reach_after left state Dead count left_reach reach stays = record { column = moved_on state.column count reach.column stays; row = reach.row }
 reach_after left state Live count left_reach reach stays = record { column = moved_on state.column count reach.column (either_false _ _ stays); row = reach.row }
 reach_after left state Row count left_reach reach stays = record { column = left_reach; row = moved_on state.row count reach.row stays }
@@ -40,6 +40,11 @@ record IsGood (state : State) (reading : Result Tag Refusal) (count : ℕ) : Typ
   is : reading ≡ Ok tag
   counted : (count == 0) ≡ false
   none : motion_fault state tag count ≡ None
+
+no_second_fault : (a b : Bool) → first_fault (when a OutOfRange ++ when b TooManyCells) ≡ None → b ≡ false
+no_second_fault true b h = cc
+no_second_fault false true h = cc
+no_second_fault false false h = refl
 
 good_count : (b : Bool) (state : State) (tag : Tag) (count : ℕ) → (count == 0) ≡ b →
     first_fault (when b BadCount ++ (when (leaves_range state tag count) OutOfRange ++ when (passes_cells state tag count) TooManyCells)) ≡ None → IsGood state (Ok tag) count
@@ -90,7 +95,7 @@ kept_runs-fit source left state (item ∷ items) over left_reach reach none =
     (reach_after left state good.tag (count_of item.digits) left_reach reach stays)
     (ap (λ s. first_fault_from left s items over) (sym (good_state left state item good)) ∙ h.1))
 
-within : (number : ℤ) → IsCoordinate number → IsWithinReach number
+pub within : (number : ℤ) → IsCoordinate number → IsWithinReach number
 within number is = record { low = is.low; high = omega (arith, ints, is.high) }
 
 -- the runs of an accepted body are those of its meaning
@@ -103,3 +108,36 @@ runs_kept-accepted source preamble range none =
     let x = within corner.x range.x in
     let y = within corner.y range.y in
     kept_runs-fit source corner.x (start_at corner) found.items found.left_over x (record { column = x; row = y }) none
+
+stay_first : (left : ℤ) (state : State) (found : Result Drawn Refusal) (run : Drawn) (rest : List (Result Drawn Refusal)) → found ≡ Ok run →
+    leaves_range state run.tag run.count ≡ false → passes_cells state run.tag run.count ≡ false → StayInRange left (after_item left state run.tag run.count) (ok_prefix rest) →
+    StayInRange left state (ok_prefix (found ∷ rest))
+stay_first left state (Ok other) run rest is stays few more =
+    let same : run ≡ other = cc in
+    subst (λ (r : Drawn). StayInRange left state (r ∷ ok_prefix rest)) same (stays, few, more)
+stay_first left state (Err refusal) run rest is stays few more = cc
+
+-- without a fault the runs stay in the range, and their live cells are not too many
+pub stay-without_fault : (source : List ℕ) (left : ℤ) (state : State) (items : List Item) (over : List Spot) → first_fault_from left state items over ≡ None →
+    StayInRange left state (ok_prefix (map (run_of source) items))
+unfolding first_fault_from motion_fault
+stay-without_fault source left state [] over none = tt
+stay-without_fault source left state (item ∷ items) over none =
+    let h = or_none (item_fault state item) (first_fault_from left (state_after left state item) items over) none in
+    let good = good_item state item h.0 in
+    let count = count_of item.digits in
+    let stays = no_fault (leaves_range state good.tag count) (passes_cells state good.tag count) good.none in
+    let few = no_second_fault (leaves_range state good.tag count) (passes_cells state good.tag count) good.none in
+    let run : Drawn = record { text = slice_range source (place_of item.digits item.tag) (item.tag.place + 1); place = place_of item.digits item.tag; count = count; tag = good.tag } in
+    stay_first left state (run_of source item) run (map (run_of source) items) (good_run source state item good) stays few
+    (stay-without_fault source left (after_item left state good.tag count) items over
+    (ap (λ s. first_fault_from left s items over) (sym (good_state left state item good)) ∙ h.1))
+
+-- the runs of an accepted body stay in the range
+pub stay-accepted : (source : List ℕ) (preamble : Preamble) → body_fault preamble.settings.pos (items_of (struck_from source preamble.body true)) ≡ None →
+    let meaning = meaning_of source (opening_seen source preamble) in StayInRange meaning.pos.x (start_at meaning.pos) meaning.runs
+unfolding body_fault meaning_of struck_from
+stay-accepted source preamble none =
+    let corner = preamble.settings.pos in
+    let found = items_of (struck (lines_from source preamble.body)) in
+    stay-without_fault source corner.x (start_at corner) found.items found.left_over none

@@ -26,19 +26,19 @@ use Rattle.rle_reader.specs.declared.item.Tag.{Tag}
 abbrev pub AreDigits : List Spot → Type 0
 AreDigits digits = AllByRecursion (λ spot. is_digit_spot spot ≡ true) digits
 
-items_of-digit : (digit : Spot) (rest : List Spot) → is_digit_spot digit ≡ true → items_of (digit ∷ rest) ≡ with_digit digit (items_of rest)
+pub items_of-digit : (digit : Spot) (rest : List Spot) → is_digit_spot digit ≡ true → items_of (digit ∷ rest) ≡ with_digit digit (items_of rest)
 unfolding items_of
 items_of-digit digit rest is = rw is refl
 
-items_of-stop : (stop : Spot) (rest : List Spot) → is_digit_spot stop ≡ false → is_end_spot stop ≡ true → items_of (stop ∷ rest) ≡ record { items = []; left_over = [] }
+pub items_of-stop : (stop : Spot) (rest : List Spot) → is_digit_spot stop ≡ false → is_end_spot stop ≡ true → items_of (stop ∷ rest) ≡ record { items = []; left_over = [] }
 unfolding items_of
 items_of-stop stop rest no_digit ends = rw (no_digit, ends) refl
 
-items_of-other : (tag : Spot) (rest : List Spot) → is_digit_spot tag ≡ false → is_end_spot tag ≡ false → items_of (tag ∷ rest) ≡ with_tag tag (items_of rest)
+pub items_of-other : (tag : Spot) (rest : List Spot) → is_digit_spot tag ≡ false → is_end_spot tag ≡ false → items_of (tag ∷ rest) ≡ with_tag tag (items_of rest)
 unfolding items_of
 items_of-other tag rest no_digit no_end = rw (no_digit, no_end) refl
 
-items_of-nil : items_of [] ≡ record { items = []; left_over = [] }
+pub items_of-nil : items_of [] ≡ record { items = []; left_over = [] }
 unfolding items_of
 items_of-nil = refl
 

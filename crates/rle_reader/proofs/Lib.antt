@@ -12,3 +12,6 @@ mod FaultLemmas
 mod MeaningLemmas
 mod RunLemmas
 mod FitLemmas
+mod CutLemmas
+mod PositionLemmas
+mod RangeLemmas

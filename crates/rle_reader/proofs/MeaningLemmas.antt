@@ -10,10 +10,10 @@ use Rattle.rle_reader.specs.Opening.{Opening, opening_of}
 use Rattle.rle_reader.specs.Seen.{opening_seen}
 use Rattle.rle_reader.specs.declared.preamble.Preamble.{Preamble}
 
-judged_with : List ℕ → Result Opening Fault → Result Meaning Fault
+unfoldable pub judged_with : List ℕ → Result Opening Fault → Result Meaning Fault
 judged_with source found = found >>= λ opening. unless (body_fault opening.settings.pos (items_of (struck opening.body))) (meaning_of source opening)
 
-judged-is : (source : List ℕ) → judged source ≡ judged_with source (opening_of (length source) (lines_from source 0))
+pub judged-is : (source : List ℕ) → judged source ≡ judged_with source (opening_of (length source) (lines_from source 0))
 unfolding judged judged_with
 judged-is source = refl
 

@@ -73,7 +73,7 @@ clamped_coordinate (pos number) = clamped_pos number
 clamped_coordinate (negsuc number) =
     (grind (arith, ints, nat_tests), λ h. ap negsuc (grind (arith, ints, nat_tests)))
 
-both_true : (a b : Bool) → (a && b) ≡ true → (a ≡ true) × (b ≡ true)
+pub both_true : (a b : Bool) → (a && b) ≡ true → (a ≡ true) × (b ≡ true)
 both_true true b h = (refl, h)
 both_true false b h = cc
 

@@ -1,5 +1,5 @@
 -- What a text means, or its first fault.
-use Rattle.std.specs.Prelude.{ℕ, length, List, [], ◌∷◌, map, ℤ, pos, ◌+ℤ◌, int_le, int_lt, Bool, true, false, ◌&&◌, ◌||◌, Option, None, Some}
+use Rattle.std.specs.Prelude.{◌≡◌, ℕ, length, List, [], ◌∷◌, map, filter, sum_by, ℤ, pos, ◌+ℤ◌, int_le, int_lt, Bool, true, false, ◌&&◌, ◌||◌, Option, None, Some}
 use Rattle.std.specs.Prelude.{Result, Ok, Err}
 use Rattle.std.specs.Option.{option_map, option_or}
 use Rattle.std.specs.Ordering.{int_eq}
@@ -8,12 +8,13 @@ use Rattle.plane.specs.declared.cell.Cell.{Cell}
 use Rattle.plane.specs.declared.fault.Fault.{Fault}
 use Rattle.plane.specs.declared.refusal.Refusal.{Refusal}
 use Rattle.plane.specs.declared.refusal.Refusal.TheVariants.{BadCount}
+use Rattle.plane.specs.Plane.{Plane}
 use Rattle.rle_reader.specs.Faults.{fault_at, ◌>>=◌}
 use Rattle.rle_reader.specs.Lines.{lines}
 use Rattle.rle_reader.specs.Opening.{Opening, opening_of}
 use Rattle.rle_reader.specs.Body.{Spot, struck}
 use Rattle.rle_reader.specs.Items.{Item, Items, Drawn, items_of, place_of, count_of, tag_of, run_of, kept}
-use Rattle.rle_reader.specs.State.{State, start_at, after_item, faults_of, first_fault}
+use Rattle.rle_reader.specs.State.{State, start_at, after_item, leaves_range, passes_cells, faults_of, first_fault}
 use Rattle.rle_reader.specs.declared.item.Tag.{Tag}
 use Rattle.rle_reader.specs.declared.item.Tag.TheVariants.{Dead, Live, Row}
 
@@ -83,15 +84,16 @@ judged text = do
 
 -- ---- the cells that a meaning makes live
 
+-- the tag is that of live cells
+abbrev pub is_live : Tag → Bool
+is_live Live = true
+is_live Dead = false
+is_live Row = false
+
 -- the item makes the cell live
 abbrev pub covers : State → Drawn → ℤ → ℤ → Bool
 covers state run x y = is_live run.tag && int_eq y state.row
     && int_le state.column x && int_lt x (state.column +ℤ pos run.count)
-  where
-    is_live : Tag → Bool
-    is_live Live = true
-    is_live Dead = false
-    is_live Row = false
 
 -- one of the items, from a state on, makes the cell live
 unfoldable pub is_covered : ℤ → State → List Drawn → ℤ → ℤ → Bool
@@ -99,6 +101,20 @@ is_covered left state [] x y = false
 is_covered left state (run ∷ runs) x y =
     covers state run x y || is_covered left (after_item left state run.tag run.count) runs x y
 
--- the cells that the items make live, x to the right and y downwards
-abbrev pub plane_of : Meaning → ℤ → ℤ → Bool
-plane_of meaning = is_covered meaning.pos.x (start_at meaning.pos) meaning.runs
+-- the cells that the items make live
+abbrev pub live_plane : Meaning → Plane
+live_plane meaning = is_covered meaning.pos.x (start_at meaning.pos) meaning.runs
+
+-- how many cells the items make live
+abbrev pub live_cells : List Drawn → ℕ
+live_cells runs = sum_by (λ run. run.count) (filter (λ run. is_live run.tag) runs)
+
+-- ---- where the items lead
+
+-- the items stay within the range from a state on, and their live cells are not too many
+abbrev pub StayInRange : ℤ → State → List Drawn → Type 0
+StayInRange left state [] = Unit {0}
+StayInRange left state (run ∷ runs) =
+    (leaves_range state run.tag run.count ≡ false)
+    × (passes_cells state run.tag run.count ≡ false)
+    × StayInRange left (after_item left state run.tag run.count) runs

@@ -8,6 +8,7 @@ mod comments;
 mod faults;
 mod header;
 mod item;
+mod laws;
 mod lines;
 mod number;
 mod pen;
@@ -20,5 +21,6 @@ mod tests;
 
 pub use comments::Comments;
 pub use item::{Run, Tag};
+pub use laws::{accepted_in_range, one_cut};
 pub use rle_file::RleFile;
 pub use runs::Runs;

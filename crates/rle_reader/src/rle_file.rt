@@ -4,7 +4,8 @@ ghost use Rattle.std.specs.Prelude.{◌≡◌, ◌≤◌, length, true, IfErr, O
 ghost use Rattle.std.specs.Option.{option_copied};
 ghost use Rattle.rle_reader.specs.Body.{struck_from};
 ghost use Rattle.rle_reader.specs.Items.{items_of};
-ghost use Rattle.rle_reader.specs.Meaning.{body_fault, judged};
+ghost use Rattle.rle_reader.specs.Meaning.{StayInRange, body_fault, judged};
+ghost use Rattle.rle_reader.specs.State.{start_at};
 ghost use Rattle.plane.specs.Range.{IsInRange};
 
 use crate::body::Body;
@@ -67,7 +68,8 @@ impl<'a> RleFile<'a> {
     /// not say.
     #[tactic(auto, unfolding(crate::specs::Meaning::meaning_of))]
     pub fn pos(&self) -> Cell
-        ensures { result ≡ self.now.pos }
+        ensures value { result ≡ self.now.pos }
+        ensures in_range { IsInRange self.now.pos }
     {
         self.preamble.settings.pos
     }
@@ -105,9 +107,11 @@ impl<'a> RleFile<'a> {
         Comments::new(self.source)
     }
 
-    /// The items of the body.
+    /// The items of the body. From the cell of the first one on they stay in the range of coordinates, and
+    /// their live cells are no more than a file may have.
     pub fn runs(&self) -> Runs<'a>
-        ensures { result ≡ self.now.runs }
+        ensures value { result ≡ self.now.runs }
+        ensures in_range { StayInRange self.now.pos.x (start_at self.now.pos) self.now.runs }
     {
         Runs::new(self.source, self.preamble.body)
     }

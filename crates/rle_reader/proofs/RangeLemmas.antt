@@ -1,0 +1,149 @@
+-- The items and the live cells of an accepted text lie in the range.
+use Rattle.std.proofs.Common.{◌≡◌, ℕ, ◌+◌, ◌≤◌, Bool, true, false, ◌&&◌, ◌||◌, List, [], ◌∷◌, length, map, filter, sum_by, Option, None, Some, Result, Ok, Err, IfOk, refl, ap, sym, subst, ◌∙◌, arith, ◌⊎◌, inl, inr, ℤ, pos, ◌+ℤ◌, int_le, int_lt}
+use Rattle.std.specs.Ordering.{int_eq}
+use Rattle.std.proofs.lemmas.Bool.Decides.{nat_tests, Decides-int_eq}
+use Rattle.std.proofs.lemmas.Int.{ints}
+use Rattle.std.proofs.lemmas.List.Sums.{sum_by-cons}
+use Rattle.plane.specs.Range.{IsCoordinate, IsInRange}
+use Rattle.plane.specs.declared.cell.Cell.{Cell}
+use Rattle.plane.specs.declared.fault.Fault.{Fault}
+use Rattle.plane.specs.declared.range.TheConstants.{COORDINATE_LIMIT, LIVE_CELL_LIMIT}
+use Rattle.rle_reader.specs.Body.{struck}
+use Rattle.rle_reader.specs.Faults.{◌>>=◌}
+use Rattle.rle_reader.specs.Items.{Drawn, items_of}
+use Rattle.rle_reader.specs.Lines.{lines_from}
+use Rattle.rle_reader.specs.Meaning.{Meaning, StayInRange, body_fault, covers, is_covered, is_live, judged, live_cells, live_plane, meaning_of, unless}
+use Rattle.rle_reader.specs.Opening.{Opening, opening_of}
+use Rattle.rle_reader.specs.Range.{IsWithinReach}
+use Rattle.rle_reader.specs.State.{State, start_at, after_item, leaves_range, passes_cells, passes_limit}
+use Rattle.rle_reader.specs.declared.item.Tag.{Tag}
+use Rattle.rle_reader.specs.declared.item.Tag.TheVariants.{Dead, Live, Row}
+use Rattle.rle_reader.proofs.FaultLemmas.{InReach}
+use Rattle.rle_reader.proofs.FitLemmas.{reach_after, stay-without_fault, within}
+use Rattle.rle_reader.proofs.MeaningLemmas.{judged_with, judged-is}
+use Rattle.rle_reader.proofs.PositionLemmas.{opening_of-in_range}
+
+-- ---- the live cells
+
+either_true : (a b : Bool) → (a || b) ≡ true → (a ≡ true) ⊎ (b ≡ true)
+either_true true b h = inl refl
+either_true false b h = inr h
+
+all_true : (a b c d : Bool) → (a && b && c && d) ≡ true → (b ≡ true) × (c ≡ true) × (d ≡ true)
+all_true true true true d h = (refl, refl, h)
+all_true true true false d h = cc
+all_true true false c d h = cc
+all_true false b c d h = cc
+
+by_either : {A B C : Type 0} → A ⊎ B → (A → C) → (B → C) → C
+by_either (inl a) f g = f a
+by_either (inr b) f g = g b
+
+neither : (a b : Bool) → (a || b) ≡ false → (a ≡ false) × (b ≡ false)
+neither true b h = cc
+neither false b h = (refl, h)
+
+-- the cells of a run of live cells that stays in the range
+run-in_range : (state : State) (tag : Tag) (count : ℕ) (x y : ℤ) → InReach state → leaves_range state tag count ≡ false →
+    (is_live tag && int_eq y state.row && int_le state.column x && int_lt x (state.column +ℤ pos count)) ≡ true → IsInRange (record { y = y; x = x })
+run-in_range state Dead count x y reach stays covered = cc
+run-in_range state Row count x y reach stays covered = cc
+run-in_range state Live count x y reach stays covered =
+    let inside = neither (passes_limit state.column count) (int_le COORDINATE_LIMIT state.row) stays in
+    let covers_it = all_true (is_live Live) (int_eq y state.row) (int_le state.column x) (int_lt x (state.column +ℤ pos count)) covered in
+    let row : y ≡ state.row = (Decides-int_eq y state.row).0 covers_it.0 in
+    record {
+      x = record { low = grind (arith, ints, reach.column.low, covers_it.1); high = grind (arith, ints, inside.0, covers_it.2) };
+      y = subst IsCoordinate (sym row) (record { low = grind (arith, ints, reach.row.low); high = grind (arith, ints, inside.1) });
+    }
+
+covered-in_range : (left : ℤ) (state : State) (runs : List Drawn) (x y : ℤ) → IsWithinReach left → InReach state → StayInRange left state runs → is_covered left state runs x y ≡ true → IsInRange (record { y = y; x = x })
+unfolding is_covered
+covered-in_range left state [] x y left_reach reach stay covered = cc
+covered-in_range left state (run ∷ runs) x y left_reach reach stay covered =
+    by_either (either_true (covers state run x y) (is_covered left (after_item left state run.tag run.count) runs x y) covered)
+    (λ here. run-in_range state run.tag run.count x y reach stay.0 here)
+    (λ later. covered-in_range left (after_item left state run.tag run.count) runs x y left_reach
+    (reach_after left state run.tag run.count left_reach reach stay.0) stay.2 later)
+
+-- ---- how many they are
+
+live_count : Tag → ℕ → ℕ
+live_count Live count = count
+live_count Dead count = 0
+live_count Row count = 0
+
+live_cells-tag : (tag : Tag) (run : Drawn) (runs : List Drawn) → run.tag ≡ tag → live_cells (run ∷ runs) ≡ live_count tag run.count + live_cells runs
+unfolding live_count
+live_cells-tag Live run runs is = rw is (sum_by-cons (λ (r : Drawn). r.count) run (filter (λ (r : Drawn). is_live r.tag) runs))
+live_cells-tag Dead run runs is = rw is (omega arith)
+live_cells-tag Row run runs is = rw is (omega arith)
+
+live_after : (left : ℤ) (state : State) (tag : Tag) (count : ℕ) → (after_item left state tag count).live ≡ state.live + live_count tag count
+unfolding live_count
+live_after left state Live count = refl
+live_after left state Dead count = omega arith
+live_after left state Row count = omega arith
+
+few_after : (left : ℤ) (state : State) (tag : Tag) (count : ℕ) → state.live ≤ LIVE_CELL_LIMIT → passes_cells state tag count ≡ false → (after_item left state tag count).live ≤ LIVE_CELL_LIMIT
+few_after left state Live count few below = grind (arith, nat_tests, below)
+few_after left state Dead count few below = few
+few_after left state Row count few below = few
+
+live_cells-few : (left : ℤ) (state : State) (runs : List Drawn) → state.live ≤ LIVE_CELL_LIMIT → StayInRange left state runs → state.live + live_cells runs ≤ LIVE_CELL_LIMIT
+live_cells-few left state [] few stay = omega (arith, few)
+live_cells-few left state (run ∷ runs) few stay =
+    let later = live_cells-few left (after_item left state run.tag run.count) runs (few_after left state run.tag run.count few stay.1) stay.2 in
+    omega (arith, later, live_after left state run.tag run.count, live_cells-tag run.tag run runs refl)
+
+-- ---- an accepted text
+
+-- the meaning is that of an opening without a fault
+record IsAccepted (text : List ℕ) (meaning : Meaning) : Type 0 where
+  opening : Opening
+  is : meaning_of text opening ≡ meaning
+  in_range : IsInRange opening.settings.pos
+  none : body_fault opening.settings.pos (items_of (struck opening.body)) ≡ None
+
+accepted_unless : (text : List ℕ) (opening : Opening) (meaning : Meaning) (fault : Option Fault) → body_fault opening.settings.pos (items_of (struck opening.body)) ≡ fault → IsInRange opening.settings.pos →
+    unless fault (meaning_of text opening) ≡ Ok meaning → IsAccepted text meaning
+accepted_unless text opening meaning None none range is = record { opening = opening; is = cc; in_range = range; none = none }
+accepted_unless text opening meaning (Some fault) found range is = cc
+
+accepted_with : (text : List ℕ) (meaning : Meaning) (found : Result Opening Fault) → IfOk found (λ (o : Opening). IsInRange o.settings.pos) → judged_with text found ≡ Ok meaning → IsAccepted text meaning
+unfolding judged_with
+accepted_with text meaning (Ok opening) range is = accepted_unless text opening meaning (body_fault opening.settings.pos (items_of (struck opening.body))) refl range is
+accepted_with text meaning (Err fault) range is = cc
+
+accepted : (text : List ℕ) (meaning : Meaning) → judged text ≡ Ok meaning → IsAccepted text meaning
+accepted text meaning is =
+    accepted_with text meaning (opening_of (length text) (lines_from text 0)) (opening_of-in_range (length text) (lines_from text 0)) (sym (judged-is text) ∙ is)
+
+meaning_of-stays : (text : List ℕ) (opening : Opening) → body_fault opening.settings.pos (items_of (struck opening.body)) ≡ None →
+    let meaning = meaning_of text opening in StayInRange meaning.pos.x (start_at meaning.pos) meaning.runs
+unfolding body_fault meaning_of
+meaning_of-stays text opening none =
+    let corner = opening.settings.pos in
+    let found = items_of (struck opening.body) in
+    stay-without_fault text corner.x (start_at corner) found.items found.left_over none
+
+meaning_of-pos : (text : List ℕ) (opening : Opening) → IsInRange opening.settings.pos → IsInRange (meaning_of text opening).pos
+unfolding meaning_of
+meaning_of-pos text opening range = range
+
+module _ (text : List ℕ) (meaning : Meaning) (is : judged text ≡ Ok meaning) where
+  pub accepted-items : StayInRange meaning.pos.x (start_at meaning.pos) meaning.runs
+  accepted-items =
+      let h = accepted text meaning is in
+      subst (λ (m : Meaning). StayInRange m.pos.x (start_at m.pos) m.runs) h.is (meaning_of-stays text h.opening h.none)
+
+  pub accepted-live_cells : live_cells meaning.runs ≤ LIVE_CELL_LIMIT
+  accepted-live_cells =
+      let few = live_cells-few meaning.pos.x (start_at meaning.pos) meaning.runs (omega arith) accepted-items in omega (arith, few)
+
+  pub accepted-cells : (x y : ℤ) → live_plane meaning x y ≡ true → IsInRange (record { y = y; x = x })
+  accepted-cells x y live =
+      let h = accepted text meaning is in
+      let range : IsInRange meaning.pos = subst (λ (m : Meaning). IsInRange m.pos) h.is (meaning_of-pos text h.opening h.in_range) in
+      let column = within meaning.pos.x range.x in
+      covered-in_range meaning.pos.x (start_at meaning.pos) meaning.runs x y column (record { column = column; row = within meaning.pos.y range.y }) accepted-items live

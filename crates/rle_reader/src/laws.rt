@@ -1,0 +1,26 @@
+//! What holds of every body and of every text that is accepted.
+
+ghost use Rattle.std.specs.Prelude.{◌≡◌, ◌≤◌, ℕ, ℤ, List, Ok, true};
+ghost use Rattle.plane.specs.Range.{IsInRange};
+ghost use Rattle.plane.specs.declared.range.TheConstants.{LIVE_CELL_LIMIT};
+ghost use Rattle.rle_reader.specs.Body.{Spot};
+ghost use Rattle.rle_reader.specs.Items.{Items, AreItemsOf, items_of};
+ghost use Rattle.rle_reader.specs.Meaning.{Meaning, StayInRange, judged, live_cells, live_plane};
+ghost use Rattle.rle_reader.specs.State.{start_at};
+
+/// A body is cut into items, digits that are left over and an end in exactly one way.
+pub fn one_cut()
+    ensures cut { (body : List Spot) → AreItemsOf body (items_of body) }
+    ensures only { (body : List Spot) (found : Items) → AreItemsOf body found → found ≡ items_of body }
+{}
+
+/// The items of an accepted text stay in the range, their live cells are no more than a file may have, and
+/// each live cell lies in the range.
+pub fn accepted_in_range()
+    ensures items { (text : List ℕ) (meaning : Meaning) → judged text ≡ Ok meaning →
+        StayInRange meaning.pos.x (start_at meaning.pos) meaning.runs }
+    ensures live_cells { (text : List ℕ) (meaning : Meaning) → judged text ≡ Ok meaning →
+        live_cells meaning.runs ≤ LIVE_CELL_LIMIT }
+    ensures cells { (text : List ℕ) (meaning : Meaning) → judged text ≡ Ok meaning →
+        (x y : ℤ) → live_plane meaning x y ≡ true → IsInRange (record { y = y; x = x }) }
+{}
