@@ -1,4 +1,4 @@
--- In an accepted body each count fits a machine.
+-- In an accepted body each count fits a machine, and the items stay in the range.
 use Rattle.std.proofs.Common.{◌≡◌, ℕ, ◌==◌, ◌+◌, Bool, true, false, List, [], ◌∷◌, ◌++◌, map, Option, None, Some, Result, Ok, Err, refl, ap, sym, subst, ◌∙◌, arith, ℤ, pos, ◌+ℤ◌, append_assoc, slice_range}
 use Rattle.std.specs.Option.{option_map, option_or}
 use Rattle.std.specs.Result.{ok_prefix}
@@ -7,6 +7,7 @@ use Rattle.plane.specs.declared.refusal.Refusal.{Refusal}
 use Rattle.plane.specs.declared.refusal.Refusal.TheVariants.{BadCount, OutOfRange, TooManyCells}
 use Rattle.rle_reader.specs.Body.{Spot, struck, struck_from}
 use Rattle.rle_reader.specs.Lines.{lines_from}
+use Rattle.rle_reader.specs.Opening.{Opening}
 use Rattle.rle_reader.specs.Seen.{opening_seen}
 use Rattle.rle_reader.specs.declared.preamble.Preamble.{Preamble}
 use Rattle.rle_reader.specs.Items.{Item, Drawn, place_of, count_of, tag_of, drawn_from, run_of, kept, items_of}
@@ -41,6 +42,7 @@ record IsGood (state : State) (reading : Result Tag Refusal) (count : ℕ) : Typ
   counted : (count == 0) ≡ false
   none : motion_fault state tag count ≡ None
 
+-- of the two faults of a motion the second is absent too
 no_second_fault : (a b : Bool) → first_fault (when a OutOfRange ++ when b TooManyCells) ≡ None → b ≡ false
 no_second_fault true b h = cc
 no_second_fault false true h = cc
@@ -133,11 +135,17 @@ stay-without_fault source left state (item ∷ items) over none =
     (stay-without_fault source left (after_item left state good.tag count) items over
     (ap (λ s. first_fault_from left s items over) (sym (good_state left state item good)) ∙ h.1))
 
--- the runs of an accepted body stay in the range
+-- the runs of an accepted text stay in the range
+pub stay-opening : (text : List ℕ) (opening : Opening) → body_fault opening.settings.pos (items_of (struck opening.body)) ≡ None →
+    let meaning = meaning_of text opening in StayInRange meaning.pos.x (start_at meaning.pos) meaning.runs
+unfolding body_fault meaning_of
+stay-opening text opening none =
+    let corner = opening.settings.pos in
+    let found = items_of (struck opening.body) in
+    stay-without_fault text corner.x (start_at corner) found.items found.left_over none
+
+-- the same, where the opening is what was read
 pub stay-accepted : (source : List ℕ) (preamble : Preamble) → body_fault preamble.settings.pos (items_of (struck_from source preamble.body true)) ≡ None →
     let meaning = meaning_of source (opening_seen source preamble) in StayInRange meaning.pos.x (start_at meaning.pos) meaning.runs
-unfolding body_fault meaning_of struck_from
-stay-accepted source preamble none =
-    let corner = preamble.settings.pos in
-    let found = items_of (struck (lines_from source preamble.body)) in
-    stay-without_fault source corner.x (start_at corner) found.items found.left_over none
+unfolding struck_from
+stay-accepted source preamble none = stay-opening source (opening_seen source preamble) none

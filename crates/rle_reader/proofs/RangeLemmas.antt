@@ -1,15 +1,13 @@
 -- The items and the live cells of an accepted text lie in the range.
-use Rattle.std.proofs.Common.{◌≡◌, ℕ, ◌+◌, ◌≤◌, Bool, true, false, ◌&&◌, ◌||◌, List, [], ◌∷◌, length, map, filter, sum_by, Option, None, Some, Result, Ok, Err, IfOk, refl, ap, sym, subst, ◌∙◌, arith, ◌⊎◌, inl, inr, ℤ, pos, ◌+ℤ◌, int_le, int_lt}
+use Rattle.std.proofs.Common.{◌≡◌, ℕ, ◌+◌, ◌≤◌, Bool, true, false, ◌&&◌, ◌||◌, List, [], ◌∷◌, length, filter, Option, None, Some, Result, Ok, Err, IfOk, refl, sym, subst, ◌∙◌, arith, ◌⊎◌, inl, inr, ℤ, pos, ◌+ℤ◌, int_le, int_lt}
 use Rattle.std.specs.Ordering.{int_eq}
 use Rattle.std.proofs.lemmas.Bool.Decides.{nat_tests, Decides-int_eq}
 use Rattle.std.proofs.lemmas.Int.{ints}
 use Rattle.std.proofs.lemmas.List.Sums.{sum_by-cons}
 use Rattle.plane.specs.Range.{IsCoordinate, IsInRange}
-use Rattle.plane.specs.declared.cell.Cell.{Cell}
 use Rattle.plane.specs.declared.fault.Fault.{Fault}
 use Rattle.plane.specs.declared.range.TheConstants.{COORDINATE_LIMIT, LIVE_CELL_LIMIT}
 use Rattle.rle_reader.specs.Body.{struck}
-use Rattle.rle_reader.specs.Faults.{◌>>=◌}
 use Rattle.rle_reader.specs.Items.{Drawn, items_of}
 use Rattle.rle_reader.specs.Lines.{lines_from}
 use Rattle.rle_reader.specs.Meaning.{Meaning, StayInRange, body_fault, covers, is_covered, is_live, judged, live_cells, live_plane, meaning_of, unless}
@@ -19,7 +17,7 @@ use Rattle.rle_reader.specs.State.{State, start_at, after_item, leaves_range, pa
 use Rattle.rle_reader.specs.declared.item.Tag.{Tag}
 use Rattle.rle_reader.specs.declared.item.Tag.TheVariants.{Dead, Live, Row}
 use Rattle.rle_reader.proofs.FaultLemmas.{InReach}
-use Rattle.rle_reader.proofs.FitLemmas.{reach_after, stay-without_fault, within}
+use Rattle.rle_reader.proofs.FitLemmas.{reach_after, stay-opening, within}
 use Rattle.rle_reader.proofs.MeaningLemmas.{judged_with, judged-is}
 use Rattle.rle_reader.proofs.PositionLemmas.{opening_of-in_range}
 
@@ -119,14 +117,6 @@ accepted : (text : List ℕ) (meaning : Meaning) → judged text ≡ Ok meaning 
 accepted text meaning is =
     accepted_with text meaning (opening_of (length text) (lines_from text 0)) (opening_of-in_range (length text) (lines_from text 0)) (sym (judged-is text) ∙ is)
 
-meaning_of-stays : (text : List ℕ) (opening : Opening) → body_fault opening.settings.pos (items_of (struck opening.body)) ≡ None →
-    let meaning = meaning_of text opening in StayInRange meaning.pos.x (start_at meaning.pos) meaning.runs
-unfolding body_fault meaning_of
-meaning_of-stays text opening none =
-    let corner = opening.settings.pos in
-    let found = items_of (struck opening.body) in
-    stay-without_fault text corner.x (start_at corner) found.items found.left_over none
-
 meaning_of-pos : (text : List ℕ) (opening : Opening) → IsInRange opening.settings.pos → IsInRange (meaning_of text opening).pos
 unfolding meaning_of
 meaning_of-pos text opening range = range
@@ -135,7 +125,7 @@ module _ (text : List ℕ) (meaning : Meaning) (is : judged text ≡ Ok meaning)
   pub accepted-items : StayInRange meaning.pos.x (start_at meaning.pos) meaning.runs
   accepted-items =
       let h = accepted text meaning is in
-      subst (λ (m : Meaning). StayInRange m.pos.x (start_at m.pos) m.runs) h.is (meaning_of-stays text h.opening h.none)
+      subst (λ (m : Meaning). StayInRange m.pos.x (start_at m.pos) m.runs) h.is (stay-opening text h.opening h.none)
 
   pub accepted-live_cells : live_cells meaning.runs ≤ LIVE_CELL_LIMIT
   accepted-live_cells =
