@@ -14,6 +14,9 @@ use std::alloc::Global;
 use std::fs;
 use std::rt::Files;
 
+// The name of standard input. It is read as such, so also where its device may not be opened.
+const STANDARD_INPUT: &str = "/dev/stdin";
+
 /// The whole program, on the words of its command line, of which the first is its name: it writes the
 /// report or the help to `out` and messages to `err`, and answers its exit status.
 ///
@@ -23,7 +26,7 @@ use std::rt::Files;
 /// - 3: the input could not be read, or the report or the output could not be written.
 ///
 /// The output file is created at its first byte. A failure of `err` changes nothing else.
-pub fn program<R: Files, O: Sink, E: Sink>(
+pub fn program<R: Files + Input, O: Sink, E: Sink>(
     rt: &R,
     alloc: Global,
     words: &[&str],
@@ -53,7 +56,7 @@ pub fn program<R: Files, O: Sink, E: Sink>(
 }
 
 // Reads the file and runs it.
-fn run_asked<R: Files, O: Sink>(
+fn run_asked<R: Files + Input, O: Sink>(
     rt: &R,
     alloc: Global,
     asked: &Asked,
@@ -72,7 +75,11 @@ fn run_asked<R: Files, O: Sink>(
     )
 }
 
-fn read_file<R: Files>(rt: &R, alloc: Global, path: &str) -> Result<Vec<u8>, Refusal> {
+// All bytes of a file, or of standard input.
+fn read_file<R: Files + Input>(rt: &R, alloc: Global, path: &str) -> Result<Vec<u8>, Refusal> {
+    if path == STANDARD_INPUT {
+        return load(alloc, &mut Counted::new(rt.reader()));
+    }
     let Ok(file) = fs::open(rt, path) else {
         return Err(Refusal::ReadFailed);
     };

@@ -34,7 +34,7 @@ const NO_MEMORY: Fault = Fault {
 };
 
 // Runs the program on its words, and answers its exit status. An error says that there are no words.
-fn run_words<R: Env + Files + AllocGlobal, O: Sink, E: Sink>(
+fn run_words<R: Env + Files + Input + AllocGlobal, O: Sink, E: Sink>(
     rt: &R,
     out: &mut O,
     err: &mut E,
