@@ -15,3 +15,4 @@ mod FitLemmas
 mod CutLemmas
 mod PositionLemmas
 mod RangeLemmas
+mod CountLemmas

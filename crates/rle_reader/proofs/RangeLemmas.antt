@@ -27,7 +27,7 @@ either_true : (a b : Bool) → (a || b) ≡ true → (a ≡ true) ⊎ (b ≡ tru
 either_true true b h = inl refl
 either_true false b h = inr h
 
-all_true : (a b c d : Bool) → (a && b && c && d) ≡ true → (b ≡ true) × (c ≡ true) × (d ≡ true)
+pub all_true : (a b c d : Bool) → (a && b && c && d) ≡ true → (b ≡ true) × (c ≡ true) × (d ≡ true)
 all_true true true true d h = (refl, refl, h)
 all_true true true false d h = cc
 all_true true false c d h = cc
@@ -66,12 +66,12 @@ covered-in_range left state (run ∷ runs) x y left_reach reach stay covered =
 
 -- ---- how many they are
 
-live_count : Tag → ℕ → ℕ
+unfoldable pub live_count : Tag → ℕ → ℕ
 live_count Live count = count
 live_count Dead count = 0
 live_count Row count = 0
 
-live_cells-tag : (tag : Tag) (run : Drawn) (runs : List Drawn) → run.tag ≡ tag → live_cells (run ∷ runs) ≡ live_count tag run.count + live_cells runs
+pub live_cells-tag : (tag : Tag) (run : Drawn) (runs : List Drawn) → run.tag ≡ tag → live_cells (run ∷ runs) ≡ live_count tag run.count + live_cells runs
 unfolding live_count
 live_cells-tag Live run runs is = rw is (sum_by-cons (λ (r : Drawn). r.count) run (filter (λ (r : Drawn). is_live r.tag) runs))
 live_cells-tag Dead run runs is = rw is (omega arith)

@@ -1,7 +1,9 @@
 //! What holds of every body and of every text that is accepted.
 
-ghost use Rattle.std.specs.Prelude.{◌≡◌, ◌≤◌, ℕ, ℤ, List, Ok, true};
+ghost use Rattle.std.specs.Prelude.{◌≡◌, ◌≤◌, ℕ, ℤ, List, length, Ok, true};
+ghost use Rattle.plane.specs.Listing.{IsListing};
 ghost use Rattle.plane.specs.Range.{IsInRange};
+ghost use Rattle.plane.specs.declared.cell.Cell.{Cell};
 ghost use Rattle.plane.specs.declared.range.TheConstants.{LIVE_CELL_LIMIT};
 ghost use Rattle.rle_reader.specs.Body.{Spot};
 ghost use Rattle.rle_reader.specs.Items.{Items, AreItemsOf, items_of};
@@ -14,8 +16,8 @@ pub fn one_cut()
     ensures only { (body : List Spot) (found : Items) → AreItemsOf body found → found ≡ items_of body }
 {}
 
-/// The items of an accepted text stay in the range, their live cells are no more than a file may have, and
-/// each live cell lies in the range.
+/// The items of an accepted text stay in the range, their live cells are no more than a file may have, each
+/// live cell lies in the range, and a listing of its live cells has no more than a file may have.
 pub fn accepted_in_range()
     ensures items { (text : List ℕ) (meaning : Meaning) → judged text ≡ Ok meaning →
         StayInRange meaning.pos.x (start_at meaning.pos) meaning.runs }
@@ -23,4 +25,6 @@ pub fn accepted_in_range()
         live_cells meaning.runs ≤ LIVE_CELL_LIMIT }
     ensures cells { (text : List ℕ) (meaning : Meaning) → judged text ≡ Ok meaning →
         (x y : ℤ) → live_plane meaning x y ≡ true → IsInRange (record { y = y; x = x }) }
+    ensures listing { (text : List ℕ) (meaning : Meaning) (cells : List Cell) → judged text ≡ Ok meaning →
+        IsListing cells (live_plane meaning) → length cells ≤ LIVE_CELL_LIMIT }
 {}
