@@ -1,8 +1,16 @@
 pub mod Devices
 pub mod Report
 pub mod Status
+pub mod Messages
+pub mod Stops
 pub mod RowRuns
 pub mod Items
 pub mod Frame
 pub mod Layout
 pub mod Opening
+pub mod Drawing
+pub mod RleText
+pub mod FileText
+pub mod Judgement
+pub mod Run
+pub mod CommandLine

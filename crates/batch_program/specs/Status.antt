@@ -1,10 +1,55 @@
--- Exit statuses of refused runs.
-use Rattle.std.specs.Prelude.{ℕ}
+-- Exit statuses, and what they mean.
+use Rattle.std.specs.Prelude.{◌≡◌, ◌⊎◌, ℕ, List, Option, Ok, Err}
+use Rattle.std.specs.Io.KnownBytes.{Appends}
+use Rattle.clap.specs.Words.{Text, IsAmong, fault_of}
+use Rattle.clap.specs.declared.error.kind.ErrorKind.TheVariants as kind
+use Rattle.plane.specs.declared.fault.Fault.{Fault}
 use Rattle.plane.specs.declared.refusal.Refusal.{Refusal}
-use Rattle.plane.specs.declared.refusal.Refusal.TheVariants.{ReadFailed, WriteFailed}
+use Rattle.plane.specs.declared.refusal.Refusal.TheVariants.{BoxTooLarge, NoMemory, ReadFailed, WriteFailed}
+use Rattle.batch_program.specs.CommandLine.{AsksFor, command_form}
+use Rattle.batch_program.specs.Judgement.{Start, Judges, placeless}
+use Rattle.batch_program.specs.Run.{Finishes, IsBegun, IsTooLarge}
+use Rattle.batch_program.specs.declared.engine.Summary.{Summary}
+use Rattle.batch_program.specs.declared.options.Asked.{Asked}
+use Rattle.batch_program.specs.declared.options.Options.{Options}
 
 -- 3 where a device failed, else 1
 abbrev pub refused_status : Refusal → ℕ
 refused_status ReadFailed = 3
 refused_status WriteFailed = 3
 refused_status _ = 1
+
+-- the words ask for the help
+abbrev pub AskForHelp : List Text → Type 0
+AskForHelp words = IsAmong kind.DisplayHelp (fault_of command_form words)
+
+-- the words ask for nothing
+abbrev pub AskForNothing : List Text → Type 0
+AskForNothing words = (asked : Asked) → AsksFor words asked → ⊥
+
+-- a run of some bytes ended well, and between the two its report went out
+abbrev pub HasRun : Options → Option (List ℕ) → Option (List ℕ) → Type 0
+HasRun options before after =
+    (bytes : List ℕ) × (start : Start) × (answer : Summary) × (said : List ℕ) × (drawn : List ℕ)
+    × Judges bytes options (Ok start) × Finishes start options answer said drawn × Appends before after said
+
+-- some bytes could not be read or were refused, and between the two what is said of them went out: nothing, or a
+-- report, or the first lines of one; a device that fails may take a part of a line
+abbrev pub HasStopped : Options → Fault → Option (List ℕ) → Option (List ℕ) → Type 0 → Type 0
+HasStopped options fault before after unchanged =
+    ((fault ≡ placeless ReadFailed) × unchanged)
+    ⊎ ((bytes : List ℕ) × Judges bytes options (Err fault) × unchanged)
+    ⊎ ((fault ≡ placeless BoxTooLarge) × ((bytes : List ℕ) × (said : List ℕ) × IsTooLarge bytes options said × Appends before after said))
+    ⊎ ((fault ≡ placeless NoMemory) × (unchanged ⊎ ((bytes : List ℕ) × (said : List ℕ) × IsBegun bytes options said × Appends before after said)))
+    ⊎ (fault ≡ placeless WriteFailed)
+
+-- what the words ask for was refused: a run stopped, memory ran out before it, or the help could not be written
+abbrev pub IsRefused : List Text → Fault → Option (List ℕ) → Option (List ℕ) → Type 0 → Type 0
+IsRefused words fault before after unchanged =
+    ((asked : Asked) × AsksFor words asked × HasStopped asked.options fault before after unchanged)
+    ⊎ ((fault ≡ placeless NoMemory) × unchanged)
+    ⊎ (AskForHelp words × (fault ≡ placeless WriteFailed))
+
+-- the help went out, or a run that the words ask for ended well
+abbrev pub IsDone : List Text → Option (List ℕ) → Option (List ℕ) → Type 0
+IsDone words before after = AskForHelp words ⊎ ((asked : Asked) × AsksFor words asked × HasRun asked.options before after)

@@ -1,12 +1,15 @@
-ghost use Rattle.std.specs.Prelude.{◌≡◌, ◌⊎◌, None, Some, IfOk, IfErr, OnOk};
+ghost use Rattle.std.specs.Prelude.{◌≡◌, ◌⊎◌, ℕ, List, None, Some, Ok, Err, IfOk, IfErr, OnOk};
+ghost use Rattle.std.specs.Io.KnownBytes.{Appends};
 ghost use Rattle.rule_text.specs.CountRule.{IsRule};
-ghost use Rattle.batch_program.specs.Frame.{FitsRle};
+ghost use Rattle.rule_text.specs.RuleText.{Reads};
+ghost use Rattle.rule_text.specs.declared.fault.RuleFault.{RuleFault};
+ghost use Rattle.plane.specs.Device.{HasFailed};
+ghost use Rattle.batch_program.specs.Judgement.{Start, Judges, placeless, rule_refusal, rule_text_of};
+ghost use Rattle.batch_program.specs.Run.{Finishes, IsBegun, IsTooLarge};
 
-use crate::faults::placeless;
-use crate::generations::after;
 use crate::options::{Format, Options};
 use crate::pattern::live_cells;
-use crate::report::write_report_line;
+use crate::reported::run_reported;
 use crate::rle_text::write_rle;
 use plane::{Bounds, Fault, Refusal, Sink, reach};
 use rle_reader::RleFile;
@@ -42,30 +45,38 @@ pub fn run<R, W: Sink, V: Sink>(
     report: &mut W,
     file: &mut V,
 ) -> Result<Summary, Fault>
-    // What is refused for another reason than a sink that failed leaves the file as it was, and so
-    // does a run with no format.
-    ensures refused { IfErr result (λ fault. (fault.refusal ≡ Refusal.WriteFailed) ⊎ (file.new ≡ file.old)) }
+    // It writes the defined report and file of the cells that the rule, applied that many times, makes live.
+    ensures finished { IfOk result (λ summary. (start : Start) × (said : List ℕ) × (drawn : List ℕ)
+        × Judges bytes.now options.now (Ok start)
+        × Finishes start options.now summary said drawn
+        × Appends (W.taken report.old) (W.taken report.new) said
+        × Appends (V.taken file.old) (V.taken file.new) drawn) }
     ensures no_format { options.now.format ≡ None → file.new ≡ file.old }
-    // A pattern that is written fits its format, and no sink failed in a run that ends well.
-    ensures fits { IfOk result (λ summary. options.now.format ≡ Some Format.Rle → FitsRle summary.bounds) }
-    ensures unfailed { OnOk result (V.failure_count file.new ≡ V.failure_count file.old
-        × W.failure_count report.new ≡ W.failure_count report.old) }
+    ensures unfailed { OnOk result ((V.failure_count file.new ≡ V.failure_count file.old)
+        × (W.failure_count report.new ≡ W.failure_count report.old)) }
+    // It refuses what is not accepted, by its name and at its place, and then has written nothing; what has no
+    // text in the format, after the whole report; and else only where memory ran out or a sink failed.
+    ensures refused { IfErr result (λ fault.
+        (Judges bytes.now options.now (Err fault) × (report.new ≡ report.old) × (file.new ≡ file.old))
+        ⊎ ((fault ≡ placeless Refusal.BoxTooLarge) × (file.new ≡ file.old) × ((said : List ℕ)
+        × IsTooLarge bytes.now options.now said × Appends (W.taken report.old) (W.taken report.new) said))
+        ⊎ ((fault ≡ placeless Refusal.NoMemory) × (file.new ≡ file.old) × ((said : List ℕ)
+        × IsBegun bytes.now options.now said × Appends (W.taken report.old) (W.taken report.new) said))
+        ⊎ ((fault ≡ placeless Refusal.WriteFailed)
+        × (HasFailed (W.failure_count report.old) (W.failure_count report.new)
+        ⊎ HasFailed (V.failure_count file.old) (V.failure_count file.new)))) }
 {
     let text = RleFile::open(bytes)?;
     let rule = rule_of(&text)?;
     let cells = live_cells(alloc, &text)?;
     let start = text.generation();
-    reach(cells.bounds(), start, options.gens).map_err(placeless)?;
-    write_report_line(report, start, cells.len() as u128).map_err(placeless)?;
-    let cells = after(alloc, cells, &rule, options.gens).map_err(placeless)?;
+    reach(cells.bounds(), start, options.gens)?;
+    let cells = run_reported(alloc, cells, &rule, start, options.gens, report)?;
     let summary = Summary {
         generation: start + options.gens,
         population: cells.len() as u128,
         bounds: cells.bounds(),
     };
-    if options.gens > 0 {
-        write_report_line(report, summary.generation, summary.population).map_err(placeless)?;
-    }
     if let Some(Format::Rle) = options.format {
         write_rle(
             alloc,
@@ -74,21 +85,32 @@ pub fn run<R, W: Sink, V: Sink>(
             &rule,
             summary.generation,
             file,
-        )
-        .map_err(placeless)?;
+        )?;
     }
     Ok(summary)
 }
 
 // The rule that a file names, or that of a file that names none.
 fn rule_of(text: &RleFile<'_>) -> Result<Rule, Fault>
-    ensures { IfOk result IsRule }
+    ensures ok { IfOk result (λ rule. Reads (rule_text_of text.now) (Ok rule) × IsRule rule) }
+    ensures err { IfErr result (λ fault. (rule_fault : RuleFault) × Reads (rule_text_of text.now) (Err rule_fault)
+        × (fault ≡ record { refusal = rule_refusal rule_fault; place = Some text.now.rule_place })) }
 {
-    Rule::read(text.rule_slice().unwrap_or(LIFE)).map_err(|fault| Fault {
-        refusal: match fault {
-            RuleFault::BadRule => Refusal::BadRule,
-            RuleFault::BirthOnZero => Refusal::BirthOnZero,
-        },
-        place: Some(text.rule_place()),
-    })
+    match Rule::read(text.rule_slice().unwrap_or(LIFE)) {
+        Ok(rule) => Ok(rule),
+        Err(fault) => Err(Fault {
+            refusal: rule_refusal(fault),
+            place: Some(text.rule_place()),
+        }),
+    }
+}
+
+// The refusal of a rule's fault.
+fn rule_refusal(fault: RuleFault) -> Refusal
+    ensures { result ≡ rule_refusal fault }
+{
+    match fault {
+        RuleFault::BadRule => Refusal::BadRule,
+        RuleFault::BirthOnZero => Refusal::BirthOnZero,
+    }
 }

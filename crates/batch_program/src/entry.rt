@@ -1,8 +1,15 @@
-ghost use Rattle.std.specs.Prelude.{◌≤◌};
+ghost use Rattle.std.specs.Prelude.{◌≡◌, ◌≤◌, ◌⊎◌, ℕ, List, map, OnOk, IfErr};
+ghost use Rattle.std.specs.Io.KnownBytes.{Appends};
+ghost use Rattle.plane.specs.Device.{HasFailed};
+ghost use Rattle.plane.specs.declared.fault.Fault.{Fault};
+ghost use Rattle.batch_program.specs.Judgement.{placeless};
+ghost use Rattle.batch_program.specs.Messages.{bad_words_text, fault_line};
+ghost use Rattle.batch_program.specs.Status.{AskForHelp, AskForNothing, HasRun, HasStopped, IsDone, IsRefused, refused_status};
+ghost use Rattle.batch_program.specs.Stops.{IsStop};
+ghost use Rattle.batch_program.specs.declared.entry.Stop.TheVariants.{Refused};
 
 use crate::command_line::{WordsFault, asked};
-use crate::engine::{Summary, run};
-use crate::faults::placeless;
+use crate::engine::run;
 use crate::input::load;
 use crate::messages::{refused_status, tell_bad_words, tell_fault};
 use crate::options::Asked;
@@ -16,6 +23,21 @@ use std::rt::Files;
 
 // The name of standard input. It is read as such, so also where its device may not be opened.
 const STANDARD_INPUT: &str = "/dev/stdin";
+
+// Why the program does not do what its words ask for.
+#[derive(Drop)]
+enum Stop {
+    BadWords(WordsFault),
+    Refused(Fault),
+}
+
+impl From<Fault> for Stop {
+    ghost from_gives = { λ fault stop. stop ≡ Refused fault };
+
+    fn from(fault: Fault) -> Stop {
+        Stop::Refused(fault)
+    }
+}
 
 /// The whole program, on the words of its command line, of which the first is its name: it writes the
 /// report or the help to `out` and messages to `err`, and answers its exit status.
@@ -33,25 +55,51 @@ pub fn program<R: Files + Input, O: Sink, E: Sink>(
     out: &mut O,
     err: &mut E,
 ) -> u8
-    ensures { result ≤ 3 }
+    ensures status { result ≤ 3 }
+    // At 0 the help or the report went out, and nothing was told.
+    ensures well { result ≡ 0 → IsDone (map (λ word. word.now) words.now) (O.taken out.old) (O.taken out.new)
+        × (O.failure_count out.new ≡ O.failure_count out.old) × (err.new ≡ err.old) }
+    // At 2 the words ask for nothing, and one message said so.
+    ensures bad_words { result ≡ 2 → AskForNothing (map (λ word. word.now) words.now) × (out.new ≡ out.old)
+        × (HasFailed (E.failure_count err.old) (E.failure_count err.new)
+        ⊎ ((why : List ℕ) × Appends (E.taken err.old) (E.taken err.new) (bad_words_text why))) }
+    // At 1 and at 3 it was refused, and one line said why.
+    ensures refused { (result ≡ 1) ⊎ (result ≡ 3) → (fault : Fault) × (result ≡ refused_status fault.refusal)
+        × IsRefused (map (λ word. word.now) words.now) fault (O.taken out.old) (O.taken out.new) (out.new ≡ out.old)
+        × (HasFailed (E.failure_count err.old) (E.failure_count err.new)
+        ⊎ Appends (E.taken err.old) (E.taken err.new) (fault_line fault)) }
 {
-    let outcome = match asked(alloc, words) {
-        Ok(asked) => run_asked(rt, alloc, &asked, out).map(|_| ()),
-        Err(WordsFault::Refused(refusal)) => Err(placeless(refusal)),
-        Err(WordsFault::Clap(error)) if error.kind() == ErrorKind::DisplayHelp => {
-            show_help(alloc, &error, out).map_err(placeless)
-        }
-        Err(fault) => {
-            tell_bad_words(alloc, err, &fault);
-            return 2;
-        }
-    };
-    match outcome {
+    match perform(rt, alloc, words, out) {
         Ok(()) => 0,
-        Err(fault) => {
-            tell_fault(err, fault);
+        Err(Stop::BadWords(fault)) => {
+            let _ = tell_bad_words(alloc, err, &fault);
+            2
+        }
+        Err(Stop::Refused(fault)) => {
+            let _ = tell_fault(err, fault);
             refused_status(fault.refusal)
         }
+    }
+}
+
+// Does what the words ask for. What it then tells has no part in it.
+fn perform<R: Files + Input, O: Sink>(
+    rt: &R,
+    alloc: Global,
+    words: &[&str],
+    out: &mut O,
+) -> Result<(), Stop>
+    ensures done { OnOk result (IsDone (map (λ word. word.now) words.now) (O.taken out.old) (O.taken out.new)) }
+    ensures unfailed { OnOk result (O.failure_count out.new ≡ O.failure_count out.old) }
+    ensures stopped { IfErr result (IsStop (map (λ word. word.now) words.now) (O.taken out.old) (O.taken out.new) (out.new ≡ out.old)) }
+{
+    match asked(alloc, words) {
+        Ok(asked) => Ok(run_asked(rt, alloc, &asked, out)?),
+        Err(WordsFault::Refused(refusal)) => Err(Stop::Refused(Fault::from(refusal))),
+        Err(WordsFault::Clap(error)) if error.kind() == ErrorKind::DisplayHelp => {
+            Ok(show_help(alloc, &error, out)?)
+        }
+        Err(fault) => Err(Stop::BadWords(fault)),
     }
 }
 
@@ -61,8 +109,12 @@ fn run_asked<R: Files + Input, O: Sink>(
     alloc: Global,
     asked: &Asked,
     out: &mut O,
-) -> Result<Summary, Fault> {
-    let bytes = read_file(rt, alloc, asked.file.as_str()).map_err(placeless)?;
+) -> Result<(), Fault>
+    ensures ran { OnOk result (HasRun asked.now.options (O.taken out.old) (O.taken out.new)) }
+    ensures unfailed { OnOk result (O.failure_count out.new ≡ O.failure_count out.old) }
+    ensures stopped { IfErr result (λ fault. HasStopped asked.now.options fault (O.taken out.old) (O.taken out.new) (out.new ≡ out.old)) }
+{
+    let bytes = read_file(rt, alloc, asked.file.as_str())?;
     let name = asked.output.as_ref().map_or("", |name| name.as_str());
     let mut output = OutputFile::new(rt, name);
     run(
@@ -72,11 +124,14 @@ fn run_asked<R: Files + Input, O: Sink>(
         &asked.options,
         out,
         &mut output,
-    )
+    )?;
+    Ok(())
 }
 
 // All bytes of a file, or of standard input.
-fn read_file<R: Files + Input>(rt: &R, alloc: Global, path: &str) -> Result<Vec<u8>, Refusal> {
+fn read_file<R: Files + Input>(rt: &R, alloc: Global, path: &str) -> Result<Vec<u8>, Refusal>
+    ensures { IfErr result (λ refusal. (refusal ≡ Refusal.ReadFailed) ⊎ (refusal ≡ Refusal.NoMemory)) }
+{
     if path == STANDARD_INPUT {
         return load(alloc, &mut Counted::new(rt.reader()));
     }
@@ -86,9 +141,13 @@ fn read_file<R: Files + Input>(rt: &R, alloc: Global, path: &str) -> Result<Vec<
     load(alloc, &mut Counted::new(file))
 }
 
-fn show_help<O: Sink>(alloc: Global, help: &clap::Error, out: &mut O) -> Result<(), Refusal> {
+fn show_help<O: Sink>(alloc: Global, help: &clap::Error, out: &mut O) -> Result<(), Fault>
+    ensures unfailed { OnOk result (O.failure_count out.new ≡ O.failure_count out.old) }
+    ensures refused { IfErr result (λ fault. ((fault ≡ placeless Refusal.NoMemory) × (out.new ≡ out.old)) ⊎ (fault ≡ placeless Refusal.WriteFailed)) }
+{
     let Ok(text) = help.to_string(alloc) else {
-        return Err(Refusal::NoMemory);
+        return Err(Fault::from(Refusal::NoMemory));
     };
-    write_all(out, text.as_bytes())
+    write_all(out, text.as_bytes())?;
+    Ok(())
 }

@@ -1,9 +1,15 @@
-ghost use Rattle.std.specs.Prelude.{◌↔◌, ◌+ℤ◌, ◌≤ℤ◌, pos, IsTrue, SomeIff};
+ghost use Rattle.std.specs.Prelude.{◌≡◌, ◌+ℤ◌, ◌≤ℤ◌, pos, false, IfOk, OnOk, IsOkUnless};
+ghost use Rattle.std.specs.List.Sorted.{IsStrictlySortedBy};
+ghost use Rattle.plane.specs.Listing.{plane_of, reading_order, IsListing};
 ghost use Rattle.plane.specs.Range.{IsCoordinate, IsInRange};
 ghost use Rattle.plane.specs.declared.range.TheConstants.{COORDINATE_LIMIT};
+ghost use Rattle.rle_reader.specs.Meaning.{live_plane};
+ghost use Rattle.rle_reader.specs.Range.{IsWithinReach};
+ghost use Rattle.rle_reader.specs.Seen.{run_seen};
+ghost use Rattle.rle_reader.specs.State.{after_item, leaves_range, state_at};
+ghost use Rattle.batch_program.specs.Drawing.{with_item, with_row};
 
-use crate::faults::placeless;
-use plane::{COORDINATE_LIMIT, Cell, CellSet, Fault, Refusal};
+use plane::{Cell, CellSet, Refusal};
 use rle_reader::{RleFile, Run, Tag};
 use std::alloc::Global;
 
@@ -11,79 +17,99 @@ use std::alloc::Global;
 #[derive(Clone, Copy, Debug)]
 struct Pen {
     left: i64,
-    next: Cell,
+    column: i64,
+    row: i64,
+    ghost left_in_reach: { IsWithinReach left },
+    ghost column_in_reach: { IsWithinReach column },
+    ghost row_in_reach: { IsWithinReach row },
+}
+
+impl Pen {
+    // Before the first item of a pattern whose upper left corner is this cell.
+    fn at(corner: Cell) -> Self
+        requires { IsInRange corner }
+        ensures left { result.left ≡ corner.x }
+        ensures column { result.column ≡ corner.x }
+        ensures row { result.row ≡ corner.y }
+    {
+        Pen {
+            left: corner.x,
+            column: corner.x,
+            row: corner.y,
+        }
+    }
+
+    // Behind an item.
+    fn past(self, run: &Run<'_>) -> Self
+        requires { leaves_range (state_at self.column self.row 0) run.now.tag run.now.count ≡ false }
+        ensures left { result.left ≡ self.left }
+        ensures column { result.column ≡ (after_item self.left (state_at self.column self.row 0) run.now.tag run.now.count).column }
+        ensures row { result.row ≡ (after_item self.left (state_at self.column self.row 0) run.now.tag run.now.count).row }
+    {
+        match run.tag {
+            Tag::Row => Pen {
+                left: self.left,
+                column: self.left,
+                row: behind(self.row, run.count),
+            },
+            Tag::Dead | Tag::Live => Pen {
+                left: self.left,
+                column: behind(self.column, run.count),
+                row: self.row,
+            },
+        }
+    }
+}
+
+// The coordinate that lies so far behind this one.
+fn behind(coordinate: i64, count: u64) -> i64
+    requires from { IsWithinReach coordinate }
+    requires to { IsWithinReach (coordinate +ℤ pos count) }
+    ensures value { result ≡ coordinate +ℤ pos count }
+    ensures in_reach { IsWithinReach result }
+{
+    coordinate + count as i64
 }
 
 // The cells that the items of a file make live. `NoMemory` if there is no room for them.
-pub(crate) fn live_cells(alloc: Global, text: &RleFile<'_>) -> Result<CellSet, Fault> {
-    let corner = text.pos();
+pub(crate) fn live_cells(alloc: Global, text: &RleFile<'_>) -> Result<CellSet, Refusal>
+    ensures ok { IfOk result (λ cells. IsListing cells (live_plane text.now)) }
+    ensures memory { IsOkUnless result Refusal.NoMemory }
+{
     let mut cells = CellSet::new(alloc);
-    let mut pen = Pen {
-        left: corner.x,
-        next: corner,
-    };
+    let mut pen = Pen::at(text.pos());
     for run in text.runs() {
-        pen = draw(&mut cells, pen, &run)?;
+        draw(&mut cells, pen, &run)?;
+        pen = pen.past(&run);
     }
     Ok(cells)
 }
 
-// Adds the cells of an item, and says where the next item begins.
-fn draw(cells: &mut CellSet, pen: Pen, run: &Run<'_>) -> Result<Pen, Fault> {
-    let outside = Fault {
-        refusal: Refusal::OutOfRange,
-        place: Some(run.place),
-    };
-    let Cell { y: row, x: column } = pen.next;
-    let next = match run.tag {
-        Tag::Row => Cell {
-            y: moved(row, run.count).ok_or(outside)?,
-            x: pen.left,
-        },
-        Tag::Dead => Cell {
-            y: row,
-            x: moved(column, run.count).ok_or(outside)?,
-        },
-        Tag::Live => {
-            let end = moved(column, run.count).ok_or(outside)?;
-            if !is_in_range(pen.next) {
-                return Err(outside);
-            }
-            insert_row(cells, pen.next, end).map_err(placeless)?;
-            Cell { y: row, x: end }
-        }
-    };
-    Ok(Pen { next, ..pen })
-}
-
-// The coordinate that lies so far behind this one, if it is at most the one after the last.
-fn moved(coordinate: i64, count: u64) -> Option<i64>
-    ensures { SomeIff result ((coordinate +ℤ pos count) ≤ℤ COORDINATE_LIMIT) (coordinate +ℤ pos count) }
+// Adds the live cells of an item.
+fn draw(cells: &mut CellSet, pen: Pen, run: &Run<'_>) -> Result<(), Refusal>
+    requires rising { IsStrictlySortedBy reading_order cells.old }
+    requires stays { leaves_range (state_at pen.column pen.row 0) run.now.tag run.now.count ≡ false }
+    ensures ok { OnOk result (IsListing cells.new (with_item (state_at pen.column pen.row 0) (run_seen run.now) (plane_of cells.old))) }
+    ensures memory { IsOkUnless result Refusal.NoMemory }
 {
-    let end = coordinate.checked_add_unsigned(count)?;
-    if end <= COORDINATE_LIMIT {
-        Some(end)
-    } else {
-        None
+    if run.tag != Tag::Live {
+        return Ok(());
     }
-}
-
-fn is_in_range(cell: Cell) -> bool
-    ensures { IsTrue result ↔ IsInRange cell }
-{
-    is_coordinate(cell.x) && is_coordinate(cell.y)
-}
-
-fn is_coordinate(number: i64) -> bool
-    ensures { IsTrue result ↔ IsCoordinate number }
-{
-    -COORDINATE_LIMIT <= number && number < COORDINATE_LIMIT
+    let first = Cell {
+        y: pen.row,
+        x: pen.column,
+    };
+    insert_row(cells, first, behind(pen.column, run.count))
 }
 
 // Adds the cells of a row from one on up to a column.
 fn insert_row(cells: &mut CellSet, first: Cell, end: i64) -> Result<(), Refusal>
-    requires first { IsInRange first }
-    requires end { end ≤ℤ COORDINATE_LIMIT }
+    requires rising { IsStrictlySortedBy reading_order cells.old }
+    requires row { IsCoordinate first.y }
+    requires first { IsWithinReach first.x }
+    requires end { (first.x ≤ℤ end) × (end ≤ℤ COORDINATE_LIMIT) }
+    ensures ok { OnOk result (IsListing cells.new (with_row first.y first.x end (plane_of cells.old))) }
+    ensures memory { IsOkUnless result Refusal.NoMemory }
 {
     for x in first.x..end {
         cells.insert(Cell { y: first.y, x })?;

@@ -1,9 +1,11 @@
 //! The text of a pattern in RLE.
 
 ghost use Rattle.std.specs.Prelude.{◌≡◌, ◌⊎◌, OnOk, IfErr};
+ghost use Rattle.std.specs.Io.KnownBytes.{Appends};
 ghost use Rattle.plane.specs.Bounds.{bounds_of};
 ghost use Rattle.batch_program.specs.Devices.{IsWriteRefusal};
 ghost use Rattle.batch_program.specs.Frame.{FitsRle};
+ghost use Rattle.batch_program.specs.RleText.{comment_lines, rle_text};
 
 mod frame;
 mod items;
@@ -32,7 +34,7 @@ pub(crate) fn write_rle<V: Sink>(
     generation: u64,
     file: &mut V,
 ) -> Result<(), Refusal>
-    // It writes all where the sides fit, or stops where the sink failed.
+    ensures written { OnOk result (Appends (V.taken file.old) (V.taken file.new) (rle_text comments.entry rule.now generation cells.now)) }
     ensures fits { OnOk result (FitsRle (bounds_of cells.now)) }
     ensures unfailed { OnOk result (V.failure_count file.new ≡ V.failure_count file.old) }
     ensures refused { IfErr result (λ refusal.
@@ -57,6 +59,7 @@ pub(crate) fn write_rle<V: Sink>(
 
 // Writes each comment as a line.
 fn write_comments<V: Sink>(file: &mut V, comments: Comments<'_>) -> Result<(), Refusal>
+    ensures written { OnOk result (Appends (V.taken file.old) (V.taken file.new) (comment_lines comments.entry)) }
     ensures unfailed { OnOk result (V.failure_count file.new ≡ V.failure_count file.old) }
     ensures refused { IfErr result (IsWriteRefusal (V.failure_count file.old) (V.failure_count file.new)) }
 {

@@ -1,3 +1,5 @@
+ghost use Rattle.std.specs.Prelude.{◌≡◌, None};
+
 use crate::refusal::Refusal;
 use std::error::Error;
 use std::fmt;
@@ -22,3 +24,15 @@ impl fmt::Display for Fault {
 }
 
 impl Error for Fault {}
+
+/// A refusal that no line or item of a file is to blame for.
+impl From<Refusal> for Fault {
+    ghost from_gives = { λ refusal fault. fault ≡ record { refusal = refusal; place = None } };
+
+    fn from(refusal: Refusal) -> Fault {
+        Fault {
+            refusal,
+            place: None,
+        }
+    }
+}
