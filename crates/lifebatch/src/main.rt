@@ -21,7 +21,7 @@ fn main(rt: HostRuntime) -> ExitCode {
             ExitCode::from(2)
         }
         Err(_) => {
-            tell_fault(&mut err, NO_MEMORY);
+            let _ = tell_fault(&mut err, NO_MEMORY);
             ExitCode::from(refused_status(NO_MEMORY.refusal))
         }
     }

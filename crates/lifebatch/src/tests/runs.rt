@@ -1,21 +1,10 @@
 //! Runs that are accepted: the report, and the pattern as RLE.
 
-use batch_program::{Format, Options, run};
+use crate::tests::rows::{ROOM, Row};
+use batch_program::{Options, run};
 use plane::Memory;
 use std::process::Abort;
 use std::test::Fail;
-
-// Room for the longest text of a test.
-const ROOM: usize = 4096;
-
-/// A file, how many generations it runs, and what is written.
-#[derive(Drop)]
-struct Row {
-    file: &'static str,
-    generations: u64,
-    report: &'static str,
-    rle: &'static str,
-}
 
 const PATTERNS: [Row; 12] = [
     Row {
@@ -113,14 +102,9 @@ const LONG_ROWS: [Row; 2] = [
 
 /// Runs a row, and compares what is written with what it says.
 fn assert_written<R: Abort + AllocGlobal>(rt: &R, row: &Row) -> Result<(), Fail> {
-    let options = Options {
-        gens: row.generations,
-        format: Some(Format::Rle),
-    };
     let mut report = Memory::with_room(rt.alloc(), ROOM)?;
     let mut file = Memory::with_room(rt.alloc(), ROOM)?;
-    let bytes = row.file.as_bytes();
-    let outcome = run(rt, rt.alloc(), bytes, &options, &mut report, &mut file);
+    let outcome = row.run(rt, &mut report, &mut file);
     assert!(rt; outcome.is_ok(), "{outcome:?} for {}", row.file);
     assert_eq!(rt; text_of(&report)?, row.report);
     assert_eq!(rt; text_of(&file)?, row.rle);
