@@ -5,6 +5,7 @@ use Rattle.rule_text.specs.declared.neighbourhood.Offset.{Offset}
 use Rattle.rule_text.specs.Neighbourhood.{offsets, step, stay}
 use Rattle.rule_text.specs.CountRule.{CountRule, has, lives}
 use Rattle.plane.specs.declared.cell.Cell.{Cell}
+use Rattle.plane.specs.Bounds.{HasReach}
 use Rattle.plane.specs.Listing.{plane_of, IsListing}
 use Rattle.plane.specs.Plane.{Plane, live_neighbours, next, after}
 use Rattle.plane.proofs.Around.{some_counted}
@@ -51,3 +52,7 @@ lists_next rule plane cells living n listing new =
     let same : suc n ≡ n + 1 = omega arith in
     subst (λ m. IsListing living (after rule plane m)) same
     (record { rising = new.rising; live = λ x y. new.live x y ∙ light_cone_lem rule (plane_of cells) (after rule plane n) 1 x y (λ u v _ _. listing.live u v) })
+
+-- no cells have room for any number of generations
+pub reach_none : (n : ℕ) (cells : List Cell) → cells ≡ [] → HasReach n cells
+reach_none n cells none = rw none tt

@@ -4,7 +4,6 @@ use Rattle.std.specs.Io.KnownBytes.{Appends}
 use Rattle.std.specs.Option.{option_copied, unwrap_or}
 use Rattle.std.proofs.lemmas.List.{take_all}
 use Rattle.rule_text.specs.CountRule.{CountRule}
-use Rattle.rule_text.specs.RuleText.{Reads}
 use Rattle.plane.specs.Bounds.{bounds_of}
 use Rattle.plane.specs.Listing.{IsListing, plane_of}
 use Rattle.plane.specs.Plane.{after}
@@ -16,7 +15,7 @@ use Rattle.rle_reader.specs.Meaning.{Meaning, judged, live_plane}
 use Rattle.batch_program.specs.Devices.{IsWriteRefusal}
 use Rattle.batch_program.specs.Frame.{FitsRle}
 use Rattle.batch_program.specs.FileText.{HasText, file_text}
-use Rattle.batch_program.specs.Judgement.{Start, IsStart, StaysInRange, placeless, rule_text_of}
+use Rattle.batch_program.specs.Judgement.{Start, IsStart, StaysInRange, ReadsRule, placeless}
 use Rattle.batch_program.specs.Report.{Shows, shown}
 use Rattle.batch_program.specs.Run.{IsLast, IsReport, Finishes, IsBegun, IsTooLarge, last_generation}
 use Rattle.batch_program.specs.declared.engine.Summary.{Summary}
@@ -30,7 +29,7 @@ copied_or None other = refl
 copied_or (Some slice) other = refl
 
 -- a run that has said nothing yet
-pub begun_none : (bytes : List ℕ) (options : Options) (meaning : Meaning) (rule : CountRule) → judged bytes ≡ Ok meaning → Reads (rule_text_of meaning) (Ok rule) →
+pub begun_none : (bytes : List ℕ) (options : Options) (meaning : Meaning) (rule : CountRule) → judged bytes ≡ Ok meaning → ReadsRule options.rule meaning (Ok rule) →
     IsBegun bytes options []
 begun_none bytes options meaning rule text read = record {
   meaning = meaning;
@@ -41,34 +40,34 @@ begun_none bytes options meaning rule text read = record {
   report = shows_none rule (live_plane meaning) meaning.generation;
 }
 
-module _ (bytes : List ℕ) (options : Options) (start : Start) (accepted : IsStart bytes start) where
+module _ (bytes : List ℕ) (options : Options) (start : Start) (accepted : IsStart bytes options start) where
   -- a run that has said some lines
-  pub begun_some : (lines : ℕ) (said : List ℕ) → Shows start.rule (plane_of start.cells) start.meaning.generation (take lines (shown options.gens)) said → IsBegun bytes options said
+  pub begun_some : (lines : ℕ) (said : List ℕ) → Shows start.rule (plane_of start.cells) start.meaning.generation (take lines (shown options)) said → IsBegun bytes options said
   begun_some lines said shows = record {
     meaning = start.meaning;
     rule = start.rule;
     lines = lines;
     text = accepted.text;
     read = accepted.rule;
-    report = same_shows start.rule (plane_of start.cells) (live_plane start.meaning) accepted.cells.live start.meaning.generation (take lines (shown options.gens)) said shows;
+    report = same_shows start.rule (plane_of start.cells) (live_plane start.meaning) accepted.cells.live start.meaning.generation (take lines (shown options)) said shows;
   }
 
   -- a run that has said all
-  pub begun_all : (said : List ℕ) → Shows start.rule (plane_of start.cells) start.meaning.generation (shown options.gens) said → IsBegun bytes options said
+  pub begun_all : (said : List ℕ) → Shows start.rule (plane_of start.cells) start.meaning.generation (shown options) said → IsBegun bytes options said
   begun_all said shows =
-      let all : take (length (shown options.gens)) (shown options.gens) ≡ shown options.gens = take_all (length (shown options.gens)) (shown options.gens) (omega arith) in
-      begun_some (length (shown options.gens)) said
+      let all : take (length (shown options)) (shown options) ≡ shown options = take_all (length (shown options)) (shown options) (omega arith) in
+      begun_some (length (shown options)) said
       (subst (λ ns. Shows start.rule (plane_of start.cells) start.meaning.generation ns said) (sym all) shows)
 
-  pub whole_report : (said : List ℕ) → Shows start.rule (plane_of start.cells) start.meaning.generation (shown options.gens) said → IsReport start options said
+  pub whole_report : (said : List ℕ) → Shows start.rule (plane_of start.cells) start.meaning.generation (shown options) said → IsReport start options said
   whole_report said shows =
-      same_shows start.rule (plane_of start.cells) (live_plane start.meaning) accepted.cells.live start.meaning.generation (shown options.gens) said shows
+      same_shows start.rule (plane_of start.cells) (live_plane start.meaning) accepted.cells.live start.meaning.generation (shown options) said shows
 
   pub last_cells : (cells : List Cell) → IsListing cells (after start.rule (plane_of start.cells) options.gens) → IsLast start options cells
   last_cells cells listing = same_after start.rule (plane_of start.cells) (live_plane start.meaning) accepted.cells.live options.gens cells listing
 
   -- what an accepted run that ends well writes and answers
-  pub finishes : (said : List ℕ) (cells : List Cell) (drawn : List ℕ) (answer : Summary) → Shows start.rule (plane_of start.cells) start.meaning.generation (shown options.gens) said →
+  pub finishes : (said : List ℕ) (cells : List Cell) (drawn : List ℕ) (answer : Summary) → Shows start.rule (plane_of start.cells) start.meaning.generation (shown options) said →
       IsListing cells (after start.rule (plane_of start.cells) options.gens) → HasText options.format cells →
       drawn ≡ file_text options.format start.meaning.comments start.rule (last_generation start options) cells →
       answer ≡ record { generation = last_generation start options; population = length cells; bounds = bounds_of cells } → Finishes start options answer said drawn
@@ -85,19 +84,19 @@ module _ (bytes : List ℕ) (options : Options) (start : Start) (accepted : IsSt
 
   -- in the middle of the report
   pub refused_reporting : (generation : ℕ) (refusal : Refusal) (failed_before failed_after : ℕ) (old new : Option (List ℕ)) (Unaccepted TooLarge FileSame FileFailed : Type 0) → FileSame → generation ≡ start.meaning.generation →
-      ((refusal ≡ NoMemory) × ((lines : ℕ) × (said : List ℕ) × Shows start.rule (plane_of start.cells) generation (take lines (shown options.gens)) said × Appends old new said))
+      ((refusal ≡ NoMemory) × ((lines : ℕ) × (said : List ℕ) × Shows start.rule (plane_of start.cells) generation (take lines (shown options)) said × Appends old new said))
       ⊎ IsWriteRefusal failed_before failed_after refusal →
       Unaccepted ⊎ TooLarge ⊎ ((placeless refusal ≡ placeless NoMemory) × FileSame × ((said : List ℕ) × IsBegun bytes options said × Appends old new said))
       ⊎ ((placeless refusal ≡ placeless WriteFailed) × (HasFailed failed_before failed_after ⊎ FileFailed))
   refused_reporting generation refusal failed_before failed_after old new Unaccepted TooLarge FileSame FileFailed same is_start (inl (memory, (lines, said, shows, appends))) =
-      inr (inr (inl (ap placeless memory, same, (said, begun_some lines said (subst (λ n. Shows start.rule (plane_of start.cells) n (take lines (shown options.gens)) said) is_start shows), appends))))
+      inr (inr (inl (ap placeless memory, same, (said, begun_some lines said (subst (λ n. Shows start.rule (plane_of start.cells) n (take lines (shown options)) said) is_start shows), appends))))
   refused_reporting generation refusal failed_before failed_after old new Unaccepted TooLarge FileSame FileFailed same is_start (inr (is, failed)) =
       inr (inr (inr (ap placeless is, inl failed)))
 
   -- after the report
   pub refused_writing : (refusal : Refusal) (failed_before failed_after : ℕ) (old new : Option (List ℕ)) (said : List ℕ) (cells : List Cell) (Unaccepted FileSame ReportFailed : Type 0) →
       StaysInRange options start → IsListing cells (after start.rule (plane_of start.cells) options.gens) →
-      Shows start.rule (plane_of start.cells) start.meaning.generation (shown options.gens) said → Appends old new said → options.format ≡ Some Rle →
+      Shows start.rule (plane_of start.cells) start.meaning.generation (shown options) said → Appends old new said → options.format ≡ Some Rle →
       ((refusal ≡ BoxTooLarge) × (FitsRle (bounds_of cells) → ⊥) × FileSame) ⊎ ((refusal ≡ NoMemory) × FileSame) ⊎ IsWriteRefusal failed_before failed_after refusal →
       Unaccepted
       ⊎ ((placeless refusal ≡ placeless BoxTooLarge) × FileSame × ((said : List ℕ) × IsTooLarge bytes options said × Appends old new said))

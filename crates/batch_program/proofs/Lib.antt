@@ -12,5 +12,6 @@ pub mod Reports
 pub mod RunReading
 pub mod Runs
 pub mod ShortCounts
+pub mod Steps
 pub mod TextReading
 pub mod WholeText

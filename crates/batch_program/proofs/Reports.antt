@@ -1,49 +1,86 @@
 -- The lines of a report, one after the other.
-use Rattle.std.proofs.Common.{◌≡◌, ℕ, zero, suc, ◌+◌, ◌<◌, true, false, List, [], ◌∷◌, ◌++◌, length, filter, take, refl, sym, ◌∙◌, ap, append_assoc, append-nil, arith, ℤ, Bool}
+use Rattle.std.proofs.Common.{◌≡◌, ℕ, zero, suc, ◌+◌, ◌-◌, ◌*◌, ◌%◌, ◌<◌, ◌≤◌, ◌==◌, ◌&&◌, ◌||◌, not, true, false, List, [], ◌∷◌, ◌++◌, length, filter, take, refl, sym, ◌∙◌, ap, subst, append_assoc, append-nil, arith, ℤ, Bool}
 use Rattle.std.specs.List.{AllZip, concat, range_with_len}
-use Rattle.std.proofs.lemmas.Bool.Decides.{nat_tests}
 use Rattle.rule_text.specs.CountRule.{CountRule}
-use Rattle.plane.specs.Listing.{IsListing}
-use Rattle.plane.specs.Plane.{Plane, after}
+use Rattle.plane.specs.Listing.{IsListing, plane_of}
+use Rattle.plane.specs.Plane.{Plane, after, next}
 use Rattle.plane.specs.declared.cell.Cell.{Cell}
 use Rattle.plane.proofs.Cones.{light_cone_lem}
-use Rattle.batch_program.specs.Report.{report_line, is_shown, shown, IsLineAfter, Shows}
+use Rattle.batch_program.specs.Report.{report_line, shown_line, is_shown, shown_until, IsLineAfter, Shows}
+use Rattle.batch_program.specs.declared.options.Options.{Options}
 
--- ---- the generations that are shown
+-- ---- numbers in a row that pass a test
 
-pub shown_none : shown 0 ≡ 0 ∷ []
-shown_none = refl
+range-append : (a m k : ℕ) → range_with_len a (m + k) ≡ range_with_len a m ++ range_with_len (a + m) k
+range-append a zero k = let none : 0 + k ≡ k = omega arith in let same : a ≡ a + 0 = omega arith in ap (range_with_len a) none ∙ ap (λ b. range_with_len b k) same
+range-append a (suc m) k =
+    let one_more : suc m + k ≡ suc (m + k) = omega arith in
+    let same : (a + 1) + m ≡ a + suc m = omega arith in
+    ap (range_with_len a) one_more ∙ ap (λ l. a ∷ l) (range-append (a + 1) m k ∙ ap (λ b. range_with_len (a + 1) m ++ range_with_len b k) same)
 
-filtered_in : {X : Type 0} (p : X → Bool) (x : X) (xs : List X) → p x ≡ true → filter p (x ∷ xs) ≡ x ∷ filter p xs
-filtered_in p x xs holds = rw holds refl
+filter-cons : (p : ℕ → Bool) (b : Bool) (x : ℕ) (xs ys : List ℕ) → p x ≡ b → filter p (xs ++ ys) ≡ filter p xs ++ filter p ys → filter p ((x ∷ xs) ++ ys) ≡ filter p (x ∷ xs) ++ filter p ys
+filter-cons p true x xs ys is more = rw is (ap (λ l. x ∷ l) more)
+filter-cons p false x xs ys is more = rw is more
 
-filtered_out : {X : Type 0} (p : X → Bool) (x : X) (xs : List X) → p x ≡ false → filter p (x ∷ xs) ≡ filter p xs
+filter-append : (p : ℕ → Bool) (xs ys : List ℕ) → filter p (xs ++ ys) ≡ filter p xs ++ filter p ys
+filter-append p [] ys = refl
+filter-append p (x ∷ xs) ys = filter-cons p (p x) x xs ys refl (filter-append p xs ys)
+
+filtered_out : (p : ℕ → Bool) (x : ℕ) (xs : List ℕ) → p x ≡ false → filter p (x ∷ xs) ≡ filter p xs
 filtered_out p x xs fails = rw fails refl
 
-last_shown : (n a k : ℕ) → a + k ≡ n → 0 < a → filter (is_shown n) (range_with_len a (suc k)) ≡ n ∷ []
-last_shown n a zero is some =
-    let here : is_shown n a ≡ true = grind (arith, nat_tests) in
-    let same : a ≡ n = omega (arith, is) in
-    filtered_in (is_shown n) a [] here ∙ ap (λ m. m ∷ []) same
-last_shown n a (suc k) is some =
-    let not_here : is_shown n a ≡ false = grind (arith, nat_tests) in
-    let later : (a + 1) + k ≡ n = omega (arith, is) in
-    let more : 0 < a + 1 = omega arith in
-    filtered_out (is_shown n) a (range_with_len (a + 1) (suc k)) not_here ∙ last_shown n (a + 1) k later more
+filtered_in : (p : ℕ → Bool) (x : ℕ) (xs : List ℕ) → p x ≡ true → filter p (x ∷ xs) ≡ x ∷ filter p xs
+filtered_in p x xs holds = rw holds refl
 
-pub shown_some : (n : ℕ) → 0 < n → shown n ≡ 0 ∷ n ∷ []
-shown_some zero some = absurd (omega (arith, some))
-shown_some (suc k) some =
-    let length : suc k + 1 ≡ suc (suc k) = omega arith in
-    let is : 1 + k ≡ suc k = omega arith in
-    let first : 0 < 1 = omega arith in
-    ap (λ m. filter (is_shown (suc k)) (range_with_len 0 m)) length
-    ∙ filtered_in (is_shown (suc k)) 0 (range_with_len (0 + 1) (suc k)) refl
-    ∙ ap (λ l. 0 ∷ l) (last_shown (suc k) 1 k is first)
+-- the last of some numbers in a row, where none before it passes
+last_alone : (p : ℕ → Bool) (a k : ℕ) → ((n : ℕ) → a ≤ n → n < a + k → p n ≡ false) → filter p (range_with_len a (suc k)) ≡ filter p ((a + k) ∷ [])
+last_alone p a zero none = let same : a ≡ a + 0 = omega arith in ap (λ n. filter p (n ∷ [])) same
+last_alone p a (suc k) none =
+    let first : p a ≡ false = none a (omega arith) (omega arith) in
+    let last : (a + 1) + k ≡ a + suc k = omega arith in
+    filtered_out p a (range_with_len (a + 1) (suc k)) first
+    ∙ last_alone p (a + 1) k (λ n from to. none n (omega (arith, from)) (omega (arith, to)))
+    ∙ ap (λ n. filter p (n ∷ [])) last
 
-pub first_shown : (n : ℕ) → take 1 (shown n) ≡ 0 ∷ []
-first_shown zero = refl
-first_shown (suc k) = let some : 0 < suc k = omega arith in ap (take 1) (shown_some (suc k) some)
+-- ---- the numbers of generations that are shown
+
+and_true : (b : Bool) → (b && true) ≡ b
+and_true true = refl
+and_true false = refl
+
+-- the start is shown, unless nothing is
+pub start_shown : (options : Options) → is_shown options 0 ≡ not options.quiet
+start_shown options = and_true (not options.quiet)
+
+-- from one to the next, with none between
+pub shown_next : (options : Options) (done next : ℕ) → done < next → ((n : ℕ) → done < n → n < next → is_shown options n ≡ false) →
+    shown_until options next ≡ shown_until options done ++ filter (is_shown options) (next ∷ [])
+shown_next options done next later none =
+    let k = next - (done + 1) in
+    let length : next + 1 ≡ (done + 1) + suc k = omega (arith, later) in
+    let from : 0 + (done + 1) ≡ done + 1 = omega arith in
+    let last : (done + 1) + k ≡ next = omega (arith, later) in
+    ap (λ n. filter (is_shown options) (range_with_len 0 n)) length
+    ∙ ap (filter (is_shown options)) (range-append 0 (done + 1) (suc k))
+    ∙ filter-append (is_shown options) (range_with_len 0 (done + 1)) (range_with_len (0 + (done + 1)) (suc k))
+    ∙ ap (λ l. shown_until options done ++ filter (is_shown options) l) (ap (λ a. range_with_len a (suc k)) from)
+    ∙ ap (λ l. shown_until options done ++ l) (last_alone (is_shown options) (done + 1) k (λ n above below. none n (omega (arith, above)) (omega (arith, below, later))))
+    ∙ ap (λ n. shown_until options done ++ filter (is_shown options) (n ∷ [])) last
+
+-- those up to one of them are the first of all
+pub shown_first : (options : Options) (done last : ℕ) → done ≤ last → take (length (shown_until options done)) (shown_until options last) ≡ shown_until options done
+shown_first options done last within =
+    let numbers : last + 1 ≡ (done + 1) + (last - done) = omega (arith, within) in
+    let rest = filter (is_shown options) (range_with_len (0 + (done + 1)) (last - done)) in
+    ap (take (length (shown_until options done)))
+    (ap (λ n. filter (is_shown options) (range_with_len 0 n)) numbers
+    ∙ ap (filter (is_shown options)) (range-append 0 (done + 1) (last - done))
+    ∙ filter-append (is_shown options) (range_with_len 0 (done + 1)) (range_with_len (0 + (done + 1)) (last - done)))
+    ∙ take-length_append (shown_until options done) rest
+  where
+    take-length_append : (xs ys : List ℕ) → take (length xs) (xs ++ ys) ≡ xs
+    take-length_append [] ys = refl
+    take-length_append (x ∷ xs) ys = ap (λ l. x ∷ l) (take-length_append xs ys)
 
 -- ---- the lines
 
@@ -71,6 +108,35 @@ module _ (rule : CountRule) (plane : Plane) (start : ℕ) where
     ap (λ l. l ++ report_line generation population) shows.2 ∙ concat-more shows.0 (report_line generation population),
   )
 
+  same_shows_of : (ns ms text other : List ℕ) → ns ≡ ms → text ≡ other → Shows rule plane start ns text → Shows rule plane start ms other
+  same_shows_of ns ms text other numbers texts shows = subst (λ l. Shows rule plane start l other) numbers (subst (λ t. Shows rule plane start ns t) texts shows)
+
+  -- the line of one of the generations, if it is shown
+  pub shows_next : (options : Options) (ns : List ℕ) (n population : ℕ) (cells : List Cell) (generation : ℕ) (text : List ℕ) → Shows rule plane start ns text →
+      IsListing cells (after rule plane n) → generation ≡ start + n → population ≡ length cells → is_shown options n ≡ not options.quiet →
+      Shows rule plane start (ns ++ filter (is_shown options) (n ∷ [])) (text ++ shown_line options.quiet generation population)
+  shows_next options ns n population cells generation text shows listing generation_is population_is shown_is = go options.quiet refl
+    where
+      go : (quiet : Bool) → options.quiet ≡ quiet → Shows rule plane start (ns ++ filter (is_shown options) (n ∷ [])) (text ++ shown_line options.quiet generation population)
+      go true is =
+          let no_line : is_shown options n ≡ false = shown_is ∙ ap not is in
+          same_shows_of _ _ _ _
+          (sym (ap (λ l. ns ++ l) (filtered_out (is_shown options) n [] no_line) ∙ append-nil ns))
+          (sym (ap (λ quiet. text ++ shown_line quiet generation population) is ∙ append-nil text))
+          shows
+      go false is =
+          let line : is_shown options n ≡ true = shown_is ∙ ap not is in
+          same_shows_of _ _ _ _
+          (sym (ap (λ l. ns ++ l) (filtered_in (is_shown options) n [] line)))
+          (sym (ap (λ quiet. text ++ shown_line quiet generation population) is))
+          (shows_more ns n population cells generation text shows listing generation_is population_is)
+
+-- ---- generations after generations
+
+after_sum : (rule : CountRule) (plane : Plane) (d k : ℕ) → after rule (after rule plane d) k ≡ after rule plane (k + d)
+after_sum rule plane d zero = let same : d ≡ 0 + d = omega arith in ap (after rule plane) same
+after_sum rule plane d (suc k) = let same : suc (k + d) ≡ suc k + d = omega arith in ap (next rule) (after_sum rule plane d k) ∙ ap (after rule plane) same
+
 -- ---- planes with the same cells
 
 module _ (rule : CountRule) (plane other : Plane) (same : (x y : ℤ) → plane x y ≡ other x y) where
@@ -87,3 +153,9 @@ module _ (rule : CountRule) (plane other : Plane) (same : (x y : ℤ) → plane 
 
   pub same_shows : (start : ℕ) (ns : List ℕ) (text : List ℕ) → Shows rule plane start ns text → Shows rule other start ns text
   same_shows start ns text shows = (shows.0, same_lines start ns shows.0 shows.1, shows.2)
+
+-- the cells so many generations after those of a generation
+pub lists_after : (rule : CountRule) (plane : Plane) (cells more : List Cell) (d k n : ℕ) → IsListing cells (after rule plane d) → IsListing more (after rule (plane_of cells) k) → k + d ≡ n →
+    IsListing more (after rule plane n)
+lists_after rule plane cells more d k n listing later sum =
+    subst (λ p. IsListing more p) (after_sum rule plane d k ∙ ap (after rule plane) sum) (same_after rule (plane_of cells) (after rule plane d) listing.live k more later)

@@ -1,13 +1,19 @@
 -- What the words of a command line ask for.
-use Rattle.std.specs.Prelude.{◌≡◌, ℕ, nat_eq, Bool, true, List, [], ◌∷◌, Option, None, Some, codes, string_bytes, ◌<◌, ◌^◌}
+use Rattle.std.specs.Prelude.{◌≡◌, ◌⊎◌, ℕ, nat_eq, Bool, true, false, List, [], ◌∷◌, fold, Option, None, Some, Ok, Err, codes, string_bytes, ◌<◌, ◌^◌}
 use Rattle.std.specs.List.{ends_with}
 use Rattle.std.specs.Option.{option_map}
 use Rattle.std.specs.Str.Parse.{IsNumeral, digits_value, without_leading_plus}
 use Rattle.clap.specs.Words.{App, Rule, Text, IsAmong, fault_of, first_of, kind_of, matches_of, new_app, new_rule, one_of, with_rule}
+use Rattle.clap.specs.declared.builder.action.ArgAction.TheVariants.{SetTrue}
 use Rattle.clap.specs.declared.builder.value_parser.ValueParser.TheVariants as parser
 use Rattle.clap.specs.declared.error.Error.{Error}
 use Rattle.clap.specs.declared.error.kind.ErrorKind.TheVariants as kind
+use Rattle.rule_text.specs.CountRule.{CountRule}
+use Rattle.rule_text.specs.RuleText.{Reads}
+use Rattle.rule_text.specs.declared.fault.RuleFault.{RuleFault}
+use Rattle.plane.specs.declared.refusal.Refusal.{Refusal}
 use Rattle.plane.specs.declared.refusal.Refusal.TheVariants.{NoMemory}
+use Rattle.batch_program.specs.Judgement.{rule_refusal}
 use Rattle.batch_program.specs.declared.command_line.WordsFault.{WordsFault}
 use Rattle.batch_program.specs.declared.command_line.WordsFault.TheVariants.{Clap, Unfit, Refused}
 use Rattle.batch_program.specs.declared.options.Asked.{Asked}
@@ -24,27 +30,55 @@ generation_option = record (new_rule (codes "generation")) {
   parser = Some (parser.Unsigned 0 18446744073709551615);
 }
 
+-- `-i N`, `--stepsize N`: a number below 2^64, 0 if it is left out
+abbrev pub step_option : Rule
+step_option = record (new_rule (codes "stepsize")) {
+  short = Some 105;
+  long = Some (codes "stepsize");
+  value_names = 1;
+  defaults = codes "0" ∷ [];
+  parser = Some (parser.Unsigned 0 18446744073709551615);
+}
+
 -- `-o NAME`, `--output NAME`
 abbrev pub output_option : Rule
 output_option = record (new_rule (codes "output")) { short = Some 111; long = Some (codes "output"); value_names = 1 }
+
+-- `-r R`, `--rule R`
+abbrev pub rule_option : Rule
+rule_option = record (new_rule (codes "rule")) { short = Some 114; long = Some (codes "rule"); value_names = 1 }
+
+-- `-q`, `--quiet`, which takes no value
+abbrev pub quiet_option : Rule
+quiet_option = record (new_rule (codes "quiet")) { short = Some 113; long = Some (codes "quiet"); action = Some SetTrue }
 
 -- FILE, which has to be there
 abbrev pub file_argument : Rule
 file_argument = record (new_rule (codes "file")) { value_names = 1; required = true }
 
--- the form of the words
+-- the form of the words: the options in this order, and FILE
 abbrev pub command_form : App
-command_form = with_rule (with_rule (with_rule (new_app (codes "lifebatch")) generation_option) output_option) file_argument
+command_form = fold with_rule (new_app (codes "lifebatch"))
+    (generation_option ∷ step_option ∷ output_option ∷ rule_option ∷ quiet_option ∷ file_argument ∷ [])
 
 -- the text that clap finds for an option or an argument
 abbrev pub text_for : List ℕ → List Text → Option Text
 text_for name words = first_of name (matches_of command_form words)
+
+-- the text that clap reads the value of an option from
+abbrev pub value_for : List ℕ → List Text → Option Text
+value_for name words = one_of name (matches_of command_form words)
 
 -- the text is a numeral, with or without a plus, of this number, which is below 2^64
 abbrev pub IsNumber : Option Text → ℕ → Type 0
 IsNumber None number = ⊥
 IsNumber (Some text) number =
     IsNumeral 10 (without_leading_plus text) × (number ≡ digits_value 10 (without_leading_plus text)) × (number < 2 ^ 64)
+
+-- the flag is up where its text is "true", and nowhere else
+abbrev pub IsFlag : Option Text → Bool → Type 0
+IsFlag text true = text ≡ Some (codes "true")
+IsFlag text false = text ≡ Some (codes "true") → ⊥
 
 -- the name of an RLE file
 abbrev pub is_rle_name : Text → Bool
@@ -55,13 +89,21 @@ abbrev pub IsFormat : Option Text → Option Format → Type 0
 IsFormat None format = format ≡ None
 IsFormat (Some name) format = (is_rle_name name ≡ true) × (format ≡ Some Rle)
 
+-- the rule that is given, if one is
+abbrev pub IsAskedRule : Option Text → Option CountRule → Type 0
+IsAskedRule None rule = rule ≡ None
+IsAskedRule (Some text) rule = (read : CountRule) × Reads text (Ok read) × (rule ≡ Some read)
+
 -- the words are of the form, and ask for this
 pub record AsksFor (words : List Text) (asked : Asked) : Type 0 where
   pub form : fault_of command_form words ≡ []
-  pub gens : IsNumber (one_of (codes "generation") (matches_of command_form words)) asked.options.gens
+  pub gens : IsNumber (value_for (codes "generation") words) asked.options.gens
+  pub step : IsNumber (value_for (codes "stepsize") words) asked.options.step
   pub file : text_for (codes "file") words ≡ Some (string_bytes asked.file)
   pub output : text_for (codes "output") words ≡ option_map string_bytes asked.output
   pub format : IsFormat (text_for (codes "output") words) asked.options.format
+  pub rule : IsAskedRule (text_for (codes "rule") words) asked.options.rule
+  pub quiet : IsFlag (value_for (codes "quiet") words) asked.options.quiet
 
 -- ---- faults of the words
 
@@ -71,9 +113,31 @@ IsToldAs error (Clap told) = (told ≡ error) × (kind_of error ≡ kind.OutOfMe
 IsToldAs error Unfit = ⊥
 IsToldAs error (Refused refusal) = (refusal ≡ NoMemory) × (kind_of error ≡ kind.OutOfMemory)
 
--- why words ask for nothing: they are not of the form, or ask for the help; they have a value that is
--- not fit; or memory ran out
+-- the words have values that are fit: numbers, a FILE, and a NAME that says its format, if there is one
+pub record IsFit (words : List Text) : Type 0 where
+  pub gens : (number : ℕ) × IsNumber (value_for (codes "generation") words) number
+  pub step : (number : ℕ) × IsNumber (value_for (codes "stepsize") words) number
+  pub file : (name : Text) × (text_for (codes "file") words ≡ Some name)
+  pub format : (format : Option Format) × IsFormat (text_for (codes "output") words) format
+
+-- the text that is given is refused as a rule, by this name
+abbrev pub IsRefusedRule : Option Text → Refusal → Type 0
+IsRefusedRule None refusal = ⊥
+IsRefusedRule (Some text) refusal = (fault : RuleFault) × Reads text (Err fault) × (refusal ≡ rule_refusal fault)
+
+-- the words are of the form, their values are fit, and the rule that they give is refused by this name
+pub record RefusesRuleOption (words : List Text) (refusal : Refusal) : Type 0 where
+  pub form : fault_of command_form words ≡ []
+  pub fit : IsFit words
+  pub rule : IsRefusedRule (text_for (codes "rule") words) refusal
+
+-- memory ran out while the words were read, or the rule that they give is refused
+abbrev pub RefusesWords : List Text → Refusal → Type 0
+RefusesWords words refusal = (refusal ≡ NoMemory) ⊎ RefusesRuleOption words refusal
+
+-- why words ask for no run: they are not of the form, or ask for the help; they are of the form, with a value that
+-- is not fit; or they are refused
 abbrev pub IsWordsFault : List Text → WordsFault → Type 0
 IsWordsFault words (Clap error) = IsAmong (kind_of error) (fault_of command_form words)
-IsWordsFault words Unfit = (fault_of command_form words ≡ []) × ((asked : Asked) → AsksFor words asked → ⊥)
-IsWordsFault words (Refused refusal) = refusal ≡ NoMemory
+IsWordsFault words Unfit = (fault_of command_form words ≡ []) × (IsFit words → ⊥)
+IsWordsFault words (Refused refusal) = RefusesWords words refusal

@@ -1,5 +1,5 @@
 -- Which runs are accepted, and how the others are refused.
-use Rattle.std.specs.Prelude.{◌≡◌, ◌⊎◌, ℕ, List, codes, Result, Ok, Err, Some, None}
+use Rattle.std.specs.Prelude.{◌≡◌, ◌⊎◌, ℕ, List, codes, Option, Result, Ok, Err, Some, None}
 use Rattle.std.specs.Option.{unwrap_or}
 use Rattle.rule_text.specs.CountRule.{CountRule}
 use Rattle.rule_text.specs.RuleText.{Reads}
@@ -28,16 +28,21 @@ abbrev pub rule_refusal : RuleFault → Refusal
 rule_refusal fault.BadRule = BadRule
 rule_refusal fault.BirthOnZero = BirthOnZero
 
+-- the rule of a run: the one that is given, or else that of the file, as its text is read
+abbrev pub ReadsRule : Option CountRule → Meaning → Result CountRule RuleFault → Type 0
+ReadsRule (Some rule) meaning read = read ≡ Ok rule
+ReadsRule None meaning read = Reads (rule_text_of meaning) read
+
 -- what a run starts from: what its file means, the rule and the live cells
 pub record Start : Type 0 where
   pub meaning : Meaning
   pub rule : CountRule
   pub cells : List Cell
 
--- the file's text and its rule are accepted
-pub record IsStart (bytes : List ℕ) (start : Start) : Type 0 where
+-- the file's text and the rule are accepted
+pub record IsStart (bytes : List ℕ) (options : Options) (start : Start) : Type 0 where
   pub text : judged bytes ≡ Ok start.meaning
-  pub rule : Reads (rule_text_of start.meaning) (Ok start.rule)
+  pub rule : ReadsRule options.rule start.meaning (Ok start.rule)
   pub cells : IsListing start.cells (live_plane start.meaning)
 
 -- the run stays within the range and the last generation
@@ -45,21 +50,21 @@ abbrev pub StaysInRange : Options → Start → Type 0
 StaysInRange options start = StaysWithin (bounds_of start.cells) start.meaning.generation options.gens
 
 -- the text is accepted, and its rule is refused, at the place of the header
-pub record RefusesRule (bytes : List ℕ) (fault : Fault) : Type 0 where
+pub record RefusesRule (bytes : List ℕ) (options : Options) (fault : Fault) : Type 0 where
   pub meaning : Meaning
   pub rule_fault : RuleFault
   pub text : judged bytes ≡ Ok meaning
-  pub rule : Reads (rule_text_of meaning) (Err rule_fault)
+  pub rule : ReadsRule options.rule meaning (Err rule_fault)
   pub is : fault ≡ record { refusal = rule_refusal rule_fault; place = Some meaning.rule_place }
 
 -- text and rule are accepted, and the run is too far
 pub record RefusesRange (bytes : List ℕ) (options : Options) (fault : Fault) : Type 0 where
   pub start : Start
-  pub accepted : IsStart bytes start
+  pub accepted : IsStart bytes options start
   pub outside : StaysInRange options start → ⊥
   pub is : fault ≡ placeless TooFar
 
 -- the judgements of a run, in their order: its text, then the rule, then the range
 abbrev pub Judges : List ℕ → Options → Result Start Fault → Type 0
-Judges bytes options (Ok start) = IsStart bytes start × StaysInRange options start
-Judges bytes options (Err fault) = (judged bytes ≡ Err fault) ⊎ RefusesRule bytes fault ⊎ RefusesRange bytes options fault
+Judges bytes options (Ok start) = IsStart bytes options start × StaysInRange options start
+Judges bytes options (Err fault) = (judged bytes ≡ Err fault) ⊎ RefusesRule bytes options fault ⊎ RefusesRange bytes options fault

@@ -1,14 +1,13 @@
 -- What a run writes and answers.
 use Rattle.std.specs.Prelude.{◌≡◌, ℕ, ◌+◌, List, length, take, Ok}
 use Rattle.rule_text.specs.CountRule.{CountRule}
-use Rattle.rule_text.specs.RuleText.{Reads}
 use Rattle.plane.specs.Bounds.{bounds_of}
 use Rattle.plane.specs.Listing.{IsListing}
 use Rattle.plane.specs.Plane.{after}
 use Rattle.plane.specs.declared.cell.Cell.{Cell}
 use Rattle.rle_reader.specs.Meaning.{Meaning, judged, live_plane}
 use Rattle.batch_program.specs.FileText.{HasText, file_text}
-use Rattle.batch_program.specs.Judgement.{Start, Judges, rule_text_of}
+use Rattle.batch_program.specs.Judgement.{Start, Judges, ReadsRule}
 use Rattle.batch_program.specs.Report.{Shows, shown}
 use Rattle.batch_program.specs.declared.engine.Summary.{Summary}
 use Rattle.batch_program.specs.declared.options.Options.{Options}
@@ -24,7 +23,7 @@ IsLast start options cells = IsListing cells (after start.rule (live_plane start
 -- the text is the whole report
 abbrev pub IsReport : Start → Options → List ℕ → Type 0
 IsReport start options text =
-    Shows start.rule (live_plane start.meaning) start.meaning.generation (shown options.gens) text
+    Shows start.rule (live_plane start.meaning) start.meaning.generation (shown options) text
 
 -- an accepted run says this in its report and draws this in its file, and gives this answer
 pub record Finishes (start : Start) (options : Options) (answer : Summary) (said drawn : List ℕ) : Type 0 where
@@ -54,5 +53,5 @@ pub record IsBegun (bytes : List ℕ) (options : Options) (said : List ℕ) : Ty
   pub rule : CountRule
   pub lines : ℕ
   pub text : judged bytes ≡ Ok meaning
-  pub read : Reads (rule_text_of meaning) (Ok rule)
-  pub report : Shows rule (live_plane meaning) meaning.generation (take lines (shown options.gens)) said
+  pub read : ReadsRule options.rule meaning (Ok rule)
+  pub report : Shows rule (live_plane meaning) meaning.generation (take lines (shown options)) said

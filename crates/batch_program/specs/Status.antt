@@ -1,12 +1,13 @@
 -- Exit statuses, and what they mean.
-use Rattle.std.specs.Prelude.{◌≡◌, ◌⊎◌, ℕ, List, Option, Ok, Err}
+use Rattle.std.specs.Prelude.{◌≡◌, ◌⊎◌, ℕ, List, [], Option, Ok, Err}
 use Rattle.std.specs.Io.KnownBytes.{Appends}
 use Rattle.clap.specs.Words.{Text, IsAmong, fault_of}
+use Rattle.clap.specs.declared.error.kind.ErrorKind.{ErrorKind}
 use Rattle.clap.specs.declared.error.kind.ErrorKind.TheVariants as kind
 use Rattle.plane.specs.declared.fault.Fault.{Fault}
 use Rattle.plane.specs.declared.refusal.Refusal.{Refusal}
 use Rattle.plane.specs.declared.refusal.Refusal.TheVariants.{BoxTooLarge, NoMemory, ReadFailed, WriteFailed}
-use Rattle.batch_program.specs.CommandLine.{AsksFor, command_form}
+use Rattle.batch_program.specs.CommandLine.{AsksFor, IsFit, RefusesWords, command_form}
 use Rattle.batch_program.specs.Judgement.{Start, Judges, placeless}
 use Rattle.batch_program.specs.Run.{Finishes, IsBegun, IsTooLarge}
 use Rattle.batch_program.specs.declared.engine.Summary.{Summary}
@@ -23,9 +24,12 @@ refused_status _ = 1
 abbrev pub AskForHelp : List Text → Type 0
 AskForHelp words = IsAmong kind.DisplayHelp (fault_of command_form words)
 
--- the words ask for nothing
+-- the words ask for nothing: they have a fault of form other than a request for the help, or are of the form with a
+-- value that is not fit
 abbrev pub AskForNothing : List Text → Type 0
-AskForNothing words = (asked : Asked) → AsksFor words asked → ⊥
+AskForNothing words =
+    ((wrong : ErrorKind) × IsAmong wrong (fault_of command_form words) × (wrong ≡ kind.DisplayHelp → ⊥))
+    ⊎ ((fault_of command_form words ≡ []) × (IsFit words → ⊥))
 
 -- a run of some bytes ended well, and between the two its report went out
 abbrev pub HasRun : Options → Option (List ℕ) → Option (List ℕ) → Type 0
@@ -43,11 +47,12 @@ HasStopped options fault before after unchanged =
     ⊎ ((fault ≡ placeless NoMemory) × (unchanged ⊎ ((bytes : List ℕ) × (said : List ℕ) × IsBegun bytes options said × Appends before after said)))
     ⊎ (fault ≡ placeless WriteFailed)
 
--- what the words ask for was refused: a run stopped, memory ran out before it, or the help could not be written
+-- what the words ask for was refused: a run stopped; before it memory ran out, or the rule that they give was refused;
+-- or the help could not be written
 abbrev pub IsRefused : List Text → Fault → Option (List ℕ) → Option (List ℕ) → Type 0 → Type 0
 IsRefused words fault before after unchanged =
     ((asked : Asked) × AsksFor words asked × HasStopped asked.options fault before after unchanged)
-    ⊎ ((fault ≡ placeless NoMemory) × unchanged)
+    ⊎ ((refusal : Refusal) × RefusesWords words refusal × (fault ≡ placeless refusal) × unchanged)
     ⊎ (AskForHelp words × (fault ≡ placeless WriteFailed))
 
 -- the help went out, or a run that the words ask for ended well

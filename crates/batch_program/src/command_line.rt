@@ -1,37 +1,45 @@
-ghost use Rattle.std.specs.Prelude.{◌≡◌, map, false, string_bytes, Option, IfOk, IfErr};
+ghost use Rattle.std.specs.Prelude.{◌≡◌, ℕ, map, false, string_bytes, Option, IfOk, IfErr};
 ghost use Rattle.std.specs.Option.{option_copied, option_map};
-ghost use Rattle.clap.specs.Words.{app_of, rule_of};
+ghost use Rattle.clap.specs.Words.{app_of, found_of, one_text, rule_of};
 ghost use Rattle.batch_program.specs.declared.options.Format.{Format};
 ghost use Rattle.plane.specs.declared.refusal.Refusal.TheVariants.{NoMemory};
 ghost use Rattle.batch_program.specs.declared.command_line.WordsFault.TheVariants.{Refused};
-ghost use Rattle.batch_program.specs.CommandLine.{AsksFor, IsFormat, IsToldAs, IsWordsFault, command_form, file_argument, generation_option, is_rle_name, output_option};
+ghost use Rattle.batch_program.specs.CommandLine.{AsksFor, IsAskedRule, IsFlag, IsFormat, IsNumber, IsRefusedRule, IsToldAs, IsWordsFault, command_form, file_argument, generation_option, is_rle_name, output_option, quiet_option, rule_option, step_option};
 
+use crate::engine::rule_refusal;
 use crate::options::{Asked, Format, Options};
 use clap::error::ErrorKind;
-use clap::{Arg, ArgMatches, Command, value_parser};
+use clap::{Arg, ArgAction, ArgMatches, Command, value_parser};
 use plane::Refusal;
+use rule_text::Rule;
 use std::alloc::{AllocError, Global};
 use std::{error, fmt};
 
 const ABOUT: &str = "Runs a pattern of a two-state cellular automaton for a number of generations.
 
-Reads an RLE pattern file, reports the number of live cells before and after the run on standard \
-output, and writes the pattern if it is asked for.";
+Reads an RLE pattern file, reports on standard output how many cells are live in the first and the \
+last generation, and on the way if asked, and writes the pattern if it is asked for.";
 
 const EXAMPLES: &str = "Examples:
   lifebatch -m 1103 r-pentomino.rle
       run 1103 generations and report the number of live cells
   lifebatch -m 4 -o later.rle glider.rle
-      run 4 generations and write the pattern to later.rle";
+      run 4 generations and write the pattern to later.rle
+  lifebatch -m 100 -i 10 glider.rle
+      run 100 generations and report every tenth
+  lifebatch -r B36/S23 -m 50 r-pentomino.rle
+      run 50 generations by the rule B36/S23
+  lifebatch -q -m 1103 -o later.rle r-pentomino.rle
+      run 1103 generations, write the pattern and report nothing";
 
 /// Why the words of a command line ask for no run.
 #[derive(Debug, Drop)]
 pub enum WordsFault {
     /// The words are not of the command line's form, or ask for its help.
     Clap(clap::Error),
-    /// The name of the output has no ending that says its format.
+    /// A value is not fit: the name of the output has no ending that says its format.
     Unfit,
-    /// Memory ran out while the words were read.
+    /// Memory ran out while the words were read, or the rule that they give is refused.
     Refused(Refusal),
 }
 
@@ -55,6 +63,14 @@ impl From<AllocError> for WordsFault {
     }
 }
 
+impl From<Refusal> for WordsFault {
+    ghost from_gives = { λ refusal fault. fault ≡ Refused refusal };
+
+    fn from(refusal: Refusal) -> WordsFault {
+        WordsFault::Refused(refusal)
+    }
+}
+
 impl From<clap::Error> for WordsFault {
     ghost from_gives = { IsToldAs };
 
@@ -69,22 +85,30 @@ impl From<clap::Error> for WordsFault {
 
 /// Reads the words of a command line, the program's name first. It answers `Clap` for words that are
 /// not of its form and for a request for help, `Unfit` for an output whose name does not end with
-/// `.rle`, and `Refused` with `NoMemory`.
+/// `.rle`, then `Refused` with `BadRule` or `BirthOnZero` for the rule that is given, and `Refused`
+/// with `NoMemory`.
 pub fn asked<'a>(alloc: Global, words: &'a [&'a str]) -> Result<Asked, WordsFault>
     ensures asks { IfOk result (AsksFor (map (λ word. word.now) words.entry.now)) }
     ensures faults { IfErr result (IsWordsFault (map (λ word. word.now) words.entry.now)) }
 {
     let matches = command(alloc)?.try_get_matches_from(words)?;
-    let Some(gens) = matches.get_one::<u64>("generation") else {
-        return Err(WordsFault::Unfit);
-    };
+    let gens = number_for(&matches, "generation")?;
+    let step = number_for(&matches, "stepsize")?;
     let Some(file) = matches.get_str("file") else {
         return Err(WordsFault::Unfit);
     };
     let output = matches.get_str("output");
     let format = format_of(output)?;
+    let rule = rule_asked(matches.get_str("rule"))?;
+    let quiet = is_set(&matches, "quiet");
     Ok(Asked {
-        options: Options { gens, format },
+        options: Options {
+            gens,
+            step,
+            rule,
+            format,
+            quiet,
+        },
         file: String::from_str(alloc, file)?,
         output: copied(alloc, output)?,
     })
@@ -98,7 +122,10 @@ fn command<'a>(alloc: Global) -> Result<Command<'a>, AllocError>
         .about(ABOUT)
         .after_help(EXAMPLES)
         .arg(generation_option(alloc))?
+        .arg(step_option(alloc))?
         .arg(output_option(alloc))?
+        .arg(rule_option(alloc))?
+        .arg(quiet_option(alloc))?
         .arg(file_argument(alloc))
 }
 
@@ -115,6 +142,19 @@ fn generation_option<'a>(alloc: Global) -> Arg<'a>
         .help("Run N generations on from the file's own")
 }
 
+fn step_option<'a>(alloc: Global) -> Arg<'a>
+    ensures rule { rule_of result ≡ step_option }
+    ensures local { result.global ≡ false }
+{
+    Arg::new(alloc, "stepsize")
+        .short('i')
+        .long("stepsize")
+        .value_name("N")
+        .value_parser(value_parser!(u64))
+        .default_value("0")
+        .help("Report every N generations")
+}
+
 fn output_option<'a>(alloc: Global) -> Arg<'a>
     ensures rule { rule_of result ≡ output_option }
     ensures local { result.global ≡ false }
@@ -126,6 +166,28 @@ fn output_option<'a>(alloc: Global) -> Arg<'a>
         .help("Write the pattern to NAME, which ends with .rle")
 }
 
+fn rule_option<'a>(alloc: Global) -> Arg<'a>
+    ensures rule { rule_of result ≡ rule_option }
+    ensures local { result.global ≡ false }
+{
+    Arg::new(alloc, "rule")
+        .short('r')
+        .long("rule")
+        .value_name("R")
+        .help("Run by rule R in place of the file's")
+}
+
+fn quiet_option<'a>(alloc: Global) -> Arg<'a>
+    ensures rule { rule_of result ≡ quiet_option }
+    ensures local { result.global ≡ false }
+{
+    Arg::new(alloc, "quiet")
+        .short('q')
+        .long("quiet")
+        .action(ArgAction::SetTrue)
+        .help("Report no generation")
+}
+
 fn file_argument<'a>(alloc: Global) -> Arg<'a>
     ensures rule { rule_of result ≡ file_argument }
     ensures local { result.global ≡ false }
@@ -134,6 +196,38 @@ fn file_argument<'a>(alloc: Global) -> Arg<'a>
         .value_name("FILE")
         .required(true)
         .help("The pattern file to read; /dev/stdin reads standard input")
+}
+
+// The number that is read for an option.
+fn number_for(matches: &ArgMatches<'_>, name: &str) -> Result<u64, WordsFault>
+    ensures ok { IfOk result (IsNumber (one_text (found_of matches.now) name.now)) }
+    ensures err { IfErr result (λ fault. (fault ≡ WordsFault.Unfit) × ((number : ℕ) → ¬ IsNumber (one_text (found_of matches.now) name.now) number)) }
+{
+    match matches.get_one::<u64>(name) {
+        Some(number) => Ok(number),
+        None => Err(WordsFault::Unfit),
+    }
+}
+
+// Whether a flag is up, for any text; the contract of `get_flag` speaks of two texts only.
+fn is_set(matches: &ArgMatches<'_>, name: &str) -> bool
+    ensures { IsFlag (one_text (found_of matches.now) name.now) result }
+{
+    matches.get_one::<bool>(name).unwrap_or(false)
+}
+
+// The rule that is given, if one is.
+fn rule_asked(text: Option<&str>) -> Result<Option<Rule>, Refusal>
+    ensures ok { IfOk result (IsAskedRule (option_copied text.entry)) }
+    ensures err { IfErr result (IsRefusedRule (option_copied text.entry)) }
+{
+    let Some(text) = text else {
+        return Ok(None);
+    };
+    match Rule::read(text.as_bytes()) {
+        Ok(rule) => Ok(Some(rule)),
+        Err(fault) => Err(rule_refusal(fault)),
+    }
 }
 
 // The format of the file that is written, by the ending of its name.

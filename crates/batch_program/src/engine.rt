@@ -1,10 +1,9 @@
 ghost use Rattle.std.specs.Prelude.{◌≡◌, ◌⊎◌, ℕ, List, None, Some, Ok, Err, IfOk, IfErr, OnOk};
 ghost use Rattle.std.specs.Io.KnownBytes.{Appends};
 ghost use Rattle.rule_text.specs.CountRule.{IsRule};
-ghost use Rattle.rule_text.specs.RuleText.{Reads};
 ghost use Rattle.rule_text.specs.declared.fault.RuleFault.{RuleFault};
 ghost use Rattle.plane.specs.Device.{HasFailed};
-ghost use Rattle.batch_program.specs.Judgement.{Start, Judges, placeless, rule_refusal, rule_text_of};
+ghost use Rattle.batch_program.specs.Judgement.{Start, Judges, ReadsRule, placeless, rule_refusal};
 ghost use Rattle.batch_program.specs.Run.{Finishes, IsBegun, IsTooLarge};
 
 use crate::options::{Format, Options};
@@ -30,12 +29,13 @@ pub struct Summary {
 // The rule of a file that names none.
 const LIFE: &[u8] = b"B3/S23";
 
-/// Runs the pattern of a file's bytes: it writes a line for the first and the last generation to
-/// `report`, and then the last one's pattern to `file`, if a format is asked for.
+/// Runs the pattern of a file's bytes: it writes a line for the first and the last generation, and for
+/// those on the way that the step asks for, to `report`, unless it is to be quiet, and then the last one's
+/// pattern to `file`, if a format is asked for.
 ///
 /// It refuses, in this order, a text that is no pattern file, by its first fault; the file's rule
-/// (`BadRule`, `BirthOnZero`), at the place of the header; and a run that would leave the range
-/// (`TooFar`). Until then nothing is written. `BoxTooLarge`, where a side of the last pattern's box is
+/// (`BadRule`, `BirthOnZero`), at the place of the header, unless another rule is given; and a run that
+/// would leave the range (`TooFar`). Until then nothing is written. `BoxTooLarge`, where a side of the last pattern's box is
 /// 2^31 or more, and `NoMemory` leave `file` as it was. `WriteFailed` comes where a sink failed.
 pub fn run<R, W: Sink, V: Sink>(
     _rt: &R,
@@ -67,11 +67,11 @@ pub fn run<R, W: Sink, V: Sink>(
         ⊎ HasFailed (V.failure_count file.old) (V.failure_count file.new)))) }
 {
     let text = RleFile::open(bytes)?;
-    let rule = rule_of(&text)?;
+    let rule = rule_of(&text, options.rule)?;
     let cells = live_cells(alloc, &text)?;
     let start = text.generation();
     reach(cells.bounds(), start, options.gens)?;
-    let cells = run_reported(alloc, cells, &rule, start, options.gens, report)?;
+    let cells = run_reported(alloc, cells, &rule, start, options, report)?;
     let summary = Summary {
         generation: start + options.gens,
         population: cells.len() as u128,
@@ -90,12 +90,15 @@ pub fn run<R, W: Sink, V: Sink>(
     Ok(summary)
 }
 
-// The rule that a file names, or that of a file that names none.
-fn rule_of(text: &RleFile<'_>) -> Result<Rule, Fault>
-    ensures ok { IfOk result (λ rule. Reads (rule_text_of text.now) (Ok rule) × IsRule rule) }
-    ensures err { IfErr result (λ fault. (rule_fault : RuleFault) × Reads (rule_text_of text.now) (Err rule_fault)
+// The rule that is given, or else the one that the file names, or that of a file that names none.
+fn rule_of(text: &RleFile<'_>, given: Option<Rule>) -> Result<Rule, Fault>
+    ensures ok { IfOk result (λ rule. ReadsRule given text.now (Ok rule) × IsRule rule) }
+    ensures err { IfErr result (λ fault. (rule_fault : RuleFault) × ReadsRule given text.now (Err rule_fault)
         × (fault ≡ record { refusal = rule_refusal rule_fault; place = Some text.now.rule_place })) }
 {
+    if let Some(rule) = given {
+        return Ok(rule);
+    }
     match Rule::read(text.rule_slice().unwrap_or(LIFE)) {
         Ok(rule) => Ok(rule),
         Err(fault) => Err(Fault {
@@ -106,7 +109,7 @@ fn rule_of(text: &RleFile<'_>) -> Result<Rule, Fault>
 }
 
 // The refusal of a rule's fault.
-fn rule_refusal(fault: RuleFault) -> Refusal
+pub(crate) fn rule_refusal(fault: RuleFault) -> Refusal
     ensures { result ≡ rule_refusal fault }
 {
     match fault {

@@ -1,4 +1,4 @@
-ghost use Rattle.std.specs.Prelude.{IfOk, IsOkUnless};
+ghost use Rattle.std.specs.Prelude.{ℕ, ◌+◌, IfOk, IsOkUnless};
 ghost use Rattle.rule_text.specs.CountRule.{IsRule};
 ghost use Rattle.plane.specs.Bounds.{HasReach};
 ghost use Rattle.plane.specs.CellSet.{IsCellSet};
@@ -9,8 +9,8 @@ use plane::{CellSet, Refusal};
 use rule_text::Rule;
 use std::alloc::Global;
 
-// The cells after so many generations by the rule. The empty pattern takes no step. `NoMemory` if
-// there is no room for them.
+// The cells after so many generations by the rule. The empty pattern takes no step. What had room for more
+// generations has room for those after these. `NoMemory` if there is no room for the cells.
 pub(crate) fn after(
     alloc: Global,
     start: CellSet,
@@ -21,6 +21,7 @@ pub(crate) fn after(
     requires cells { IsCellSet start }
     requires reach { HasReach generations start }
     ensures ok { IfOk result (λ cells. IsListing cells (after rule.now (plane_of start) generations)) }
+    ensures reach { IfOk result (λ cells. (more : ℕ) → HasReach (more + generations) start → HasReach more cells) }
     ensures memory { IsOkUnless result Refusal.NoMemory }
 {
     let mut cells = start;

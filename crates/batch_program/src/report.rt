@@ -1,7 +1,7 @@
 ghost use Rattle.std.specs.Prelude.{◌≡◌, OnOk, IfErr};
 ghost use Rattle.std.specs.Io.KnownBytes.{Appends};
 ghost use Rattle.batch_program.specs.Devices.{IsWriteRefusal};
-ghost use Rattle.batch_program.specs.Report.{report_line};
+ghost use Rattle.batch_program.specs.Report.{report_line, shown_line};
 
 use crate::writing::write_all;
 use arrayvec::ArrayString;
@@ -11,8 +11,25 @@ use plane::{Refusal, Sink};
 // Room for two numbers of up to 40 digits and what stands round them.
 const LINE_ROOM: usize = 96;
 
+// Writes the line of one generation, unless the report is left out.
+pub(crate) fn report_generation<W: Sink>(
+    report: &mut W,
+    quiet: bool,
+    generation: u64,
+    population: u128,
+) -> Result<(), Refusal>
+    ensures written { OnOk result (Appends (W.taken report.old) (W.taken report.new) (shown_line quiet generation population)) }
+    ensures unfailed { OnOk result (W.failure_count report.new ≡ W.failure_count report.old) }
+    ensures refused { IfErr result (IsWriteRefusal (W.failure_count report.old) (W.failure_count report.new)) }
+{
+    if quiet {
+        return Ok(());
+    }
+    write_report_line(report, generation, population)
+}
+
 // Writes the line of one generation: its number and how many cells are live.
-pub(crate) fn write_report_line<W: Sink>(
+fn write_report_line<W: Sink>(
     report: &mut W,
     generation: u64,
     population: u128,

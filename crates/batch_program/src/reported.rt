@@ -1,4 +1,4 @@
-ghost use Rattle.std.specs.Prelude.{◌≡◌, ◌⊎◌, ◌+◌, ◌≤◌, ℕ, List, take, IfOk, IfErr, OnOk};
+ghost use Rattle.std.specs.Prelude.{◌≡◌, ◌⊎◌, ◌+◌, ◌<◌, ◌≤◌, ℕ, List, take, not, false, IfOk, IfErr, OnOk};
 ghost use Rattle.std.specs.Io.KnownBytes.{Appends};
 ghost use Rattle.rule_text.specs.CountRule.{IsRule};
 ghost use Rattle.plane.specs.Bounds.{HasReach};
@@ -6,41 +6,69 @@ ghost use Rattle.plane.specs.Listing.{plane_of, IsListing};
 ghost use Rattle.plane.specs.Plane.{after};
 ghost use Rattle.plane.specs.declared.range.TheConstants.{GENERATION_LIMIT};
 ghost use Rattle.batch_program.specs.Devices.{IsWriteRefusal};
-ghost use Rattle.batch_program.specs.Report.{Shows, shown};
+ghost use Rattle.batch_program.specs.Report.{Shows, is_shown, shown};
 
 use crate::generations::after;
-use crate::report::write_report_line;
+use crate::options::Options;
+use crate::report::report_generation;
 use plane::{CellSet, Refusal, Sink};
 use rule_text::Rule;
 use std::alloc::Global;
 
-// Runs cells of a generation so many generations on, and reports the generations on the way. `NoMemory`
-// comes between two lines.
+// Runs cells of a generation as many generations on as the options ask for, and reports generations on the
+// way. `NoMemory` comes between two lines.
 pub(crate) fn run_reported<W: Sink>(
     alloc: Global,
     start: CellSet,
     rule: &Rule,
     generation: u64,
-    generations: u64,
+    options: &Options,
     report: &mut W,
 ) -> Result<CellSet, Refusal>
     requires rule { IsRule rule.now }
-    requires reach { HasReach generations start }
-    requires last { generation + generations ≤ GENERATION_LIMIT }
-    ensures cells { IfOk result (λ cells. IsListing cells (after rule.now (plane_of start) generations)) }
-    ensures reported { OnOk result ((said : List ℕ) × Shows rule.now (plane_of start) generation (shown generations) said
+    requires reach { HasReach options.now.gens start }
+    requires last { generation + options.now.gens ≤ GENERATION_LIMIT }
+    ensures cells { IfOk result (λ cells. IsListing cells (after rule.now (plane_of start) options.now.gens)) }
+    ensures reported { OnOk result ((said : List ℕ) × Shows rule.now (plane_of start) generation (shown options.now) said
         × Appends (W.taken report.old) (W.taken report.new) said) }
     ensures unfailed { OnOk result (W.failure_count report.new ≡ W.failure_count report.old) }
     ensures refused { IfErr result (λ refusal.
         (refusal ≡ Refusal.NoMemory
-        × ((lines : ℕ) × (said : List ℕ) × Shows rule.now (plane_of start) generation (take lines (shown generations)) said
+        × ((lines : ℕ) × (said : List ℕ) × Shows rule.now (plane_of start) generation (take lines (shown options.now)) said
         × Appends (W.taken report.old) (W.taken report.new) said))
         ⊎ IsWriteRefusal (W.failure_count report.old) (W.failure_count report.new) refusal) }
 {
-    write_report_line(report, generation, start.len() as u128)?;
-    let cells = after(alloc, start, rule, generations)?;
-    if generations > 0 {
-        write_report_line(report, generation + generations, cells.len() as u128)?;
+    let mut cells = start;
+    let mut done = 0;
+    report_generation(report, options.quiet, generation, cells.len() as u128)?;
+    while done < options.gens {
+        let next = next_shown(options, done);
+        cells = after(alloc, cells, rule, next - done)?;
+        done = next;
+        report_generation(
+            report,
+            options.quiet,
+            generation + done,
+            cells.len() as u128,
+        )?;
     }
     Ok(cells)
+}
+
+// The next number of generations after which there is a line, or that of the last where there are none.
+fn next_shown(options: &Options, done: u64) -> u64
+    requires { done < options.now.gens }
+    ensures later { done < result }
+    ensures within { result ≤ options.now.gens }
+    ensures shown { is_shown options.now result ≡ not options.now.quiet }
+    ensures between { (number : ℕ) → done < number → number < result → is_shown options.now number ≡ false }
+{
+    let gens = options.gens;
+    if options.quiet || options.step == 0 {
+        return gens;
+    }
+    match (done / options.step + 1).checked_mul(options.step) {
+        Some(next) if next < gens => next,
+        _ => gens,
+    }
 }

@@ -3,6 +3,7 @@
 
 mod devices;
 mod folder;
+mod options;
 mod programs;
 mod refusals;
 mod rows;

@@ -1,5 +1,6 @@
 //! Runs that are refused: by which name, at which place, and with what written until then.
 
+use crate::tests::rows::PLAIN;
 use crate::tests::runs::text_of;
 use batch_program::{Format, Options, run};
 use plane::{Fault, Memory, Refusal};
@@ -93,6 +94,7 @@ fn assert_refused<R: Abort + AllocGlobal>(rt: &R, row: &Row) -> Result<(), Fail>
     let options = Options {
         gens: row.generations,
         format: Some(Format::Rle),
+        ..PLAIN
     };
     let mut report = Memory::with_room(rt.alloc(), ROOM)?;
     let mut file = Memory::with_room(rt.alloc(), ROOM)?;
@@ -111,8 +113,8 @@ fn assert_refused<R: Abort + AllocGlobal>(rt: &R, row: &Row) -> Result<(), Fail>
 #[test]
 fn writes_the_largest_box(rt: HostRuntime) -> Result<(), Fail> {
     let options = Options {
-        gens: 0,
         format: Some(Format::Rle),
+        ..PLAIN
     };
     let mut report = Memory::with_room(rt.alloc(), ROOM)?;
     let mut file = Memory::with_room(rt.alloc(), ROOM)?;

@@ -6,6 +6,15 @@ use plane::{Fault, Sink};
 /// Room for the longest text of a test.
 pub(crate) const ROOM: usize = 4096;
 
+/// What is asked for where no word asks for anything.
+pub(crate) const PLAIN: Options = Options {
+    gens: 0,
+    step: 0,
+    rule: None,
+    format: None,
+    quiet: false,
+};
+
 /// A file, how many generations it runs, and what is written.
 #[derive(Drop)]
 pub(crate) struct Row {
@@ -26,6 +35,7 @@ impl Row {
         let options = Options {
             gens: self.generations,
             format: Some(Format::Rle),
+            ..PLAIN
         };
         run(rt, rt.alloc(), self.file.as_bytes(), &options, report, file)
     }

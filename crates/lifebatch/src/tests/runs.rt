@@ -1,6 +1,6 @@
 //! Runs that are accepted: the report, and the pattern as RLE.
 
-use crate::tests::rows::{ROOM, Row};
+use crate::tests::rows::{PLAIN, ROOM, Row};
 use batch_program::{Options, run};
 use plane::Memory;
 use std::process::Abort;
@@ -136,7 +136,7 @@ fn wraps_lines_at_70_bytes(rt: HostRuntime) -> Result<(), Fail> {
 fn reports_the_r_pentomino(rt: HostRuntime) -> Result<(), Fail> {
     let options = Options {
         gens: 1103,
-        format: None,
+        ..PLAIN
     };
     let mut report = Memory::with_room(rt.alloc(), ROOM)?;
     let mut file = Memory::with_room(rt.alloc(), ROOM)?;

@@ -1,52 +1,83 @@
-use Rattle.std.proofs.Common.{◌≡◌, ◌∙◌, Err, Ok, Some, codes, map, rules, subst, sym, ap}
-use Rattle.std.specs.Str.Parse.{ExplainsUnsignedError, HasUnsignedDigitsIfOk, ParsesUnsigned}
+use Rattle.std.proofs.Common.{◌≡◌, ◌∙◌, Err, Ok, Some, codes, map, rules, subst, sym, ap, inr}
 use Rattle.clap.specs.Words.{app_of}
-use Rattle.batch_program.specs.CommandLine.{IsFormat, command_form}
-use Rattle.batch_program.specs.declared.command_line.WordsFault.TheVariants.{Unfit}
-use Rattle.batch_program.proofs.AskedWords.{fails_by_form, number_none, number_some, one_matched, text_matched}
+use Rattle.batch_program.specs.CommandLine.{IsAskedRule, IsFlag, IsFormat, IsNumber, IsRefusedRule, command_form}
+use Rattle.batch_program.specs.declared.command_line.WordsFault.TheVariants.{Refused, Unfit}
+use Rattle.batch_program.proofs.AskedWords.{fails_by_form, text_matched, value_matched}
 use Rattle.batch_program.proofs.command_line.asked.Goals as goal
+
+pub returns-in_err-gens-clause-faults : goal.returns-in_err-gens-clause-faults
+returns-in_err-gens-clause-faults c =
+    let words = map (λ word. word.now) c.args.words.now in
+    let app : app_of c.in_ok-command.field-0 ≡ command_form = c.in_ok-command.ensures in
+    let value = value_matched (app_of c.in_ok-command.field-0) words c.in_ok-matches.matches app c.in_ok-matches.ensures.matches in
+    let is : c.from_residual-in_err-gens.result ≡ Err Unfit = search rules in
+    rw is (
+      fails_by_form (app_of c.in_ok-command.field-0) words (Ok c.in_ok-matches.matches) app c.in_ok-matches.ensures.kinds,
+      λ fit. c.in_err-gens.ensures.err.1 fit.gens.0 (subst (λ given. IsNumber given fit.gens.0) (sym (value (codes "generation"))) fit.gens.1),
+    )
+
+pub returns-in_err-step-clause-faults : goal.returns-in_err-step-clause-faults
+returns-in_err-step-clause-faults c =
+    let words = map (λ word. word.now) c.args.words.now in
+    let app : app_of c.in_ok-command.field-0 ≡ command_form = c.in_ok-command.ensures in
+    let value = value_matched (app_of c.in_ok-command.field-0) words c.in_ok-matches.matches app c.in_ok-matches.ensures.matches in
+    let is : c.from_residual-in_err-step.result ≡ Err Unfit = search rules in
+    rw is (
+      fails_by_form (app_of c.in_ok-command.field-0) words (Ok c.in_ok-matches.matches) app c.in_ok-matches.ensures.kinds,
+      λ fit. c.in_err-step.ensures.err.1 fit.step.0 (subst (λ given. IsNumber given fit.step.0) (sym (value (codes "stepsize"))) fit.step.1),
+    )
 
 pub returns-in_default-clause-faults : goal.returns-in_default-clause-faults
 returns-in_default-clause-faults c =
     let words = map (λ word. word.now) c.args.words.now in
     let app : app_of c.in_ok-command.field-0 ≡ command_form = c.in_ok-command.ensures in
-    let one = one_matched (app_of c.in_ok-command.field-0) words c.in_ok-matches.matches app c.in_ok-matches.ensures.matches (codes "generation") in (
+    let text = text_matched (app_of c.in_ok-command.field-0) words c.in_ok-matches.matches app c.in_ok-matches.ensures.matches in (
       fails_by_form (app_of c.in_ok-command.field-0) words (Ok c.in_ok-matches.matches) app c.in_ok-matches.ensures.kinds,
-      λ asked asks. number_none (λ bs r. ParsesUnsigned 64 10 bs r × ExplainsUnsignedError 10 bs r × HasUnsignedDigitsIfOk bs r) (λ t r g. g.0)
-          _ asked.options.gens (λ t is. c.in_default.ensures.value t (one ∙ is)) asks.gens,
-    )
-
-pub returns-in_default-get_str-clause-faults : goal.returns-in_default-get_str-clause-faults
-returns-in_default-get_str-clause-faults c =
-    let words = map (λ word. word.now) c.args.words.now in
-    let app : app_of c.in_ok-command.field-0 ≡ command_form = c.in_ok-command.ensures in
-    let text = text_matched (app_of c.in_ok-command.field-0) words c.in_ok-matches.matches app c.in_ok-matches.ensures.matches (codes "file") in (
-      fails_by_form (app_of c.in_ok-command.field-0) words (Ok c.in_ok-matches.matches) app c.in_ok-matches.ensures.kinds,
-      λ asked asks. let none = c.in_default-get_str.ensures ∙ text ∙ asks.file in cc,
+      λ fit. let none = c.in_default.ensures ∙ text (codes "file") ∙ fit.file.1 in cc,
     )
 
 pub returns-in_err-format-clause-faults : goal.returns-in_err-format-clause-faults
 returns-in_err-format-clause-faults c =
     let words = map (λ word. word.now) c.args.words.now in
     let app : app_of c.in_ok-command.field-0 ≡ command_form = c.in_ok-command.ensures in
-    let text = text_matched (app_of c.in_ok-command.field-0) words c.in_ok-matches.matches app c.in_ok-matches.ensures.matches (codes "output") in
+    let text = text_matched (app_of c.in_ok-command.field-0) words c.in_ok-matches.matches app c.in_ok-matches.ensures.matches in
     let is : c.from_residual-in_err-format.result ≡ Err Unfit = search rules in
     rw is (
       fails_by_form (app_of c.in_ok-command.field-0) words (Ok c.in_ok-matches.matches) app c.in_ok-matches.ensures.kinds,
-      λ asked asks. c.in_err-format.ensures.err.1 asked.options.format (subst (λ name. IsFormat name asked.options.format) (sym (c.get_str-output.ensures ∙ text)) asks.format),
+      λ fit. c.in_err-format.ensures.err.1 fit.format.0 (subst (λ name. IsFormat name fit.format.0) (sym (c.get_str-output.ensures ∙ text (codes "output"))) fit.format.1),
     )
+
+pub returns-in_err-rule-clause-faults : goal.returns-in_err-rule-clause-faults
+returns-in_err-rule-clause-faults c =
+    let words = map (λ word. word.now) c.args.words.now in
+    let app : app_of c.in_ok-command.field-0 ≡ command_form = c.in_ok-command.ensures in
+    let text = text_matched (app_of c.in_ok-command.field-0) words c.in_ok-matches.matches app c.in_ok-matches.ensures.matches in
+    let value = value_matched (app_of c.in_ok-command.field-0) words c.in_ok-matches.matches app c.in_ok-matches.ensures.matches in
+    let is : c.from_residual-in_err-rule.result ≡ Err (Refused c.in_err-rule.field-0.0) = search rules in
+    rw is (inr (record {
+      form = fails_by_form (app_of c.in_ok-command.field-0) words (Ok c.in_ok-matches.matches) app c.in_ok-matches.ensures.kinds;
+      fit = record {
+        gens = (c.in_ok-gens.gens, subst (λ given. IsNumber given c.in_ok-gens.gens) (value (codes "generation")) c.in_ok-gens.ensures.ok);
+        step = (c.in_ok-step.step, subst (λ given. IsNumber given c.in_ok-step.step) (value (codes "stepsize")) c.in_ok-step.ensures.ok);
+        file = (c.in-Some.file.now, sym (text (codes "file")) ∙ sym c.in-Some.ensures);
+        format = (c.in_ok-format.format, subst (λ name. IsFormat name c.in_ok-format.format) (c.get_str-output.ensures ∙ text (codes "output")) c.in_ok-format.ensures.ok);
+      };
+      rule = subst (λ given. IsRefusedRule given c.in_err-rule.field-0.0) (c.get_str-2.ensures ∙ text (codes "rule")) c.in_err-rule.ensures.err;
+    }))
 
 pub returns-clause-asks : goal.returns-clause-asks
 returns-clause-asks c =
     let words = map (λ word. word.now) c.args.words.now in
     let app : app_of c.in_ok-command.field-0 ≡ command_form = c.in_ok-command.ensures in
     let text = text_matched (app_of c.in_ok-command.field-0) words c.in_ok-matches.matches app c.in_ok-matches.ensures.matches in
-    let one = one_matched (app_of c.in_ok-command.field-0) words c.in_ok-matches.matches app c.in_ok-matches.ensures.matches (codes "generation") in
+    let value = value_matched (app_of c.in_ok-command.field-0) words c.in_ok-matches.matches app c.in_ok-matches.ensures.matches in
     record {
       form = fails_by_form (app_of c.in_ok-command.field-0) words (Ok c.in_ok-matches.matches) app c.in_ok-matches.ensures.kinds;
-      gens = number_some (λ bs r. ParsesUnsigned 64 10 bs r × ExplainsUnsignedError 10 bs r × HasUnsignedDigitsIfOk bs r) (λ t r g. g.0)
-          _ c.in-Some.gens (λ none. c.in-Some.ensures.none (one ∙ none)) (λ t is. c.in-Some.ensures.value t (one ∙ is));
-      file = sym (text (codes "file")) ∙ sym c.in-Some-get_str.ensures ∙ ap Some (sym c.in_ok-from_str.ensures.ok);
+      gens = subst (λ given. IsNumber given c.in_ok-gens.gens) (value (codes "generation")) c.in_ok-gens.ensures.ok;
+      step = subst (λ given. IsNumber given c.in_ok-step.step) (value (codes "stepsize")) c.in_ok-step.ensures.ok;
+      file = sym (text (codes "file")) ∙ sym c.in-Some.ensures ∙ ap Some (sym c.in_ok-from_str.ensures.ok);
       output = sym (text (codes "output")) ∙ sym c.get_str-output.ensures ∙ sym c.in_ok-copied.ensures;
       format = subst (λ name. IsFormat name c.in_ok-format.format) (c.get_str-output.ensures ∙ text (codes "output")) c.in_ok-format.ensures.ok;
+      rule = subst (λ given. IsAskedRule given c.in_ok-rule.rule) (c.get_str-2.ensures ∙ text (codes "rule")) c.in_ok-rule.ensures.ok;
+      quiet = subst (λ given. IsFlag given c.is_set-quiet.result) (value (codes "quiet")) c.is_set-quiet.ensures;
     }

@@ -29,7 +29,7 @@ pub returns-in_err-reach-clause-refused : goal.returns-in_err-reach-clause-refus
 returns-in_err-reach-clause-refused g c =
     let text : judged c.args.bytes.now ≡ Ok c.in_ok-text.text = search rules in
     let start : Start = record { meaning = c.in_ok-text.text; rule = c.in_ok-rule.rule; cells = c.in_ok-cells.cells } in
-    let accepted : IsStart c.args.bytes.now start = record { text = text; rule = c.in_ok-rule.ensures.ok.0; cells = search rules } in
+    let accepted : IsStart c.args.bytes.now c.args.options.now start = record { text = text; rule = c.in_ok-rule.ensures.ok.0; cells = search rules } in
     let is : c.from_residual-in_err-reach.result ≡ Err (placeless TooFar) = search rules in
     rw is (inl (
       inr (inr (record { start = start; accepted = accepted; outside = search rules; is = refl })),
@@ -41,7 +41,7 @@ pub returns-in_err-cells-2-clause-refused : goal.returns-in_err-cells-2-clause-r
 returns-in_err-cells-2-clause-refused g c =
     let text : judged c.args.bytes.now ≡ Ok c.in_ok-text.text = search rules in
     let start : Start = record { meaning = c.in_ok-text.text; rule = c.in_ok-rule.rule; cells = c.in_ok-cells.cells } in
-    let accepted : IsStart c.args.bytes.now start = record { text = text; rule = c.in_ok-rule.ensures.ok.0; cells = search rules } in
+    let accepted : IsStart c.args.bytes.now c.args.options.now start = record { text = text; rule = c.in_ok-rule.ensures.ok.0; cells = search rules } in
     let is : c.from_residual-in_err-cells-2.result ≡ Err (placeless c.in_err-cells-2.field-0.0) = search rules in
     rw is (refused_reporting c.args.bytes.now c.args.options.now start accepted c.generation-start.result c.in_err-cells-2.field-0.0 _ _ _ _ _ _ _ _ refl c.generation-start.ensures c.in_err-cells-2.ensures.refused)
 
@@ -49,11 +49,11 @@ pub returns-in_err-write_rle-clause-refused : goal.returns-in_err-write_rle-clau
 returns-in_err-write_rle-clause-refused g c =
     let text : judged c.args.bytes.now ≡ Ok c.in_ok-text.text = search rules in
     let start : Start = record { meaning = c.in_ok-text.text; rule = c.in_ok-rule.rule; cells = c.in_ok-cells.cells } in
-    let accepted : IsStart c.args.bytes.now start = record { text = text; rule = c.in_ok-rule.ensures.ok.0; cells = search rules } in
+    let accepted : IsStart c.args.bytes.now c.args.options.now start = record { text = text; rule = c.in_ok-rule.ensures.ok.0; cells = search rules } in
     let is : c.from_residual-in_err-write_rle.result ≡ Err (placeless c.in_err-write_rle.field-0.0) = search rules in
     let stays : StaysInRange c.args.options.now start = search rules in
     let last : IsListing c.in_ok-cells-2.cells (after start.rule (plane_of start.cells) c.args.options.now.gens) = search rules in
-    let reported : (said : List ℕ) × Shows start.rule (plane_of start.cells) start.meaning.generation (shown c.args.options.now.gens) said
+    let reported : (said : List ℕ) × Shows start.rule (plane_of start.cells) start.meaning.generation (shown c.args.options.now) said
     × Appends (g.W.Sink.taken c.args.report.now) (g.W.Sink.taken c.run_reported.new.report) said = search rules in
     rw is (refused_writing c.args.bytes.now c.args.options.now start accepted c.in_err-write_rle.field-0.0 _ _ _ _ reported.0 c.in_ok-cells-2.cells _ _ _ stays last reported.1 reported.2 (search rules) c.in_err-write_rle.ensures.refused)
 
@@ -61,10 +61,10 @@ pub returns-clause-finished : goal.returns-clause-finished
 returns-clause-finished g c =
     let text : judged c.args.bytes.now ≡ Ok c.in_ok-text.text = search rules in
     let start : Start = record { meaning = c.in_ok-text.text; rule = c.in_ok-rule.rule; cells = c.in_ok-cells.cells } in
-    let accepted : IsStart c.args.bytes.now start = record { text = text; rule = c.in_ok-rule.ensures.ok.0; cells = search rules } in
+    let accepted : IsStart c.args.bytes.now c.args.options.now start = record { text = text; rule = c.in_ok-rule.ensures.ok.0; cells = search rules } in
     let stays : StaysInRange c.args.options.now start = search rules in
     let last : IsListing c.in_ok-cells-2.cells (after start.rule (plane_of start.cells) c.args.options.now.gens) = search rules in
-    let reported : (said : List ℕ) × Shows start.rule (plane_of start.cells) start.meaning.generation (shown c.args.options.now.gens) said
+    let reported : (said : List ℕ) × Shows start.rule (plane_of start.cells) start.meaning.generation (shown c.args.options.now) said
     × Appends (g.W.Sink.taken c.args.report.now) (g.W.Sink.taken c.run_reported.new.report) said = search rules in
     let cells = c.in_ok-cells-2.cells in
     let drawn = rle_text start.meaning.comments start.rule (last_generation start c.args.options.now) cells in
