@@ -35,8 +35,9 @@ const LIFE: &[u8] = b"B3/S23";
 ///
 /// It refuses, in this order, a text that is no pattern file, by its first fault; the file's rule
 /// (`BadRule`, `BirthOnZero`), at the place of the header, unless another rule is given; and a run that
-/// would leave the range (`TooFar`). Until then nothing is written. `BoxTooLarge`, where a side of the last pattern's box is
-/// 2^31 or more, and `NoMemory` leave `file` as it was. `WriteFailed` comes where a sink failed.
+/// would leave the range (`TooFar`). Until then nothing is written. `BoxTooLarge`, where a side of the last
+/// pattern's box is 2^31 or more, and `NoMemory` leave `file` as it was. `WriteFailed` comes where a sink
+/// failed.
 pub fn run<R, W: Sink, V: Sink>(
     _rt: &R,
     alloc: Global,
