@@ -1,10 +1,14 @@
 pub mod Around
+pub mod Blocks
 pub mod Boxes
 pub mod Cells
 pub mod Cones
+pub mod Cuts
 pub mod Growth
+pub mod LeafBits
 pub mod Listings
 pub mod Living
 pub mod Reading
+pub mod Same
 pub mod Turns
 pub mod Uniqueness

@@ -11,7 +11,6 @@ use Rattle.plane.specs.declared.cell.Cell.{Cell}
 use Rattle.plane.specs.CellSet.{with_cell}
 use Rattle.plane.specs.Generation.{IsKept}
 use Rattle.plane.specs.Listing.{reading_order, is_at, plane_of, IsListing}
-use Rattle.plane.specs.Plane.{Plane}
 
 pub reading_order_total : IsTotalOrder reading_order
 reading_order_total = then_total (on_total (λ c. c.y) int_cmp_total) (on_total (λ c. c.x) int_cmp_total)

@@ -1,5 +1,5 @@
 -- What a read from the front of some bytes does.
-use Rattle.std.proofs.Common.{◌≡◌, ℕ, ◌+◌, ◌-◌, ◌<◌, ◌≤◌, List, [], ◌++◌, length, take, drop, min, sym, ◌∙◌, ap, arith}
+use Rattle.std.proofs.Common.{◌≡◌, ℕ, ◌+◌, ◌<◌, ◌≤◌, List, [], ◌++◌, length, take, drop, min, sym, ◌∙◌, ap, arith}
 use Rattle.std.proofs.Common.{length-take, length-drop, length-append}
 use Rattle.std.proofs.lemmas.List.{take-append-drop, drop-drop, nil_from_length, take_at}
 

@@ -1,6 +1,5 @@
 -- A plane has at most one listing.
-use Rattle.std.proofs.Common.{◌≡◌, ℤ, Bool, true, false, ◌||◌, List, [], ◌∷◌, refl, sym, ◌∙◌, ap, subst}
-use Rattle.std.specs.declared.cmp.Ordering.{Ordering}
+use Rattle.std.proofs.Common.{◌≡◌, Bool, true, false, ◌||◌, List, [], ◌∷◌, refl, sym, ◌∙◌, ap}
 use Rattle.std.specs.declared.cmp.Ordering.TheVariants.{Less, Equal, Greater}
 use Rattle.std.specs.Cmp.{Equal-is, tied_itself}
 use Rattle.std.specs.List.{list_any, AllByRecursion}
@@ -8,7 +7,7 @@ use Rattle.std.specs.List.Sorted.{IsStrictlySortedBy}
 use Rattle.std.specs.Ordering.{is_eq, ordering_reverse}
 use Rattle.plane.specs.declared.cell.Cell.{Cell}
 use Rattle.plane.specs.Laws.{OneListing}
-use Rattle.plane.specs.Listing.{reading_order, plane_of, IsListing}
+use Rattle.plane.specs.Listing.{reading_order}
 use Rattle.plane.proofs.Around.{at_place}
 use Rattle.plane.proofs.Cells.{same_cell}
 use Rattle.plane.proofs.Listings.{reading_order_total, ties_at_place, plane_of-by_order}

@@ -1,5 +1,5 @@
 -- Sets of cells, seen as their listings.
-use Rattle.std.specs.Prelude.{ℤ, ◌||◌, List}
+use Rattle.std.specs.Prelude.{◌||◌, List}
 use Rattle.std.specs.List.{AllByRecursion}
 use Rattle.std.specs.List.Sorted.{IsStrictlySortedBy}
 use Rattle.plane.specs.declared.cell.Cell.{Cell}

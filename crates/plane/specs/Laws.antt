@@ -1,11 +1,11 @@
 -- What holds of all planes and all rules.
-use Rattle.std.specs.Prelude.{◌≡◌, ℕ, ℤ, pos, ◌+ℤ◌, ◌-ℤ◌, ◌≤ℤ◌, true, List, Some}
+use Rattle.std.specs.Prelude.{◌≡◌, ℕ, ℤ, pos, ◌+ℤ◌, ◌-ℤ◌, ◌≤ℤ◌, List, Some}
 use Rattle.std.specs.List.{AllByRecursion}
-use Rattle.rule_text.specs.CountRule.{CountRule, IsRule}
+use Rattle.rule_text.specs.CountRule.{CountRule}
 use Rattle.plane.specs.declared.cell.Cell.{Cell}
 use Rattle.plane.specs.declared.cell.Bounds.{Bounds}
 use Rattle.plane.specs.Bounds.{bounds_of, IsWithin}
-use Rattle.plane.specs.Listing.{plane_of, IsListing}
+use Rattle.plane.specs.Listing.{IsListing}
 use Rattle.plane.specs.Plane.{Plane, after}
 
 -- a plane has at most one listing

@@ -6,10 +6,10 @@ use crate::cell::Bounds;
 use crate::refusal::Refusal;
 
 /// Coordinates lie in `-COORDINATE_LIMIT` to `COORDINATE_LIMIT - 1`.
-pub const COORDINATE_LIMIT: i64 = 1 << 60;
+pub const COORDINATE_LIMIT: i64 = 1 << 62;
 
 /// The last generation that a run may reach.
-pub const GENERATION_LIMIT: u64 = 1 << 62;
+pub const GENERATION_LIMIT: u64 = 1 << 63;
 
 /// The largest number of live cells in an RLE file.
 pub const LIVE_CELL_LIMIT: u64 = 1 << 28;

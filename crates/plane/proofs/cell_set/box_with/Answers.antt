@@ -1,4 +1,4 @@
-use Rattle.std.proofs.Common.{◌≡◌, rules, w64, SFits, refl}
+use Rattle.std.proofs.Common.{rules, w64, SFits}
 use Rattle.std.proofs.lemmas.Int.{to_z-of_z}
 use Rattle.plane.proofs.cell_set.box_with.Goals as goal
 

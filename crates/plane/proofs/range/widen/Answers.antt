@@ -1,6 +1,5 @@
-use Rattle.std.proofs.Common.{◌≡◌, ◌-ℤ◌, ◌+ℤ◌, pos, rules, w64, SFits, refl}
+use Rattle.std.proofs.Common.{rules, w64, SFits}
 use Rattle.std.proofs.lemmas.Int.{to_z-of_z}
-use Rattle.plane.specs.Range.{widened, IsBoxInRange, IsCoordinate}
 use Rattle.plane.proofs.range.widen.Goals as goal
 
 pub returns-in_err-before-2 : goal.returns-in_err-before-2

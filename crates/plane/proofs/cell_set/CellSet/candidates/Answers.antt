@@ -1,8 +1,6 @@
-use Rattle.std.proofs.Common.{sym, map, List}
 use Rattle.std.specs.Map.Iter.{deref}
 use Rattle.std.proofs.lemmas.Map.Iter.{rest_more}
-use Rattle.plane.specs.Generation.{HasAround, HasRoom}
-use Rattle.plane.specs.Listing.{plane_of}
+use Rattle.plane.specs.Generation.{HasRoom}
 use Rattle.plane.proofs.Around.{HasAround-kept}
 use Rattle.plane.proofs.Turns.{one_done, holds_of_item, holds_of_done}
 use Rattle.plane.proofs.cell_set.CellSet.candidates.Goals as goal

@@ -1,5 +1,4 @@
-use Rattle.std.proofs.Common.{◌≡◌, ◌∙◌, ap}
-use Rattle.plane.specs.Listing.{plane_of}
+use Rattle.std.proofs.Common.{◌∙◌}
 use Rattle.plane.proofs.Listings.{plane_of-by_order}
 use Rattle.plane.proofs.cell_set.CellSet.contains.Goals as goal
 

@@ -1,6 +1,3 @@
-use Rattle.std.proofs.Common.{subst, sym, List}
-use Rattle.std.specs.List.{AllByRecursion}
-use Rattle.plane.specs.declared.cell.Cell.{Cell}
 use Rattle.plane.specs.Listing.{reading_order}
 use Rattle.plane.specs.Range.{IsInRange}
 use Rattle.plane.proofs.Listings.{plane_of-one_more, AllByRecursion-insert_key}

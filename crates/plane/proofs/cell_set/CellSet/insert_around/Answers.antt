@@ -1,11 +1,10 @@
-use Rattle.std.proofs.Common.{◌≡◌, ◌-ℤ◌, true, take, length, get_or, subst}
+use Rattle.std.proofs.Common.{◌≡◌, ◌-ℤ◌, true, take}
 use Rattle.std.proofs.lemmas.List.{take_all}
 use Rattle.std.proofs.lemmas.List.Elements.{All-more, All-weaker}
 use Rattle.plane.specs.declared.cell.Cell.{Cell}
 use Rattle.rule_text.specs.declared.neighbourhood.Offset.{Offset}
-use Rattle.rule_text.specs.Neighbourhood.{offsets, step, stay}
+use Rattle.rule_text.specs.Neighbourhood.{step, stay}
 use Rattle.plane.specs.Plane.{Plane}
-use Rattle.plane.specs.Generation.{IsKept, HasAround}
 use Rattle.plane.specs.Listing.{plane_of}
 use Rattle.plane.proofs.Listings.{IsKept-inserted, has_inserted}
 use Rattle.plane.proofs.cell_set.CellSet.insert_around.Goals as goal

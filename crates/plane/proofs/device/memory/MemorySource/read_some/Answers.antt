@@ -1,4 +1,4 @@
-use Rattle.std.proofs.Common.{◌≡◌, ◌∙◌, ap, drop, arith, length-drop}
+use Rattle.std.proofs.Common.{◌∙◌, ap, drop, arith, length-drop}
 use Rattle.std.proofs.lemmas.List.{take_all}
 use Rattle.plane.proofs.Reading.{read_front}
 use Rattle.plane.proofs.device.memory.MemorySource.read_some.Goals as goal
