@@ -7,6 +7,7 @@ use Rattle.plane.specs.declared.cell.Bounds.{Bounds}
 use Rattle.plane.specs.Bounds.{bounds_of, IsWithin}
 use Rattle.plane.specs.Listing.{IsListing}
 use Rattle.plane.specs.Plane.{Plane, after}
+use Rattle.plane.specs.Window.{cells_in, IsInWindow}
 
 -- a plane has at most one listing
 abbrev pub OneListing : Type 0
@@ -41,3 +42,7 @@ pub record IsSmallest (box : Bounds) (cells : List Cell) : Type 0 where
 -- the box of some cells is the smallest that holds them
 abbrev pub SmallestBox : Type 0
 SmallestBox = (cells : List Cell) (box : Bounds) → bounds_of cells ≡ Some box → IsSmallest box cells
+
+-- a plane that is dead outside a window is listed by the window's live cells
+abbrev pub BoundedListing : Type 0
+BoundedListing = (left top : ℤ) (wide tall : ℕ) (plane : Plane) → IsInWindow left top wide tall plane → IsListing (cells_in left top wide tall plane) plane
