@@ -114,7 +114,7 @@ and_false true = refl
 and_false false = refl
 
 -- a plane that is dead outside the square is what shows inside
-cut_case : (b u v : Bool) → (b ≡ false → u ≡ false) → (b ≡ true → u ≡ v) → u ≡ (b && v)
+pub cut_case : (b u v : Bool) → (b ≡ false → u ≡ false) → (b ≡ true → u ≡ v) → u ≡ (b && v)
 cut_case true u v h k = k refl
 cut_case false u v h k = h refl
 

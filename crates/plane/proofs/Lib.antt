@@ -9,6 +9,8 @@ pub mod LeafBits
 pub mod Listings
 pub mod Living
 pub mod Ninths
+pub mod Paddings
+pub mod Parts
 pub mod Populations
 pub mod Reading
 pub mod Same

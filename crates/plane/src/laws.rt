@@ -1,6 +1,6 @@
 //! What holds of all planes and all rules, as calls that do nothing and say it in their clause.
 
-ghost use Rattle.plane.specs.Laws.{BoundedListing, LightCone, OneListing, SmallestBox, Translation};
+ghost use Rattle.plane.specs.Laws.{BoundedListing, LightCone, NineParts, OneListing, SmallestBox, Translation};
 
 /// A plane has at most one listing: sets with the same cells are seen as equal.
 pub fn one_listing()
@@ -20,6 +20,11 @@ pub fn light_cone()
 /// The generations of a plane move with it.
 pub fn translation()
     ensures { Translation }
+{}
+
+/// The future of a square is made of the futures of nine overlapping squares of half its side.
+pub fn nine_parts()
+    ensures { NineParts }
 {}
 
 /// The box of some cells holds them all, and no smaller box does.
