@@ -13,6 +13,7 @@ pub mod Paddings
 pub mod Parts
 pub mod Populations
 pub mod Reading
+pub mod Rounds
 pub mod Same
 pub mod Turns
 pub mod Uniqueness

@@ -33,7 +33,7 @@ pub quiet : (rule : CountRule) → has rule.birth 0 ≡ false → (plane : Plane
 quiet rule none plane n x y dead = light_cone_lem rule plane empty n x y dead ∙ empty_after rule none n x y
 
 -- what is live near a place outside the wider one lies outside
-both_outside : (a b c d : Bool) → (c ≡ true → a ≡ true) → (d ≡ true → b ≡ true) → (a && b) ≡ false → (c && d) ≡ false
+pub both_outside : (a b c d : Bool) → (c ≡ true → a ≡ true) → (d ≡ true → b ≡ true) → (a && b) ≡ false → (c && d) ≡ false
 both_outside a b true true h k e = let f = ap (λ t. t && b) (h refl) ∙ k refl in absurd (false≢true (sym e ∙ f))
 both_outside a b true false h k e = refl
 both_outside a b false d h k e = refl
@@ -56,7 +56,7 @@ window_after rule none left top wide tall n plane is = record {
 near_round : (side half other outer n : ℕ) (x u : ℤ) → side ≡ half + half → other ≡ outer + outer → half + n ≤ outer → IsNear n x u → spans side (u +ℤ pos half) ≡ true → spans other (x +ℤ pos outer) ≡ true
 near_round side half other outer n x u e f less near here = grind (arith, ints)
 
-twice_half : (level : ℕ) → 1 ≤ level → 2 ^ level ≡ 2 ^ (level - 1) + 2 ^ (level - 1)
+pub twice_half : (level : ℕ) → 1 ≤ level → 2 ^ level ≡ 2 ^ (level - 1) + 2 ^ (level - 1)
 twice_half level least =
     let e : level ≡ (suc level) - 1 = omega arith in let f : (suc level) - 2 ≡ level - 1 = omega arith in
     ap (λ n. 2 ^ n) e ∙ half_of (suc level) (omega arith) ∙ ap (λ n. 2 ^ n + 2 ^ n) f
