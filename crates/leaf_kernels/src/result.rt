@@ -7,8 +7,8 @@ use crate::leaves;
 use rule_text::Rule;
 
 /// The 8 by 8 cells in the middle of a square of four leaves, 2^`exp` generations on, where all
-/// cells outside the square are dead. The leaves are the upper left, the upper right, the lower left
-/// and the lower right; bit `8y + x` of a leaf is its cell `(x, y)`.
+/// cells outside the square are dead at first. The leaves are the upper left, the upper right, the
+/// lower left and the lower right; bit `8y + x` of a leaf is its cell `(x, y)`.
 pub fn result16(rule: &Rule, leaves: [u64; 4], exp: u8) -> u64
     requires { exp < 3 }
     ensures { IsSame (bits_plane result) (future rule.now exp 4 (leaves_plane leaves)) }

@@ -1,4 +1,4 @@
-ghost use Rattle.std.specs.Prelude.{◌≡◌, ℤ, pos, ◌+ℤ◌, ◌-ℤ◌, ◌&&◌, not, if◌then◌else◌};
+ghost use Rattle.std.specs.Prelude.{◌≡◌, ℤ, pos, ◌+ℤ◌, ◌-ℤ◌, ◌&&◌, if◌then◌else◌};
 ghost use Rattle.plane.specs.Square.{spans};
 ghost use Rattle.leaf_kernels.specs.Rows.{rows_plane};
 
@@ -44,8 +44,7 @@ pub(crate) fn from_below(rows: u16x16) -> u16x16
     )
 }
 
-/// The cells that become live where a live cell does so exactly if `live` says so, and a dead cell
-/// exactly if `dead` does.
+/// Cells by their state: the live ones are kept if `live`, and the dead ones are made live if `dead`.
 #[inline(always)]
 pub(crate) fn by_state(rows: u16x16, live: bool, dead: bool) -> u16x16
     ensures { (x y : ℤ) → rows_plane result x y ≡ ((spans 16 x && spans 16 y) && (if rows_plane rows x y then live else dead)) }
