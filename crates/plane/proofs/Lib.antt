@@ -8,7 +8,13 @@ pub mod Growth
 pub mod LeafBits
 pub mod Listings
 pub mod Living
+pub mod Ninths
+pub mod Paddings
+pub mod Parts
+pub mod Populations
 pub mod Reading
+pub mod Rounds
 pub mod Same
 pub mod Turns
 pub mod Uniqueness
+pub mod Windows
