@@ -1,5 +1,6 @@
 pub mod Blocks
 pub mod Claims
+pub mod Consistency
 pub mod Entries
 pub mod Everything
 pub mod FullShards

@@ -21,16 +21,17 @@ use Rattle.table_core.specs.Layout.{IsSlot, start, slot_bits, result_of, first_p
 use Rattle.table_core.specs.Blocks.{Words, paired, width, height, cells_of, square_rank, Shows}
 use Rattle.table_core.specs.Good.{IsGood}
 use Rattle.table_core.specs.Events.{index_of}
-use Rattle.table_core.specs.Knowledge.{Lists, KnowsBlock, IsTrueOf}
+use Rattle.table_core.specs.Knowledge.{HasSeen, Lists, KnowsBlock, IsTrueOf, IsTrueResult}
 use Rattle.table_core.specs.Learning.{MayAsk, IsLawful, Follows, as_leaf, as_pair, as_first_part, as_second_part, KnowsPartsOf, with_word, LearnsWord, with_future, LearnsFuture, MeetsWord, MeetsResult, Learns}
 use Rattle.table_core.specs.Laws.{EveryEventTeaches}
 use Rattle.table_core.proofs.Ways.{not_head}
 use Rattle.table_core.proofs.Blocks.{one_rank, parts_equal, paired_same, paired_inside, leaf_no_pair, cells_inside}
 use Rattle.table_core.proofs.Claims.{same_or_other}
-use Rattle.table_core.proofs.Lists.{all_append, contains_here}
+use Rattle.table_core.proofs.Lists.{all_append, all_contains, contains_here}
 use Rattle.table_core.proofs.Results.{one_level}
-use Rattle.table_core.proofs.Knowing.{block_true, knows_same, lists_same}
+use Rattle.table_core.proofs.Knowing.{seen_true, block_true, knows_same, lists_same}
 use Rattle.table_core.proofs.Showing.{shows_inside, leaf_shows, result_shows}
+use Rattle.table_core.proofs.Consistency.{same_cells, known_rank, known_inside}
 use Rattle.table_core.proofs.Entries.{listing}
 use Rattle.table_core.proofs.Learned.{learns_true, learns_grows}
 
@@ -104,15 +105,14 @@ record Downwards (key : Key) (known : Knowledge) (index word : ℕ) : Type 0 whe
   parts : (rank : ℕ) (plane : Plane) → index ≢ 0 → KnowsBlock known (suc rank) index plane → HasParts more rank word plane
 
 module _ (key : Key) (words : Words) (known : Knowledge) (good : IsGood key words) (h : IsTrueOf key.shape.bits words known) where
-  -- two accounts of one number agree
   agree : (rank n : ℕ) (p q : Plane) → KnowsBlock known rank n p → KnowsBlock known rank n q → IsSame p q
-  agree rank n p q a b = same_trans (same_sym (block_true key.shape.bits words known rank n p h a).cells) (block_true key.shape.bits words known rank n q h b).cells
+  agree = same_cells key.shape.bits words known h
 
   same_rank : (r s n : ℕ) (p q : Plane) → n ≢ 0 → KnowsBlock known r n p → KnowsBlock known s n q → r ≡ s
-  same_rank r s n p q some a b = one_rank key.shape.bits words r s n (block_true key.shape.bits words known r n p h a).stands (block_true key.shape.bits words known s n q h b).stands some
+  same_rank = known_rank key.shape.bits words known h
 
   inside_block : (rank n : ℕ) (plane : Plane) → KnowsBlock known rank n plane → IsInside (width rank) (height rank) plane
-  inside_block rank n plane knows = shows_inside key.shape.bits words rank n plane (block_true key.shape.bits words known rank n plane h knows)
+  inside_block = known_inside key.shape.bits words known h
 
   module _ (index word : ℕ) (some : word ≢ 0) (there : words index ≡ word) where
     leaf_up : IsSlot key.shape.bits Leaf index → Upwards key known index word
@@ -252,16 +252,22 @@ module _ (key : Key) (words : Words) (known : Knowledge) (good : IsGood key word
           },
         )
 
+  seen_agrees : (index word : ℕ) → words index ≡ word → (seen : ℕ) → HasSeen known index seen → (word ≡ seen) × (seen ≢ 0)
+  seen_agrees index word there seen has = let t = seen_true key.shape.bits words known index seen h has in (sym there ∙ t.0, t.1)
+
+  result_agrees : (index word : ℕ) → words index ≡ word → (result : KnownResult) → Contains known.results result → index ≡ result_of key.shape.bits result.square → word ≡ 2 ^ 32 + result.future
+  result_agrees index word there result has e = let t = all_contains (IsTrueResult key.shape.bits words) known.results result h.results has in sym there ∙ ap words e ∙ t.told
+
   met_word : (index word : ℕ) → words index ≡ word → (after : Knowledge) × MeetsWord key known index word after
   met_word index word there = ⊎_elim
-      (λ z. (known, record { none = λ e. refl; some = λ some. absurd (some z) }))
-      (λ some. let l = word_learned index word some there in (l.0, record { none = λ z. absurd (some z); some = λ again. l.1 }))
+      (λ z. (known, record { none = λ e. refl; some = λ some. absurd (some z); agrees = seen_agrees index word there }))
+      (λ some. let l = word_learned index word some there in (l.0, record { none = λ z. absurd (some z); some = λ again. l.1; agrees = seen_agrees index word there }))
       (same_or_other word 0)
 
   met_result : (count index word : ℕ) → words index ≡ word → MayAsk key.shape.bits known index → (after : Knowledge) × MeetsResult key known count index word after
   met_result count index word there of = ⊎_elim
-      (λ z. (known, record { none = λ e. refl; some = λ some. absurd (some z) }))
-      (λ some. let l = future_learned index word some there count of in (l.0, record { none = λ z. absurd (some z); some = λ again. l.1 }))
+      (λ z. (known, record { none = λ e. refl; some = λ some. absurd (some z); agrees = result_agrees index word there }))
+      (λ some. let l = future_learned index word some there count of in (l.0, record { none = λ z. absurd (some z); some = λ again. l.1; agrees = result_agrees index word there }))
       (same_or_other word 0)
 
   -- there is what a desk knows after an event

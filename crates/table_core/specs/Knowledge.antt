@@ -3,6 +3,7 @@ use Rattle.std.specs.Prelude.{◌≡◌, ◌≢◌, ℕ, zero, suc, ◌+◌, ◌
 use Rattle.std.specs.List.{AllByRecursion, list_any}
 use Rattle.plane.specs.Plane.{Plane}
 use Rattle.plane.specs.Square.{IsSame, empty}
+use Rattle.plane.specs.Block.{IsInside}
 use Rattle.plane.specs.Listing.{plane_of}
 use Rattle.table_core.specs.declared.knowledge.KnownBlock.{KnownBlock}
 use Rattle.table_core.specs.declared.knowledge.KnownResult.{KnownResult}
@@ -10,7 +11,7 @@ use Rattle.table_core.specs.declared.knowledge.Knowledge.{Knowledge}
 use Rattle.table_core.specs.declared.shape.Kind.{Kind}
 use Rattle.table_core.specs.declared.shape.Kind.TheVariants.{Leaf, Pair}
 use Rattle.table_core.specs.Layout.{IsSlot, start, slot_bits, result_of}
-use Rattle.table_core.specs.Blocks.{Words, IsBlock, Shows, square_rank}
+use Rattle.table_core.specs.Blocks.{Words, IsBlock, Shows, square_rank, largest_rank, width, height}
 
 -- it has seen this word at this index
 abbrev pub HasSeen : Knowledge → ℕ → ℕ → Type 0
@@ -54,6 +55,16 @@ pub record IsTrueOf (bits : ℕ) (words : Words) (known : Knowledge) : Type 0 wh
   pub blocks : AllByRecursion (λ entry. Shows bits words entry.rank entry.number (plane_of entry.live)) known.blocks
   pub results : AllByRecursion (IsTrueResult bits words) known.results
   pub squares : AllByRecursion (KnowsSquareOf known) known.results
+  pub once : HasEachOnce known.results
+
+-- what a desk knows agrees with itself: a number shows one block, at the index of a leaf or a pair, of at most a square of level 65, and a block has one number; each result is of a square that it knows, which has no second one
+pub record IsConsistent (bits : ℕ) (known : Knowledge) : Type 0 where
+  pub one_block : (rank other number : ℕ) (plane also : Plane) → number ≢ 0 → KnowsBlock known rank number plane → KnowsBlock known other number also → (rank ≡ other) × IsSame plane also
+  pub one_number : (rank number other : ℕ) (plane : Plane) → KnowsBlock known rank number plane → KnowsBlock known rank other plane → number ≡ other
+  pub inside : (rank number : ℕ) (plane : Plane) → KnowsBlock known rank number plane → IsInside (width rank) (height rank) plane
+  pub leaf : (number : ℕ) (plane : Plane) → number ≢ 0 → KnowsBlock known 0 number plane → IsSlot bits Leaf number
+  pub pair : (rank number : ℕ) (plane : Plane) → number ≢ 0 → KnowsBlock known (suc rank) number plane → IsSlot bits Pair number × (rank < largest_rank)
+  pub results : AllByRecursion (λ result. (3 < result.level) × (result.square ≢ 0) × KnowsSquareOf known result) known.results
   pub once : HasEachOnce known.results
 
 -- all that was known still is

@@ -1,5 +1,5 @@
 -- Which events are lawful, and what they teach.
-use Rattle.std.specs.Prelude.{◌≡◌, ◌≢◌, ℕ, suc, ◌+◌, ◌-◌, ◌*◌, ◌^◌, ◌<◌, if◌then◌else◌, List, [], ◌∷◌, ◌++◌}
+use Rattle.std.specs.Prelude.{◌≡◌, ◌≢◌, ℕ, suc, ◌+◌, ◌-◌, ◌*◌, ◌^◌, ◌<◌, if◌then◌else◌, List, [], ◌∷◌, ◌++◌, Contains}
 use Rattle.std.specs.List.{AllByRecursion}
 use Rattle.plane.specs.declared.cell.Cell.{Cell}
 use Rattle.plane.specs.Plane.{Plane}
@@ -120,15 +120,17 @@ pub record LearnsFuture (key : Key) (known : Knowledge) (count index word : ℕ)
   pub told : word ≡ 2 ^ 32 + result.future
   pub shows : (of : MayAsk key.shape.bits known index) → (of.level ≡ result.level) × IsSame (plane_of live) (future key.rule key.exponent of.level of.plane)
 
--- what a desk knows after a word was found or placed at the index of a leaf or a pair: nothing new where it is 0
+-- what a desk knows after a word was found or placed at the index of a leaf or a pair: nothing new where it is 0; a word that it had seen there is that word
 pub record MeetsWord (key : Key) (known : Knowledge) (index word : ℕ) (after : Knowledge) : Type 0 where
   pub none : word ≡ 0 → after ≡ known
   pub some : word ≢ 0 → LearnsWord key known index word after
+  pub agrees : (seen : ℕ) → HasSeen known index seen → (word ≡ seen) × (seen ≢ 0)
 
--- what a desk knows after a result word was found or placed: nothing new where it is 0
+-- what a desk knows after a result word was found or placed: nothing new where it is 0; a result that it knew is that of the word
 pub record MeetsResult (key : Key) (known : Knowledge) (count index word : ℕ) (after : Knowledge) : Type 0 where
   pub none : word ≡ 0 → after ≡ known
   pub some : word ≢ 0 → LearnsFuture key known count index word after
+  pub agrees : (result : KnownResult) → Contains known.results result → index ≡ result_of key.shape.bits result.square → word ≡ 2 ^ 32 + result.future
 
 -- what an event teaches its desk by the word that stands there afterwards; a result counts as learned where the desk asked for it
 abbrev pub Learns : Key → Event → Knowledge → ℕ → Knowledge → Type 0

@@ -1,6 +1,6 @@
 //! What holds of all tables, as calls that do nothing and say it in their clause.
 
-ghost use Rattle.table_core.specs.Laws.{EveryWay, EveryEventTeaches, FullShardIsSeen, GoodWordsCanBeKnown};
+ghost use Rattle.table_core.specs.Laws.{EveryWay, EveryEventTeaches, EveryTruthIsConsistent, FullShardIsSeen, GoodWordsCanBeKnown};
 ghost use Rattle.table_core.specs.Opening.{EveryReopening};
 ghost use Rattle.table_core.specs.Runs.{EveryRun};
 
@@ -22,9 +22,15 @@ pub fn every_reopening()
     ensures { EveryReopening }
 {}
 
-/// Whatever word an event of a desk finds in good words, there is what the desk then knows.
+/// Whatever word stands in good words after a lawful event, there is what the desk then knows, and
+/// it is true and no less than before.
 pub fn every_event_teaches()
     ensures { EveryEventTeaches }
+{}
+
+/// What is true of good words agrees with itself: a number shows one block, a block has one number.
+pub fn every_truth_is_consistent()
+    ensures { EveryTruthIsConsistent }
 {}
 
 /// Of all good words a desk may know everything: each word, each block and each result.

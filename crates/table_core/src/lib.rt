@@ -19,7 +19,7 @@ mod word;
 pub use key::Key;
 pub use knowledge::{Knowledge, KnownBlock, KnownResult};
 pub use laws::{
-    every_event_teaches, every_reopening, every_run, every_way, full_shard_is_seen,
+    every_event_teaches, every_reopening, every_run, every_truth_is_consistent, every_way, full_shard_is_seen,
     good_words_can_be_known,
 };
 pub use machine::{Event, step};
