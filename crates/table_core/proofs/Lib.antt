@@ -1,0 +1,17 @@
+pub mod Blocks
+pub mod Claims
+pub mod Consistency
+pub mod Entries
+pub mod Everything
+pub mod FullShards
+pub mod Knowing
+pub mod Learned
+pub mod Lists
+pub mod Powers
+pub mod Quads
+pub mod Reopenings
+pub mod Results
+pub mod Running
+pub mod Showing
+pub mod Teaching
+pub mod Ways

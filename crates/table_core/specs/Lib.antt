@@ -1,0 +1,10 @@
+pub mod Blocks
+pub mod Events
+pub mod Good
+pub mod Knowledge
+pub mod Laws
+pub mod Layout
+pub mod Learning
+pub mod Opening
+pub mod Runs
+pub mod Sizes
