@@ -33,7 +33,7 @@ passes_cells-capped live count = grind (arith, nat_tests)
 
 leaves-capped : (state : State) (tag : Tag) (count : ℕ) → InReach state → leaves_range state tag (capped count) ≡ leaves_range state tag count
 leaves-capped state Dead count reach = passes_limit-capped state.column count reach.column
-leaves-capped state Live count reach = ap (λ b. b || int_le (pos 1152921504606846976) state.row) (passes_limit-capped state.column count reach.column)
+leaves-capped state Live count reach = ap (λ b. b || int_le (pos 4611686018427387904) state.row) (passes_limit-capped state.column count reach.column)
 leaves-capped state Row count reach = passes_limit-capped state.row count reach.row
 
 cells-capped : (state : State) (tag : Tag) (count : ℕ) → passes_cells state tag (capped count) ≡ passes_cells state tag count

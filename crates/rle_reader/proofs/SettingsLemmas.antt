@@ -112,9 +112,9 @@ pub generation_at-capped : (number : Option ℕ) → generation_at (option_map c
 unfolding generation_at
 generation_at-capped None = refl
 generation_at-capped (Some number) =
-    let same : nat_le (capped number) 4611686018427387904 ≡ nat_le number 4611686018427387904 = grind (arith, nat_tests) in
+    let same : nat_le (capped number) 9223372036854775808 ≡ nat_le number 9223372036854775808 = grind (arith, nat_tests) in
     ap (λ b. cond {A = Result ℕ Refusal} b (Ok (capped number)) (Err BadGen)) same
-    ∙ generation_if (nat_le number 4611686018427387904) (capped number) number (λ h. grind (arith, nat_tests))
+    ∙ generation_if (nat_le number 9223372036854775808) (capped number) number (λ h. grind (arith, nat_tests))
 
 pub position_of-parts : (text front back : List ℕ) (x y : Option ℤ) → front ≡ before_first (is_byte 44) text → back ≡ after_first (is_byte 44) text → x ≡ option_map clamped (integer_of front) → y ≡ option_map clamped (integer_of back) → cell_at x y ≡ position_of text
 unfolding position_of

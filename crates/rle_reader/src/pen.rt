@@ -130,7 +130,7 @@ fn moved(coordinate: i64, count: u64) -> i64
     ensures value { result ≡ coordinate +ℤ pos count }
     ensures in_reach { IsWithinReach result }
 {
-    coordinate + count as i64
+    coordinate.saturating_add_unsigned(count)
 }
 
 /// Whether the coordinate moved on by a count is not above the limit.
@@ -139,5 +139,5 @@ fn can_move(coordinate: i64, count: u64) -> bool
     ensures value { result ≡ not (passes_limit coordinate count) }
     ensures next { IsTrue result → IsWithinReach (coordinate +ℤ pos count) }
 {
-    count <= (COORDINATE_LIMIT - coordinate) as u64
+    count <= COORDINATE_LIMIT.abs_diff(coordinate)
 }

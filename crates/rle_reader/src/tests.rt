@@ -45,7 +45,7 @@ fn refuses_lines_before_the_body(rt: HostRuntime) {
         ("xx = 1, y = 1\n!", Refusal::BadHeader, 0),
         ("x == 1, y = 1\n!", Refusal::BadHeader, 0),
         ("x = -1, y = 1\n!", Refusal::BadHeader, 0),
-        ("#CXRLE Gen=4611686018427387905\n", Refusal::BadGen, 0),
+        ("#CXRLE Gen=9223372036854775809\n", Refusal::BadGen, 0),
         ("\n#CXRLE Gen=\nx = 1, y = 1\n!", Refusal::BadGen, 1),
         ("#CXRLE Gen=-1\n", Refusal::BadGen, 0),
         ("#CXRLEx Gen=b\n", Refusal::BadGen, 0),
@@ -57,12 +57,12 @@ fn refuses_lines_before_the_body(rt: HostRuntime) {
         ("#CXRLE Gen=x Pos=a,1\n", Refusal::BadHeader, 0),
         ("#CXRLE Pos=a,1 Gen=x\n", Refusal::BadHeader, 0),
         (
-            "#CXRLE Gen=x Pos=1152921504606846976,0\n",
+            "#CXRLE Gen=x Pos=4611686018427387904,0\n",
             Refusal::OutOfRange,
             0,
         ),
         (
-            "#CXRLE Pos=0,-1152921504606846977\n",
+            "#CXRLE Pos=0,-4611686018427387905\n",
             Refusal::OutOfRange,
             0,
         ),
@@ -98,20 +98,20 @@ fn refuses_items(rt: HostRuntime) {
         ("o  #C", Refusal::BadTag, 16),
         ("-1o!", Refusal::BadTag, 13),
         ("99999999999999999999o!", Refusal::OutOfRange, 13),
-        ("1152921504606846977b!", Refusal::OutOfRange, 13),
-        ("1152921504606846976bo!", Refusal::OutOfRange, 33),
-        ("1152921504606846977$!", Refusal::OutOfRange, 13),
-        ("1152921504606846976$bo!", Refusal::OutOfRange, 34),
+        ("4611686018427387905b!", Refusal::OutOfRange, 13),
+        ("4611686018427387904bo!", Refusal::OutOfRange, 33),
+        ("4611686018427387905$!", Refusal::OutOfRange, 13),
+        ("4611686018427387904$bo!", Refusal::OutOfRange, 34),
         ("268435457o!", Refusal::TooManyCells, 13),
         ("o$268435455o$o!", Refusal::TooManyCells, 26),
-        ("o$1152921504606846977o", Refusal::OutOfRange, 15),
+        ("o$4611686018427387905o", Refusal::OutOfRange, 15),
     ] {
         let text = format!(in rt.alloc(); "x = 1, y = 1\n{body}").expect(&rt, "memory");
         assert_refused(&rt, text.as_str(), refusal, place);
     }
     assert_refused(
         &rt,
-        "#CXRLE Pos=1152921504606846975,0\nx = 1, y = 1\n2o!",
+        "#CXRLE Pos=4611686018427387903,0\nx = 1, y = 1\n2o!",
         Refusal::OutOfRange,
         46,
     );
@@ -122,13 +122,13 @@ fn accepts(rt: HostRuntime) {
     for text in [
         "x = 0, y = 0, rule = B3/S23\n!\n",
         "x = 3, y = 3, rule = B3/S23\nb2o$2o$bo!",
-        "#CXRLE Pos=1152921504606846975,0\nx = 1, y = 1\no!",
-        "#CXRLE Pos=-0,-1152921504606846976 Gen=4611686018427387904\nx = 1, y = 1\no!",
+        "#CXRLE Pos=4611686018427387903,0\nx = 1, y = 1\no!",
+        "#CXRLE Pos=-0,-4611686018427387904 Gen=9223372036854775808\nx = 1, y = 1\no!",
         "#CXRLEPos=a,b gen=x\nx = 1, y = 1\n!",
         "\r\n \t\n#r 23/3\n\tX\t=007,Y=  1 ,\tRuLe  = \r\n",
         "x = 123456789012345678901234567890, y = 1\n!0z",
-        "x = 1, y = 1\n1152921504606846976b$1152921504606846974$o!",
-        "x = 1, y = 1\n1152921504606846976$5b!",
+        "x = 1, y = 1\n4611686018427387904b$4611686018427387902$o!",
+        "x = 1, y = 1\n4611686018427387904$5b!",
         "x = 1, y = 1\n268435456o!",
         "x = 1, y = 1\n00268435456A$0000000000000000000000001.!",
     ] {
