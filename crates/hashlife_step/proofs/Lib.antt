@@ -1,0 +1,5 @@
+pub mod EmptyBorders
+pub mod Grown
+pub mod Planned
+pub mod RoundSquares
+pub mod Trimmed
