@@ -15,7 +15,7 @@ mod tests;
 
 pub use cell::{Bounds, Cell};
 pub use cell_set::CellSet;
-pub use device::{Counted, FailAt, Failed, Memory, Sink, Source};
+pub use device::{Counted, FailAt, Failed, Memory, Sink, Source, write_all};
 pub use fault::Fault;
 pub use laws::{bounded_listing, light_cone, nine_parts, one_listing, smallest_box, translation};
 pub use range::{COORDINATE_LIMIT, GENERATION_LIMIT, LIVE_CELL_LIMIT, reach};
