@@ -1,5 +1,5 @@
 -- What a book of squares knows.
-use Rattle.std.specs.Prelude.{◌≡◌, ℕ, suc, ◌-◌, ◌<◌, ◌≤◌, ◌^◌, ◌⊎◌, ◌↔◌, Bool, IsTrue, List, length, Some, Contains, slice_index_or, slice_get}
+use Rattle.std.specs.Prelude.{◌≡◌, ℕ, suc, ◌-◌, ◌<◌, ◌≤◌, ◌^◌, ◌⊎◌, ◌↔◌, Bool, IsTrue, List, [], length, Some, Contains, slice_index_or, slice_get}
 use Rattle.rule_text.specs.CountRule.{CountRule, IsRule}
 use Rattle.plane.specs.Plane.{Plane}
 use Rattle.plane.specs.Square.{IsSame, IsSquare, cut, joined, empty, future}
@@ -56,6 +56,14 @@ pub record IsBook (book : Book) : Type 0 where
   pub zero_empty : (level : ℕ) → IsSame (book.cells (numbered level 0)) empty
   pub results : (sq : Sq) → Contains book.results sq → IsTrue (book.knows sq) × (3 < sq.level) × (¬ IsEmpty sq)
   pub results_once : (i j : ℕ) (sq : Sq) → slice_get book.results i ≡ Some sq → slice_get book.results j ≡ Some sq → i ≡ j
+
+-- a book for results under this rule and exponent that knows the empty squares alone
+pub record IsFresh (rule : CountRule) (exponent : ℕ) (book : Book) : Type 0 where
+  pub same_rule : book.rule ≡ rule
+  pub same_exponent : book.exponent ≡ exponent
+  pub empty : (sq : Sq) → IsTrue (book.knows sq) → IsEmpty sq
+  pub results : book.results ≡ []
+  pub learned : book.learned ≡ 0
 
 -- all that was known stays known, with the same cells, and a full book stays full
 pub record Keeps (old new : Book) : Type 0 where
