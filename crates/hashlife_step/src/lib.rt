@@ -2,6 +2,8 @@
 //! round a square that a step needs, and the steps that a number of generations takes.
 #![tactic(auto)]
 
+mod leaf_squares;
+mod overlaps;
 mod padding;
 mod plans;
 mod tally;
