@@ -2,6 +2,7 @@ pub mod Centres
 pub mod EmptyFutures
 pub mod Kept
 pub mod KeptResults
+pub mod NineSquares
 pub mod NodeLaws
 pub mod NodeLists
 pub mod NumberMaps

@@ -10,4 +10,4 @@ mod subsquares;
 pub use book::{Look, Squares};
 pub use plain_book::PlainBook;
 pub use sq::{Num, Sq};
-pub use subsquares::centre;
+pub use subsquares::{centre, nine};
