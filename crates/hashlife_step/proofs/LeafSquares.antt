@@ -1,8 +1,8 @@
 -- A square of level 4 and its four leaves.
-use Rattle.std.proofs.Common.{◌≡◌, ℕ, ◌+◌, ◌-◌, ◌^◌, ◌<◌, ◌≤◌, min, List, arith, sym, ◌∙◌, ap, subst, refl}
+use Rattle.std.proofs.Common.{◌≡◌, ℕ, ◌+◌, ◌-◌, ◌^◌, min, List, arith, sym, subst, refl}
 use Rattle.rule_text.specs.CountRule.{CountRule}
 use Rattle.plane.specs.Plane.{Plane, after}
-use Rattle.plane.specs.Square.{IsSame, IsSquare, bits_plane, cut, joined, centre_of, future}
+use Rattle.plane.specs.Square.{IsSame, IsSquare, bits_plane, joined, centre_of, future}
 use Rattle.plane.proofs.Rounds.{whole_joined}
 use Rattle.plane.proofs.Same.{same_trans, same_sym, plane_equal}
 use Rattle.squares.specs.Book.{Book, IsKnown, IsFuture, Shows, Keeps, AreQuarters, nth}

@@ -1,14 +1,14 @@
 -- Squares that are replaced one after the other by what is made of them.
-use Rattle.std.proofs.Common.{◌≡◌, ◌≢◌, ℕ, ◌+◌, ◌-◌, ◌^◌, ◌<◌, ◌≤◌, All, List, length, slice_set, arith, sym, ◌∙◌, ap, subst, refl}
+use Rattle.std.proofs.Common.{◌≡◌, ◌≢◌, ℕ, ◌+◌, ◌-◌, ◌<◌, ◌≤◌, All, List, length, slice_set, arith, sym, ◌∙◌, subst, refl}
 use Rattle.plane.specs.Plane.{Plane}
 use borrow.Author.Count.{below_more}
 use Rattle.std.proofs.lemmas.List.{get_or-set_same, get_or-set_other, length-set}
 use Rattle.plane.specs.Square.{centre_of, future}
 use Rattle.plane.proofs.Same.{plane_equal, same_sym}
 use Rattle.hashlife_step.specs.Futures.{AreCentres, AreFutures}
-use Rattle.squares.specs.Book.{Book, IsKnown, Shows, Keeps, nth, numbered}
+use Rattle.squares.specs.Book.{Book, IsFuture, IsKnown, Shows, Keeps, nth, numbered}
 use Rattle.squares.specs.declared.sq.Sq.{Sq}
-use Rattle.squares.proofs.Kept.{keeps_trans, keeps_none, known_kept, shows_kept, results_trans}
+use Rattle.squares.proofs.Kept.{keeps_trans, keeps_none, known_kept, shows_kept}
 
 -- the first so many show what is made of those that stood there, in the planes that the old book gave them, and the others stand as they did
 pub record IsReplaced (make : Plane → Plane) (old new : Book) (level done : ℕ) (before now : List Sq) : Type 0 where
@@ -72,3 +72,13 @@ all_futures old new level before now is known = record {
       let two = subst (λ rule. Shows new (level - 1) (future rule old.exponent level (new.cells (nth before k))) (nth now k)) (sym is.keeps.rule) one in
       subst (λ exponent. Shows new (level - 1) (future new.rule exponent level (new.cells (nth before k))) (nth now k)) (sym is.keeps.exponent) two;
 }
+
+-- a square's future, in the words of an older book
+pub future_shown : (old now new : Book) (level : ℕ) (sq next : Sq) → Keeps old now → Keeps now new → IsKnown now level sq → IsFuture new sq next →
+    Shows new (level - 1) (future old.rule old.exponent level (now.cells sq)) next
+future_shown old now new level sq next k1 k2 known is =
+    let keeps = keeps_trans k1 k2 in
+    let one = subst (λ n. Shows new (n - 1) (future new.rule new.exponent n (new.cells sq)) next) known.at_level is in
+    let two = subst (λ plane. Shows new (level - 1) (future new.rule new.exponent level plane) next) (plane_equal _ _ (k2.cells sq known.known)) one in
+    let three = subst (λ rule. Shows new (level - 1) (future rule new.exponent level (now.cells sq)) next) keeps.rule two in
+    subst (λ exponent. Shows new (level - 1) (future old.rule exponent level (now.cells sq)) next) keeps.exponent three

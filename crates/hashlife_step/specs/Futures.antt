@@ -1,5 +1,5 @@
 -- Squares and what becomes of them, several at a time.
-use Rattle.std.specs.Prelude.{◌≡◌, ℕ, ◌+◌, ◌-◌, ◌*◌, ◌^◌, ◌<◌, List, length}
+use Rattle.std.specs.Prelude.{ℕ, ◌+◌, ◌-◌, ◌^◌, ◌<◌, List, length}
 use Rattle.plane.specs.Square.{joined, future, centre_of}
 use Rattle.squares.specs.Book.{Book, Shows, nth}
 use Rattle.squares.specs.declared.sq.Sq.{Sq}

@@ -6,10 +6,12 @@ mod leaf_squares;
 mod overlaps;
 mod padding;
 mod plans;
+mod recursion;
 mod tally;
 mod trimming;
 
 pub use padding::pad;
 pub use plans::plan;
+pub use recursion::future;
 pub use tally::Tally;
 pub use trimming::trim;
