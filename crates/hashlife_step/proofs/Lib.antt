@@ -6,4 +6,5 @@ pub mod NineFutures
 pub mod Planned
 pub mod Replaced
 pub mod RoundSquares
+pub mod Stepped
 pub mod Trimmed

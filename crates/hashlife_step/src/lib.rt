@@ -7,11 +7,13 @@ mod overlaps;
 mod padding;
 mod plans;
 mod recursion;
+mod steps;
 mod tally;
 mod trimming;
 
 pub use padding::pad;
 pub use plans::plan;
 pub use recursion::future;
+pub use steps::step;
 pub use tally::Tally;
 pub use trimming::trim;

@@ -1,5 +1,5 @@
 ghost use Rattle.std.specs.Prelude.{◌≡◌, ◌+◌, ◌-◌, ◌<◌, ◌≤◌, All, IfOk, IfErr, OnOk};
-ghost use Rattle.squares.specs.Book.{IsFuture, IsKnown, Keeps, KeepsResults, MayRefuse};
+ghost use Rattle.squares.specs.Book.{HasResult, IsFuture, IsKnown, Keeps, KeepsResults, MayRefuse};
 ghost use Rattle.hashlife_step.specs.Futures.{AreCentres, AreFutures};
 ghost use Rattle.hashlife_step.specs.Tallies.{Tallies};
 
@@ -17,6 +17,7 @@ pub fn future<S: Squares>(book: &mut S, sq: Sq, tally: &mut Tally) -> Result<Sq,
     requires known { IsKnown (S.book book.old) sq.level sq }
     requires low { 3 < sq.level }
     ensures ok { IfOk result (IsFuture (S.book book.new) sq) }
+    ensures kept { OnOk result (HasResult (S.book book.new) sq) }
     ensures refusal { IfErr result (MayRefuse (S.book book.new)) }
     ensures keeps { Keeps (S.book book.old) (S.book book.new) }
     ensures tally { Tallies (S.book book.old) (S.book book.new) sq.level tally.old.expansions tally.new.expansions }
