@@ -1,5 +1,5 @@
 -- The faults of a text's lines, one after the other, and what a text means.
-use Rattle.std.proofs.Common.{◌≡◌, ℕ, Bool, true, false, cond, List, [], ◌∷◌, ◌++◌, drop, Option, Some, None, MatchOption, Result, Ok, Err, refl, ap, sym, ◌∙◌, codes, append-nil, subst, IsSome}
+use Rattle.std.proofs.Common.{◌≡◌, ℕ, Bool, true, false, cond, List, [], ◌∷◌, ◌++◌, drop, Option, Some, None, MatchOption, Ok, Err, refl, ap, sym, ◌∙◌, codes, append-nil, subst, IsSome}
 use Rattle.std.specs.Option.{option_map, option_or, option_to_list}
 use Rattle.plane.specs.declared.fault.Fault.{Fault}
 use Rattle.plane.specs.declared.refusal.Refusal.{Refusal}
@@ -10,7 +10,7 @@ use Rattle.text_lines.specs.Lines.{Line, lines_from}
 use Rattle.macrocell_reader.specs.Meaning.{Meaning, judged, first_fault, is_node_line, line_fault, node_line_fault, levels_after, body_of, meaning_with, unless}
 use Rattle.macrocell_reader.specs.Nodes.{level_of}
 use Rattle.macrocell_reader.proofs.NodeLemmas.{node_of-other}
-use Rattle.macrocell_reader.specs.Settings.{Said, nothing_said, said_fault, after_line, after_lines}
+use Rattle.macrocell_reader.specs.Settings.{Said, nothing_said, said_fault, after_lines}
 
 pub first_fault-nil : (levels : List ℕ) → first_fault levels [] ≡ None
 unfolding first_fault

@@ -1,16 +1,15 @@
 -- The planes of nodes that stand in order are squares, and the last one lies in the range.
-use Rattle.std.proofs.Common.{◌≡◌, ℕ, zero, suc, ◌+◌, ◌-◌, ◌*◌, ◌^◌, ◌<◌, ◌≤◌, Bool, true, false, not, cond, nat_lt, nat_le, ℤ, pos, List, [], ◌∷◌, ◌++◌, length, map, Option, Some, None, Result, Ok, Err, IsSome, refl, ap, sym, ◌∙◌, subst, arith, pow_mono, append-nil, append_assoc}
+use Rattle.std.proofs.Common.{◌≡◌, ℕ, zero, suc, ◌+◌, ◌-◌, ◌^◌, ◌<◌, ◌≤◌, Bool, true, false, ℤ, pos, List, [], ◌∷◌, ◌++◌, length, map, Option, Some, None, refl, ap, sym, ◌∙◌, subst, arith, pow_mono, append-nil, append_assoc}
 use Rattle.std.proofs.lemmas.List.{length-map}
-use Rattle.std.specs.Prelude.{◌&&◌, ◌==◌, slice_get, slice_index, slice_index_or, ◌+ℤ◌, ◌-ℤ◌, int_lt, int_le}
+use Rattle.std.specs.Prelude.{◌&&◌, ◌==◌, slice_get, slice_index, slice_index_or, ◌+ℤ◌}
 use Rattle.std.specs.List.{list_all}
-use Rattle.std.specs.Option.{option_map, option_map_or}
+use Rattle.std.specs.Option.{option_map_or}
 use Rattle.std.proofs.lemmas.Bool.Decides.{nat_tests}
 use Rattle.std.proofs.lemmas.Int.{ints}
 use Rattle.std.proofs.lemmas.Option.{slice_get-get_or}
 use Rattle.plane.specs.Plane.{Plane}
-use Rattle.plane.specs.Square.{IsSquare, spans, empty, joined, bits_plane}
+use Rattle.plane.specs.Square.{IsSquare, spans, empty, bits_plane}
 use Rattle.plane.specs.Range.{IsCoordinate, IsInRange}
-use Rattle.plane.specs.declared.cell.Cell.{Cell}
 use Rattle.plane.proofs.Cuts.{joined_within}
 use Rattle.macrocell_reader.specs.NodeFaults.{is_child, fault_among, StandInOrder}
 use Rattle.macrocell_reader.specs.Nodes.{level_of}
@@ -129,7 +128,7 @@ centred_range level plane x y low high square live =
     let small : half ≤ 4611686018427387904 = within in
     let whole : IsSquare (half + half) plane = subst (λ (s : ℕ). IsSquare s plane) side square in
     let both = both_true (spans (half + half) (x +ℤ pos half)) (spans (half + half) (y +ℤ pos half))
-        (live_spans (half + half) plane (x +ℤ pos half) (y +ℤ pos half) (spans (half + half) (x +ℤ pos half) && spans (half + half) (y +ℤ pos half)) whole refl live) in
+    (live_spans (half + half) plane (x +ℤ pos half) (y +ℤ pos half) (spans (half + half) (x +ℤ pos half) && spans (half + half) (y +ℤ pos half)) whole refl live) in
     record { x = spans_range half x small both.0; y = spans_range half y small both.1 }
 
 -- the cells of nodes that stand in order lie in the range

@@ -1,7 +1,6 @@
-use Rattle.std.proofs.Common.{◌≡◌, List, ℕ, [], true, map, subst, sym, ap, ◌∙◌}
+use Rattle.std.proofs.Common.{[], map, subst}
 use Rattle.macrocell_reader.specs.Meaning.{Meaning, body_of}
 use Rattle.macrocell_reader.specs.NodeFaults.{StandInOrder}
-use Rattle.macrocell_reader.specs.Planes.{live_plane}
 use Rattle.macrocell_reader.proofs.MeaningLemmas.{judged-read}
 use Rattle.macrocell_reader.proofs.OrderLemmas.{in_order}
 use Rattle.macrocell_reader.proofs.RangeLemmas.{root_range}
