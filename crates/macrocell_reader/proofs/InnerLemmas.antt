@@ -1,8 +1,7 @@
 -- The numbers of a line, one after the other.
-use Rattle.std.proofs.Common.{◌≡◌, ℕ, zero, suc, ◌+◌, ◌-◌, ◌<◌, ◌≤◌, Bool, true, false, not, cond, nat_lt, nat_le, min, List, [], ◌∷◌, length, take, drop, map, filter, Option, Some, None, unwrap_or, refl, ap, sym, ◌∙◌, arith, one-add, ◌⊎◌, inl, inr, ⊎_elim}
+use Rattle.std.proofs.Common.{◌≡◌, ℕ, ◌+◌, ◌-◌, ◌<◌, ◌≤◌, Bool, true, false, not, cond, nat_lt, min, List, [], ◌∷◌, length, take, drop, map, filter, Option, Some, None, unwrap_or, refl, ap, sym, ◌∙◌, arith, one-add, ◌⊎◌, inl, inr, ⊎_elim}
 use Rattle.std.specs.List.{slice_split, position, position_or_len, onto_first}
 use Rattle.std.specs.Option.{option_map}
-use Rattle.std.proofs.lemmas.Bool.{cases_lt}
 use Rattle.std.proofs.lemmas.Bool.Decides.{nat_tests}
 use Rattle.std.proofs.lemmas.List.{nil_from_length, take_rest}
 use Rattle.std.proofs.lemmas.List.Sums.{prefix_len-le-length}
@@ -140,12 +139,13 @@ module _ (text rest : List ℕ) (n : ℕ) (is : rest ≡ trimmed_start text) (fa
       (number : ℕ) × (numbers text ≡ Some number ∷ numbers (take (length rest - n) (drop n rest))) × (value ≡ capped number)
   numbers-some value some =
       let found = is_capped (number_of (take n rest)) value some in
-      let first : number_of (take (first_length rest) rest) ≡ Some found.0 = ap (λ k. number_of (take k rest)) (sym far) ∙ found.1 in
-      (found.0,
+      let first : number_of (take (first_length rest) rest) ≡ Some found.0 = ap (λ k. number_of (take k rest)) (sym far) ∙ found.1 in (
+        found.0,
         sym (numbers-trimmed text) ∙ ap numbers (sym is) ∙ some_first rest found.0 mark first
             ∙ ap (λ k. Some found.0 ∷ numbers (drop k rest)) (sym far)
             ∙ ap (λ left. Some found.0 ∷ numbers left) (sym (take_rest rest n)),
-        found.2)
+        found.2,
+      )
 
 place_of : (b : Bool) (place end : ℕ) → nat_lt place end ≡ b → place ≤ end → unwrap_or (cond b (Some place) None) end ≡ place
 place_of true place end below within = refl
@@ -167,9 +167,11 @@ no_more (Some number ∷ rest) none = cc
 -- a word is left
 pub words_left : (text rest : List ℕ) → rest ≡ trimmed_start text → 0 < length rest → (first : Option ℕ) × (others : List (Option ℕ)) × (numbers text ≡ first ∷ others)
 words_left text [] is some = absurd (omega arith)
-words_left text (first ∷ rest) is some =
-    (number_of (take (first_length (first ∷ rest)) (first ∷ rest)), numbers (drop (first_length (first ∷ rest)) (first ∷ rest)),
-      sym (numbers-trimmed text) ∙ ap numbers (sym is) ∙ numbers-first first rest (ap begins_blank is ∙ begins_trimmed text))
+words_left text (first ∷ rest) is some = (
+  number_of (take (first_length (first ∷ rest)) (first ∷ rest)),
+  numbers (drop (first_length (first ∷ rest)) (first ∷ rest)),
+  sym (numbers-trimmed text) ∙ ap numbers (sym is) ∙ numbers-first first rest (ap begins_blank is ∙ begins_trimmed text),
+)
 
 -- ---- five numbers
 

@@ -1,13 +1,13 @@
 -- A leaf line, cell by cell.
-use Rattle.std.proofs.Common.{◌≡◌, ℕ, zero, suc, ◌+◌, ◌-◌, ◌*◌, ◌^◌, ◌<◌, ◌≤◌, Bool, true, false, not, cond, nat_le, List, [], ◌∷◌, length, drop, get_or, Option, Some, None, refl, ap, sym, ◌∙◌, arith, zero-add, mul_assoc, mul_comm, pow_mono, subst}
-use Rattle.std.specs.Prelude.{◌==◌, ◌&&◌, ◌||◌, if◌then◌else◌}
+use Rattle.std.proofs.Common.{◌≡◌, ℕ, suc, ◌+◌, ◌*◌, ◌^◌, ◌<◌, ◌≤◌, Bool, true, false, cond, nat_le, List, [], ◌∷◌, length, drop, get_or, Option, Some, None, refl, ap, sym, ◌∙◌, arith, zero-add, mul_assoc, mul_comm, pow_mono, subst}
+use Rattle.std.specs.Prelude.{◌==◌, ◌&&◌, if◌then◌else◌}
 use Rattle.std.specs.List.{list_all, onto_first}
 use Rattle.std.specs.Str.{byte}
 use Rattle.std.proofs.lemmas.Bool.Decides.{nat_tests}
 use Rattle.std.proofs.lemmas.Nat.{pow-add}
 use Rattle.std.proofs.lemmas.List.{at_drop_more, at_drop_all}
-use Rattle.text_lines.specs.Bytes.{is_byte, ended_parts}
-use Rattle.macrocell_reader.specs.Leaf.{is_cell, cell_bit, is_row, rows_of, are_rows, row_bits, leaf_bits, word_of}
+use Rattle.text_lines.specs.Bytes.{ended_parts}
+use Rattle.macrocell_reader.specs.Leaf.{is_cell, cell_bit, is_row, rows_of, row_bits, leaf_bits, word_of}
 
 -- ---- rows of which the first has begun before
 

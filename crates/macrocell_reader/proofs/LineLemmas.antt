@@ -1,8 +1,8 @@
 -- The node lines of a file, one after the other.
-use Rattle.std.proofs.Common.{◌≡◌, ℕ, List, [], ◌∷◌, Option, Some, None, map, refl, ap, sym, ◌∙◌}
-use Rattle.std.specs.List.{filter_map, cons_option}
+use Rattle.std.proofs.Common.{◌≡◌, List, [], ◌∷◌, Option, Some, None, map, refl, ap, ◌∙◌}
+use Rattle.std.specs.List.{cons_option}
 use Rattle.std.specs.Option.{option_map}
-use Rattle.text_lines.specs.Lines.{Line, lines_from}
+use Rattle.text_lines.specs.Lines.{Line}
 use Rattle.macrocell_reader.specs.Nodes.{WrittenNode, node_of, nodes_of, kept, kept_node}
 use Rattle.macrocell_reader.specs.Seen.{nodes_kept}
 use Rattle.macrocell_reader.specs.declared.node.Node.{Node}

@@ -1,5 +1,5 @@
 -- The faults of a text's lines, one after the other, and what a text means.
-use Rattle.std.proofs.Common.{◌≡◌, ℕ, Bool, true, false, cond, List, [], ◌∷◌, ◌++◌, drop, Option, Some, None, MatchOption, Result, Ok, Err, refl, ap, sym, ◌∙◌, codes, append-nil}
+use Rattle.std.proofs.Common.{◌≡◌, ℕ, Bool, true, false, cond, List, [], ◌∷◌, ◌++◌, drop, Option, Some, None, MatchOption, Ok, Err, refl, ap, sym, ◌∙◌, codes, append-nil, subst, IsSome}
 use Rattle.std.specs.Option.{option_map, option_or, option_to_list}
 use Rattle.plane.specs.declared.fault.Fault.{Fault}
 use Rattle.plane.specs.declared.refusal.Refusal.{Refusal}
@@ -7,10 +7,10 @@ use Rattle.plane.specs.declared.refusal.Refusal.TheVariants.{NotAPattern}
 use Rattle.text_lines.specs.Bytes.{begins_with}
 use Rattle.text_lines.specs.Faults.{fault_at}
 use Rattle.text_lines.specs.Lines.{Line, lines_from}
-use Rattle.macrocell_reader.specs.Meaning.{Meaning, judged, first_fault, is_node_line, node_line_fault, levels_after, body_of, meaning_with, unless}
+use Rattle.macrocell_reader.specs.Meaning.{Meaning, judged, first_fault, is_node_line, line_fault, node_line_fault, levels_after, body_of, meaning_with, unless}
 use Rattle.macrocell_reader.specs.Nodes.{level_of}
 use Rattle.macrocell_reader.proofs.NodeLemmas.{node_of-other}
-use Rattle.macrocell_reader.specs.Settings.{Said, nothing_said, said_fault, after_line, after_lines}
+use Rattle.macrocell_reader.specs.Settings.{Said, nothing_said, said_fault, after_lines}
 
 pub first_fault-nil : (levels : List ℕ) → first_fault levels [] ≡ None
 unfolding first_fault
@@ -72,3 +72,47 @@ module _ (text : List ℕ) (body : List Line) (is : begins_with (codes "[M2]") t
       judged-accepted text is (ap (first_fault []) (sym body_is) ∙ none)
       ∙ ap (λ (lines : List Line). Ok (meaning_with (after_lines nothing_said lines) lines)) (sym body_is)
       ∙ ap (λ (s : Said). Ok (meaning_with s body)) (sym said_is)
+
+-- ---- the outcomes of a text
+
+fault_step : (own : Option Refusal) (place : ℕ) (later : Option Fault) (fault : Fault) → (later ≡ Some fault → IsSome fault.place) → option_or (option_map (λ refusal. fault_at refusal place) own) later ≡ Some fault → IsSome fault.place
+fault_step None place later fault more found = more found
+fault_step (Some refusal) place later fault more found =
+    let same : fault_at refusal place ≡ fault = cc in subst (λ (f : Fault). IsSome f.place) same refl
+
+first_fault-placed : (levels : List ℕ) (lines : List Line) (fault : Fault) → first_fault levels lines ≡ Some fault → IsSome fault.place
+unfolding first_fault
+first_fault-placed levels [] fault found = cc
+first_fault-placed levels (line ∷ rest) fault found =
+    fault_step (line_fault levels line.text) line.place (first_fault (levels_after levels line.text) rest) fault
+    (first_fault-placed (levels_after levels line.text) rest fault) found
+
+refused_step : (found : Option Fault) (meaning : Meaning) (fault : Fault) → unless found meaning ≡ Err fault → found ≡ Some fault
+refused_step None meaning fault is = cc
+refused_step (Some other) meaning fault is = let same : other ≡ fault = cc in ap Some same
+
+accepted_step : (found : Option Fault) (meaning other : Meaning) → unless found meaning ≡ Ok other → (found ≡ None) × (meaning ≡ other)
+accepted_step None meaning other is = (refl, cc)
+accepted_step (Some fault) meaning other is = cc
+
+placed_step : (b : Bool) (text : List ℕ) (meaning : Meaning) (fault : Fault) → cond b (unless (first_fault [] (body_of text)) meaning) (Err (fault_at NotAPattern 0)) ≡ Err fault → IsSome fault.place
+placed_step true text meaning fault is = first_fault-placed [] (body_of text) fault (refused_step (first_fault [] (body_of text)) meaning fault is)
+placed_step false text meaning fault is =
+    let same : fault_at NotAPattern 0 ≡ fault = cc in subst (λ (f : Fault). IsSome f.place) same refl
+
+-- a fault of a text has a place
+pub judged-placed : (text : List ℕ) (fault : Fault) → judged text ≡ Err fault → IsSome fault.place
+unfolding judged
+judged-placed text fault is =
+    placed_step (begins_with (codes "[M2]") text) text (meaning_with (after_lines nothing_said (body_of text)) (body_of text)) fault is
+
+read_step : (b : Bool) (text : List ℕ) (said other : Meaning) → cond b (unless (first_fault [] (body_of text)) said) (Err (fault_at NotAPattern 0)) ≡ Ok other → (first_fault [] (body_of text) ≡ None) × (said ≡ other)
+read_step true text said other is = accepted_step (first_fault [] (body_of text)) said other is
+read_step false text said other is = cc
+
+-- an accepted text has no faulty line, and means what its lines say
+pub judged-read : (text : List ℕ) (meaning : Meaning) → judged text ≡ Ok meaning →
+    (first_fault [] (body_of text) ≡ None) × (meaning_with (after_lines nothing_said (body_of text)) (body_of text) ≡ meaning)
+unfolding judged
+judged-read text meaning is =
+    read_step (begins_with (codes "[M2]") text) text (meaning_with (after_lines nothing_said (body_of text)) (body_of text)) meaning is

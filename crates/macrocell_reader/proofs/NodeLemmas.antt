@@ -1,6 +1,6 @@
 -- Nodes as a machine keeps them, and the lines that are none.
-use Rattle.std.proofs.Common.{◌≡◌, ℕ, zero, suc, ◌+◌, ◌-◌, ◌<◌, ◌≤◌, Bool, true, false, not, cond, nat_lt, nat_le, min, List, [], ◌∷◌, length, map, Option, Some, None, Result, Ok, Err, IfOk, IfErr, refl, ap, sym, ◌∙◌, arith, ◌⊎◌, inl, inr, ⊎_elim}
-use Rattle.std.specs.Prelude.{◌==◌, ◌&&◌, ◌||◌, slice_get}
+use Rattle.std.proofs.Common.{◌≡◌, ℕ, zero, suc, ◌+◌, ◌<◌, ◌≤◌, Bool, true, false, not, nat_lt, nat_le, min, List, [], ◌∷◌, length, map, Option, Some, None, Result, Ok, Err, IfOk, IfErr, refl, ap, sym, ◌∙◌, arith, ⊎_elim}
+use Rattle.std.specs.Prelude.{◌==◌, ◌&&◌, ◌||◌}
 use Rattle.std.specs.List.{list_all}
 use Rattle.std.specs.Option.{option_map, option_map_or}
 use Rattle.std.proofs.lemmas.Bool.{cases_lt}
@@ -8,10 +8,10 @@ use Rattle.std.proofs.lemmas.Bool.Decides.{nat_tests}
 use Rattle.std.proofs.lemmas.Option.{slice_get_past}
 use Rattle.plane.specs.declared.refusal.Refusal.{Refusal}
 use Rattle.text_lines.specs.Bytes.{is_blank}
-use Rattle.text_lines.specs.Comments.{is_blank_line, is_comment}
+use Rattle.text_lines.specs.Comments.{is_comment}
 use Rattle.macrocell_reader.specs.Meaning.{is_node_line}
-use Rattle.macrocell_reader.specs.Nodes.{node_of, kept, level_of, begins_leaf}
-use Rattle.macrocell_reader.specs.NodeFaults.{is_above, is_node, is_child, has_children, fault_among}
+use Rattle.macrocell_reader.specs.Nodes.{node_of, kept, level_of}
+use Rattle.macrocell_reader.specs.NodeFaults.{is_above, is_child, fault_among}
 use Rattle.macrocell_reader.specs.declared.node.Node.{Node}
 use Rattle.macrocell_reader.specs.declared.node.Node.TheVariants.{Leaf, Inner}
 

@@ -1,15 +1,14 @@
 -- The nodes of an accepted text stand in order, and a machine keeps them as they are.
-use Rattle.std.proofs.Common.{◌≡◌, ℕ, zero, suc, ◌+◌, ◌<◌, ◌≤◌, Bool, true, false, not, cond, nat_lt, nat_le, min, List, [], ◌∷◌, ◌++◌, length, map, Option, Some, None, refl, ap, sym, ◌∙◌, subst, arith, append-nil, ⊎_elim}
-use Rattle.std.specs.Prelude.{◌&&◌, ◌==◌, slice_get}
-use Rattle.std.specs.List.{list_all, filter_map}
-use Rattle.std.specs.Option.{option_map, option_or, option_to_list, option_map_or}
+use Rattle.std.proofs.Common.{◌≡◌, ℕ, ◌<◌, ◌≤◌, Bool, true, false, nat_lt, nat_le, min, List, [], ◌∷◌, ◌++◌, length, map, Option, Some, None, refl, ap, sym, ◌∙◌, arith, append-nil, ⊎_elim}
+use Rattle.std.specs.Prelude.{◌&&◌}
+use Rattle.std.specs.List.{list_all}
+use Rattle.std.specs.Option.{option_map, option_or, option_to_list}
 use Rattle.std.proofs.lemmas.Bool.Decides.{nat_tests}
-use Rattle.plane.specs.declared.fault.Fault.{Fault}
 use Rattle.plane.specs.declared.refusal.Refusal.{Refusal}
 use Rattle.text_lines.specs.Faults.{fault_at}
 use Rattle.text_lines.specs.Lines.{Line}
 use Rattle.macrocell_reader.specs.Meaning.{first_fault, line_fault, node_line_fault, levels_after, is_node_line}
-use Rattle.macrocell_reader.specs.NodeFaults.{is_above, is_node, is_child, has_children, fault_among, node_fault, StandInOrder}
+use Rattle.macrocell_reader.specs.NodeFaults.{is_above, is_node, is_child, fault_among, StandInOrder}
 use Rattle.macrocell_reader.specs.Nodes.{WrittenNode, node_of, nodes_of, level_of, kept, kept_node}
 use Rattle.macrocell_reader.specs.Seen.{nodes_kept}
 use Rattle.macrocell_reader.specs.Settings.{said_fault}

@@ -1,5 +1,5 @@
 -- Leaf lines: the rows of a square of 8 by 8 cells, each ended by `$`.
-use Rattle.std.specs.Prelude.{ℕ, ◌+◌, ◌*◌, ◌==◌, ◌&&◌, ◌||◌, nat_le, Bool, if◌then◌else◌, List, [], ◌∷◌, length, Option, None, Some}
+use Rattle.std.specs.Prelude.{ℕ, ◌+◌, ◌*◌, ◌==◌, ◌&&◌, ◌||◌, nat_le, Bool, if◌then◌else◌, List, [], ◌∷◌, length, slice_index, slice_index_or, Option, None, Some}
 use Rattle.std.specs.List.{list_all}
 use Rattle.std.specs.Str.{byte}
 use Rattle.text_lines.specs.Bytes.{is_byte, trimmed_end, ended_parts}
@@ -41,3 +41,7 @@ word_of text = if are_rows (rows_of text) then Some (leaf_bits (rows_of text)) e
 -- the bits of the leaf that a line writes, which may have blanks at its end
 unfoldable pub leaf_of : List ℕ → Option ℕ
 leaf_of line = word_of (trimmed_end line)
+
+-- the cell in this column of this row is live; cells and rows that are left out are dead
+abbrev pub is_live_at : List (List ℕ) → ℕ → ℕ → Bool
+is_live_at rows x y = slice_index (slice_index_or rows y []) x == byte "*"

@@ -1,5 +1,5 @@
 -- What a line writes as a node, whether or not its numbers are those of a node.
-use Rattle.std.specs.Prelude.{ℕ, ◌==◌, ◌||◌, min, Bool, if◌then◌else◌, List, [], ◌∷◌, map, Option, None, Some}
+use Rattle.std.specs.Prelude.{ℕ, ◌==◌, ◌||◌, min, Bool, if◌then◌else◌, List, [], ◌∷◌, map, Option, None}
 use Rattle.std.specs.Char.{is_ascii_digit}
 use Rattle.std.specs.List.{filter_map}
 use Rattle.std.specs.Option.{option_map}

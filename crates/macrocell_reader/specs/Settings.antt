@@ -1,5 +1,5 @@
 -- What the lines `#R`, `#G` and `#FRAMES` say.
-use Rattle.std.specs.Prelude.{ℕ, nat_le, Bool, if◌then◌else◌, List, drop, fold, Option, None, Some, is_none, ◌&&◌, codes, unwrap_or}
+use Rattle.std.specs.Prelude.{ℕ, nat_le, if◌then◌else◌, List, drop, fold, Option, None, Some, is_none, ◌&&◌, codes, unwrap_or}
 use Rattle.plane.specs.declared.range.TheConstants.{GENERATION_LIMIT}
 use Rattle.plane.specs.declared.refusal.Refusal.{Refusal}
 use Rattle.plane.specs.declared.refusal.Refusal.TheVariants.{FramesNotRead, BadGen}

@@ -4,14 +4,18 @@
 
 mod comments;
 mod inner;
+mod laws;
 mod leaf;
 mod mc_file;
 mod node;
 mod node_faults;
 mod node_lines;
 mod settings;
+#[cfg(test)]
+mod tests;
 
 pub use comments::Comments;
+pub use laws::{accepted_in_range, faults_have_places, leaf_cells};
 pub use mc_file::McFile;
 pub use node::{Node, NodeLine};
 pub use node_lines::NodeLines;

@@ -1,4 +1,3 @@
-use Rattle.std.proofs.Common.{◌∙◌}
 use Rattle.macrocell_reader.proofs.InnerLemmas.{numbers-none, numbers-some}
 use Rattle.macrocell_reader.proofs.inner.next_number.Goals as goal
 

@@ -1,4 +1,4 @@
-use Rattle.std.proofs.Common.{◌≡◌, ◌∷◌, ◌∙◌, Some, List, ap, sym, inl, inr, ⊎_elim}
+use Rattle.std.proofs.Common.{◌∙◌, Some, ap, sym, inl, inr, ⊎_elim}
 use Rattle.std.proofs.lemmas.Result.{err_from_is_err_and}
 use Rattle.plane.specs.declared.fault.Fault.{Fault}
 use Rattle.text_lines.specs.Lines.{Line, lines_from}

@@ -1,9 +1,5 @@
-use Rattle.std.proofs.Common.{◌≡◌, Some, None, IfOk, IfErr, ap, sym, subst, ◌∙◌, ℕ, Option}
-use Rattle.std.specs.Option.{option_map}
-use Rattle.plane.specs.declared.refusal.Refusal.{Refusal}
-use Rattle.macrocell_reader.specs.NodeFaults.{fault_among}
-use Rattle.macrocell_reader.specs.Nodes.{level_of, node_of}
-use Rattle.macrocell_reader.proofs.NodeLemmas.{fault_among-kept, level_of-kept, fault_read, accepted_read, level_read}
+use Rattle.macrocell_reader.specs.Nodes.{node_of}
+use Rattle.macrocell_reader.proofs.NodeLemmas.{fault_read, accepted_read, level_read}
 use Rattle.macrocell_reader.proofs.node_faults.level_of_line.Goals as goal
 
 pub returns-clause-fault : goal.returns-clause-fault

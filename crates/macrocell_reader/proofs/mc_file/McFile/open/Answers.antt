@@ -1,4 +1,4 @@
-use Rattle.std.proofs.Common.{◌≡◌, ◌<◌, ◌∙◌, ◌∷◌, [], List, Err, ap, sym, inl, inr, ⊎_elim}
+use Rattle.std.proofs.Common.{◌∙◌, Err, ap, sym, inl, inr, ⊎_elim}
 use Rattle.std.proofs.lemmas.Result.{err_from_is_err_and}
 use Rattle.plane.specs.declared.fault.Fault.{Fault}
 use Rattle.text_lines.specs.Lines.{lines_from}
