@@ -1,5 +1,5 @@
 -- What numbers show.
-use Rattle.std.proofs.Common.{◌≡◌, ◌≢◌, ℕ, zero, suc, ◌+◌, ◌-◌, ◌*◌, ◌/◌, ◌%◌, ◌^◌, ◌<◌, ◌≤◌, ◌⊎◌, ℤ, pos, Bool, true, false, cond, eqb, sym, ◌∙◌, ap, subst, arith, refl, inl, inr, ⊎_elim}
+use Rattle.std.proofs.Common.{◌≡◌, ◌≢◌, ℕ, zero, suc, ◌+◌, ◌*◌, ◌/◌, ◌%◌, ◌^◌, ◌⊎◌, pos, Bool, true, false, cond, sym, ◌∙◌, ap, subst, arith, refl, inl, inr, ⊎_elim}
 use Rattle.std.specs.Prelude.{◌==◌, ◌&&◌, unsigned_abs, int_lt}
 use Rattle.std.proofs.lemmas.Bool.{eqb-true, false≢true}
 use Rattle.std.proofs.lemmas.Bool.Decides.{eqb_tells}
@@ -7,7 +7,7 @@ use Rattle.std.proofs.Math.Nat.{pow-suc}
 use Rattle.plane.specs.Plane.{Plane}
 use Rattle.plane.specs.Square.{IsSame, empty, bits_plane, bit, spans}
 use Rattle.plane.specs.Block.{IsInside, beside, below}
-use Rattle.plane.proofs.Same.{same_refl, same_sym, same_trans, same_of, plane_equal}
+use Rattle.plane.proofs.Same.{same_sym, same_trans, same_of, plane_equal}
 use Rattle.plane.proofs.LeafBits.{bits_same, bits_none}
 use Rattle.plane.proofs.Blocks.{empty_inside, beside_inside, below_inside, beside_left, beside_right, below_upper, below_lower}
 use Rattle.table_core.specs.declared.shape.Kind.{Kind}

@@ -1,15 +1,13 @@
 -- A word that comes to a zero slot keeps the words good.
-use Rattle.std.proofs.Common.{◌≡◌, ◌≢◌, ℕ, zero, suc, ◌+◌, ◌-◌, ◌*◌, ◌/◌, ◌%◌, ◌^◌, ◌<◌, ◌≤◌, ◌⊎◌, sym, ◌∙◌, ap, subst, arith, refl, inl, inr, ⊎_elim}
+use Rattle.std.proofs.Common.{◌≡◌, ◌≢◌, ℕ, zero, suc, ◌+◌, ◌-◌, ◌^◌, ◌<◌, ◌≤◌, ◌⊎◌, sym, ◌∙◌, ap, subst, arith, refl, inl, inr, ⊎_elim}
 use Rattle.std.proofs.lemmas.Bool.Decides.{eqb_tells}
-use Rattle.plane.specs.Plane.{Plane}
-use Rattle.plane.specs.Square.{IsSame, future}
-use Rattle.plane.proofs.Same.{same_trans, same_of}
+use Rattle.plane.specs.Square.{future}
 use Rattle.table_core.specs.declared.shape.Kind.{Kind}
-use Rattle.table_core.specs.declared.shape.Kind.TheVariants.{Leaf, Pair}
+use Rattle.table_core.specs.declared.shape.Kind.TheVariants.{Pair}
 use Rattle.table_core.specs.Layout.{IsSlot, way, result_of, first_part, second_part}
 use Rattle.table_core.specs.Blocks.{Words, IsBlock, cells_of, square_rank, largest_rank, Shows}
 use Rattle.table_core.specs.declared.key.Key.{Key}
-use Rattle.table_core.specs.Good.{head, IsOnWay, IsFutureOf, IsGood, KeepsWords, Fills, PartsStand, MayStand}
+use Rattle.table_core.specs.Good.{IsOnWay, IsFutureOf, IsGood, KeepsWords, Fills, PartsStand, MayStand}
 use Rattle.table_core.proofs.Ways.{one_kind, not_head, not_result, way_is_slot}
 use Rattle.table_core.proofs.Blocks.{block_kept, cells_kept, shows_kept}
 

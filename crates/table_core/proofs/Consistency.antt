@@ -1,6 +1,5 @@
 -- What is true of good words agrees with itself.
-use Rattle.std.proofs.Common.{◌≡◌, ◌≢◌, ℕ, zero, suc, ◌+◌, ◌*◌, ◌^◌, ◌<◌, ◌≤◌, ◌⊎◌, List, [], ◌∷◌, sym, ◌∙◌, subst, arith, refl}
-use Rattle.std.specs.Prelude.{Contains}
+use Rattle.std.proofs.Common.{◌≡◌, ◌≢◌, ℕ, zero, suc, ◌<◌, List, [], ◌∷◌, subst, arith, refl}
 use Rattle.std.specs.List.{AllByRecursion}
 use Rattle.plane.specs.Plane.{Plane}
 use Rattle.plane.specs.Square.{IsSame}
@@ -13,7 +12,7 @@ use Rattle.table_core.specs.declared.shape.Kind.TheVariants.{Leaf, Pair}
 use Rattle.table_core.specs.Layout.{IsSlot}
 use Rattle.table_core.specs.Blocks.{Words, IsBlock, width, height, largest_rank}
 use Rattle.table_core.specs.Good.{IsGood}
-use Rattle.table_core.specs.Knowledge.{KnowsBlock, IsTrueResult, KnowsSquareOf, IsTrueOf, IsConsistent}
+use Rattle.table_core.specs.Knowledge.{KnowsBlock, IsTrueResult, KnowsSquareOf, IsTrueOf}
 use Rattle.table_core.specs.Laws.{EveryTruthIsConsistent}
 use Rattle.table_core.proofs.Ways.{not_head}
 use Rattle.table_core.proofs.Blocks.{one_rank}

@@ -1,26 +1,24 @@
 -- A desk may know all that good words say.
-use Rattle.std.proofs.Common.{◌≡◌, ◌≢◌, ℕ, zero, suc, ◌+◌, ◌-◌, ◌*◌, ◌^◌, ◌<◌, ◌≤◌, ◌⊎◌, List, [], ◌∷◌, ◌++◌, sym, ◌∙◌, ap, subst, arith, refl, inl, inr, ⊎_elim}
+use Rattle.std.proofs.Common.{◌≡◌, ◌≢◌, ℕ, zero, suc, ◌<◌, ◌⊎◌, [], ◌∷◌, ◌++◌, sym, ◌∙◌, ap, subst, arith, refl, inl, inr, ⊎_elim}
 use Rattle.std.specs.Prelude.{Contains}
-use Rattle.std.specs.List.{AllByRecursion}
 use Rattle.std.proofs.lemmas.List.Elements.{Contains-append_left, Contains-append_right}
-use Rattle.plane.specs.Listing.{plane_of}
-use Rattle.plane.proofs.Same.{same_sym, same_trans, same_of}
+use Rattle.plane.proofs.Same.{same_sym, same_of}
 use Rattle.table_core.specs.declared.key.Key.{Key}
 use Rattle.table_core.specs.declared.knowledge.KnownBlock.{KnownBlock}
 use Rattle.table_core.specs.declared.knowledge.KnownResult.{KnownResult}
 use Rattle.table_core.specs.declared.knowledge.Knowledge.{Knowledge}
 use Rattle.table_core.specs.declared.shape.Kind.TheVariants.{Leaf, Pair}
 use Rattle.table_core.specs.Layout.{IsSlot, size, result_of}
-use Rattle.table_core.specs.Blocks.{Words, IsBlock, cells_of, square_rank, Shows}
+use Rattle.table_core.specs.Blocks.{Words, IsBlock, cells_of, square_rank}
 use Rattle.table_core.specs.Good.{IsGood}
 use Rattle.table_core.specs.Knowledge.{HasSeen, KnowsBlock, IsTrueResult, KnowsSquareOf, IsTrueOf, Grows, with_result, nothing}
-use Rattle.table_core.specs.Laws.{KnowsAll, GoodWordsCanBeKnown}
+use Rattle.table_core.specs.Laws.{GoodWordsCanBeKnown}
 use Rattle.table_core.proofs.Ways.{slot_below}
-use Rattle.table_core.proofs.Blocks.{one_rank, empty_cells, cells_inside, cells_kept}
+use Rattle.table_core.proofs.Blocks.{one_rank, empty_cells, cells_inside}
 use Rattle.table_core.proofs.Claims.{same_or_other}
 use Rattle.table_core.proofs.Lists.{all_append, contains_here}
 use Rattle.table_core.proofs.Results.{with_result_keeps, with_result_all, with_result_once, with_result_has, same_result}
-use Rattle.table_core.proofs.Knowing.{nothing_true, squares_more, knows_same, grows_refl, grows_trans, knows_grown}
+use Rattle.table_core.proofs.Knowing.{nothing_true, squares_more, grows_refl, grows_trans, knows_grown}
 use Rattle.table_core.proofs.Teaching.{entry_of, entry_same, lists_first, lists_more, slot_or_not}
 
 leaf_block : (bits : ℕ) (words : Words) (i : ℕ) → IsSlot bits Leaf i → words i ≢ 0 → IsBlock bits words 0 i

@@ -1,6 +1,6 @@
 -- Shards in each slot of which a desk has seen a word.
-use Rattle.std.proofs.Common.{◌≡◌, ◌≢◌, ℕ, zero, suc, ◌+◌, ◌-◌, ◌*◌, ◌/◌, ◌%◌, ◌^◌, ◌<◌, ◌≤◌, ◌⊎◌, Bool, true, false, List, [], ◌∷◌, length, sym, ◌∙◌, ap, subst, arith, refl, inl, inr, ⊎_elim}
-use Rattle.std.specs.Prelude.{◌==◌, ◌&&◌, ◌||◌, ◌↔◌, IsTrue, Contains, slice_index_or}
+use Rattle.std.proofs.Common.{◌≡◌, ◌≢◌, ℕ, zero, suc, ◌+◌, ◌-◌, ◌*◌, ◌/◌, ◌^◌, ◌<◌, ◌≤◌, ◌⊎◌, Bool, true, false, List, [], ◌∷◌, length, sym, ◌∙◌, ap, subst, arith, refl, inl, inr, ⊎_elim}
+use Rattle.std.specs.Prelude.{◌==◌, ◌&&◌, ◌||◌, Contains, slice_index_or}
 use Rattle.std.specs.List.{list_any}
 use Rattle.std.proofs.lemmas.Bool.{false≢true, eqb-true, eq-eqb, cases_lt}
 use Rattle.std.proofs.lemmas.List.Elements.{Contains-append_right}
@@ -13,7 +13,6 @@ use Rattle.table_core.specs.Blocks.{Words}
 use Rattle.table_core.specs.Knowledge.{HasSeen, IsTrueOf, KnowsFullShard, has_seen_all, has_full_shard, knows_full_shard}
 use Rattle.table_core.specs.Laws.{FullShardIsSeen}
 use Rattle.table_core.proofs.Ways.{first_below, whole, few, way_covers}
-use Rattle.table_core.proofs.Lists.{contains_here}
 use Rattle.table_core.proofs.Knowing.{seen_true}
 
 shard_slot : (bits : ℕ) (kind : Kind) (word slot : ℕ) → slot < 256 → IsInShard bits kind word (start bits kind + (256 * (first (slot_bits bits kind) word / 256) + slot))

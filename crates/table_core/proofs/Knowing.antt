@@ -1,5 +1,5 @@
 -- What desks know stays true and grows, whatever other desks do.
-use Rattle.std.proofs.Common.{◌≡◌, ◌≢◌, ℕ, zero, suc, ◌+◌, ◌*◌, ◌^◌, ◌<◌, ◌≤◌, ◌⊎◌, List, [], ◌∷◌, ◌++◌, sym, ◌∙◌, subst, arith, refl, inl, inr, ⊎_elim}
+use Rattle.std.proofs.Common.{◌≡◌, ◌≢◌, ℕ, ◌+◌, ◌^◌, List, sym, ◌∙◌, subst, arith, inl, inr, ⊎_elim}
 use Rattle.std.specs.Prelude.{Contains}
 use Rattle.std.specs.List.{AllByRecursion}
 use Rattle.std.proofs.lemmas.List.Elements.{Contains-append_left, Contains-append_right}
@@ -14,7 +14,7 @@ use Rattle.table_core.specs.declared.knowledge.Knowledge.{Knowledge}
 use Rattle.table_core.specs.Layout.{result_of}
 use Rattle.table_core.specs.Blocks.{Words, square_rank, Shows}
 use Rattle.table_core.specs.Good.{IsGood, KeepsWords}
-use Rattle.table_core.specs.Knowledge.{HasSeen, Lists, KnowsBlock, IsTrueResult, KnowsSquareOf, IsTrueOf, Grows, united, nothing}
+use Rattle.table_core.specs.Knowledge.{HasSeen, Says, Lists, KnowsBlock, IsTrueResult, KnowsSquareOf, IsTrueOf, Grows, united, nothing}
 use Rattle.table_core.proofs.Blocks.{one_number, empty_block, empty_cells, block_kept, shows_kept}
 use Rattle.table_core.proofs.Lists.{all_contains, all_weaker, all_append}
 use Rattle.table_core.proofs.Results.{joined_all, joined_once, joined_keeps_first, joined_keeps_second}
@@ -49,18 +49,21 @@ shown_as bits words r q n m plane other er en same h =
 pub block_true : (bits : ℕ) (words : Words) (known : Knowledge) (rank n : ℕ) (plane : Plane) → IsTrueOf bits words known → KnowsBlock known rank n plane → Shows bits words rank n plane
 block_true bits words known rank n plane h knows = ⊎_elim
     (λ t. subst (λ k. Shows bits words rank k plane) (sym t.0) (record { stands = empty_block bits words rank; cells = same_trans (same_of _ _ (empty_cells words rank)) t.1 }))
-    (λ t. shown_as bits words t.0.rank rank t.0.number n (plane_of t.0.live) plane t.3 t.2 t.4
+    (λ t. shown_as bits words t.0.rank rank t.0.number n (plane_of t.0.live) plane t.2.at_rank t.2.of_number t.2.cells
     (all_contains (λ (entry : KnownBlock). Shows bits words entry.rank entry.number (plane_of entry.live)) known.blocks t.0 h.blocks t.1)) knows
 
-pub knows_same : (known : Knowledge) (rank n : ℕ) (p q : Plane) → IsSame p q → KnowsBlock known rank n p → KnowsBlock known rank n q
-knows_same known rank n p q same knows = ⊎_elim (λ t. inl (t.0, same_trans t.1 same)) (λ t. inr (t.0, t.1, t.2, t.3, same_trans t.4 same)) knows
+says_same : (entry : KnownBlock) (rank n : ℕ) (p q : Plane) → IsSame p q → Says entry rank n p → Says entry rank n q
+says_same entry rank n p q same t = record { at_rank = t.at_rank; of_number = t.of_number; cells = same_trans t.cells same }
 
 pub lists_same : (blocks : List KnownBlock) (rank n : ℕ) (p q : Plane) → IsSame p q → Lists blocks rank n p → Lists blocks rank n q
-lists_same blocks rank n p q same t = (t.0, t.1, t.2, t.3, same_trans t.4 same)
+lists_same blocks rank n p q same t = (t.0, t.1, says_same t.0 rank n p q same t.2)
+
+pub knows_same : (known : Knowledge) (rank n : ℕ) (p q : Plane) → IsSame p q → KnowsBlock known rank n p → KnowsBlock known rank n q
+knows_same known rank n p q same knows = ⊎_elim (λ t. inl (t.0, same_trans t.1 same)) (λ t. inr (lists_same known.blocks rank n p q same t)) knows
 
 -- with more blocks no less is known
 pub knows_more : (a b : Knowledge) (rank n : ℕ) (plane : Plane) → ((entry : KnownBlock) → Contains a.blocks entry → Contains b.blocks entry) → KnowsBlock a rank n plane → KnowsBlock b rank n plane
-knows_more a b rank n plane more knows = ⊎_elim (λ t. inl t) (λ t. inr (t.0, more t.0 t.1, t.2, t.3, t.4)) knows
+knows_more a b rank n plane more knows = ⊎_elim (λ t. inl t) (λ t. inr (t.0, more t.0 t.1, t.2)) knows
 
 pub squares_more : (a b : Knowledge) (results : List KnownResult) → ((entry : KnownBlock) → Contains a.blocks entry → Contains b.blocks entry) → AllByRecursion (KnowsSquareOf a) results → AllByRecursion (KnowsSquareOf b) results
 squares_more a b results more all = all_weaker (KnowsSquareOf a) (KnowsSquareOf b) (λ result t. (t.0, knows_more a b (square_rank result.level) result.square t.0 more t.1)) results all

@@ -1,15 +1,13 @@
 -- What an event teaches is true, and no less is known after it.
-use Rattle.std.proofs.Common.{◌≡◌, ◌≢◌, ℕ, zero, suc, ◌+◌, ◌-◌, ◌*◌, ◌^◌, ◌<◌, ◌≤◌, ◌⊎◌, List, [], ◌∷◌, ◌++◌, sym, ◌∙◌, ap, subst, arith, refl, ⊎_elim}
+use Rattle.std.proofs.Common.{◌≡◌, ◌≢◌, ℕ, suc, ◌+◌, ◌-◌, ◌^◌, ◌<◌, [], ◌∷◌, sym, ◌∙◌, ap, subst, arith, refl, ⊎_elim}
 use Rattle.std.specs.Prelude.{Contains}
-use Rattle.std.specs.List.{AllByRecursion}
 use Rattle.std.proofs.lemmas.List.Elements.{Contains-append_left, Contains-append_right}
 use Rattle.plane.specs.Plane.{Plane}
 use Rattle.plane.specs.Square.{bits_plane, future}
 use Rattle.plane.specs.Listing.{plane_of}
-use Rattle.plane.proofs.Same.{same_sym, same_trans, same_of}
+use Rattle.plane.proofs.Same.{same_sym}
 use Rattle.table_core.specs.declared.key.Key.{Key}
 use Rattle.table_core.specs.declared.knowledge.KnownBlock.{KnownBlock}
-use Rattle.table_core.specs.declared.knowledge.KnownResult.{KnownResult}
 use Rattle.table_core.specs.declared.knowledge.Knowledge.{Knowledge}
 use Rattle.table_core.specs.declared.machine.Event.{Event}
 use Rattle.table_core.specs.declared.machine.Event.TheVariants.{Look, Claim, Ask, Tell}
@@ -18,8 +16,8 @@ use Rattle.table_core.specs.Layout.{IsSlot, result_of, first_part, second_part}
 use Rattle.table_core.specs.Blocks.{Words, square_rank, IsBlock, Shows, paired}
 use Rattle.table_core.specs.Good.{IsGood}
 use Rattle.table_core.specs.Events.{index_of}
-use Rattle.table_core.specs.Knowledge.{KnowsBlock, IsTrueOf, IsTrueResult, KnowsSquareOf, Grows}
-use Rattle.table_core.specs.Learning.{MayAsk, IsLawful, Follows, as_leaf, as_pair, as_first_part, as_second_part, with_word, LearnsWord, with_future, LearnsFuture, MeetsWord, MeetsResult, Learns}
+use Rattle.table_core.specs.Knowledge.{Says, KnowsBlock, IsTrueOf, IsTrueResult, KnowsSquareOf, Grows}
+use Rattle.table_core.specs.Learning.{MayAsk, IsLawful, KnowsWhole, Follows, as_leaf, as_pair, as_first_part, as_second_part, with_word, LearnsWord, with_future, LearnsFuture, MeetsWord, MeetsResult, Learns}
 use Rattle.table_core.proofs.Claims.{same_or_other}
 use Rattle.table_core.proofs.Lists.{all_weaker, all_append}
 use Rattle.table_core.proofs.Results.{with_result_keeps, with_result_all, with_result_once}
@@ -46,21 +44,24 @@ module _ (key : Key) (words : Words) (known : Knowledge) (index word : ℕ) (goo
   at_word : (rank : ℕ) (one : Plane) (part_of : ℕ → ℕ) → Shows key.shape.bits words rank (part_of word) one → Shows key.shape.bits words rank (part_of (words index)) one
   at_word rank one part_of s = subst (λ w. Shows key.shape.bits words rank (part_of w) one) (sym there) s
 
+  said : (entry : KnownBlock) (rank n : ℕ) (plane : Plane) → Says entry rank n plane → Shows key.shape.bits words rank n plane → Shows key.shape.bits words entry.rank entry.number (plane_of entry.live)
+  said entry rank n plane says shown = shown_as key.shape.bits words rank entry.rank n entry.number plane (plane_of entry.live) (sym says.at_rank) (sym says.of_number) (same_sym says.cells) shown
+
+  both_parts : (r : ℕ) (one two : Plane) → KnowsWhole known r index one two → Shows key.shape.bits words r (first_part (words index)) one × Shows key.shape.bits words r (second_part (words index)) two
+  both_parts r one two knows = parts_show key.shape.bits words r index one two knows.some knows.first_inside knows.second_inside (block_true key.shape.bits words known (suc r) index (paired r one two) h knows.whole)
+
   -- what follows is shown
   follows_true : word ≢ 0 → (entry : KnownBlock) → Follows key known index word entry → Shows key.shape.bits words entry.rank entry.number (plane_of entry.live)
-  follows_true some entry (as_leaf slot number rank live) =
-      shown_as key.shape.bits words 0 entry.rank index entry.number _ _ (sym rank) (sym number) (same_trans (same_of _ _ (ap bits_plane there)) (same_sym live)) (leaf_shows key.shape.bits words index slot (λ z. some (sym there ∙ z)))
-  follows_true some entry (as_pair r one two slot knows_one knows_two number rank live) =
-      shown_as key.shape.bits words (suc r) entry.rank index entry.number _ _ (sym rank) (sym number) (same_sym live)
+  follows_true some entry (as_leaf slot says) = said entry 0 index (bits_plane word) says
+      (subst (λ w. Shows key.shape.bits words 0 index (bits_plane w)) there (leaf_shows key.shape.bits words index slot (λ z. some (sym there ∙ z))))
+  follows_true some entry (as_pair r one two slot knows says) = said entry (suc r) index (paired r one two) says
       (pair_shows key.shape.bits words r index one two slot (λ z. some (sym there ∙ z))
-      (at_word r one first_part (block_true key.shape.bits words known r (first_part word) one h knows_one))
-      (at_word r two second_part (block_true key.shape.bits words known r (second_part word) two h knows_two)))
-  follows_true some entry (as_first_part r one two other knows ha hb number rank live) =
-      let both = parts_show key.shape.bits words r index one two other ha hb (block_true key.shape.bits words known (suc r) index (paired r one two) h knows) in
-      shown_as key.shape.bits words r entry.rank (first_part (words index)) entry.number one (plane_of entry.live) (sym rank) (ap first_part there ∙ sym number) (same_sym live) both.0
-  follows_true some entry (as_second_part r one two other knows ha hb number rank live) =
-      let both = parts_show key.shape.bits words r index one two other ha hb (block_true key.shape.bits words known (suc r) index (paired r one two) h knows) in
-      shown_as key.shape.bits words r entry.rank (second_part (words index)) entry.number two (plane_of entry.live) (sym rank) (ap second_part there ∙ sym number) (same_sym live) both.1
+      (at_word r one first_part (block_true key.shape.bits words known r (first_part word) one h knows.first))
+      (at_word r two second_part (block_true key.shape.bits words known r (second_part word) two h knows.second)))
+  follows_true some entry (as_first_part r one two knows says) = said entry r (first_part word) one says
+      (subst (λ w. Shows key.shape.bits words r (first_part w) one) there (both_parts r one two knows).0)
+  follows_true some entry (as_second_part r one two knows says) = said entry r (second_part word) two says
+      (subst (λ w. Shows key.shape.bits words r (second_part w) two) there (both_parts r one two knows).1)
 
   word_true : word ≢ 0 → (after : Knowledge) → LearnsWord key known index word after → IsTrueOf key.shape.bits words after
   word_true some after l = subst (IsTrueOf key.shape.bits words) (sym l.is) (record {

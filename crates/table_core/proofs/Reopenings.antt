@@ -1,5 +1,5 @@
 -- Good words under another head.
-use Rattle.std.proofs.Common.{◌≡◌, ◌≢◌, ℕ, zero, suc, ◌+◌, ◌-◌, ◌*◌, ◌^◌, ◌<◌, ◌≤◌, ◌⊎◌, sym, ◌∙◌, ap, subst, arith, refl, ⊎_elim}
+use Rattle.std.proofs.Common.{◌≡◌, ◌≢◌, ℕ, suc, ◌+◌, ◌-◌, ◌^◌, ◌<◌, ◌≤◌, ◌⊎◌, sym, ◌∙◌, ap, subst, arith, ⊎_elim}
 use Rattle.std.specs.Prelude.{min}
 use Rattle.plane.specs.Plane.{Plane, after}
 use Rattle.plane.specs.Square.{centre_of, future}
@@ -15,7 +15,6 @@ use Rattle.table_core.specs.Opening.{KeepsResult, AreOpening, Reopens, EveryReop
 use Rattle.table_core.proofs.Ways.{not_head, way_is_slot}
 use Rattle.table_core.proofs.Claims.{same_or_other}
 use Rattle.table_core.proofs.Blocks.{one_rank, block_stays, cells_stay, shows_stay}
-use Rattle.table_core.proofs.Results.{one_level}
 
 -- a head, and zeros
 pub fresh_good : (key : Key) (words : Words) → head key < 2 ^ 64 → words 0 ≡ head key → ((i : ℕ) → i ≢ 0 → words i ≡ 0) → IsGood key words

@@ -1,5 +1,5 @@
 -- Every run keeps the words good, and what desks know true and no less.
-use Rattle.std.proofs.Common.{◌≡◌, ◌≢◌, ℕ, zero, suc, ◌+◌, ◌-◌, ◌*◌, ◌^◌, ◌<◌, ◌≤◌, ◌⊎◌, Bool, true, false, cond, List, [], ◌∷◌, ◌++◌, length, sym, ◌∙◌, ap, subst, arith, refl, ⊎_elim}
+use Rattle.std.proofs.Common.{◌≡◌, ℕ, ◌+◌, ◌^◌, ◌<◌, Bool, true, false, cond, List, [], ◌∷◌, length, sym, ◌∙◌, ap, subst, arith, refl, ⊎_elim}
 use Rattle.std.specs.Prelude.{◌==◌, slice_get, slice_index, slice_set, Some}
 use Rattle.std.specs.List.{AllByRecursion}
 use Rattle.std.proofs.lemmas.Bool.{eqb-true, eq-eqb, ne_eqb}
@@ -8,13 +8,13 @@ use Rattle.table_core.specs.declared.key.Key.{Key}
 use Rattle.table_core.specs.declared.knowledge.Knowledge.{Knowledge}
 use Rattle.table_core.specs.declared.machine.Event.{Event}
 use Rattle.table_core.specs.declared.machine.Event.TheVariants.{Look, Claim, Ask, Tell}
-use Rattle.table_core.specs.Layout.{IsSlot, result_of, size}
+use Rattle.table_core.specs.Layout.{IsSlot}
 use Rattle.table_core.specs.Blocks.{Words}
-use Rattle.table_core.specs.Good.{IsGood, AreGoodWords, KeepsWords, Fills}
+use Rattle.table_core.specs.Good.{AreGoodWords, KeepsWords, Fills}
 use Rattle.table_core.specs.Events.{desk_of, index_of, word_after, words_after}
 use Rattle.table_core.specs.Knowledge.{IsTrueOf, Grows, united, nothing}
 use Rattle.table_core.specs.Learning.{MayClaim, MayTell, IsLawful}
-use Rattle.table_core.specs.Runs.{Table, Action, happens, splits, joins, Happens, Splits, Joins, Acts, Runs, Holds, KeepsKnowledge, heir_at, heir, EveryRun}
+use Rattle.table_core.specs.Runs.{Table, Action, happens, splits, joins, Happens, Splits, Joins, Acts, Runs, Holds, heir_at, heir, EveryRun}
 use Rattle.table_core.proofs.Ways.{slot_below}
 use Rattle.table_core.proofs.Claims.{same_or_other, fills_keeps, slot_of, claim_good, tell_good}
 use Rattle.table_core.proofs.Lists.{all_set, all_get, all_append, all_weaker, length_set, get_set_same, get_set_other, get_append}

@@ -1,18 +1,18 @@
 -- What words show.
-use Rattle.std.proofs.Common.{◌≡◌, ◌≢◌, ℕ, zero, suc, ◌+◌, ◌-◌, ◌*◌, ◌^◌, ◌<◌, ◌≤◌, sym, ◌∙◌, subst, arith, refl}
+use Rattle.std.proofs.Common.{◌≡◌, ◌≢◌, ℕ, zero, suc, ◌+◌, ◌-◌, ◌^◌, ◌<◌, sym, ◌∙◌, subst, arith, refl}
 use Rattle.plane.specs.Plane.{Plane}
-use Rattle.plane.specs.Square.{IsSame, bits_plane, future}
+use Rattle.plane.specs.Square.{bits_plane, future}
 use Rattle.plane.specs.Block.{IsInside}
-use Rattle.plane.proofs.Same.{same_refl, same_sym, same_trans, plane_equal}
+use Rattle.plane.proofs.Same.{same_refl, plane_equal}
 use Rattle.table_core.specs.declared.key.Key.{Key}
 use Rattle.table_core.specs.declared.knowledge.Knowledge.{Knowledge}
 use Rattle.table_core.specs.declared.shape.Kind.{Kind}
 use Rattle.table_core.specs.declared.shape.Kind.TheVariants.{Leaf, Pair}
 use Rattle.table_core.specs.Layout.{IsSlot, way, result_of, first_part, second_part}
-use Rattle.table_core.specs.Blocks.{Words, paired, width, height, IsBlock, cells_of, square_rank, Shows}
+use Rattle.table_core.specs.Blocks.{Words, paired, width, height, cells_of, square_rank, Shows}
 use Rattle.table_core.specs.Good.{IsFutureOf, IsGood, PartsStand, MayStand}
-use Rattle.table_core.specs.Knowledge.{KnowsBlock, IsTrueOf}
-use Rattle.table_core.specs.Learning.{KnowsPartsFor, MayClaim, MayAsk, MayTell}
+use Rattle.table_core.specs.Knowledge.{IsTrueOf}
+use Rattle.table_core.specs.Learning.{KnowsPartsFor, MayClaim, MayTell}
 use Rattle.table_core.proofs.Ways.{not_head}
 use Rattle.table_core.proofs.Blocks.{one_rank, cells_inside, paired_first, paired_second, paired_same}
 use Rattle.table_core.proofs.Results.{one_level}
@@ -57,7 +57,7 @@ result_shows key words pair level number plane good slot above square e =
 parts_true : (bits : ℕ) (words : Words) (known : Knowledge) (kind : Kind) (word : ℕ) → IsTrueOf bits words known → KnowsPartsFor known kind word → PartsStand bits words kind word
 parts_true bits words known Leaf word h knows = tt
 parts_true bits words known Pair word h knows =
-    (knows.rank, knows.low, (block_true bits words known knows.rank (first_part word) knows.one h knows.first).stands, (block_true bits words known knows.rank (second_part word) knows.two h knows.second).stands)
+    (knows.rank, knows.low, (block_true bits words known knows.rank (first_part word) knows.one h knows.both.first).stands, (block_true bits words known knows.rank (second_part word) knows.two h knows.both.second).stands)
 
 -- a lawful claim is of a word that may come
 pub claim_may : (bits : ℕ) (words : Words) (known : Knowledge) (index word : ℕ) → IsTrueOf bits words known → (lawful : MayClaim bits known index word) → MayStand bits words lawful.kind index word

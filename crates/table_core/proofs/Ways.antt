@@ -1,11 +1,11 @@
 -- The ways of words. Nothing else here needs the arithmetic of the first slot.
-use Rattle.std.proofs.Common.{◌≡◌, ◌≢◌, ℕ, ◌+◌, ◌-◌, ◌*◌, ◌/◌, ◌%◌, ◌^◌, ◌<◌, ◌≤◌, sym, ◌∙◌, ap, subst, arith, refl}
+use Rattle.std.proofs.Common.{◌≡◌, ◌≢◌, ℕ, ◌+◌, ◌-◌, ◌*◌, ◌/◌, ◌%◌, ◌^◌, ◌<◌, ◌≤◌, ◌∙◌, ap, subst, arith, refl}
 use Rattle.std.proofs.lemmas.Nat.{pow_pos, pow-add}
 use Rattle.std.proofs.Math.Pow.{pow_mono}
 use Rattle.std.proofs.Math.Nat.{div-lt_iff_lt-mul}
 use Rattle.table_core.specs.declared.shape.Kind.{Kind}
 use Rattle.table_core.specs.declared.shape.Kind.TheVariants.{Leaf, Pair}
-use Rattle.table_core.specs.Layout.{slot_bits, start, IsSlot, result_of, size, first, slot_on_way, way, IsInShard, GoesThroughShard}
+use Rattle.table_core.specs.Layout.{slot_bits, start, IsSlot, result_of, size, first, slot_on_way, way, IsInShard}
 use Rattle.table_core.specs.Laws.{EveryWay}
 
 -- a slot of both kinds is none

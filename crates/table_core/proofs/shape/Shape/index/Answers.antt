@@ -1,5 +1,5 @@
-use Rattle.std.proofs.Common.{rules, ◌≡◌, ◌≤◌, ◌<◌, ℕ, ◌+◌, ◌-◌, ◌*◌, ◌/◌, ◌%◌, ◌^◌, ◌∙◌, ap, subst, sym, arith, Fits, w32, w64}
-use Rattle.table_core.specs.Layout.{IsSlot, start, slot_bits}
+use Rattle.std.proofs.Common.{arith}
+use Rattle.table_core.specs.Layout.{slot_bits}
 use Rattle.table_core.proofs.Ways.{power_fits, le_few, start_fits}
 use Rattle.table_core.proofs.shape.Shape.index.Goals as goal
 
