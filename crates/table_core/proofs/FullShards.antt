@@ -10,7 +10,8 @@ use Rattle.table_core.specs.declared.shape.Kind.{Kind}
 use Rattle.table_core.specs.declared.shape.Kind.TheVariants.{Leaf, Pair}
 use Rattle.table_core.specs.Layout.{start, slot_bits, first, way, IsInShard}
 use Rattle.table_core.specs.Blocks.{Words}
-use Rattle.table_core.specs.Knowledge.{HasSeen, IsTrueOf, KnowsFullShard, has_seen_all, has_full_shard, knows_full_shard}
+use Rattle.table_core.specs.Knowledge.{HasSeen, IsTrueOf}
+use Rattle.table_core.specs.FullShards.{KnowsFullShard, has_seen_all, has_full_shard, knows_full_shard}
 use Rattle.table_core.specs.Laws.{FullShardIsSeen}
 use Rattle.table_core.proofs.Ways.{first_below, whole, few, way_covers}
 use Rattle.table_core.proofs.Knowing.{seen_true}

@@ -13,5 +13,6 @@ pub mod Reopenings
 pub mod Results
 pub mod Running
 pub mod Showing
+pub mod Stepping
 pub mod Teaching
 pub mod Ways

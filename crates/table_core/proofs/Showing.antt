@@ -12,7 +12,7 @@ use Rattle.table_core.specs.Layout.{IsSlot, way, result_of, first_part, second_p
 use Rattle.table_core.specs.Blocks.{Words, paired, width, height, cells_of, square_rank, Shows}
 use Rattle.table_core.specs.Good.{IsFutureOf, IsGood, PartsStand, MayStand}
 use Rattle.table_core.specs.Knowledge.{IsTrueOf}
-use Rattle.table_core.specs.Learning.{KnowsPartsFor, MayClaim, MayTell}
+use Rattle.table_core.specs.Lawful.{KnowsPartsFor, MayClaim, MayTell}
 use Rattle.table_core.proofs.Ways.{not_head}
 use Rattle.table_core.proofs.Blocks.{one_rank, cells_inside, paired_first, paired_second, paired_same}
 use Rattle.table_core.proofs.Results.{one_level}

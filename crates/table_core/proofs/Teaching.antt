@@ -22,7 +22,8 @@ use Rattle.table_core.specs.Blocks.{Words, paired, width, height, cells_of, squa
 use Rattle.table_core.specs.Good.{IsGood}
 use Rattle.table_core.specs.Events.{index_of}
 use Rattle.table_core.specs.Knowledge.{HasSeen, Says, Lists, KnowsBlock, IsTrueOf, IsTrueResult}
-use Rattle.table_core.specs.Learning.{MayAsk, IsLawful, KnowsBoth, KnowsWhole, Follows, as_leaf, as_pair, as_first_part, as_second_part, with_word, LearnsWord, with_future, LearnsFuture, MeetsWord, MeetsResult, Learns}
+use Rattle.table_core.specs.Lawful.{MayAsk, IsLawful, KnowsBoth}
+use Rattle.table_core.specs.Learning.{KnowsWhole, Follows, as_leaf, as_pair, as_first_part, as_second_part, with_word, LearnsWord, with_future, LearnsFuture, MeetsWord, MeetsResult, Learns}
 use Rattle.table_core.specs.Laws.{EveryEventTeaches}
 use Rattle.table_core.proofs.Ways.{not_head}
 use Rattle.table_core.proofs.Blocks.{parts_equal, paired_same, paired_inside, leaf_no_pair, cells_inside}

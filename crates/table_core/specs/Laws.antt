@@ -8,9 +8,11 @@ use Rattle.table_core.specs.declared.shape.Kind.{Kind}
 use Rattle.table_core.specs.Layout.{GoesThroughShard, size}
 use Rattle.table_core.specs.Blocks.{Words, IsBlock, cells_of}
 use Rattle.table_core.specs.Good.{IsGood}
-use Rattle.table_core.specs.Knowledge.{IsTrueOf, IsTrueResult, IsConsistent, HasSeen, KnowsBlock, Grows, KnowsFullShard, knows_full_shard}
+use Rattle.table_core.specs.Knowledge.{IsTrueOf, IsTrueResult, IsConsistent, HasSeen, KnowsBlock, Grows}
+use Rattle.table_core.specs.FullShards.{KnowsFullShard, knows_full_shard}
 use Rattle.table_core.specs.Events.{index_of}
-use Rattle.table_core.specs.Learning.{IsLawful, Learns}
+use Rattle.table_core.specs.Lawful.{IsLawful}
+use Rattle.table_core.specs.Learning.{Learns}
 
 abbrev pub EveryWay : Type 0
 EveryWay = (bits : ℕ) (kind : Kind) (word : ℕ) → 10 ≤ bits → bits ≤ 28 → GoesThroughShard bits kind word

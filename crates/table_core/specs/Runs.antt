@@ -8,7 +8,8 @@ use Rattle.table_core.specs.declared.machine.Event.{Event}
 use Rattle.table_core.specs.Good.{AreGoodWords, KeepsWords}
 use Rattle.table_core.specs.Knowledge.{IsTrueOf, KnowsBlock, Grows, united, nothing}
 use Rattle.table_core.specs.Events.{desk_of, index_of, words_after}
-use Rattle.table_core.specs.Learning.{IsLawful, Learns}
+use Rattle.table_core.specs.Lawful.{IsLawful}
+use Rattle.table_core.specs.Learning.{Learns}
 
 -- the words, and what each desk knows
 pub record Table : Type 0 where
