@@ -103,7 +103,7 @@ both : {A : Type 0} (b : Bool) (u v w : A) → u ≡ w → v ≡ w → cond b u 
 both true u v w h k = h
 both false u v w h k = k
 
-pub paired_empty : (r : ℕ) → paired r empty empty ≡ empty
+paired_empty : (r : ℕ) → paired r empty empty ≡ empty
 paired_empty r = both (r % 2 == 0) (beside (width r) empty empty) (below (height r) empty empty) empty
     (λ i x y. both (int_lt x (pos (width r))) false false false refl refl i) (λ i x y. both (int_lt y (pos (height r))) false false false refl refl i)
 
@@ -161,7 +161,7 @@ cells_stay bits old new keeps (suc r) (suc i) h =
     ∙ ap (λ p. paired r p (cells_of new r (second_part w))) (cells_stay bits old new keeps r (first_part w) h.2)
     ∙ ap (paired r (cells_of old r (first_part w))) (cells_stay bits old new keeps r (second_part w) h.3)
 
-pub slots_kept : (bits : ℕ) (old new : Words) → KeepsWords old new → KeepsSlots bits old new
+slots_kept : (bits : ℕ) (old new : Words) → KeepsWords old new → KeepsSlots bits old new
 slots_kept bits old new keeps = record { kept = λ kind i slot some. keeps.kept i some }
 
 pub block_kept : (bits : ℕ) (old new : Words) → KeepsWords old new → (r n : ℕ) → IsBlock bits old r n → IsBlock bits new r n

@@ -37,7 +37,7 @@ way_kept bits old new kind i keeps some h =
     }
 
 -- a word that may come stands nowhere yet
-pub absent : (key : Key) (words : Words) (kind : Kind) (index word i : ℕ) → IsGood key words → words index ≡ 0 → MayStand key.shape.bits words kind index word → IsSlot key.shape.bits kind i → words i ≢ word
+absent : (key : Key) (words : Words) (kind : Kind) (index word i : ℕ) → IsGood key words → words index ≡ 0 → MayStand key.shape.bits words kind index word → IsSlot key.shape.bits kind i → words i ≢ word
 absent key words kind index word i good free may slot e =
     let t : IsOnWay key.shape.bits words kind i = good.on_way kind i slot (λ z. may.some (sym e ∙ z)) in
     let here : way key.shape.bits kind word t.place ≡ i = ap (λ w. way key.shape.bits kind w t.place) (sym e) ∙ t.here in
@@ -150,7 +150,3 @@ module _ (key : Key) (old new : Words) (index n : ℕ) (slot : IsSlot key.shape.
         (λ m. let same = fills.others (result_of key.shape.bits i) m in let t = good.results i si (λ z. some (same ∙ z)) in (t.0, same ∙ t.1, future_kept key old new i t.0 keeps_all t.2))
         (same_or_other (result_of key.shape.bits i) (result_of key.shape.bits index));
   }
-
--- a slot that holds a word is the word's number
-pub found_number : (key : Key) (words : Words) (kind : Kind) (index i word : ℕ) → IsGood key words → IsSlot key.shape.bits kind index → IsSlot key.shape.bits kind i → word ≢ 0 → words index ≡ word → words i ≡ word → index ≡ i
-found_number key words kind index i word good slot other some here there = good.once kind index i slot other (λ z. some (sym here ∙ z)) (here ∙ sym there)

@@ -8,7 +8,7 @@ use Rattle.std.proofs.Math.Pow.{pow_mono}
 use Rattle.table_core.specs.Sizes.{IsPairCount}
 
 -- the exponent of a power of two is its logarithm
-pub same_power : (r b pairs : ℕ) → 2 ^ r ≤ pairs → pairs < 2 * 2 ^ r → pairs ≡ 2 ^ b → r ≡ b
+same_power : (r b pairs : ℕ) → 2 ^ r ≤ pairs → pairs < 2 * 2 ^ r → pairs ≡ 2 ^ b → r ≡ b
 same_power r b pairs low high is = ⊎_elim
     (λ less. let two : 2 ^ suc r ≡ 2 ^ r * 2 = pow-suc 2 r in let more : 2 ^ suc r ≤ 2 ^ b = pow_mono {i = suc r} {j = b} less in absurd (omega (arith, two, more)))
     (λ other. ⊎_elim

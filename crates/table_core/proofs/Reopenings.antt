@@ -106,7 +106,7 @@ module _ (was key : Key) (old new : Words) (good : IsGood was old) (r : Reopens 
   block_was : (rank i : ℕ) → i ≢ 0 → IsBlock key.shape.bits new rank i → (other : ℕ) → IsBlock was.shape.bits old other i → rank ≡ other
   block_was rank i some b other c = one_rank was.shape.bits new rank other i (subst (λ n. IsBlock n new rank i) bits b) (block_stays was.shape.bits old new keeps other i c) some
 
-  pub reopened : AreOpening was key new
+  reopened : AreOpening was key new
   reopened = record {
     good = reopened_good;
     by_rule = λ other i si. gone i si (λ level above square k. other k.0);

@@ -22,7 +22,7 @@ found_step x xs square true e f h = (x, contains_here x xs, eqb-true x.square sq
 found_step x xs square false e f h = let t = f h in (t.0, later x xs t.0 t.1, t.2)
 
 -- a square that has a result has an entry
-pub found_result : (results : List KnownResult) (square : ℕ) → has_result results square ≡ true → (r : KnownResult) × Contains results r × (r.square ≡ square)
+found_result : (results : List KnownResult) (square : ℕ) → has_result results square ≡ true → (r : KnownResult) × Contains results r × (r.square ≡ square)
 found_result [] square h = absurd (false≢true h)
 found_result (x ∷ xs) square h = found_step x xs square (x.square == square) refl (found_result xs square) h
 

@@ -82,11 +82,11 @@ way_covers bits kind word index h = round (first (slot_bits bits kind) word) (st
 apart : (f s p q : ℕ) → p < 256 → q < 256 → s + (256 * (f / 256) + (f + p) % 256) ≡ s + (256 * (f / 256) + (f + q) % 256) → p ≡ q
 apart f s p q low_p low_q e = omega arith
 
-pub way_distinct : (bits : ℕ) (kind : Kind) (word p q : ℕ) → p < 256 → q < 256 → way bits kind word p ≡ way bits kind word q → p ≡ q
+way_distinct : (bits : ℕ) (kind : Kind) (word p q : ℕ) → p < 256 → q < 256 → way bits kind word p ≡ way bits kind word q → p ≡ q
 unfolding way slot_on_way
 way_distinct bits kind word p q low_p low_q e = apart (first (slot_bits bits kind) word) (start bits kind) p q low_p low_q e
 
-pub way_inside : (bits : ℕ) (kind : Kind) (word place : ℕ) → IsInShard bits kind word (way bits kind word place)
+way_inside : (bits : ℕ) (kind : Kind) (word place : ℕ) → IsInShard bits kind word (way bits kind word place)
 unfolding way slot_on_way IsInShard
 way_inside bits kind word place = (omega arith, omega arith)
 
