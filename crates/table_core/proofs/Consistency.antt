@@ -44,7 +44,8 @@ pair_slot bits words rank zero some b = absurd (some refl)
 pair_slot bits words rank (suc i) some b = (b.0, b.1)
 
 -- a pair that stands in good words is of at most a square of level 65
-low_rank : (key : Key) (words : Words) (rank n : ℕ) → IsGood key words → n ≢ 0 → IsBlock key.shape.bits words (suc rank) n → IsSlot key.shape.bits Pair n × (rank < largest_rank)
+low_rank : (key : Key) (words : Words) (rank n : ℕ) → IsGood key words → n ≢ 0 → IsBlock key.shape.bits words (suc rank) n →
+    IsSlot key.shape.bits Pair n × (rank < largest_rank)
 low_rank key words rank n good some b =
     let s = pair_slot key.shape.bits words rank n some b in
     let t = good.blocks n s.0 s.1 in
@@ -52,7 +53,8 @@ low_rank key words rank n good some b =
     let e : suc rank ≡ suc t.0 = one_rank key.shape.bits words (suc rank) (suc t.0) n b t.2 some in
     (s.0, omega arith)
 
-results_consistent : (bits : ℕ) (words : Words) (known : Knowledge) (results : List KnownResult) → AllByRecursion (IsTrueResult bits words) results → AllByRecursion (KnowsSquareOf known) results →
+results_consistent : (bits : ℕ) (words : Words) (known : Knowledge) (results : List KnownResult) →
+    AllByRecursion (IsTrueResult bits words) results → AllByRecursion (KnowsSquareOf known) results →
     AllByRecursion (λ result. (3 < result.level) × (result.square ≢ 0) × KnowsSquareOf known result) results
 results_consistent bits words known [] h k = tt
 results_consistent bits words known (r ∷ rs) h k = ((h.0.above, not_head bits Pair r.square h.0.slot, k.0), results_consistent bits words known rs h.1 k.1)

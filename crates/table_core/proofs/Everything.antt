@@ -31,7 +31,8 @@ block_slot bits words zero (suc i) other h = (h.1, inl h.0)
 block_slot bits words (suc rank) (suc i) other h = (h.1, inr h.0)
 
 -- a number other than 0 is a block of one rank, or none
-block_or_not : (key : Key) (words : Words) → IsGood key words → (i : ℕ) → i ≢ 0 → ((rank : ℕ) × IsBlock key.shape.bits words rank i) ⊎ ((rank : ℕ) → IsBlock key.shape.bits words rank i → ⊥)
+block_or_not : (key : Key) (words : Words) → IsGood key words → (i : ℕ) → i ≢ 0 →
+    ((rank : ℕ) × IsBlock key.shape.bits words rank i) ⊎ ((rank : ℕ) → IsBlock key.shape.bits words rank i → ⊥)
 block_or_not key words good i other = ⊎_elim (λ z. inr (λ rank b. (block_slot key.shape.bits words rank i other b).0 z))
     (λ some. ⊎_elim (λ s. inl (0, leaf_block key.shape.bits words i s some))
     (λ gone. ⊎_elim (λ s. let t = good.blocks i s some in inl (suc t.0, t.2)) (λ none. inr (λ rank b. ⊎_elim gone none (block_slot key.shape.bits words rank i other b).1)) (slot_or_not key.shape.bits Pair i))
@@ -44,7 +45,8 @@ record Also (bits : ℕ) (words : Words) (known : Knowledge) (thing : Knowledge 
   grows : Grows known later
   has : thing later
 
-nothing_more : (bits : ℕ) (words : Words) (known : Knowledge) (thing : Knowledge → Type 0) → IsTrueOf bits words known → thing known → Also bits words known thing
+nothing_more : (bits : ℕ) (words : Words) (known : Knowledge) (thing : Knowledge → Type 0) → IsTrueOf bits words known → thing known →
+    Also bits words known thing
 nothing_more bits words known thing h t = record { later = known; true_of = h; grows = grows_refl known; has = t }
 
 module _ (key : Key) (words : Words) (good : IsGood key words) where
@@ -67,7 +69,8 @@ module _ (key : Key) (words : Words) (good : IsGood key words) where
         has = λ again. contains_here (n, words n) known.words;
       }) (same_or_other (words n) 0)
 
-  show_one : (n rank : ℕ) (known : Knowledge) → IsTrueOf key.shape.bits words known → n ≢ 0 → IsBlock key.shape.bits words rank n → Also key.shape.bits words known (Shown n)
+  show_one : (n rank : ℕ) (known : Knowledge) → IsTrueOf key.shape.bits words known → n ≢ 0 → IsBlock key.shape.bits words rank n →
+      Also key.shape.bits words known (Shown n)
   unfolding Shown
   show_one n rank known h some block =
       let inside = cells_inside words rank n in
@@ -101,7 +104,8 @@ module _ (key : Key) (words : Words) (good : IsGood key words) where
   unfolding Told
   not_told n known z result e true_result = absurd (let here = true_result.told in let there : words (result_of key.shape.bits result.square) ≡ 0 = ap (λ i. words (result_of key.shape.bits i)) e ∙ z in omega arith)
 
-  tell_one : (n : ℕ) (known : Knowledge) → IsTrueOf key.shape.bits words known → Shown n known → IsSlot key.shape.bits Pair n → words (result_of key.shape.bits n) ≢ 0 → Also key.shape.bits words known (Told n)
+  tell_one : (n : ℕ) (known : Knowledge) → IsTrueOf key.shape.bits words known → Shown n known → IsSlot key.shape.bits Pair n →
+      words (result_of key.shape.bits n) ≢ 0 → Also key.shape.bits words known (Told n)
   unfolding Shown Told
   tell_one n known h shown slot some =
       let t = good.results n slot some in

@@ -26,7 +26,8 @@ at_most : (r : ℕ) → 2 ^ r ≤ 2 ^ 28 → r ≤ 28
 at_most r h = ⊎_elim (λ less. let more : 2 ^ 29 ≤ 2 ^ r = pow_mono {i = 29} {j = r} less in absurd (omega (arith, more))) (λ t. t) (cases_lt 28 r)
 
 -- a number between the bounds is a pair count exactly if it is the power of its logarithm
-pub is_count : (r pairs : ℕ) (test : Bool) → 2 ^ r ≤ pairs → pairs < 2 * 2 ^ r → 1024 ≤ pairs → pairs ≤ 268435456 → test ≡ (pairs == 2 ^ r) → IsTrue test ↔ IsPairCount pairs
+pub is_count : (r pairs : ℕ) (test : Bool) → 2 ^ r ≤ pairs → pairs < 2 * 2 ^ r → 1024 ≤ pairs → pairs ≤ 268435456 → test ≡ (pairs == 2 ^ r) →
+    IsTrue test ↔ IsPairCount pairs
 is_count r pairs test low high small large e = (
   λ t. let is : pairs ≡ 2 ^ r = eqb-true pairs (2 ^ r) (sym e ∙ t) in (r, at_least r (omega arith), at_most r (omega arith), is),
   λ h. let k = count_bits r pairs low high h in e ∙ eq-eqb pairs (2 ^ r) (sym k.2),

@@ -24,13 +24,16 @@ keeps_trans a b c h k = record { kept = λ i some. let one = h.kept i some in k.
 record Keeps (key : Key) (to : ℕ → ℕ) (old new : Table) : Type 0 where
   holds : Holds key new
   words : KeepsWords (slice_index old.words) (slice_index new.words)
-  knowledge : (desk : ℕ) (known : Knowledge) → slice_get old.desks desk ≡ Some known → (later : Knowledge) × (slice_get new.desks (to desk) ≡ Some later) × Grows known later
+  knowledge : (desk : ℕ) (known : Knowledge) → slice_get old.desks desk ≡ Some known →
+      (later : Knowledge) × (slice_get new.desks (to desk) ≡ Some later) × Grows known later
 
 same_known : (a b : Knowledge) → Some a ≡ Some b → a ≡ b
 same_known a b e = cc
 
 -- the words stay as they are
-as_before : (key : Key) (old new : Table) → Holds key old → new.words ≡ old.words → AllByRecursion (IsTrueOf key.shape.bits (slice_index old.words)) new.desks → Holds key new × KeepsWords (slice_index old.words) (slice_index new.words)
+as_before : (key : Key) (old new : Table) → Holds key old → new.words ≡ old.words →
+    AllByRecursion (IsTrueOf key.shape.bits (slice_index old.words)) new.desks →
+    Holds key new × KeepsWords (slice_index old.words) (slice_index new.words)
 as_before key old new h same desks = (
   record {
     words = subst (AreGoodWords key) (sym same) h.words;
@@ -73,7 +76,8 @@ splits_keeps key old new split h a =
       knowledge = λ desk known is. (known, ap (λ ds. slice_get ds desk) a.desks ∙ get_append old.desks (a.known ∷ []) desk known is, grows_refl known);
     }
 
-joins_keeps : (key : Key) (old new : Table) (into joined : ℕ) → Holds key old → Joins old into joined new → Keeps key (heir_at (joins into joined)) old new
+joins_keeps : (key : Key) (old new : Table) (into joined : ℕ) → Holds key old → Joins old into joined new →
+    Keeps key (heir_at (joins into joined)) old new
 joins_keeps key old new into joined h a =
     let one = all_get _ old.desks into a.known h.desks a.is in
     let two = all_get _ old.desks joined a.also h.desks a.other in

@@ -22,7 +22,8 @@ use Rattle.table_core.proofs.Showing.{claim_may, tell_is}
 use Rattle.table_core.proofs.Consistency.{every_truth_is_consistent}
 use Rattle.table_core.proofs.Teaching.{every_event_teaches}
 
-fills_list : (words : List ℕ) (i word : ℕ) → i < length words → slice_index words i ≡ 0 → Fills (slice_index words) (slice_index (slice_set words i word)) i word
+fills_list : (words : List ℕ) (i word : ℕ) → i < length words → slice_index words i ≡ 0 →
+    Fills (slice_index words) (slice_index (slice_set words i word)) i word
 fills_list words i word below free = record {
   free = free;
   now = get_or-set_same words i word 0 below;
@@ -38,7 +39,8 @@ same_words : (key : Key) (old new : List ℕ) → AreGoodWords key old → new �
 same_words key old new h e = subst (StaysGood key old) (sym e) (record { words = h; keeps = record { kept = λ i some. refl } })
 
 module _ (key : Key) (words : List ℕ) (known : Knowledge) (h : AreGoodWords key words) (knows : IsTrueOf key.shape.bits (slice_index words) known) where
-  claimed : (i word : ℕ) → MayClaim key.shape.bits known i word → (b : Bool) → (slice_index words i == 0) ≡ b → StaysGood key words (slice_set words i (cond b word (slice_index words i)))
+  claimed : (i word : ℕ) → MayClaim key.shape.bits known i word → (b : Bool) → (slice_index words i == 0) ≡ b →
+      StaysGood key words (slice_set words i (cond b word (slice_index words i)))
   claimed i word lawful false e = same_words key words _ h (set-get_or words i 0)
   claimed i word lawful true e =
       let may = claim_may key.shape.bits (slice_index words) known i word knows lawful in
@@ -53,7 +55,8 @@ module _ (key : Key) (words : List ℕ) (known : Knowledge) (h : AreGoodWords ke
         keeps = fills_keeps (slice_index words) (slice_index (slice_set words i word)) i word fills;
       }
 
-  told : (i n : ℕ) → MayTell key known i n → (b : Bool) → (slice_index words i == 0) ≡ b → StaysGood key words (slice_set words i (cond b (2 ^ 32 + n) (slice_index words i)))
+  told : (i n : ℕ) → MayTell key known i n → (b : Bool) → (slice_index words i == 0) ≡ b →
+      StaysGood key words (slice_set words i (cond b (2 ^ 32 + n) (slice_index words i)))
   told i n lawful false e = same_words key words _ h (set-get_or words i 0)
   told i n lawful true e =
       let q = lawful.of in
@@ -78,7 +81,8 @@ module _ (key : Key) (words : List ℕ) (known : Knowledge) (h : AreGoodWords ke
   event_good (Tell desk i n) lawful = told i n lawful (slice_index words i == 0) refl
 
   -- the word that is said to be there after it is there
-  pub word_there : (event : Event) → IsLawful key known event → slice_index (words_after event words) (index_of event) ≡ word_after event (slice_index words (index_of event))
+  pub word_there : (event : Event) → IsLawful key known event →
+      slice_index (words_after event words) (index_of event) ≡ word_after event (slice_index words (index_of event))
   word_there (Look desk i) lawful = ap (λ xs. slice_index xs i) (set-get_or words i 0)
   word_there (Ask desk i) lawful = ap (λ xs. slice_index xs i) (set-get_or words i 0)
   word_there (Claim desk i word) lawful =
@@ -98,7 +102,8 @@ pub record DeskStep (key : Key) (words : List ℕ) (known : Knowledge) (event : 
   pub consistent : IsConsistent key.shape.bits after
   pub grows : Grows known after
 
-pub desk_steps : (key : Key) (words : List ℕ) (known : Knowledge) (event : Event) → AreGoodWords key words → IsTrueOf key.shape.bits (slice_index words) known → IsLawful key known event → DeskStep key words known event
+pub desk_steps : (key : Key) (words : List ℕ) (known : Knowledge) (event : Event) → AreGoodWords key words →
+    IsTrueOf key.shape.bits (slice_index words) known → IsLawful key known event → DeskStep key words known event
 desk_steps key words known event h knows lawful =
     let stays : StaysGood key words (words_after event words) = event_good key words known h knows event lawful in
     let later : IsTrueOf key.shape.bits (slice_index (words_after event words)) known = true_later key.shape.bits (slice_index words) (slice_index (words_after event words)) known stays.keeps knows in

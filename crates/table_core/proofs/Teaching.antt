@@ -40,17 +40,21 @@ use Rattle.table_core.proofs.Learned.{learns_true, learns_grows}
 abbrev pub entry_of : ℕ → (rank : ℕ) (plane : Plane) → IsInside (width rank) (height rank) plane → KnownBlock
 entry_of number rank plane inside = record { number = number; rank = rank; live = (listing plane (width rank) (height rank) inside).0 }
 
-pub entry_same : (number rank : ℕ) (plane : Plane) (inside : IsInside (width rank) (height rank) plane) → IsSame (plane_of (entry_of number rank plane inside).live) plane
+pub entry_same : (number rank : ℕ) (plane : Plane) (inside : IsInside (width rank) (height rank) plane) →
+    IsSame (plane_of (entry_of number rank plane inside).live) plane
 entry_same number rank plane inside = (listing plane (width rank) (height rank) inside).1
 
-entry_says : (number rank : ℕ) (plane : Plane) (inside : IsInside (width rank) (height rank) plane) → Says (entry_of number rank plane inside) rank number plane
+entry_says : (number rank : ℕ) (plane : Plane) (inside : IsInside (width rank) (height rank) plane) →
+    Says (entry_of number rank plane inside) rank number plane
 entry_says number rank plane inside = record { at_rank = refl; of_number = refl; cells = entry_same number rank plane inside }
 
 -- the first of some entries
-pub lists_first : (number rank : ℕ) (plane : Plane) (inside : IsInside (width rank) (height rank) plane) (rest : List KnownBlock) → Lists (entry_of number rank plane inside ∷ rest) rank number plane
+pub lists_first : (number rank : ℕ) (plane : Plane) (inside : IsInside (width rank) (height rank) plane) (rest : List KnownBlock) →
+    Lists (entry_of number rank plane inside ∷ rest) rank number plane
 lists_first number rank plane inside rest = (entry_of number rank plane inside, contains_here (entry_of number rank plane inside) rest, entry_says number rank plane inside)
 
-pub lists_more : (xs ys : List KnownBlock) (rank number : ℕ) (plane : Plane) → ((entry : KnownBlock) → Contains xs entry → Contains ys entry) → Lists xs rank number plane → Lists ys rank number plane
+pub lists_more : (xs ys : List KnownBlock) (rank number : ℕ) (plane : Plane) → ((entry : KnownBlock) → Contains xs entry → Contains ys entry) →
+    Lists xs rank number plane → Lists ys rank number plane
 lists_more xs ys rank number plane more t = (t.0, more t.0 t.1, t.2)
 
 pub slot_or_not : (bits : ℕ) (kind : Kind) (i : ℕ) → IsSlot bits kind i ⊎ (IsSlot bits kind i → ⊥)
@@ -58,12 +62,14 @@ slot_or_not bits kind i = ⊎_elim (λ t. inr (λ s. let k = s.from in omega ari
     (λ t. ⊎_elim (λ u. inl (record { from = t; below = u })) (λ u. inr (λ s. let k = s.below in omega arith)) (cases_lt i (start bits kind + 2 ^ slot_bits bits kind)))
     (cases_lt i (start bits kind))
 
-not_there : (n : ℕ) (x : KnownBlock) (xs : List KnownBlock) → x.number ≢ n → ((entry : KnownBlock) → Contains xs entry → entry.number ≢ n) → (entry : KnownBlock) (k : ℕ) → k < length (x ∷ xs) → slice_index_or (x ∷ xs) k entry ≡ entry → entry.number ≢ n
+not_there : (n : ℕ) (x : KnownBlock) (xs : List KnownBlock) → x.number ≢ n → ((entry : KnownBlock) → Contains xs entry → entry.number ≢ n) →
+    (entry : KnownBlock) (k : ℕ) → k < length (x ∷ xs) → slice_index_or (x ∷ xs) k entry ≡ entry → entry.number ≢ n
 not_there n x xs gone none entry zero less e is = gone (ap (λ (y : KnownBlock). y.number) e ∙ is)
 not_there n x xs gone none entry (suc k) less e is = none entry (k, omega arith, e) is
 
 -- whether a number is among the entries
-listed : (n : ℕ) (blocks : List KnownBlock) → ((entry : KnownBlock) × Contains blocks entry × (entry.number ≡ n)) ⊎ ((entry : KnownBlock) → Contains blocks entry → entry.number ≢ n)
+listed : (n : ℕ) (blocks : List KnownBlock) →
+    ((entry : KnownBlock) × Contains blocks entry × (entry.number ≡ n)) ⊎ ((entry : KnownBlock) → Contains blocks entry → entry.number ≢ n)
 listed n [] = inr (λ entry has e. let k = has.1 in omega arith)
 listed n (x ∷ xs) = ⊎_elim (λ e. inl (x, contains_here x xs, e))
     (λ gone. ⊎_elim (λ t. inl (t.0, (suc t.1.0, (let k = t.1.1 in omega arith), t.1.2), t.2)) (λ none. inr (λ entry has e. not_there n x xs gone none entry has.0 has.1 has.2 e)) (listed n xs)) (same_or_other x.number n)
@@ -83,7 +89,8 @@ whether known n = ⊎_elim (λ e. as_zero e)
 knows_zero : (known : Knowledge) (rank n : ℕ) → n ≡ 0 → KnowsBlock known rank n empty
 knows_zero known rank n e = inl (e, same_refl empty)
 
-cells_paired : (words : Words) (r i : ℕ) → i ≢ 0 → cells_of words (suc r) i ≡ paired r (cells_of words r (first_part (words i))) (cells_of words r (second_part (words i)))
+cells_paired : (words : Words) (r i : ℕ) → i ≢ 0 →
+    cells_of words (suc r) i ≡ paired r (cells_of words r (first_part (words i))) (cells_of words r (second_part (words i)))
 cells_paired words r zero some = absurd (some refl)
 cells_paired words r (suc i) some = refl
 
@@ -92,7 +99,8 @@ record Upwards (key : Key) (known : Knowledge) (index word : ℕ) : Type 0 where
   more : List KnownBlock
   follow : AllByRecursion (Follows key known index word) more
   leaf : IsSlot key.shape.bits Leaf index → Lists more 0 index (bits_plane word)
-  pair : (rank : ℕ) (one two : Plane) → IsSlot key.shape.bits Pair index → KnowsBoth known rank word one two → Lists more (suc rank) index (paired rank one two)
+  pair : (rank : ℕ) (one two : Plane) → IsSlot key.shape.bits Pair index → KnowsBoth known rank word one two →
+      Lists more (suc rank) index (paired rank one two)
 
 -- the entries have both parts of a word
 record HasParts (blocks : List KnownBlock) (rank word : ℕ) (plane : Plane) : Type 0 where
@@ -129,10 +137,13 @@ module _ (key : Key) (words : Words) (known : Knowledge) (good : IsGood key word
           pair = λ rank one two s both. absurd (leaf_no_pair key.shape.bits index slot s);
         }
 
-    no_parts : IsSlot key.shape.bits Pair index → ((rank : ℕ) (one two : Plane) → KnowsBlock known rank (first_part word) one → KnowsBlock known rank (second_part word) two → ⊥) → Upwards key known index word
+    no_parts : IsSlot key.shape.bits Pair index →
+        ((rank : ℕ) (one two : Plane) → KnowsBlock known rank (first_part word) one → KnowsBlock known rank (second_part word) two → ⊥) →
+        Upwards key known index word
     no_parts slot none = record { more = []; follow = tt; leaf = λ s. absurd (leaf_no_pair key.shape.bits index s slot); pair = λ rank one two s both. absurd (none rank one two both.first both.second) }
 
-    with_parts : IsSlot key.shape.bits Pair index → (rank : ℕ) (one two : Plane) → KnowsBlock known rank (first_part word) one → KnowsBlock known rank (second_part word) two →
+    with_parts : IsSlot key.shape.bits Pair index → (rank : ℕ) (one two : Plane) → KnowsBlock known rank (first_part word) one →
+        KnowsBlock known rank (second_part word) two →
         ((other : ℕ) (p q : Plane) → KnowsBlock known other (first_part word) p → KnowsBlock known other (second_part word) q → other ≡ rank) → Upwards key known index word
     with_parts slot rank one two a b only =
         let inside : IsInside (width (suc rank)) (height (suc rank)) (paired rank one two) = paired_inside rank one two (inside_block rank (first_part word) one a) (inside_block rank (second_part word) two b) in
@@ -264,7 +275,8 @@ module _ (key : Key) (words : Words) (known : Knowledge) (good : IsGood key word
   seen_agrees : (index word : ℕ) → words index ≡ word → (seen : ℕ) → HasSeen known index seen → (word ≡ seen) × (seen ≢ 0)
   seen_agrees index word there seen has = let t = seen_true key.shape.bits words known index seen h has in (sym there ∙ t.0, t.1)
 
-  result_agrees : (index word : ℕ) → words index ≡ word → (result : KnownResult) → Contains known.results result → index ≡ result_of key.shape.bits result.square → word ≡ 2 ^ 32 + result.future
+  result_agrees : (index word : ℕ) → words index ≡ word → (result : KnownResult) → Contains known.results result →
+      index ≡ result_of key.shape.bits result.square → word ≡ 2 ^ 32 + result.future
   result_agrees index word there result has e = let t = all_contains (IsTrueResult key.shape.bits words) known.results result h.results has in sym there ∙ ap words e ∙ t.told
 
   met_word : (index word : ℕ) → words index ≡ word → (after : Knowledge) × MeetsWord key known index word after
@@ -273,14 +285,16 @@ module _ (key : Key) (words : Words) (known : Knowledge) (good : IsGood key word
       (λ some. let l = word_learned index word some there in (l.0, record { none = λ z. absurd (some z); some = λ again. l.1; agrees = seen_agrees index word there }))
       (same_or_other word 0)
 
-  met_result : (count index word : ℕ) → words index ≡ word → MayAsk key.shape.bits known index → (after : Knowledge) × MeetsResult key known count index word after
+  met_result : (count index word : ℕ) → words index ≡ word → MayAsk key.shape.bits known index →
+      (after : Knowledge) × MeetsResult key known count index word after
   met_result count index word there of = ⊎_elim
       (λ z. (known, record { none = λ e. refl; some = λ some. absurd (some z); agrees = result_agrees index word there }))
       (λ some. let l = future_learned index word some there count of in (l.0, record { none = λ z. absurd (some z); some = λ again. l.1; agrees = result_agrees index word there }))
       (same_or_other word 0)
 
   -- there is what a desk knows after an event
-  learns_some : (event : Event) (word : ℕ) → IsLawful key known event → words (index_of event) ≡ word → (after : Knowledge) × Learns key event known word after
+  learns_some : (event : Event) (word : ℕ) → IsLawful key known event → words (index_of event) ≡ word →
+      (after : Knowledge) × Learns key event known word after
   learns_some (Look desk index) word lawful there = met_word index word there
   learns_some (Claim desk index claimed) word lawful there = met_word index word there
   learns_some (Ask desk index) word lawful there = met_result 1 index word there lawful

@@ -1,4 +1,4 @@
--- Opening words: good words that stood under another head, and may keep some of their results.
+-- The words that a table may begin with: a head alone, or good words that stood under another head and keep some results.
 use Rattle.std.specs.Prelude.{◌≡◌, ◌≢◌, ℕ, ◌-◌, ◌^◌, ◌<◌, ◌≤◌, ◌⊎◌, min}
 use Rattle.table_core.specs.declared.shape.Kind.{Kind}
 use Rattle.table_core.specs.declared.shape.Kind.TheVariants.{Pair}
@@ -6,6 +6,14 @@ use Rattle.table_core.specs.declared.key.Key.{Key}
 use Rattle.table_core.specs.Layout.{IsSlot, result_of}
 use Rattle.table_core.specs.Blocks.{Words, IsBlock, square_rank}
 use Rattle.table_core.specs.Good.{IsGood, head}
+
+-- there is a head, and no other word
+pub record IsFresh (key : Key) (words : Words) : Type 0 where
+  pub names : words 0 ≡ head key
+  pub vacant : (index : ℕ) → index ≢ 0 → words index ≡ 0
+
+abbrev pub EveryFreshTable : Type 0
+EveryFreshTable = (key : Key) (words : Words) → head key < 2 ^ 64 → IsFresh key words → IsGood key words
 
 -- the result of a square of this level is the same under both heads: the rule is one, and so is the exponent, or neither
 -- cuts the time of such a square short
