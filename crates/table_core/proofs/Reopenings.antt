@@ -10,7 +10,7 @@ use Rattle.table_core.specs.declared.shape.Kind.{Kind}
 use Rattle.table_core.specs.declared.shape.Kind.TheVariants.{Pair}
 use Rattle.table_core.specs.Layout.{IsSlot, way, result_of}
 use Rattle.table_core.specs.Blocks.{Words, IsBlock, cells_of, square_rank, Shows}
-use Rattle.table_core.specs.Good.{head, IsOnWay, IsFutureOf, IsGood, KeepsSlots}
+use Rattle.table_core.specs.Good.{IsOnWay, IsFutureOf, IsGood, KeepsSlots}
 use Rattle.table_core.specs.Opening.{KeepsResult, AreOpening, Reopens, EveryFreshTable, EveryReopening}
 use Rattle.table_core.proofs.Ways.{not_head, way_is_slot}
 use Rattle.table_core.proofs.Claims.{same_or_other}

@@ -53,6 +53,13 @@ pub lists_first : (number rank : ℕ) (plane : Plane) (inside : IsInside (width 
     Lists (entry_of number rank plane inside ∷ rest) rank number plane
 lists_first number rank plane inside rest = (entry_of number rank plane inside, contains_here (entry_of number rank plane inside) rest, entry_says number rank plane inside)
 
+-- the entry of the block that a number stands for, and the entries of both parts of a word
+abbrev pub block_entry : Words → ℕ → ℕ → KnownBlock
+block_entry words rank n = entry_of n rank (cells_of words rank n) (cells_inside words rank n)
+
+abbrev pub part_entries : Words → ℕ → ℕ → List KnownBlock
+part_entries words rank word = block_entry words rank (first_part word) ∷ block_entry words rank (second_part word) ∷ []
+
 pub lists_more : (xs ys : List KnownBlock) (rank number : ℕ) (plane : Plane) → ((entry : KnownBlock) → Contains xs entry → Contains ys entry) →
     Lists xs rank number plane → Lists ys rank number plane
 lists_more xs ys rank number plane more t = (t.0, more t.0 t.1, t.2)
@@ -184,7 +191,6 @@ module _ (key : Key) (words : Words) (known : Knowledge) (good : IsGood key word
     parts_down : (q : ℕ) (plane : Plane) → KnowsBlock known q index plane → index ≢ 0 → Downwards key known index word
     parts_down zero plane knows other = nothing_down (λ rank p o k. let e : suc rank ≡ zero = same_rank (suc rank) zero index p plane other k knows in omega arith)
     parts_down (suc r) plane knows other =
-        let in_one = cells_inside words r (first_part word) in let in_two = cells_inside words r (second_part word) in
         let whole : IsSame plane (paired r (cells_of words r (first_part word)) (cells_of words r (second_part word))) =
         same_trans (same_sym (block_true key.shape.bits words known (suc r) index plane h knows).cells)
         (same_of _ _ (cells_paired words r index other ∙ ap (λ w. paired r (cells_of words r (first_part w)) (cells_of words r (second_part w))) there)) in
@@ -194,26 +200,28 @@ module _ (key : Key) (words : Words) (known : Knowledge) (good : IsGood key word
           first_inside = cells_inside words r (first_part word);
           second_inside = cells_inside words r (second_part word);
         } in
-        let one = entry_of (first_part word) r (cells_of words r (first_part word)) (cells_inside words r (first_part word)) in
-        let two = entry_of (second_part word) r (cells_of words r (second_part word)) (cells_inside words r (second_part word)) in
-        let both = entry_of (first_part word) r (cells_of words r (first_part word)) (cells_inside words r (first_part word)) ∷ entry_of (second_part word) r (cells_of words r (second_part word)) (cells_inside words r (second_part word)) ∷ [] in
+        let says = λ (n : ℕ). entry_says n r (cells_of words r n) (cells_inside words r n) in
+        let has : HasParts (part_entries words r word) r word plane = record {
+          one = cells_of words r (first_part word);
+          two = cells_of words r (second_part word);
+          cells = whole;
+          first = lists_first (first_part word) r (cells_of words r (first_part word)) (cells_inside words r (first_part word)) (block_entry words r (second_part word) ∷ []);
+          second = lists_more (block_entry words r (second_part word) ∷ []) (part_entries words r word) r (second_part word) (cells_of words r (second_part word))
+              (λ entry t. Contains-append_right (block_entry words r (first_part word) ∷ []) (block_entry words r (second_part word) ∷ []) entry t)
+              (lists_first (second_part word) r (cells_of words r (second_part word)) (cells_inside words r (second_part word)) []);
+        } in
         record {
-          more = entry_of (first_part word) r (cells_of words r (first_part word)) (cells_inside words r (first_part word)) ∷ entry_of (second_part word) r (cells_of words r (second_part word)) (cells_inside words r (second_part word)) ∷ [];
+          more = part_entries words r word;
           follow = (
-            as_first_part r (cells_of words r (first_part word)) (cells_of words r (second_part word)) known_whole (entry_says (first_part word) r (cells_of words r (first_part word)) in_one),
-            (as_second_part r (cells_of words r (first_part word)) (cells_of words r (second_part word)) known_whole (entry_says (second_part word) r (cells_of words r (second_part word)) in_two), tt),
+            as_first_part r (cells_of words r (first_part word)) (cells_of words r (second_part word)) known_whole (says (first_part word)),
+            (as_second_part r (cells_of words r (first_part word)) (cells_of words r (second_part word)) known_whole (says (second_part word)), tt),
           );
           parts = λ rank p o k.
               let e : suc rank ≡ suc r = same_rank (suc rank) (suc r) index p plane other k knows in
               let same : r ≡ rank = omega arith in
-              subst (λ s. HasParts (entry_of (first_part word) r (cells_of words r (first_part word)) (cells_inside words r (first_part word)) ∷ entry_of (second_part word) r (cells_of words r (second_part word)) (cells_inside words r (second_part word)) ∷ []) s word p) same (record {
-                one = cells_of words r (first_part word);
-                two = cells_of words r (second_part word);
-                cells = same_trans (agree (suc r) index p plane (subst (λ s. KnowsBlock known (suc s) index p) (sym same) k) knows) whole;
-                first = lists_first (first_part word) r (cells_of words r (first_part word)) in_one (two ∷ []);
-                second = lists_more (two ∷ []) (one ∷ two ∷ []) r (second_part word) (cells_of words r (second_part word)) (λ entry t. Contains-append_right (one ∷ []) (two ∷ []) entry t)
-                    (lists_first (second_part word) r (cells_of words r (second_part word)) in_two []);
-              });
+              let alike = agree (suc r) index p plane (subst (λ s. KnowsBlock known (suc s) index p) (sym same) k) knows in
+              subst (λ s. HasParts (part_entries words r word) s word p) same
+              (record { one = has.one; two = has.two; cells = same_trans alike has.cells; first = has.first; second = has.second });
         }
 
     down_of : Whether known index → Downwards key known index word
