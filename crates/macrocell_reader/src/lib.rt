@@ -1,0 +1,17 @@
+//! Macrocell pattern files: [`McFile::open`] checks a whole text once, and its comments, its rule and its
+//! node lines are slices of that text.
+#![tactic(auto)]
+
+mod comments;
+mod inner;
+mod leaf;
+mod mc_file;
+mod node;
+mod node_faults;
+mod node_lines;
+mod settings;
+
+pub use comments::Comments;
+pub use mc_file::McFile;
+pub use node::{Node, NodeLine};
+pub use node_lines::NodeLines;
