@@ -1,6 +1,6 @@
 -- Shards in each slot of which a desk has seen a word.
-use Rattle.std.proofs.Common.{◌≡◌, ◌≢◌, ℕ, zero, suc, ◌+◌, ◌-◌, ◌*◌, ◌/◌, ◌^◌, ◌<◌, ◌≤◌, ◌⊎◌, Bool, true, false, List, [], ◌∷◌, length, sym, ◌∙◌, ap, subst, arith, refl, inl, inr, ⊎_elim}
-use Rattle.std.specs.Prelude.{◌==◌, ◌&&◌, ◌||◌, Contains, slice_index_or}
+use Rattle.std.proofs.Common.{◌≡◌, ◌≢◌, ℕ, zero, suc, ◌+◌, ◌-◌, ◌*◌, ◌/◌, ◌^◌, ◌<◌, ◌≤◌, true, List, [], ◌∷◌, length, sym, ◌∙◌, ap, subst, arith, refl, ⊎_elim}
+use Rattle.std.specs.Prelude.{◌==◌, Contains, slice_index_or}
 use Rattle.std.specs.List.{list_any}
 use Rattle.std.proofs.lemmas.Bool.{false≢true, eqb-true, eq-eqb, cases_lt}
 use Rattle.std.proofs.lemmas.List.Elements.{Contains-append_right}
@@ -14,6 +14,7 @@ use Rattle.table_core.specs.Knowledge.{HasSeen, IsTrueOf}
 use Rattle.table_core.specs.FullShards.{KnowsFullShard, has_seen_all, has_full_shard, knows_full_shard}
 use Rattle.table_core.specs.Laws.{FullShardIsSeen}
 use Rattle.table_core.proofs.Ways.{first_below, whole, few, way_covers}
+use Rattle.table_core.proofs.Booleans.{or_cases, or_left, or_right, and_both}
 use Rattle.table_core.proofs.Knowing.{seen_true}
 
 shard_slot : (bits : ℕ) (kind : Kind) (word slot : ℕ) → slot < 256 →
@@ -57,22 +58,6 @@ full_later bits old new more f = record {
   within = f.within;
   full = λ slot less. let t = f.full slot less in (t.0, more (start bits f.kind + (256 * f.shard + slot), t.0) t.1);
 }
-
-or_cases : (a b : Bool) → (a || b) ≡ true → (a ≡ true) ⊎ (b ≡ true)
-or_cases true b h = inl refl
-or_cases false b h = inr h
-
-or_left : (a b : Bool) → a ≡ true → (a || b) ≡ true
-or_left true b h = refl
-or_left false b h = absurd (false≢true h)
-
-or_right : (a b : Bool) → b ≡ true → (a || b) ≡ true
-or_right true b h = refl
-or_right false b h = h
-
-and_both : (a b : Bool) → a ≡ true → b ≡ true → (a && b) ≡ true
-and_both true b h k = k
-and_both false b h k = absurd (false≢true h)
 
 -- the tests
 seen_at : (words : List (ℕ × ℕ)) (index : ℕ) → list_any (λ entry. entry.0 == index) words ≡ true → (word : ℕ) × Contains words (index, word)

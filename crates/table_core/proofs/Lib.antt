@@ -1,4 +1,5 @@
 pub mod Blocks
+pub mod Booleans
 pub mod Claims
 pub mod Consistency
 pub mod Entries

@@ -1,8 +1,8 @@
 -- Lists of results, with no square twice.
 use Rattle.std.proofs.Common.{◌≡◌, ℕ, zero, suc, ◌+◌, ◌^◌, ◌<◌, Bool, true, false, cond, List, [], ◌∷◌, length, sym, ◌∙◌, ap, subst, arith, refl}
-use Rattle.std.specs.Prelude.{◌==◌, ◌||◌, Contains, slice_index_or}
+use Rattle.std.specs.Prelude.{◌==◌, ◌||◌, Contains, slice_index_or, slice_get, Some}
 use Rattle.std.specs.List.{AllByRecursion}
-use Rattle.std.proofs.lemmas.Bool.{false≢true, eqb-true}
+use Rattle.std.proofs.lemmas.Bool.{false≢true, eqb-true, eq-eqb}
 use Rattle.std.proofs.lemmas.List.Elements.{Contains-append_right}
 use Rattle.table_core.specs.declared.knowledge.KnownResult.{KnownResult}
 use Rattle.table_core.specs.declared.shape.Kind.TheVariants.{Pair}
@@ -11,6 +11,7 @@ use Rattle.table_core.specs.Blocks.{Words, IsBlock, square_rank}
 use Rattle.table_core.specs.Knowledge.{has_result, with_result, HasEachOnce, joined_results, IsTrueResult}
 use Rattle.table_core.proofs.Ways.{not_head}
 use Rattle.table_core.proofs.Blocks.{one_rank}
+use Rattle.table_core.proofs.Booleans.{or_right}
 use Rattle.table_core.proofs.Lists.{all_contains, contains_here}
 
 later : (x : KnownResult) (xs : List KnownResult) (r : KnownResult) → Contains xs r → Contains (x ∷ xs) r
@@ -102,3 +103,21 @@ pub joined_keeps_second : (bits : ℕ) (words : Words) (one two : List KnownResu
     AllByRecursion (IsTrueResult bits words) one → AllByRecursion (IsTrueResult bits words) two →
     Contains two r → Contains (joined_results one two) r
 joined_keeps_second bits words one two r h k has = second_at bits words one two r has.0 h k has.1 has.2
+
+get_has : (results : List KnownResult) (i : ℕ) (r : KnownResult) → slice_get results i ≡ Some r → has_result results r.square ≡ true
+get_has [] i r e = let no : ⊥ = cc in absurd no
+get_has (x ∷ xs) zero r e = let same : x ≡ r = cc in ap (λ b. b || has_result xs r.square) (eq-eqb x.square r.square (ap (λ (y : KnownResult). y.square) same))
+get_has (x ∷ xs) (suc i) r e = or_right (x.square == r.square) (has_result xs r.square) (get_has xs i r e)
+
+not_again : (x : KnownResult) (xs : List KnownResult) (j : ℕ) (a b : KnownResult) → has_result xs x.square ≡ false → x ≡ a → slice_get xs j ≡ Some b → a.square ≡ b.square → ⊥
+not_again x xs j a b none same there e =
+    false≢true (sym none ∙ ap (has_result xs) (ap (λ (y : KnownResult). y.square) same ∙ e) ∙ get_has xs j b there)
+
+-- a square has its one result at one place
+pub one_place : (results : List KnownResult) (i j : ℕ) (a b : KnownResult) → HasEachOnce results → slice_get results i ≡ Some a → slice_get results j ≡ Some b →
+    a.square ≡ b.square → i ≡ j
+one_place [] i j a b h at also e = let no : ⊥ = cc in absurd no
+one_place (x ∷ xs) zero zero a b h at also e = refl
+one_place (x ∷ xs) zero (suc j) a b h at also e = let same : x ≡ a = cc in absurd (not_again x xs j a b h.0 same also e)
+one_place (x ∷ xs) (suc i) zero a b h at also e = let same : x ≡ b = cc in absurd (not_again x xs i b a h.0 same at (sym e))
+one_place (x ∷ xs) (suc i) (suc j) a b h at also e = ap suc (one_place xs i j a b h.1 at also e)
