@@ -4,7 +4,9 @@
 //! Nothing here runs at the same time as anything else. An atomic step is an `Event`, one load or
 //! one compare-exchange of one word, and `step` makes its change. `every_run` says what holds after
 //! every list of lawful events of any desks in any order; a running table has these definitions as
-//! its rule.
+//! its rule. In `specs/`, `Layout` says where words stand, `Blocks` what numbers show, `Good` which
+//! words are good, `Knowledge` what a desk knows, `Lawful` and `Learning` what it may do and what
+//! that teaches it, and `Runs` what a run is.
 #![tactic(auto)]
 
 mod key;
