@@ -1,5 +1,5 @@
 -- What numbers show.
-use Rattle.std.proofs.Common.{◌≡◌, ◌≢◌, ℕ, zero, suc, ◌+◌, ◌-◌, ◌*◌, ◌/◌, ◌%◌, ◌^◌, ◌<◌, ◌≤◌, ◌⊎◌, ℤ, pos, Bool, true, false, cond, eqb, sym, ◌∙◌, ap, subst, arith, refl, inl, inr, ⊎_elim}
+use Rattle.std.proofs.Common.{◌≡◌, ◌≢◌, ℕ, zero, suc, ◌+◌, ◌*◌, ◌/◌, ◌%◌, ◌^◌, ◌⊎◌, pos, Bool, true, false, cond, sym, ◌∙◌, ap, subst, arith, refl, inl, inr, ⊎_elim}
 use Rattle.std.specs.Prelude.{◌==◌, ◌&&◌, unsigned_abs, int_lt}
 use Rattle.std.proofs.lemmas.Bool.{eqb-true, false≢true}
 use Rattle.std.proofs.lemmas.Bool.Decides.{eqb_tells}
@@ -7,7 +7,7 @@ use Rattle.std.proofs.Math.Nat.{pow-suc}
 use Rattle.plane.specs.Plane.{Plane}
 use Rattle.plane.specs.Square.{IsSame, empty, bits_plane, bit, spans}
 use Rattle.plane.specs.Block.{IsInside, beside, below}
-use Rattle.plane.proofs.Same.{same_refl, same_sym, same_trans, same_of, plane_equal}
+use Rattle.plane.proofs.Same.{same_sym, same_trans, same_of, plane_equal}
 use Rattle.plane.proofs.LeafBits.{bits_same, bits_none}
 use Rattle.plane.proofs.Blocks.{empty_inside, beside_inside, below_inside, beside_left, beside_right, below_upper, below_lower}
 use Rattle.table_core.specs.declared.shape.Kind.{Kind}
@@ -54,7 +54,8 @@ inside_as w w' t t' plane ew et h = subst (λ n. IsInside w' n plane) et (subst 
 odd : (r : ℕ) → (r % 2 == 0) ≡ false → r % 2 ≡ 1
 odd r e = ⊎_elim (λ t. absurd (false≢true (sym e ∙ t.0))) (λ t. let n = t.1 in omega arith) (eqb_tells (r % 2) 0)
 
-paired_in : (r : ℕ) (a b : Plane) (even : Bool) → (r % 2 == 0) ≡ even → IsInside (width r) (height r) a → IsInside (width r) (height r) b → IsInside (width (suc r)) (height (suc r)) (cond even (beside (width r) a b) (below (height r) a b))
+paired_in : (r : ℕ) (a b : Plane) (even : Bool) → (r % 2 == 0) ≡ even → IsInside (width r) (height r) a → IsInside (width r) (height r) b →
+    IsInside (width (suc r)) (height (suc r)) (cond even (beside (width r) a b) (below (height r) a b))
 paired_in r a b true e ha hb =
     let two : r % 2 ≡ 0 = eqb-true (r % 2) 0 e in
     inside_as _ (width (suc r)) _ (height (suc r)) (beside (width r) a b) (twice ((r + 1) / 2 + 3) ((suc r + 1) / 2 + 3) (omega arith)) (ap (λ n. 2 ^ n) (let k : r / 2 + 3 ≡ suc r / 2 + 3 = omega arith in k)) (beside_inside (width r) (height r) a b ha hb)
@@ -62,7 +63,8 @@ paired_in r a b false e ha hb =
     let two : r % 2 ≡ 1 = odd r e in
     inside_as _ (width (suc r)) _ (height (suc r)) (below (height r) a b) (ap (λ n. 2 ^ n) (let k : (r + 1) / 2 + 3 ≡ (suc r + 1) / 2 + 3 = omega arith in k)) (twice (r / 2 + 3) (suc r / 2 + 3) (omega arith)) (below_inside (width r) (height r) a b ha hb)
 
-pub paired_inside : (r : ℕ) (a b : Plane) → IsInside (width r) (height r) a → IsInside (width r) (height r) b → IsInside (width (suc r)) (height (suc r)) (paired r a b)
+pub paired_inside : (r : ℕ) (a b : Plane) → IsInside (width r) (height r) a → IsInside (width r) (height r) b →
+    IsInside (width (suc r)) (height (suc r)) (paired r a b)
 paired_inside r a b ha hb = paired_in r a b (r % 2 == 0) refl ha hb
 
 and_no : (b : Bool) → (b && false) ≡ false
@@ -82,18 +84,22 @@ cells_inside words (suc r) zero = empty_inside (width (suc r)) (height (suc r))
 cells_inside words (suc r) (suc i) = paired_inside r _ _ (cells_inside words r (first_part (words (suc i)))) (cells_inside words r (second_part (words (suc i))))
 
 -- the parts of what is paired
-first_by : (r : ℕ) (a b c d : Plane) (even : Bool) → IsInside (width r) (height r) a → IsInside (width r) (height r) c → IsSame (cond even (beside (width r) a b) (below (height r) a b)) (cond even (beside (width r) c d) (below (height r) c d)) → IsSame a c
+first_by : (r : ℕ) (a b c d : Plane) (even : Bool) → IsInside (width r) (height r) a → IsInside (width r) (height r) c →
+    IsSame (cond even (beside (width r) a b) (below (height r) a b)) (cond even (beside (width r) c d) (below (height r) c d)) → IsSame a c
 first_by r a b c d true ha hc h = beside_left (width r) (height r) a b c d ha hc h
 first_by r a b c d false ha hc h = below_upper (width r) (height r) a b c d ha hc h
 
-second_by : (r : ℕ) (a b c d : Plane) (even : Bool) → IsInside (width r) (height r) b → IsInside (width r) (height r) d → IsSame (cond even (beside (width r) a b) (below (height r) a b)) (cond even (beside (width r) c d) (below (height r) c d)) → IsSame b d
+second_by : (r : ℕ) (a b c d : Plane) (even : Bool) → IsInside (width r) (height r) b → IsInside (width r) (height r) d →
+    IsSame (cond even (beside (width r) a b) (below (height r) a b)) (cond even (beside (width r) c d) (below (height r) c d)) → IsSame b d
 second_by r a b c d true hb hd h = beside_right (width r) (height r) a b c d hb hd h
 second_by r a b c d false hb hd h = below_lower (width r) (height r) a b c d hb hd h
 
-pub paired_first : (r : ℕ) (a b c d : Plane) → IsInside (width r) (height r) a → IsInside (width r) (height r) c → IsSame (paired r a b) (paired r c d) → IsSame a c
+pub paired_first : (r : ℕ) (a b c d : Plane) → IsInside (width r) (height r) a → IsInside (width r) (height r) c →
+    IsSame (paired r a b) (paired r c d) → IsSame a c
 paired_first r a b c d ha hc h = first_by r a b c d (r % 2 == 0) ha hc h
 
-pub paired_second : (r : ℕ) (a b c d : Plane) → IsInside (width r) (height r) b → IsInside (width r) (height r) d → IsSame (paired r a b) (paired r c d) → IsSame b d
+pub paired_second : (r : ℕ) (a b c d : Plane) → IsInside (width r) (height r) b → IsInside (width r) (height r) d →
+    IsSame (paired r a b) (paired r c d) → IsSame b d
 paired_second r a b c d hb hd h = second_by r a b c d (r % 2 == 0) hb hd h
 
 pub paired_same : (r : ℕ) (a b c d : Plane) → IsSame a c → IsSame b d → IsSame (paired r a b) (paired r c d)
@@ -103,7 +109,7 @@ both : {A : Type 0} (b : Bool) (u v w : A) → u ≡ w → v ≡ w → cond b u 
 both true u v w h k = h
 both false u v w h k = k
 
-pub paired_empty : (r : ℕ) → paired r empty empty ≡ empty
+paired_empty : (r : ℕ) → paired r empty empty ≡ empty
 paired_empty r = both (r % 2 == 0) (beside (width r) empty empty) (below (height r) empty empty) empty
     (λ i x y. both (int_lt x (pos (width r))) false false false refl refl i) (λ i x y. both (int_lt y (pos (height r))) false false false refl refl i)
 
@@ -116,7 +122,8 @@ empty_block bits words zero = tt
 empty_block bits words (suc r) = tt
 
 -- a number other than 0 shows no empty block
-pub not_empty : (key : Key) (words : Words) → IsGood key words → (r n : ℕ) → IsBlock key.shape.bits words r n → IsSame (cells_of words r n) empty → n ≡ 0
+pub not_empty : (key : Key) (words : Words) → IsGood key words → (r n : ℕ) → IsBlock key.shape.bits words r n → IsSame (cells_of words r n) empty →
+    n ≡ 0
 not_empty key words good zero zero h same = refl
 not_empty key words good zero (suc i) h same = absurd (h.1 (bits_none (words (suc i)) (good.fits (suc i)) same))
 not_empty key words good (suc r) zero h same = refl
@@ -128,7 +135,8 @@ not_empty key words good (suc r) (suc i) h same =
     absurd (h.1 (parts_equal (words (suc i)) 0 one two))
 
 -- numbers that show blocks of one rank with the same cells are equal
-pub one_number : (key : Key) (words : Words) → IsGood key words → (r n m : ℕ) → IsBlock key.shape.bits words r n → IsBlock key.shape.bits words r m → IsSame (cells_of words r n) (cells_of words r m) → n ≡ m
+pub one_number : (key : Key) (words : Words) → IsGood key words → (r n m : ℕ) → IsBlock key.shape.bits words r n →
+    IsBlock key.shape.bits words r m → IsSame (cells_of words r n) (cells_of words r m) → n ≡ m
 one_number key words good zero zero m h k same = sym (not_empty key words good zero m k (same_sym same))
 one_number key words good (suc r) zero m h k same = sym (not_empty key words good (suc r) m k (same_sym same))
 one_number key words good zero (suc i) zero h k same = not_empty key words good zero (suc i) h same
@@ -161,7 +169,7 @@ cells_stay bits old new keeps (suc r) (suc i) h =
     ∙ ap (λ p. paired r p (cells_of new r (second_part w))) (cells_stay bits old new keeps r (first_part w) h.2)
     ∙ ap (paired r (cells_of old r (first_part w))) (cells_stay bits old new keeps r (second_part w) h.3)
 
-pub slots_kept : (bits : ℕ) (old new : Words) → KeepsWords old new → KeepsSlots bits old new
+slots_kept : (bits : ℕ) (old new : Words) → KeepsWords old new → KeepsSlots bits old new
 slots_kept bits old new keeps = record { kept = λ kind i slot some. keeps.kept i some }
 
 pub block_kept : (bits : ℕ) (old new : Words) → KeepsWords old new → (r n : ℕ) → IsBlock bits old r n → IsBlock bits new r n
@@ -170,7 +178,8 @@ block_kept bits old new keeps = block_stays bits old new (slots_kept bits old ne
 pub cells_kept : (bits : ℕ) (old new : Words) → KeepsWords old new → (r n : ℕ) → IsBlock bits old r n → cells_of new r n ≡ cells_of old r n
 cells_kept bits old new keeps = cells_stay bits old new (slots_kept bits old new keeps)
 
-pub shows_stay : (bits : ℕ) (old new : Words) (r n : ℕ) (plane : Plane) → KeepsSlots bits old new → Shows bits old r n plane → Shows bits new r n plane
+pub shows_stay : (bits : ℕ) (old new : Words) (r n : ℕ) (plane : Plane) → KeepsSlots bits old new → Shows bits old r n plane →
+    Shows bits new r n plane
 shows_stay bits old new r n plane keeps h = record { stands = block_stays bits old new keeps r n h.stands; cells = same_trans (same_of _ _ (cells_stay bits old new keeps r n h.stands)) h.cells }
 
 pub shows_kept : (bits : ℕ) (old new : Words) (r n : ℕ) (plane : Plane) → KeepsWords old new → Shows bits old r n plane → Shows bits new r n plane

@@ -1,15 +1,13 @@
 -- A word that comes to a zero slot keeps the words good.
-use Rattle.std.proofs.Common.{◌≡◌, ◌≢◌, ℕ, zero, suc, ◌+◌, ◌-◌, ◌*◌, ◌/◌, ◌%◌, ◌^◌, ◌<◌, ◌≤◌, ◌⊎◌, sym, ◌∙◌, ap, subst, arith, refl, inl, inr, ⊎_elim}
+use Rattle.std.proofs.Common.{◌≡◌, ◌≢◌, ℕ, zero, suc, ◌+◌, ◌-◌, ◌^◌, ◌<◌, ◌≤◌, ◌⊎◌, sym, ◌∙◌, ap, subst, arith, refl, inl, inr, ⊎_elim}
 use Rattle.std.proofs.lemmas.Bool.Decides.{eqb_tells}
-use Rattle.plane.specs.Plane.{Plane}
-use Rattle.plane.specs.Square.{IsSame, future}
-use Rattle.plane.proofs.Same.{same_trans, same_of}
+use Rattle.plane.specs.Square.{future}
 use Rattle.table_core.specs.declared.shape.Kind.{Kind}
-use Rattle.table_core.specs.declared.shape.Kind.TheVariants.{Leaf, Pair}
+use Rattle.table_core.specs.declared.shape.Kind.TheVariants.{Pair}
 use Rattle.table_core.specs.Layout.{IsSlot, way, result_of, first_part, second_part}
 use Rattle.table_core.specs.Blocks.{Words, IsBlock, cells_of, square_rank, largest_rank, Shows}
 use Rattle.table_core.specs.declared.key.Key.{Key}
-use Rattle.table_core.specs.Good.{head, IsOnWay, IsFutureOf, IsGood, KeepsWords, Fills, PartsStand, MayStand}
+use Rattle.table_core.specs.Good.{IsOnWay, IsFutureOf, IsGood, KeepsWords, Fills, PartsStand, MayStand}
 use Rattle.table_core.proofs.Ways.{one_kind, not_head, not_result, way_is_slot}
 use Rattle.table_core.proofs.Blocks.{block_kept, cells_kept, shows_kept}
 
@@ -39,7 +37,8 @@ way_kept bits old new kind i keeps some h =
     }
 
 -- a word that may come stands nowhere yet
-pub absent : (key : Key) (words : Words) (kind : Kind) (index word i : ℕ) → IsGood key words → words index ≡ 0 → MayStand key.shape.bits words kind index word → IsSlot key.shape.bits kind i → words i ≢ word
+absent : (key : Key) (words : Words) (kind : Kind) (index word i : ℕ) → IsGood key words → words index ≡ 0 →
+    MayStand key.shape.bits words kind index word → IsSlot key.shape.bits kind i → words i ≢ word
 absent key words kind index word i good free may slot e =
     let t : IsOnWay key.shape.bits words kind i = good.on_way kind i slot (λ z. may.some (sym e ∙ z)) in
     let here : way key.shape.bits kind word t.place ≡ i = ap (λ w. way key.shape.bits kind w t.place) (sym e) ∙ t.here in
@@ -49,7 +48,8 @@ absent key words kind index word i good free may slot e =
     (ordered t.place may.place)
 
 -- a pair's word whose parts stand shows a block
-pub pair_block : (bits : ℕ) (words : Words) (rank i : ℕ) → IsSlot bits Pair i → words i ≢ 0 → IsBlock bits words rank (first_part (words i)) → IsBlock bits words rank (second_part (words i)) → IsBlock bits words (suc rank) i
+pub pair_block : (bits : ℕ) (words : Words) (rank i : ℕ) → IsSlot bits Pair i → words i ≢ 0 → IsBlock bits words rank (first_part (words i)) →
+    IsBlock bits words rank (second_part (words i)) → IsBlock bits words (suc rank) i
 pair_block bits words rank zero slot some one two = tt
 pair_block bits words rank (suc i) slot some one two = (slot, some, one, two)
 
@@ -62,7 +62,8 @@ future_kept key old new i n keeps h = record {
       (shows_kept key.shape.bits old new (square_rank (h.level - 1)) n (future key.rule key.exponent h.level (cells_of old (square_rank h.level) i)) keeps h.shown);
 }
 
-pub slot_of : (bits : ℕ) (words : Words) (kind : Kind) (index word : ℕ) → 10 ≤ bits → bits ≤ 64 → MayStand bits words kind index word → IsSlot bits kind index
+pub slot_of : (bits : ℕ) (words : Words) (kind : Kind) (index word : ℕ) → 10 ≤ bits → bits ≤ 64 → MayStand bits words kind index word →
+    IsSlot bits kind index
 slot_of bits words kind index word big low may = subst (IsSlot bits kind) may.here (way_is_slot bits kind word may.place big low)
 
 module _ (key : Key) (old new : Words) (kind : Kind) (index word : ℕ) (slot : IsSlot key.shape.bits kind index) (good : IsGood key old) (may : MayStand key.shape.bits old kind index word) (fills : Fills old new index word) where
@@ -115,7 +116,8 @@ module _ (key : Key) (old new : Words) (kind : Kind) (index word : ℕ) (slot : 
       (λ n. let t = good.blocks i si (λ z. some (fills.others i n ∙ z)) in (t.0, t.1, block_kept key.shape.bits old new kept (suc t.0) i t.2))
       (same_or_other i index)
 
-  results_still : (i : ℕ) → IsSlot key.shape.bits Pair i → new (result_of key.shape.bits i) ≢ 0 → (n : ℕ) × (new (result_of key.shape.bits i) ≡ 2 ^ 32 + n) × IsFutureOf key new i n
+  results_still : (i : ℕ) → IsSlot key.shape.bits Pair i → new (result_of key.shape.bits i) ≢ 0 →
+      (n : ℕ) × (new (result_of key.shape.bits i) ≡ 2 ^ 32 + n) × IsFutureOf key new i n
   results_still i si some =
       let same : new (result_of key.shape.bits i) ≡ old (result_of key.shape.bits i) = fills.others (result_of key.shape.bits i) (λ e. not_result key.shape.bits kind index i slot si (sym e)) in
       let t = good.results i si (λ z. some (same ∙ z)) in
@@ -152,7 +154,3 @@ module _ (key : Key) (old new : Words) (index n : ℕ) (slot : IsSlot key.shape.
         (λ m. let same = fills.others (result_of key.shape.bits i) m in let t = good.results i si (λ z. some (same ∙ z)) in (t.0, same ∙ t.1, future_kept key old new i t.0 keeps_all t.2))
         (same_or_other (result_of key.shape.bits i) (result_of key.shape.bits index));
   }
-
--- a slot that holds a word is the word's number
-pub found_number : (key : Key) (words : Words) (kind : Kind) (index i word : ℕ) → IsGood key words → IsSlot key.shape.bits kind index → IsSlot key.shape.bits kind i → word ≢ 0 → words index ≡ word → words i ≡ word → index ≡ i
-found_number key words kind index i word good slot other some here there = good.once kind index i slot other (λ z. some (sym here ∙ z)) (here ∙ sym there)

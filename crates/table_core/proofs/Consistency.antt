@@ -1,6 +1,5 @@
 -- What is true of good words agrees with itself.
-use Rattle.std.proofs.Common.{◌≡◌, ◌≢◌, ℕ, zero, suc, ◌+◌, ◌*◌, ◌^◌, ◌<◌, ◌≤◌, ◌⊎◌, List, [], ◌∷◌, sym, ◌∙◌, subst, arith, refl}
-use Rattle.std.specs.Prelude.{Contains}
+use Rattle.std.proofs.Common.{◌≡◌, ◌≢◌, ℕ, zero, suc, ◌<◌, List, [], ◌∷◌, subst, arith, refl}
 use Rattle.std.specs.List.{AllByRecursion}
 use Rattle.plane.specs.Plane.{Plane}
 use Rattle.plane.specs.Square.{IsSame}
@@ -13,7 +12,7 @@ use Rattle.table_core.specs.declared.shape.Kind.TheVariants.{Leaf, Pair}
 use Rattle.table_core.specs.Layout.{IsSlot}
 use Rattle.table_core.specs.Blocks.{Words, IsBlock, width, height, largest_rank}
 use Rattle.table_core.specs.Good.{IsGood}
-use Rattle.table_core.specs.Knowledge.{KnowsBlock, IsTrueResult, KnowsSquareOf, IsTrueOf, IsConsistent}
+use Rattle.table_core.specs.Knowledge.{KnowsBlock, IsTrueResult, KnowsSquareOf, IsTrueOf}
 use Rattle.table_core.specs.Laws.{EveryTruthIsConsistent}
 use Rattle.table_core.proofs.Ways.{not_head}
 use Rattle.table_core.proofs.Blocks.{one_rank}
@@ -45,7 +44,8 @@ pair_slot bits words rank zero some b = absurd (some refl)
 pair_slot bits words rank (suc i) some b = (b.0, b.1)
 
 -- a pair that stands in good words is of at most a square of level 65
-low_rank : (key : Key) (words : Words) (rank n : ℕ) → IsGood key words → n ≢ 0 → IsBlock key.shape.bits words (suc rank) n → IsSlot key.shape.bits Pair n × (rank < largest_rank)
+low_rank : (key : Key) (words : Words) (rank n : ℕ) → IsGood key words → n ≢ 0 → IsBlock key.shape.bits words (suc rank) n →
+    IsSlot key.shape.bits Pair n × (rank < largest_rank)
 low_rank key words rank n good some b =
     let s = pair_slot key.shape.bits words rank n some b in
     let t = good.blocks n s.0 s.1 in
@@ -53,7 +53,8 @@ low_rank key words rank n good some b =
     let e : suc rank ≡ suc t.0 = one_rank key.shape.bits words (suc rank) (suc t.0) n b t.2 some in
     (s.0, omega arith)
 
-results_consistent : (bits : ℕ) (words : Words) (known : Knowledge) (results : List KnownResult) → AllByRecursion (IsTrueResult bits words) results → AllByRecursion (KnowsSquareOf known) results →
+results_consistent : (bits : ℕ) (words : Words) (known : Knowledge) (results : List KnownResult) →
+    AllByRecursion (IsTrueResult bits words) results → AllByRecursion (KnowsSquareOf known) results →
     AllByRecursion (λ result. (3 < result.level) × (result.square ≢ 0) × KnowsSquareOf known result) results
 results_consistent bits words known [] h k = tt
 results_consistent bits words known (r ∷ rs) h k = ((h.0.above, not_head bits Pair r.square h.0.slot, k.0), results_consistent bits words known rs h.1 k.1)

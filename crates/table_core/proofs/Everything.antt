@@ -1,10 +1,9 @@
 -- A desk may know all that good words say.
-use Rattle.std.proofs.Common.{◌≡◌, ◌≢◌, ℕ, zero, suc, ◌+◌, ◌-◌, ◌*◌, ◌^◌, ◌<◌, ◌≤◌, ◌⊎◌, List, [], ◌∷◌, ◌++◌, sym, ◌∙◌, ap, subst, arith, refl, inl, inr, ⊎_elim}
+use Rattle.std.proofs.Common.{◌≡◌, ◌≢◌, ℕ, zero, suc, ◌<◌, ◌⊎◌, [], ◌∷◌, ◌++◌, sym, ◌∙◌, ap, subst, arith, refl, inl, inr, ⊎_elim}
 use Rattle.std.specs.Prelude.{Contains}
-use Rattle.std.specs.List.{AllByRecursion}
 use Rattle.std.proofs.lemmas.List.Elements.{Contains-append_left, Contains-append_right}
 use Rattle.plane.specs.Listing.{plane_of}
-use Rattle.plane.proofs.Same.{same_sym, same_trans, same_of}
+use Rattle.plane.proofs.Same.{same_sym, same_of}
 use Rattle.table_core.specs.declared.key.Key.{Key}
 use Rattle.table_core.specs.declared.knowledge.KnownBlock.{KnownBlock}
 use Rattle.table_core.specs.declared.knowledge.KnownResult.{KnownResult}
@@ -14,14 +13,14 @@ use Rattle.table_core.specs.Layout.{IsSlot, size, result_of}
 use Rattle.table_core.specs.Blocks.{Words, IsBlock, cells_of, square_rank, Shows}
 use Rattle.table_core.specs.Good.{IsGood}
 use Rattle.table_core.specs.Knowledge.{HasSeen, KnowsBlock, IsTrueResult, KnowsSquareOf, IsTrueOf, Grows, with_result, nothing}
-use Rattle.table_core.specs.Laws.{KnowsAll, GoodWordsCanBeKnown}
+use Rattle.table_core.specs.Laws.{GoodWordsCanBeKnown}
 use Rattle.table_core.proofs.Ways.{slot_below}
-use Rattle.table_core.proofs.Blocks.{one_rank, empty_cells, cells_inside, cells_kept}
+use Rattle.table_core.proofs.Blocks.{one_rank, empty_cells, cells_inside}
 use Rattle.table_core.proofs.Claims.{same_or_other}
 use Rattle.table_core.proofs.Lists.{all_append, contains_here}
 use Rattle.table_core.proofs.Results.{with_result_keeps, with_result_all, with_result_once, with_result_has, same_result}
-use Rattle.table_core.proofs.Knowing.{nothing_true, squares_more, knows_same, grows_refl, grows_trans, knows_grown}
-use Rattle.table_core.proofs.Teaching.{entry_of, entry_same, lists_first, lists_more, slot_or_not}
+use Rattle.table_core.proofs.Knowing.{nothing_true, squares_more, grows_refl, grows_trans, knows_grown}
+use Rattle.table_core.proofs.Teaching.{block_entry, entry_same, lists_first, lists_more, slot_or_not}
 
 leaf_block : (bits : ℕ) (words : Words) (i : ℕ) → IsSlot bits Leaf i → words i ≢ 0 → IsBlock bits words 0 i
 leaf_block bits words zero slot some = tt
@@ -33,7 +32,8 @@ block_slot bits words zero (suc i) other h = (h.1, inl h.0)
 block_slot bits words (suc rank) (suc i) other h = (h.1, inr h.0)
 
 -- a number other than 0 is a block of one rank, or none
-block_or_not : (key : Key) (words : Words) → IsGood key words → (i : ℕ) → i ≢ 0 → ((rank : ℕ) × IsBlock key.shape.bits words rank i) ⊎ ((rank : ℕ) → IsBlock key.shape.bits words rank i → ⊥)
+block_or_not : (key : Key) (words : Words) → IsGood key words → (i : ℕ) → i ≢ 0 →
+    ((rank : ℕ) × IsBlock key.shape.bits words rank i) ⊎ ((rank : ℕ) → IsBlock key.shape.bits words rank i → ⊥)
 block_or_not key words good i other = ⊎_elim (λ z. inr (λ rank b. (block_slot key.shape.bits words rank i other b).0 z))
     (λ some. ⊎_elim (λ s. inl (0, leaf_block key.shape.bits words i s some))
     (λ gone. ⊎_elim (λ s. let t = good.blocks i s some in inl (suc t.0, t.2)) (λ none. inr (λ rank b. ⊎_elim gone none (block_slot key.shape.bits words rank i other b).1)) (slot_or_not key.shape.bits Pair i))
@@ -46,8 +46,18 @@ record Also (bits : ℕ) (words : Words) (known : Knowledge) (thing : Knowledge 
   grows : Grows known later
   has : thing later
 
-nothing_more : (bits : ℕ) (words : Words) (known : Knowledge) (thing : Knowledge → Type 0) → IsTrueOf bits words known → thing known → Also bits words known thing
+nothing_more : (bits : ℕ) (words : Words) (known : Knowledge) (thing : Knowledge → Type 0) → IsTrueOf bits words known → thing known →
+    Also bits words known thing
 nothing_more bits words known thing h t = record { later = known; true_of = h; grows = grows_refl known; has = t }
+
+abbrev with_block : Knowledge → KnownBlock → Knowledge
+with_block known entry = record { words = known.words; blocks = known.blocks ++ entry ∷ []; results = known.results; learned = known.learned }
+
+abbrev result_entry : ℕ → ℕ → ℕ → KnownResult
+result_entry level square future = record { level = level; square = square; future = future }
+
+abbrev with_told : Knowledge → KnownResult → Knowledge
+with_told known result = record { words = known.words; blocks = known.blocks; results = with_result known.results result; learned = known.learned }
 
 module _ (key : Key) (words : Words) (good : IsGood key words) where
   Sees : ℕ → Knowledge → Type 0
@@ -72,24 +82,26 @@ module _ (key : Key) (words : Words) (good : IsGood key words) where
   show_one : (n rank : ℕ) (known : Knowledge) → IsTrueOf key.shape.bits words known → n ≢ 0 → IsBlock key.shape.bits words rank n → Also key.shape.bits words known (Shown n)
   unfolding Shown
   show_one n rank known h some block =
-      let inside = cells_inside words rank n in
-      let entry = entry_of n rank (cells_of words rank n) inside in
-      let same = entry_same n rank (cells_of words rank n) inside in
-      let more = λ (e : KnownBlock) (t : Contains known.blocks e). Contains-append_left known.blocks (entry_of n rank (cells_of words rank n) (cells_inside words rank n) ∷ []) e t in
+      let more = λ (e : KnownBlock) (t : Contains known.blocks e). Contains-append_left known.blocks (block_entry words rank n ∷ []) e t in
+      let shows : Shows key.shape.bits words rank n (plane_of (block_entry words rank n).live) =
+      record { stands = block; cells = same_sym (entry_same n rank (cells_of words rank n) (cells_inside words rank n)) } in
+      let first = lists_first n rank (cells_of words rank n) (cells_inside words rank n) [] in
+      let now : KnowsBlock (with_block known (block_entry words rank n)) rank n (cells_of words rank n) =
+      inr (lists_more (block_entry words rank n ∷ []) (known.blocks ++ block_entry words rank n ∷ []) rank n (cells_of words rank n)
+      (λ x t. Contains-append_right known.blocks (block_entry words rank n ∷ []) x t) first) in
       record {
-        later = record { words = known.words; blocks = known.blocks ++ entry_of n rank (cells_of words rank n) (cells_inside words rank n) ∷ []; results = known.results; learned = known.learned };
+        later = with_block known (block_entry words rank n);
         true_of = record {
           seen = h.seen;
-          blocks = all_append _ known.blocks (entry_of n rank (cells_of words rank n) (cells_inside words rank n) ∷ []) h.blocks (record { stands = block; cells = same_sym same }, tt);
+          blocks = all_append _ known.blocks (block_entry words rank n ∷ []) h.blocks (shows, tt);
           results = h.results;
-          squares = squares_more known (record { words = known.words; blocks = known.blocks ++ entry_of n rank (cells_of words rank n) (cells_inside words rank n) ∷ []; results = known.results; learned = known.learned }) known.results more h.squares;
+          squares = squares_more known (with_block known (block_entry words rank n)) known.results more h.squares;
           once = h.once;
         };
         grows = record { words = λ e t. t; blocks = more; results = λ result t. t; learned = omega arith };
         has = λ other b.
             let e : rank ≡ other = one_rank key.shape.bits words rank other n block b some in
-            subst (λ r. KnowsBlock (record { words = known.words; blocks = known.blocks ++ entry_of n rank (cells_of words rank n) (cells_inside words rank n) ∷ []; results = known.results; learned = known.learned }) r n (cells_of words r n)) e
-            (inr (lists_more (entry ∷ []) (known.blocks ++ entry ∷ []) rank n (cells_of words rank n) (λ x t. Contains-append_right known.blocks (entry ∷ []) x t) (lists_first n rank (cells_of words rank n) inside [])));
+            subst (λ r. KnowsBlock (with_block known (block_entry words rank n)) r n (cells_of words r n)) e now;
       }
 
   show : (n : ℕ) (known : Knowledge) → IsTrueOf key.shape.bits words known → Also key.shape.bits words known (Shown n)
@@ -103,31 +115,30 @@ module _ (key : Key) (words : Words) (good : IsGood key words) where
   unfolding Told
   not_told n known z result e true_result = absurd (let here = true_result.told in let there : words (result_of key.shape.bits result.square) ≡ 0 = ap (λ i. words (result_of key.shape.bits i)) e ∙ z in omega arith)
 
-  tell_one : (n : ℕ) (known : Knowledge) → IsTrueOf key.shape.bits words known → Shown n known → IsSlot key.shape.bits Pair n → words (result_of key.shape.bits n) ≢ 0 → Also key.shape.bits words known (Told n)
+  tell_one : (n level number : ℕ) (known : Knowledge) → IsTrueOf key.shape.bits words known → Shown n known →
+      IsTrueResult key.shape.bits words (result_entry level n number) → Also key.shape.bits words known (Told n)
   unfolding Shown Told
-  tell_one n known h shown slot some =
-      let t = good.results n slot some in
-      let result : KnownResult = record { level = t.2.level; square = n; future = t.0 } in
-      let true_result : IsTrueResult key.shape.bits words (record { level = t.2.level; square = n; future = t.0 }) = record { above = t.2.above; slot = slot; square = t.2.square; told = t.1 } in
-      record {
-        later = record { words = known.words; blocks = known.blocks; results = with_result known.results (record { level = t.2.level; square = n; future = t.0 }); learned = known.learned };
-        true_of = record {
-          seen = h.seen;
-          blocks = h.blocks;
-          results = with_result_all (IsTrueResult key.shape.bits words) known.results (record { level = t.2.level; square = n; future = t.0 }) h.results true_result;
-          squares = with_result_all (KnowsSquareOf known) known.results (record { level = t.2.level; square = n; future = t.0 }) h.squares (cells_of words (square_rank t.2.level) n, shown (square_rank t.2.level) t.2.square);
-          once = with_result_once known.results (record { level = t.2.level; square = n; future = t.0 }) h.once;
-        };
-        grows = record { words = λ e t. t; blocks = λ e t. t; results = λ r s. with_result_keeps known.results (record { level = t.2.level; square = n; future = t.0 }) r s; learned = omega arith };
-        has = λ other e true_other.
-            let same : result ≡ other = same_result key.shape.bits words result other true_result true_other (sym e) in
-            subst (Contains (with_result known.results result)) same (with_result_has key.shape.bits words known.results result h.results true_result);
-      }
+  tell_one n level number known h shown true_result = record {
+    later = with_told known (result_entry level n number);
+    true_of = record {
+      seen = h.seen;
+      blocks = h.blocks;
+      results = with_result_all (IsTrueResult key.shape.bits words) known.results (result_entry level n number) h.results true_result;
+      squares = with_result_all (KnowsSquareOf known) known.results (result_entry level n number) h.squares
+          (cells_of words (square_rank level) n, shown (square_rank level) true_result.square);
+      once = with_result_once known.results (result_entry level n number) h.once;
+    };
+    grows = record { words = λ e t. t; blocks = λ e t. t; results = λ r s. with_result_keeps known.results (result_entry level n number) r s; learned = omega arith };
+    has = λ other e true_other.
+        let same : result_entry level n number ≡ other = same_result key.shape.bits words (result_entry level n number) other true_result true_other (sym e) in
+        subst (Contains (with_result known.results (result_entry level n number))) same (with_result_has key.shape.bits words known.results (result_entry level n number) h.results true_result);
+  }
 
   told : (n : ℕ) (known : Knowledge) → IsTrueOf key.shape.bits words known → Shown n known → Also key.shape.bits words known (Told n)
   unfolding Told
   told n known h shown = ⊎_elim
-      (λ slot. ⊎_elim (λ z. nothing_more key.shape.bits words known (Told n) h (not_told n known z)) (tell_one n known h shown slot) (same_or_other (words (result_of key.shape.bits n)) 0))
+      (λ slot. ⊎_elim (λ z. nothing_more key.shape.bits words known (Told n) h (not_told n known z)) (λ some. let t = good.results n slot some in tell_one n t.2.level t.0 known h shown (record { above = t.2.above; slot = slot; square = t.2.square; told = t.1 }))
+      (same_or_other (words (result_of key.shape.bits n)) 0))
       (λ gone. nothing_more key.shape.bits words known (Told n) h (λ result e t. absurd (gone (subst (IsSlot key.shape.bits Pair) e t.slot))))
       (slot_or_not key.shape.bits Pair n)
 

@@ -1,15 +1,13 @@
 -- What an event teaches is true, and no less is known after it.
-use Rattle.std.proofs.Common.{◌≡◌, ◌≢◌, ℕ, zero, suc, ◌+◌, ◌-◌, ◌*◌, ◌^◌, ◌<◌, ◌≤◌, ◌⊎◌, List, [], ◌∷◌, ◌++◌, sym, ◌∙◌, ap, subst, arith, refl, ⊎_elim}
+use Rattle.std.proofs.Common.{◌≡◌, ◌≢◌, ℕ, suc, ◌+◌, ◌-◌, ◌^◌, ◌<◌, [], ◌∷◌, sym, ◌∙◌, ap, subst, arith, refl, ⊎_elim}
 use Rattle.std.specs.Prelude.{Contains}
-use Rattle.std.specs.List.{AllByRecursion}
 use Rattle.std.proofs.lemmas.List.Elements.{Contains-append_left, Contains-append_right}
 use Rattle.plane.specs.Plane.{Plane}
 use Rattle.plane.specs.Square.{bits_plane, future}
 use Rattle.plane.specs.Listing.{plane_of}
-use Rattle.plane.proofs.Same.{same_sym, same_trans, same_of}
+use Rattle.plane.proofs.Same.{same_sym}
 use Rattle.table_core.specs.declared.key.Key.{Key}
 use Rattle.table_core.specs.declared.knowledge.KnownBlock.{KnownBlock}
-use Rattle.table_core.specs.declared.knowledge.KnownResult.{KnownResult}
 use Rattle.table_core.specs.declared.knowledge.Knowledge.{Knowledge}
 use Rattle.table_core.specs.declared.machine.Event.{Event}
 use Rattle.table_core.specs.declared.machine.Event.TheVariants.{Look, Claim, Ask, Tell}
@@ -18,8 +16,9 @@ use Rattle.table_core.specs.Layout.{IsSlot, result_of, first_part, second_part}
 use Rattle.table_core.specs.Blocks.{Words, square_rank, IsBlock, Shows, paired}
 use Rattle.table_core.specs.Good.{IsGood}
 use Rattle.table_core.specs.Events.{index_of}
-use Rattle.table_core.specs.Knowledge.{KnowsBlock, IsTrueOf, IsTrueResult, KnowsSquareOf, Grows}
-use Rattle.table_core.specs.Learning.{MayAsk, IsLawful, Follows, as_leaf, as_pair, as_first_part, as_second_part, with_word, LearnsWord, with_future, LearnsFuture, MeetsWord, MeetsResult, Learns}
+use Rattle.table_core.specs.Knowledge.{Says, KnowsBlock, IsTrueOf, IsTrueResult, KnowsSquareOf, Grows}
+use Rattle.table_core.specs.Lawful.{MayAsk, IsLawful}
+use Rattle.table_core.specs.Learning.{KnowsWhole, Follows, as_leaf, as_pair, as_first_part, as_second_part, with_word, LearnsWord, with_future, LearnsFuture, MeetsWord, MeetsResult, Learns}
 use Rattle.table_core.proofs.Claims.{same_or_other}
 use Rattle.table_core.proofs.Lists.{all_weaker, all_append}
 use Rattle.table_core.proofs.Results.{with_result_keeps, with_result_all, with_result_once}
@@ -34,7 +33,8 @@ word_grows key known index word after l = subst (Grows known) (sym l.is) (record
   learned = omega arith;
 })
 
-future_grows : (key : Key) (known : Knowledge) (count index word : ℕ) (after : Knowledge) → LearnsFuture key known count index word after → Grows known after
+future_grows : (key : Key) (known : Knowledge) (count index word : ℕ) (after : Knowledge) → LearnsFuture key known count index word after →
+    Grows known after
 future_grows key known count index word after l = subst (Grows known) (sym l.is) (record {
   words = λ entry h. h;
   blocks = λ entry h. Contains-append_left known.blocks _ entry h;
@@ -43,24 +43,31 @@ future_grows key known count index word after l = subst (Grows known) (sym l.is)
 })
 
 module _ (key : Key) (words : Words) (known : Knowledge) (index word : ℕ) (good : IsGood key words) (h : IsTrueOf key.shape.bits words known) (there : words index ≡ word) where
-  at_word : (rank : ℕ) (one : Plane) (part_of : ℕ → ℕ) → Shows key.shape.bits words rank (part_of word) one → Shows key.shape.bits words rank (part_of (words index)) one
+  at_word : (rank : ℕ) (one : Plane) (part_of : ℕ → ℕ) → Shows key.shape.bits words rank (part_of word) one →
+      Shows key.shape.bits words rank (part_of (words index)) one
   at_word rank one part_of s = subst (λ w. Shows key.shape.bits words rank (part_of w) one) (sym there) s
 
+  said : (entry : KnownBlock) (rank n : ℕ) (plane : Plane) → Says entry rank n plane → Shows key.shape.bits words rank n plane →
+      Shows key.shape.bits words entry.rank entry.number (plane_of entry.live)
+  said entry rank n plane says shown = shown_as key.shape.bits words rank entry.rank n entry.number plane (plane_of entry.live) (sym says.at_rank) (sym says.of_number) (same_sym says.cells) shown
+
+  both_parts : (r : ℕ) (one two : Plane) → KnowsWhole known r index one two →
+      Shows key.shape.bits words r (first_part (words index)) one × Shows key.shape.bits words r (second_part (words index)) two
+  both_parts r one two knows = parts_show key.shape.bits words r index one two knows.some knows.first_inside knows.second_inside (block_true key.shape.bits words known (suc r) index (paired r one two) h knows.whole)
+
   -- what follows is shown
-  follows_true : word ≢ 0 → (entry : KnownBlock) → Follows key known index word entry → Shows key.shape.bits words entry.rank entry.number (plane_of entry.live)
-  follows_true some entry (as_leaf slot number rank live) =
-      shown_as key.shape.bits words 0 entry.rank index entry.number _ _ (sym rank) (sym number) (same_trans (same_of _ _ (ap bits_plane there)) (same_sym live)) (leaf_shows key.shape.bits words index slot (λ z. some (sym there ∙ z)))
-  follows_true some entry (as_pair r one two slot knows_one knows_two number rank live) =
-      shown_as key.shape.bits words (suc r) entry.rank index entry.number _ _ (sym rank) (sym number) (same_sym live)
+  follows_true : word ≢ 0 → (entry : KnownBlock) → Follows key known index word entry →
+      Shows key.shape.bits words entry.rank entry.number (plane_of entry.live)
+  follows_true some entry (as_leaf slot says) = said entry 0 index (bits_plane word) says
+      (subst (λ w. Shows key.shape.bits words 0 index (bits_plane w)) there (leaf_shows key.shape.bits words index slot (λ z. some (sym there ∙ z))))
+  follows_true some entry (as_pair r one two slot knows says) = said entry (suc r) index (paired r one two) says
       (pair_shows key.shape.bits words r index one two slot (λ z. some (sym there ∙ z))
-      (at_word r one first_part (block_true key.shape.bits words known r (first_part word) one h knows_one))
-      (at_word r two second_part (block_true key.shape.bits words known r (second_part word) two h knows_two)))
-  follows_true some entry (as_first_part r one two other knows ha hb number rank live) =
-      let both = parts_show key.shape.bits words r index one two other ha hb (block_true key.shape.bits words known (suc r) index (paired r one two) h knows) in
-      shown_as key.shape.bits words r entry.rank (first_part (words index)) entry.number one (plane_of entry.live) (sym rank) (ap first_part there ∙ sym number) (same_sym live) both.0
-  follows_true some entry (as_second_part r one two other knows ha hb number rank live) =
-      let both = parts_show key.shape.bits words r index one two other ha hb (block_true key.shape.bits words known (suc r) index (paired r one two) h knows) in
-      shown_as key.shape.bits words r entry.rank (second_part (words index)) entry.number two (plane_of entry.live) (sym rank) (ap second_part there ∙ sym number) (same_sym live) both.1
+      (at_word r one first_part (block_true key.shape.bits words known r (first_part word) one h knows.first))
+      (at_word r two second_part (block_true key.shape.bits words known r (second_part word) two h knows.second)))
+  follows_true some entry (as_first_part r one two knows says) = said entry r (first_part word) one says
+      (subst (λ w. Shows key.shape.bits words r (first_part w) one) there (both_parts r one two knows).0)
+  follows_true some entry (as_second_part r one two knows says) = said entry r (second_part word) two says
+      (subst (λ w. Shows key.shape.bits words r (second_part w) two) there (both_parts r one two knows).1)
 
   word_true : word ≢ 0 → (after : Knowledge) → LearnsWord key known index word after → IsTrueOf key.shape.bits words after
   word_true some after l = subst (IsTrueOf key.shape.bits words) (sym l.is) (record {
@@ -117,11 +124,14 @@ module _ (key : Key) (words : Words) (known : Knowledge) (index word : ℕ) (goo
   met_word : (after : Knowledge) → MeetsWord key known index word after → IsTrueOf key.shape.bits words after
   met_word after m = ⊎_elim (λ z. subst (IsTrueOf key.shape.bits words) (sym (m.none z)) h) (λ some. word_true some after (m.some some)) (same_or_other word 0)
 
-  met_result : MayAsk key.shape.bits known index → (count : ℕ) (after : Knowledge) → MeetsResult key known count index word after → IsTrueOf key.shape.bits words after
+  met_result : MayAsk key.shape.bits known index → (count : ℕ) (after : Knowledge) → MeetsResult key known count index word after →
+      IsTrueOf key.shape.bits words after
   met_result of count after m = ⊎_elim (λ z. subst (IsTrueOf key.shape.bits words) (sym (m.none z)) h) (λ some. future_true of count after (m.some some)) (same_or_other word 0)
 
 -- what is known after a lawful event is true
-pub learns_true : (key : Key) (words : Words) (known : Knowledge) (event : Event) (word : ℕ) (after : Knowledge) → IsGood key words → IsTrueOf key.shape.bits words known → IsLawful key known event → words (index_of event) ≡ word → Learns key event known word after → IsTrueOf key.shape.bits words after
+pub learns_true : (key : Key) (words : Words) (known : Knowledge) (event : Event) (word : ℕ) (after : Knowledge) → IsGood key words →
+    IsTrueOf key.shape.bits words known → IsLawful key known event → words (index_of event) ≡ word → Learns key event known word after →
+    IsTrueOf key.shape.bits words after
 learns_true key words known (Look desk index) word after good h lawful there learns = met_word key words known index word good h there after learns
 learns_true key words known (Claim desk index claimed) word after good h lawful there learns = met_word key words known index word good h there after learns
 learns_true key words known (Ask desk index) word after good h lawful there learns = met_result key words known index word good h there lawful 1 after learns
@@ -130,11 +140,13 @@ learns_true key words known (Tell desk index number) word after good h lawful th
 met_word_grows : (key : Key) (known : Knowledge) (index word : ℕ) (after : Knowledge) → MeetsWord key known index word after → Grows known after
 met_word_grows key known index word after m = ⊎_elim (λ z. subst (Grows known) (sym (m.none z)) (grows_refl known)) (λ some. word_grows key known index word after (m.some some)) (same_or_other word 0)
 
-met_result_grows : (key : Key) (known : Knowledge) (count index word : ℕ) (after : Knowledge) → MeetsResult key known count index word after → Grows known after
+met_result_grows : (key : Key) (known : Knowledge) (count index word : ℕ) (after : Knowledge) → MeetsResult key known count index word after →
+    Grows known after
 met_result_grows key known count index word after m = ⊎_elim (λ z. subst (Grows known) (sym (m.none z)) (grows_refl known)) (λ some. future_grows key known count index word after (m.some some)) (same_or_other word 0)
 
 -- and no less than before
-pub learns_grows : (key : Key) (known : Knowledge) (event : Event) (word : ℕ) (after : Knowledge) → Learns key event known word after → Grows known after
+pub learns_grows : (key : Key) (known : Knowledge) (event : Event) (word : ℕ) (after : Knowledge) → Learns key event known word after →
+    Grows known after
 learns_grows key known (Look desk index) word after learns = met_word_grows key known index word after learns
 learns_grows key known (Claim desk index claimed) word after learns = met_word_grows key known index word after learns
 learns_grows key known (Ask desk index) word after learns = met_result_grows key known 1 index word after learns

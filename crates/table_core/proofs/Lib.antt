@@ -1,4 +1,5 @@
 pub mod Blocks
+pub mod Booleans
 pub mod Claims
 pub mod Consistency
 pub mod Entries
@@ -13,5 +14,6 @@ pub mod Reopenings
 pub mod Results
 pub mod Running
 pub mod Showing
+pub mod Stepping
 pub mod Teaching
 pub mod Ways

@@ -1,5 +1,5 @@
 -- Lists: what holds of each element, and of an element at a place.
-use Rattle.std.proofs.Common.{◌≡◌, ◌≢◌, ℕ, zero, suc, ◌+◌, ◌<◌, List, [], ◌∷◌, ◌++◌, length, ap, subst, arith, refl}
+use Rattle.std.proofs.Common.{◌≡◌, ◌≢◌, ℕ, zero, suc, ◌<◌, List, [], ◌∷◌, ◌++◌, length, ap, subst, arith, refl}
 use Rattle.std.specs.Prelude.{Contains, slice_index_or, slice_set, slice_get, Some}
 use Rattle.std.specs.List.{AllByRecursion}
 

@@ -1,5 +1,5 @@
 -- Powers of two, and the sizes of tables.
-use Rattle.std.proofs.Common.{◌≡◌, ℕ, suc, ◌+◌, ◌-◌, ◌*◌, ◌^◌, ◌<◌, ◌≤◌, Bool, true, false, sym, ◌∙◌, ap, subst, arith, refl, ⊎_elim}
+use Rattle.std.proofs.Common.{◌≡◌, ℕ, suc, ◌*◌, ◌^◌, ◌<◌, ◌≤◌, Bool, sym, ◌∙◌, ap, arith, ⊎_elim}
 use Rattle.std.specs.Prelude.{◌↔◌, IsTrue, ◌==◌}
 use Rattle.std.proofs.lemmas.Bool.{cases_lt, eqb-true, eq-eqb}
 use Rattle.std.proofs.lemmas.Nat.{pow_pos}
@@ -8,7 +8,7 @@ use Rattle.std.proofs.Math.Pow.{pow_mono}
 use Rattle.table_core.specs.Sizes.{IsPairCount}
 
 -- the exponent of a power of two is its logarithm
-pub same_power : (r b pairs : ℕ) → 2 ^ r ≤ pairs → pairs < 2 * 2 ^ r → pairs ≡ 2 ^ b → r ≡ b
+same_power : (r b pairs : ℕ) → 2 ^ r ≤ pairs → pairs < 2 * 2 ^ r → pairs ≡ 2 ^ b → r ≡ b
 same_power r b pairs low high is = ⊎_elim
     (λ less. let two : 2 ^ suc r ≡ 2 ^ r * 2 = pow-suc 2 r in let more : 2 ^ suc r ≤ 2 ^ b = pow_mono {i = suc r} {j = b} less in absurd (omega (arith, two, more)))
     (λ other. ⊎_elim
@@ -26,7 +26,8 @@ at_most : (r : ℕ) → 2 ^ r ≤ 2 ^ 28 → r ≤ 28
 at_most r h = ⊎_elim (λ less. let more : 2 ^ 29 ≤ 2 ^ r = pow_mono {i = 29} {j = r} less in absurd (omega (arith, more))) (λ t. t) (cases_lt 28 r)
 
 -- a number between the bounds is a pair count exactly if it is the power of its logarithm
-pub is_count : (r pairs : ℕ) (test : Bool) → 2 ^ r ≤ pairs → pairs < 2 * 2 ^ r → 1024 ≤ pairs → pairs ≤ 268435456 → test ≡ (pairs == 2 ^ r) → IsTrue test ↔ IsPairCount pairs
+pub is_count : (r pairs : ℕ) (test : Bool) → 2 ^ r ≤ pairs → pairs < 2 * 2 ^ r → 1024 ≤ pairs → pairs ≤ 268435456 → test ≡ (pairs == 2 ^ r) →
+    IsTrue test ↔ IsPairCount pairs
 is_count r pairs test low high small large e = (
   λ t. let is : pairs ≡ 2 ^ r = eqb-true pairs (2 ^ r) (sym e ∙ t) in (r, at_least r (omega arith), at_most r (omega arith), is),
   λ h. let k = count_bits r pairs low high h in e ∙ eq-eqb pairs (2 ^ r) (sym k.2),

@@ -1,5 +1,5 @@
--- Good words under another head.
-use Rattle.std.proofs.Common.{◌≡◌, ◌≢◌, ℕ, zero, suc, ◌+◌, ◌-◌, ◌*◌, ◌^◌, ◌<◌, ◌≤◌, ◌⊎◌, sym, ◌∙◌, ap, subst, arith, refl, ⊎_elim}
+-- Words that a table begins with.
+use Rattle.std.proofs.Common.{◌≡◌, ◌≢◌, ℕ, suc, ◌+◌, ◌-◌, ◌^◌, ◌<◌, ◌≤◌, ◌⊎◌, sym, ◌∙◌, ap, subst, arith, ⊎_elim}
 use Rattle.std.specs.Prelude.{min}
 use Rattle.plane.specs.Plane.{Plane, after}
 use Rattle.plane.specs.Square.{centre_of, future}
@@ -10,29 +10,28 @@ use Rattle.table_core.specs.declared.shape.Kind.{Kind}
 use Rattle.table_core.specs.declared.shape.Kind.TheVariants.{Pair}
 use Rattle.table_core.specs.Layout.{IsSlot, way, result_of}
 use Rattle.table_core.specs.Blocks.{Words, IsBlock, cells_of, square_rank, Shows}
-use Rattle.table_core.specs.Good.{head, IsOnWay, IsFutureOf, IsGood, KeepsSlots}
-use Rattle.table_core.specs.Opening.{KeepsResult, AreOpening, Reopens, EveryReopening}
+use Rattle.table_core.specs.Good.{IsOnWay, IsFutureOf, IsGood, KeepsSlots}
+use Rattle.table_core.specs.Opening.{KeepsResult, AreOpening, Reopens, EveryFreshTable, EveryReopening}
 use Rattle.table_core.proofs.Ways.{not_head, way_is_slot}
 use Rattle.table_core.proofs.Claims.{same_or_other}
 use Rattle.table_core.proofs.Blocks.{one_rank, block_stays, cells_stay, shows_stay}
-use Rattle.table_core.proofs.Results.{one_level}
 
--- a head, and zeros
-pub fresh_good : (key : Key) (words : Words) → head key < 2 ^ 64 → words 0 ≡ head key → ((i : ℕ) → i ≢ 0 → words i ≡ 0) → IsGood key words
-fresh_good key words low names rest = record {
-  names = names;
-  fits = λ i. ⊎_elim (λ e. subst (λ w. w < 2 ^ 64) (sym (ap words e ∙ names)) low) (λ n. subst (λ w. w < 2 ^ 64) (sym (rest i n)) (let z : 0 < 2 ^ 64 = omega arith in z)) (same_or_other i 0);
-  once = λ kind i j si sj some same. absurd (some (rest i (not_head key.shape.bits kind i si)));
-  on_way = λ kind i si some. absurd (some (rest i (not_head key.shape.bits kind i si)));
-  blocks = λ i si some. absurd (some (rest i (not_head key.shape.bits Pair i si)));
-  results = λ i si some. absurd (some (rest (result_of key.shape.bits i) (λ e. not_head key.shape.bits Pair i si (omega arith))));
+pub every_fresh_table : EveryFreshTable
+every_fresh_table key words low fresh = record {
+  names = fresh.names;
+  fits = λ i. ⊎_elim (λ e. subst (λ w. w < 2 ^ 64) (sym (ap words e ∙ fresh.names)) low) (λ n. subst (λ w. w < 2 ^ 64) (sym (fresh.vacant i n)) (let z : 0 < 2 ^ 64 = omega arith in z)) (same_or_other i 0);
+  once = λ kind i j si sj some same. absurd (some (fresh.vacant i (not_head key.shape.bits kind i si)));
+  on_way = λ kind i si some. absurd (some (fresh.vacant i (not_head key.shape.bits kind i si)));
+  blocks = λ i si some. absurd (some (fresh.vacant i (not_head key.shape.bits Pair i si)));
+  results = λ i si some. absurd (some (fresh.vacant (result_of key.shape.bits i) (λ e. not_head key.shape.bits Pair i si (omega arith))));
 }
 
 -- the future is the same under both heads, where the result stays
 same_time : (e f level : ℕ) → (e ≡ f) ⊎ (level - 2 ≤ min e f) → min e (level - 2) ≡ min f (level - 2)
 same_time e f level h = ⊎_elim (λ t. ap (λ n. min n (level - 2)) t) (λ t. omega arith) h
 
-pub same_future : (was key : Key) (level : ℕ) (plane : Plane) → KeepsResult was key level → future was.rule was.exponent level plane ≡ future key.rule key.exponent level plane
+pub same_future : (was key : Key) (level : ℕ) (plane : Plane) → KeepsResult was key level →
+    future was.rule was.exponent level plane ≡ future key.rule key.exponent level plane
 same_future was key level plane keeps =
     ap (λ (r : CountRule). future r was.exponent level plane) keeps.0
     ∙ ap (λ n. centre_of level (after key.rule plane (2 ^ n))) (same_time was.exponent key.exponent level keeps.1)
@@ -99,7 +98,9 @@ module _ (was key : Key) (old new : Words) (good : IsGood was old) (r : Reopens 
   }
 
   -- a result that may not stay is gone
-  gone : (i : ℕ) → IsSlot key.shape.bits Pair i → ((level : ℕ) → 3 < level → IsBlock was.shape.bits old (square_rank level) i → KeepsResult was key level → ⊥) → new (result_of key.shape.bits i) ≡ 0
+  gone : (i : ℕ) → IsSlot key.shape.bits Pair i →
+      ((level : ℕ) → 3 < level → IsBlock was.shape.bits old (square_rank level) i → KeepsResult was key level → ⊥) →
+      new (result_of key.shape.bits i) ≡ 0
   gone i si none = ⊎_elim (λ z. z)
       (λ some. let t = still_there i (slot_was Pair i si) (λ z. some (ap (λ b. new (result_of b i)) bits ∙ z)) in absurd (none t.1.level t.1.above t.1.square t.2))
       (same_or_other (new (result_of key.shape.bits i)) 0)
@@ -107,7 +108,7 @@ module _ (was key : Key) (old new : Words) (good : IsGood was old) (r : Reopens 
   block_was : (rank i : ℕ) → i ≢ 0 → IsBlock key.shape.bits new rank i → (other : ℕ) → IsBlock was.shape.bits old other i → rank ≡ other
   block_was rank i some b other c = one_rank was.shape.bits new rank other i (subst (λ n. IsBlock n new rank i) bits b) (block_stays was.shape.bits old new keeps other i c) some
 
-  pub reopened : AreOpening was key new
+  reopened : AreOpening was key new
   reopened = record {
     good = reopened_good;
     by_rule = λ other i si. gone i si (λ level above square k. other k.0);

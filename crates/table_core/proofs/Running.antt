@@ -1,93 +1,21 @@
 -- Every run keeps the words good, and what desks know true and no less.
-use Rattle.std.proofs.Common.{◌≡◌, ◌≢◌, ℕ, zero, suc, ◌+◌, ◌-◌, ◌*◌, ◌^◌, ◌<◌, ◌≤◌, ◌⊎◌, Bool, true, false, cond, List, [], ◌∷◌, ◌++◌, length, sym, ◌∙◌, ap, subst, arith, refl, ⊎_elim}
-use Rattle.std.specs.Prelude.{◌==◌, slice_get, slice_index, slice_set, Some}
+use Rattle.std.proofs.Common.{◌≡◌, ℕ, cond, List, [], ◌∷◌, sym, ◌∙◌, ap, subst, refl, ⊎_elim}
+use Rattle.std.specs.Prelude.{slice_get, slice_index, slice_set, Some}
 use Rattle.std.specs.List.{AllByRecursion}
-use Rattle.std.proofs.lemmas.Bool.{eqb-true, eq-eqb, ne_eqb}
-use Rattle.std.proofs.lemmas.List.{set-get_or, get_or-set_same, get_or-set_other}
+use Rattle.std.proofs.lemmas.Bool.{eq-eqb, ne_eqb}
 use Rattle.table_core.specs.declared.key.Key.{Key}
 use Rattle.table_core.specs.declared.knowledge.Knowledge.{Knowledge}
 use Rattle.table_core.specs.declared.machine.Event.{Event}
-use Rattle.table_core.specs.declared.machine.Event.TheVariants.{Look, Claim, Ask, Tell}
-use Rattle.table_core.specs.Layout.{IsSlot, result_of, size}
 use Rattle.table_core.specs.Blocks.{Words}
-use Rattle.table_core.specs.Good.{IsGood, AreGoodWords, KeepsWords, Fills}
-use Rattle.table_core.specs.Events.{desk_of, index_of, word_after, words_after}
+use Rattle.table_core.specs.Good.{AreGoodWords, KeepsWords}
+use Rattle.table_core.specs.Events.{desk_of, index_of}
 use Rattle.table_core.specs.Knowledge.{IsTrueOf, Grows, united, nothing}
-use Rattle.table_core.specs.Learning.{MayClaim, MayTell, IsLawful}
-use Rattle.table_core.specs.Runs.{Table, Action, happens, splits, joins, Happens, Splits, Joins, Acts, Runs, Holds, KeepsKnowledge, heir_at, heir, EveryRun}
-use Rattle.table_core.proofs.Ways.{slot_below}
-use Rattle.table_core.proofs.Claims.{same_or_other, fills_keeps, slot_of, claim_good, tell_good}
-use Rattle.table_core.proofs.Lists.{all_set, all_get, all_append, all_weaker, length_set, get_set_same, get_set_other, get_append}
+use Rattle.table_core.specs.Runs.{Table, Action, happens, splits, joins, Happens, Splits, Joins, Acts, Runs, Holds, heir_at, heir, EveryRun}
+use Rattle.table_core.proofs.Claims.{same_or_other}
+use Rattle.table_core.proofs.Lists.{all_set, all_get, all_append, all_weaker, get_set_same, get_set_other, get_append}
 use Rattle.table_core.proofs.Knowing.{true_later, united_true, united_first, united_second, nothing_true, grows_refl, grows_trans, desks_agree}
-use Rattle.table_core.proofs.Showing.{claim_may, tell_is}
+use Rattle.table_core.proofs.Stepping.{StaysGood, event_good}
 use Rattle.table_core.proofs.Learned.{learns_true, learns_grows}
-
-fills_list : (words : List ℕ) (i word : ℕ) → i < length words → slice_index words i ≡ 0 → Fills (slice_index words) (slice_index (slice_set words i word)) i word
-fills_list words i word below free = record {
-  free = free;
-  now = get_or-set_same words i word 0 below;
-  others = λ j other. get_or-set_other words i j word 0 other;
-}
-
--- good words that keep all that stood before
-pub record StaysGood (key : Key) (old new : List ℕ) : Type 0 where
-  pub words : AreGoodWords key new
-  pub keeps : KeepsWords (slice_index old) (slice_index new)
-
-same_words : (key : Key) (old new : List ℕ) → AreGoodWords key old → new ≡ old → StaysGood key old new
-same_words key old new h e = subst (StaysGood key old) (sym e) (record { words = h; keeps = record { kept = λ i some. refl } })
-
-module _ (key : Key) (words : List ℕ) (known : Knowledge) (h : AreGoodWords key words) (knows : IsTrueOf key.shape.bits (slice_index words) known) where
-  claimed : (i word : ℕ) → MayClaim key.shape.bits known i word → (b : Bool) → (slice_index words i == 0) ≡ b → StaysGood key words (slice_set words i (cond b word (slice_index words i)))
-  claimed i word lawful false e = same_words key words _ h (set-get_or words i 0)
-  claimed i word lawful true e =
-      let may = claim_may key.shape.bits (slice_index words) known i word knows lawful in
-      let slot : IsSlot key.shape.bits lawful.kind i = slot_of key.shape.bits (slice_index words) lawful.kind i word key.shape.range.0 (let r = key.shape.range.1 in omega arith) may in
-      let long = h.long in
-      let fills = fills_list words i word (let k = slot_below key.shape.bits lawful.kind i slot in omega arith) (eqb-true (slice_index words i) 0 e) in
-      record {
-        words = record {
-          long = length_set words i word ∙ h.long;
-          good = claim_good key (slice_index words) (slice_index (slice_set words i word)) lawful.kind i word slot h.good may fills;
-        };
-        keeps = fills_keeps (slice_index words) (slice_index (slice_set words i word)) i word fills;
-      }
-
-  told : (i n : ℕ) → MayTell key known i n → (b : Bool) → (slice_index words i == 0) ≡ b → StaysGood key words (slice_set words i (cond b (2 ^ 32 + n) (slice_index words i)))
-  told i n lawful false e = same_words key words _ h (set-get_or words i 0)
-  told i n lawful true e =
-      let q = lawful.of in
-      let k = q.slot.below in
-      let here = q.beside in
-      let long = h.long in
-      let fills = fills_list words i (2 ^ 32 + n) (omega arith) (eqb-true (slice_index words i) 0 e) in
-      record {
-        words = record {
-          long = length_set words i (2 ^ 32 + n) ∙ h.long;
-          good = tell_good key (slice_index words) (slice_index (slice_set words i (2 ^ 32 + n))) q.square n q.slot h.good lawful.low (tell_is key (slice_index words) known i n knows lawful)
-              (subst (λ j. Fills (slice_index words) (slice_index (slice_set words i (2 ^ 32 + n))) j (2 ^ 32 + n)) here fills);
-        };
-        keeps = fills_keeps (slice_index words) (slice_index (slice_set words i (2 ^ 32 + n))) i (2 ^ 32 + n) fills;
-      }
-
-  -- a lawful event keeps the words good
-  pub event_good : (event : Event) → IsLawful key known event → StaysGood key words (words_after event words)
-  event_good (Look desk i) lawful = same_words key words _ h (set-get_or words i 0)
-  event_good (Claim desk i word) lawful = claimed i word lawful (slice_index words i == 0) refl
-  event_good (Ask desk i) lawful = same_words key words _ h (set-get_or words i 0)
-  event_good (Tell desk i n) lawful = told i n lawful (slice_index words i == 0) refl
-
-  -- the word that is said to be there after it is there
-  pub word_there : (event : Event) → IsLawful key known event → slice_index (words_after event words) (index_of event) ≡ word_after event (slice_index words (index_of event))
-  word_there (Look desk i) lawful = ap (λ xs. slice_index xs i) (set-get_or words i 0)
-  word_there (Ask desk i) lawful = ap (λ xs. slice_index xs i) (set-get_or words i 0)
-  word_there (Claim desk i word) lawful =
-      let may = claim_may key.shape.bits (slice_index words) known i word knows lawful in
-      let slot : IsSlot key.shape.bits lawful.kind i = slot_of key.shape.bits (slice_index words) lawful.kind i word key.shape.range.0 (let r = key.shape.range.1 in omega arith) may in
-      let long = h.long in
-      get_or-set_same words i _ 0 (let k = slot_below key.shape.bits lawful.kind i slot in omega arith)
-  word_there (Tell desk i n) lawful =
-      let k = lawful.of.slot.below in let here = lawful.of.beside in let long = h.long in get_or-set_same words i _ 0 (omega arith)
 
 keeps_trans : (a b c : Words) → KeepsWords a b → KeepsWords b c → KeepsWords a c
 keeps_trans a b c h k = record { kept = λ i some. let one = h.kept i some in k.kept i (λ z. some (sym one ∙ z)) ∙ one }
@@ -96,13 +24,16 @@ keeps_trans a b c h k = record { kept = λ i some. let one = h.kept i some in k.
 record Keeps (key : Key) (to : ℕ → ℕ) (old new : Table) : Type 0 where
   holds : Holds key new
   words : KeepsWords (slice_index old.words) (slice_index new.words)
-  knowledge : (desk : ℕ) (known : Knowledge) → slice_get old.desks desk ≡ Some known → (later : Knowledge) × (slice_get new.desks (to desk) ≡ Some later) × Grows known later
+  knowledge : (desk : ℕ) (known : Knowledge) → slice_get old.desks desk ≡ Some known →
+      (later : Knowledge) × (slice_get new.desks (to desk) ≡ Some later) × Grows known later
 
 same_known : (a b : Knowledge) → Some a ≡ Some b → a ≡ b
 same_known a b e = cc
 
 -- the words stay as they are
-as_before : (key : Key) (old new : Table) → Holds key old → new.words ≡ old.words → AllByRecursion (IsTrueOf key.shape.bits (slice_index old.words)) new.desks → Holds key new × KeepsWords (slice_index old.words) (slice_index new.words)
+as_before : (key : Key) (old new : Table) → Holds key old → new.words ≡ old.words →
+    AllByRecursion (IsTrueOf key.shape.bits (slice_index old.words)) new.desks →
+    Holds key new × KeepsWords (slice_index old.words) (slice_index new.words)
 as_before key old new h same desks = (
   record {
     words = subst (AreGoodWords key) (sym same) h.words;
@@ -145,7 +76,8 @@ splits_keeps key old new split h a =
       knowledge = λ desk known is. (known, ap (λ ds. slice_get ds desk) a.desks ∙ get_append old.desks (a.known ∷ []) desk known is, grows_refl known);
     }
 
-joins_keeps : (key : Key) (old new : Table) (into joined : ℕ) → Holds key old → Joins old into joined new → Keeps key (heir_at (joins into joined)) old new
+joins_keeps : (key : Key) (old new : Table) (into joined : ℕ) → Holds key old → Joins old into joined new →
+    Keeps key (heir_at (joins into joined)) old new
 joins_keeps key old new into joined h a =
     let one = all_get _ old.desks into a.known h.desks a.is in
     let two = all_get _ old.desks joined a.also h.desks a.other in

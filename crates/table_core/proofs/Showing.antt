@@ -1,18 +1,18 @@
 -- What words show.
-use Rattle.std.proofs.Common.{◌≡◌, ◌≢◌, ℕ, zero, suc, ◌+◌, ◌-◌, ◌*◌, ◌^◌, ◌<◌, ◌≤◌, sym, ◌∙◌, subst, arith, refl}
+use Rattle.std.proofs.Common.{◌≡◌, ◌≢◌, ℕ, zero, suc, ◌+◌, ◌-◌, ◌^◌, ◌<◌, sym, ◌∙◌, subst, arith, refl}
 use Rattle.plane.specs.Plane.{Plane}
-use Rattle.plane.specs.Square.{IsSame, bits_plane, future}
+use Rattle.plane.specs.Square.{bits_plane, future}
 use Rattle.plane.specs.Block.{IsInside}
-use Rattle.plane.proofs.Same.{same_refl, same_sym, same_trans, plane_equal}
+use Rattle.plane.proofs.Same.{same_refl, plane_equal}
 use Rattle.table_core.specs.declared.key.Key.{Key}
 use Rattle.table_core.specs.declared.knowledge.Knowledge.{Knowledge}
 use Rattle.table_core.specs.declared.shape.Kind.{Kind}
 use Rattle.table_core.specs.declared.shape.Kind.TheVariants.{Leaf, Pair}
 use Rattle.table_core.specs.Layout.{IsSlot, way, result_of, first_part, second_part}
-use Rattle.table_core.specs.Blocks.{Words, paired, width, height, IsBlock, cells_of, square_rank, Shows}
+use Rattle.table_core.specs.Blocks.{Words, paired, width, height, cells_of, square_rank, Shows}
 use Rattle.table_core.specs.Good.{IsFutureOf, IsGood, PartsStand, MayStand}
-use Rattle.table_core.specs.Knowledge.{KnowsBlock, IsTrueOf}
-use Rattle.table_core.specs.Learning.{KnowsPartsFor, MayClaim, MayAsk, MayTell}
+use Rattle.table_core.specs.Knowledge.{IsTrueOf}
+use Rattle.table_core.specs.Lawful.{KnowsPartsFor, MayClaim, MayTell}
 use Rattle.table_core.proofs.Ways.{not_head}
 use Rattle.table_core.proofs.Blocks.{one_rank, cells_inside, paired_first, paired_second, paired_same}
 use Rattle.table_core.proofs.Results.{one_level}
@@ -22,18 +22,22 @@ use Rattle.table_core.proofs.Knowing.{seen_true, block_true}
 pub shows_inside : (bits : ℕ) (words : Words) (rank n : ℕ) (plane : Plane) → Shows bits words rank n plane → IsInside (width rank) (height rank) plane
 shows_inside bits words rank n plane h = subst (IsInside (width rank) (height rank)) (plane_equal _ _ h.cells) (cells_inside words rank n)
 
-pub leaf_shows : (bits : ℕ) (words : Words) (index : ℕ) → IsSlot bits Leaf index → words index ≢ 0 → Shows bits words 0 index (bits_plane (words index))
+pub leaf_shows : (bits : ℕ) (words : Words) (index : ℕ) → IsSlot bits Leaf index → words index ≢ 0 →
+    Shows bits words 0 index (bits_plane (words index))
 leaf_shows bits words zero slot some = let low = slot.from in absurd (omega arith)
 leaf_shows bits words (suc i) slot some = record { stands = (slot, some); cells = same_refl (bits_plane (words (suc i))) }
 
-pub pair_shows : (bits : ℕ) (words : Words) (rank index : ℕ) (one two : Plane) → IsSlot bits Pair index → words index ≢ 0 → Shows bits words rank (first_part (words index)) one → Shows bits words rank (second_part (words index)) two → Shows bits words (suc rank) index (paired rank one two)
+pub pair_shows : (bits : ℕ) (words : Words) (rank index : ℕ) (one two : Plane) → IsSlot bits Pair index → words index ≢ 0 →
+    Shows bits words rank (first_part (words index)) one → Shows bits words rank (second_part (words index)) two →
+    Shows bits words (suc rank) index (paired rank one two)
 pair_shows bits words rank zero one two slot some h k = let low = slot.from in absurd (omega arith)
 pair_shows bits words rank (suc i) one two slot some h k = record {
   stands = (slot, some, h.stands, k.stands);
   cells = paired_same rank _ _ _ _ h.cells k.cells;
 }
 
-pub parts_show : (bits : ℕ) (words : Words) (rank index : ℕ) (one two : Plane) → index ≢ 0 → IsInside (width rank) (height rank) one → IsInside (width rank) (height rank) two → Shows bits words (suc rank) index (paired rank one two) →
+pub parts_show : (bits : ℕ) (words : Words) (rank index : ℕ) (one two : Plane) → index ≢ 0 → IsInside (width rank) (height rank) one →
+    IsInside (width rank) (height rank) two → Shows bits words (suc rank) index (paired rank one two) →
     Shows bits words rank (first_part (words index)) one × Shows bits words rank (second_part (words index)) two
 parts_show bits words rank zero one two some ha hb h = absurd (some refl)
 parts_show bits words rank (suc i) one two some ha hb h =
@@ -43,7 +47,8 @@ parts_show bits words rank (suc i) one two some ha hb h =
     )
 
 -- a result word's number shows the future
-pub result_shows : (key : Key) (words : Words) (pair level number : ℕ) (plane : Plane) → IsGood key words → IsSlot key.shape.bits Pair pair → 3 < level → Shows key.shape.bits words (square_rank level) pair plane → words (result_of key.shape.bits pair) ≡ 2 ^ 32 + number →
+pub result_shows : (key : Key) (words : Words) (pair level number : ℕ) (plane : Plane) → IsGood key words → IsSlot key.shape.bits Pair pair →
+    3 < level → Shows key.shape.bits words (square_rank level) pair plane → words (result_of key.shape.bits pair) ≡ 2 ^ 32 + number →
     Shows key.shape.bits words (square_rank (level - 1)) number (future key.rule key.exponent level plane)
 result_shows key words pair level number plane good slot above square e =
     let t = good.results pair slot (λ z. let no : 2 ^ 32 + number ≡ 0 = sym e ∙ z in omega arith) in
@@ -54,13 +59,15 @@ result_shows key words pair level number plane good slot above square e =
     let two = subst (λ p. Shows key.shape.bits words (square_rank (level - 1)) t.0 (future key.rule key.exponent level p)) (plane_equal _ _ square.cells) one in
     subst (λ n. Shows key.shape.bits words (square_rank (level - 1)) n (future key.rule key.exponent level plane)) same two
 
-parts_true : (bits : ℕ) (words : Words) (known : Knowledge) (kind : Kind) (word : ℕ) → IsTrueOf bits words known → KnowsPartsFor known kind word → PartsStand bits words kind word
+parts_true : (bits : ℕ) (words : Words) (known : Knowledge) (kind : Kind) (word : ℕ) → IsTrueOf bits words known → KnowsPartsFor known kind word →
+    PartsStand bits words kind word
 parts_true bits words known Leaf word h knows = tt
 parts_true bits words known Pair word h knows =
-    (knows.rank, knows.low, (block_true bits words known knows.rank (first_part word) knows.one h knows.first).stands, (block_true bits words known knows.rank (second_part word) knows.two h knows.second).stands)
+    (knows.rank, knows.low, (block_true bits words known knows.rank (first_part word) knows.one h knows.both.first).stands, (block_true bits words known knows.rank (second_part word) knows.two h knows.both.second).stands)
 
 -- a lawful claim is of a word that may come
-pub claim_may : (bits : ℕ) (words : Words) (known : Knowledge) (index word : ℕ) → IsTrueOf bits words known → (lawful : MayClaim bits known index word) → MayStand bits words lawful.kind index word
+pub claim_may : (bits : ℕ) (words : Words) (known : Knowledge) (index word : ℕ) → IsTrueOf bits words known →
+    (lawful : MayClaim bits known index word) → MayStand bits words lawful.kind index word
 claim_may bits words known index word h lawful = record {
   some = lawful.some;
   fits = lawful.fits;
@@ -74,7 +81,8 @@ claim_may bits words known index word h lawful = record {
 }
 
 -- a told number shows the future
-pub tell_is : (key : Key) (words : Words) (known : Knowledge) (index n : ℕ) → IsTrueOf key.shape.bits words known → (lawful : MayTell key known index n) → IsFutureOf key words lawful.of.square n
+pub tell_is : (key : Key) (words : Words) (known : Knowledge) (index n : ℕ) → IsTrueOf key.shape.bits words known →
+    (lawful : MayTell key known index n) → IsFutureOf key words lawful.of.square n
 tell_is key words known index n h lawful =
     let q = lawful.of in
     let square : Shows key.shape.bits words (square_rank q.level) q.square q.plane = block_true key.shape.bits words known (square_rank q.level) q.square q.plane h q.shown in

@@ -1,5 +1,5 @@
 -- Whatever word an event finds, there is what its desk knows afterwards.
-use Rattle.std.proofs.Common.{◌≡◌, ◌≢◌, ℕ, zero, suc, ◌+◌, ◌-◌, ◌*◌, ◌^◌, ◌<◌, ◌≤◌, ◌⊎◌, List, [], ◌∷◌, ◌++◌, length, sym, ◌∙◌, ap, subst, arith, refl, inl, inr, ⊎_elim}
+use Rattle.std.proofs.Common.{◌≡◌, ◌≢◌, ℕ, zero, suc, ◌+◌, ◌-◌, ◌^◌, ◌<◌, ◌⊎◌, List, [], ◌∷◌, ◌++◌, length, sym, ◌∙◌, ap, subst, arith, refl, inl, inr, ⊎_elim}
 use Rattle.std.specs.Prelude.{Contains, slice_index_or}
 use Rattle.std.specs.List.{AllByRecursion}
 use Rattle.std.proofs.lemmas.Bool.{cases_lt}
@@ -18,14 +18,15 @@ use Rattle.table_core.specs.declared.machine.Event.TheVariants.{Look, Claim, Ask
 use Rattle.table_core.specs.declared.shape.Kind.{Kind}
 use Rattle.table_core.specs.declared.shape.Kind.TheVariants.{Leaf, Pair}
 use Rattle.table_core.specs.Layout.{IsSlot, start, slot_bits, result_of, first_part, second_part}
-use Rattle.table_core.specs.Blocks.{Words, paired, width, height, cells_of, square_rank, Shows}
+use Rattle.table_core.specs.Blocks.{Words, paired, width, height, cells_of, square_rank}
 use Rattle.table_core.specs.Good.{IsGood}
 use Rattle.table_core.specs.Events.{index_of}
-use Rattle.table_core.specs.Knowledge.{HasSeen, Lists, KnowsBlock, IsTrueOf, IsTrueResult}
-use Rattle.table_core.specs.Learning.{MayAsk, IsLawful, Follows, as_leaf, as_pair, as_first_part, as_second_part, KnowsPartsOf, with_word, LearnsWord, with_future, LearnsFuture, MeetsWord, MeetsResult, Learns}
+use Rattle.table_core.specs.Knowledge.{HasSeen, Says, Lists, KnowsBlock, IsTrueOf, IsTrueResult}
+use Rattle.table_core.specs.Lawful.{MayAsk, IsLawful, KnowsBoth}
+use Rattle.table_core.specs.Learning.{KnowsWhole, Follows, as_leaf, as_pair, as_first_part, as_second_part, with_word, LearnsWord, with_future, LearnsFuture, MeetsWord, MeetsResult, Learns}
 use Rattle.table_core.specs.Laws.{EveryEventTeaches}
 use Rattle.table_core.proofs.Ways.{not_head}
-use Rattle.table_core.proofs.Blocks.{one_rank, parts_equal, paired_same, paired_inside, leaf_no_pair, cells_inside}
+use Rattle.table_core.proofs.Blocks.{parts_equal, paired_same, paired_inside, leaf_no_pair, cells_inside}
 use Rattle.table_core.proofs.Claims.{same_or_other}
 use Rattle.table_core.proofs.Lists.{all_append, all_contains, contains_here}
 use Rattle.table_core.proofs.Results.{one_level}
@@ -39,27 +40,43 @@ use Rattle.table_core.proofs.Learned.{learns_true, learns_grows}
 abbrev pub entry_of : ℕ → (rank : ℕ) (plane : Plane) → IsInside (width rank) (height rank) plane → KnownBlock
 entry_of number rank plane inside = record { number = number; rank = rank; live = (listing plane (width rank) (height rank) inside).0 }
 
-pub entry_same : (number rank : ℕ) (plane : Plane) (inside : IsInside (width rank) (height rank) plane) → IsSame (plane_of (entry_of number rank plane inside).live) plane
+pub entry_same : (number rank : ℕ) (plane : Plane) (inside : IsInside (width rank) (height rank) plane) →
+    IsSame (plane_of (entry_of number rank plane inside).live) plane
 entry_same number rank plane inside = (listing plane (width rank) (height rank) inside).1
 
--- the first of some entries
-pub lists_first : (number rank : ℕ) (plane : Plane) (inside : IsInside (width rank) (height rank) plane) (rest : List KnownBlock) → Lists (entry_of number rank plane inside ∷ rest) rank number plane
-lists_first number rank plane inside rest = (entry_of number rank plane inside, contains_here (entry_of number rank plane inside) rest, refl, refl, entry_same number rank plane inside)
+entry_says : (number rank : ℕ) (plane : Plane) (inside : IsInside (width rank) (height rank) plane) →
+    Says (entry_of number rank plane inside) rank number plane
+entry_says number rank plane inside = record { at_rank = refl; of_number = refl; cells = entry_same number rank plane inside }
 
-pub lists_more : (xs ys : List KnownBlock) (rank number : ℕ) (plane : Plane) → ((entry : KnownBlock) → Contains xs entry → Contains ys entry) → Lists xs rank number plane → Lists ys rank number plane
-lists_more xs ys rank number plane more t = (t.0, more t.0 t.1, t.2, t.3, t.4)
+-- the first of some entries
+pub lists_first : (number rank : ℕ) (plane : Plane) (inside : IsInside (width rank) (height rank) plane) (rest : List KnownBlock) →
+    Lists (entry_of number rank plane inside ∷ rest) rank number plane
+lists_first number rank plane inside rest = (entry_of number rank plane inside, contains_here (entry_of number rank plane inside) rest, entry_says number rank plane inside)
+
+-- the entry of the block that a number stands for, and the entries of both parts of a word
+abbrev pub block_entry : Words → ℕ → ℕ → KnownBlock
+block_entry words rank n = entry_of n rank (cells_of words rank n) (cells_inside words rank n)
+
+abbrev pub part_entries : Words → ℕ → ℕ → List KnownBlock
+part_entries words rank word = block_entry words rank (first_part word) ∷ block_entry words rank (second_part word) ∷ []
+
+pub lists_more : (xs ys : List KnownBlock) (rank number : ℕ) (plane : Plane) → ((entry : KnownBlock) → Contains xs entry → Contains ys entry) →
+    Lists xs rank number plane → Lists ys rank number plane
+lists_more xs ys rank number plane more t = (t.0, more t.0 t.1, t.2)
 
 pub slot_or_not : (bits : ℕ) (kind : Kind) (i : ℕ) → IsSlot bits kind i ⊎ (IsSlot bits kind i → ⊥)
 slot_or_not bits kind i = ⊎_elim (λ t. inr (λ s. let k = s.from in omega arith))
     (λ t. ⊎_elim (λ u. inl (record { from = t; below = u })) (λ u. inr (λ s. let k = s.below in omega arith)) (cases_lt i (start bits kind + 2 ^ slot_bits bits kind)))
     (cases_lt i (start bits kind))
 
-not_there : (n : ℕ) (x : KnownBlock) (xs : List KnownBlock) → x.number ≢ n → ((entry : KnownBlock) → Contains xs entry → entry.number ≢ n) → (entry : KnownBlock) (k : ℕ) → k < length (x ∷ xs) → slice_index_or (x ∷ xs) k entry ≡ entry → entry.number ≢ n
+not_there : (n : ℕ) (x : KnownBlock) (xs : List KnownBlock) → x.number ≢ n → ((entry : KnownBlock) → Contains xs entry → entry.number ≢ n) →
+    (entry : KnownBlock) (k : ℕ) → k < length (x ∷ xs) → slice_index_or (x ∷ xs) k entry ≡ entry → entry.number ≢ n
 not_there n x xs gone none entry zero less e is = gone (ap (λ (y : KnownBlock). y.number) e ∙ is)
 not_there n x xs gone none entry (suc k) less e is = none entry (k, omega arith, e) is
 
 -- whether a number is among the entries
-listed : (n : ℕ) (blocks : List KnownBlock) → ((entry : KnownBlock) × Contains blocks entry × (entry.number ≡ n)) ⊎ ((entry : KnownBlock) → Contains blocks entry → entry.number ≢ n)
+listed : (n : ℕ) (blocks : List KnownBlock) →
+    ((entry : KnownBlock) × Contains blocks entry × (entry.number ≡ n)) ⊎ ((entry : KnownBlock) → Contains blocks entry → entry.number ≢ n)
 listed n [] = inr (λ entry has e. let k = has.1 in omega arith)
 listed n (x ∷ xs) = ⊎_elim (λ e. inl (x, contains_here x xs, e))
     (λ gone. ⊎_elim (λ t. inl (t.0, (suc t.1.0, (let k = t.1.1 in omega arith), t.1.2), t.2)) (λ none. inr (λ entry has e. not_there n x xs gone none entry has.0 has.1 has.2 e)) (listed n xs)) (same_or_other x.number n)
@@ -72,14 +89,15 @@ data Whether (known : Knowledge) (n : ℕ) : Type 0 where
 
 whether : (known : Knowledge) (n : ℕ) → Whether known n
 whether known n = ⊎_elim (λ e. as_zero e)
-    (λ some. ⊎_elim (λ t. as_block t.0.rank (plane_of t.0.live) (inr (t.0, t.1, t.2, refl, same_refl (plane_of t.0.live))) some)
-    (λ none. unknown some (λ rank plane knows. ⊎_elim (λ u. some u.0) (λ u. none u.0 u.1 u.2) knows)) (listed n known.blocks))
+    (λ some. ⊎_elim (λ t. as_block t.0.rank (plane_of t.0.live) (inr (t.0, t.1, record { at_rank = refl; of_number = t.2; cells = same_refl (plane_of t.0.live) })) some)
+    (λ none. unknown some (λ rank plane knows. ⊎_elim (λ u. some u.0) (λ u. none u.0 u.1 u.2.of_number) knows)) (listed n known.blocks))
     (same_or_other n 0)
 
 knows_zero : (known : Knowledge) (rank n : ℕ) → n ≡ 0 → KnowsBlock known rank n empty
 knows_zero known rank n e = inl (e, same_refl empty)
 
-cells_paired : (words : Words) (r i : ℕ) → i ≢ 0 → cells_of words (suc r) i ≡ paired r (cells_of words r (first_part (words i))) (cells_of words r (second_part (words i)))
+cells_paired : (words : Words) (r i : ℕ) → i ≢ 0 →
+    cells_of words (suc r) i ≡ paired r (cells_of words r (first_part (words i))) (cells_of words r (second_part (words i)))
 cells_paired words r zero some = absurd (some refl)
 cells_paired words r (suc i) some = refl
 
@@ -88,7 +106,8 @@ record Upwards (key : Key) (known : Knowledge) (index word : ℕ) : Type 0 where
   more : List KnownBlock
   follow : AllByRecursion (Follows key known index word) more
   leaf : IsSlot key.shape.bits Leaf index → Lists more 0 index (bits_plane word)
-  pair : (rank : ℕ) (one two : Plane) → IsSlot key.shape.bits Pair index → KnowsBlock known rank (first_part word) one → KnowsBlock known rank (second_part word) two → Lists more (suc rank) index (paired rank one two)
+  pair : (rank : ℕ) (one two : Plane) → IsSlot key.shape.bits Pair index → KnowsBoth known rank word one two →
+      Lists more (suc rank) index (paired rank one two)
 
 -- the entries have both parts of a word
 record HasParts (blocks : List KnownBlock) (rank word : ℕ) (plane : Plane) : Type 0 where
@@ -120,23 +139,27 @@ module _ (key : Key) (words : Words) (known : Knowledge) (good : IsGood key word
         let inside : IsInside (width 0) (height 0) (bits_plane word) = subst (λ w. IsInside (width 0) (height 0) (bits_plane w)) there (shows_inside key.shape.bits words 0 index _ (leaf_shows key.shape.bits words index slot (λ z. some (sym there ∙ z)))) in
         record {
           more = entry_of index 0 (bits_plane word) inside ∷ [];
-          follow = (as_leaf slot refl refl (entry_same index 0 (bits_plane word) inside), tt);
+          follow = (as_leaf slot (entry_says index 0 (bits_plane word) inside), tt);
           leaf = λ s. lists_first index 0 (bits_plane word) inside [];
-          pair = λ rank one two s a b. absurd (leaf_no_pair key.shape.bits index slot s);
+          pair = λ rank one two s both. absurd (leaf_no_pair key.shape.bits index slot s);
         }
 
-    no_parts : IsSlot key.shape.bits Pair index → ((rank : ℕ) (one two : Plane) → KnowsBlock known rank (first_part word) one → KnowsBlock known rank (second_part word) two → ⊥) → Upwards key known index word
-    no_parts slot none = record { more = []; follow = tt; leaf = λ s. absurd (leaf_no_pair key.shape.bits index s slot); pair = λ rank one two s a b. absurd (none rank one two a b) }
+    no_parts : IsSlot key.shape.bits Pair index →
+        ((rank : ℕ) (one two : Plane) → KnowsBlock known rank (first_part word) one → KnowsBlock known rank (second_part word) two → ⊥) →
+        Upwards key known index word
+    no_parts slot none = record { more = []; follow = tt; leaf = λ s. absurd (leaf_no_pair key.shape.bits index s slot); pair = λ rank one two s both. absurd (none rank one two both.first both.second) }
 
-    with_parts : IsSlot key.shape.bits Pair index → (rank : ℕ) (one two : Plane) → KnowsBlock known rank (first_part word) one → KnowsBlock known rank (second_part word) two →
+    with_parts : IsSlot key.shape.bits Pair index → (rank : ℕ) (one two : Plane) → KnowsBlock known rank (first_part word) one →
+        KnowsBlock known rank (second_part word) two →
         ((other : ℕ) (p q : Plane) → KnowsBlock known other (first_part word) p → KnowsBlock known other (second_part word) q → other ≡ rank) → Upwards key known index word
     with_parts slot rank one two a b only =
         let inside : IsInside (width (suc rank)) (height (suc rank)) (paired rank one two) = paired_inside rank one two (inside_block rank (first_part word) one a) (inside_block rank (second_part word) two b) in
         record {
           more = entry_of index (suc rank) (paired rank one two) inside ∷ [];
-          follow = (as_pair rank one two slot a b refl refl (entry_same index (suc rank) (paired rank one two) inside), tt);
+          follow = (as_pair rank one two slot (record { first = a; second = b }) (entry_says index (suc rank) (paired rank one two) inside), tt);
           leaf = λ s. absurd (leaf_no_pair key.shape.bits index s slot);
-          pair = λ other p q s c d.
+          pair = λ other p q s both.
+              let c = both.first in let d = both.second in
               let e : other ≡ rank = only other p q c d in
               let same_p = agree rank (first_part word) one p a (subst (λ r. KnowsBlock known r (first_part word) p) e c) in
               let same_q = agree rank (second_part word) two q b (subst (λ r. KnowsBlock known r (second_part word) q) e d) in
@@ -159,7 +182,7 @@ module _ (key : Key) (words : Words) (known : Knowledge) (good : IsGood key word
     upwards : Upwards key known index word
     upwards = ⊎_elim leaf_up
         (λ gone. ⊎_elim (λ slot. pair_up slot (whether known (first_part word)) (whether known (second_part word)))
-        (λ none. record { more = []; follow = tt; leaf = λ s. absurd (gone s); pair = λ rank one two s a b. absurd (none s) })
+        (λ none. record { more = []; follow = tt; leaf = λ s. absurd (gone s); pair = λ rank one two s both. absurd (none s) })
         (slot_or_not key.shape.bits Pair index)) (slot_or_not key.shape.bits Leaf index)
 
     nothing_down : ((rank : ℕ) (plane : Plane) → index ≢ 0 → KnowsBlock known (suc rank) index plane → ⊥) → Downwards key known index word
@@ -168,31 +191,37 @@ module _ (key : Key) (words : Words) (known : Knowledge) (good : IsGood key word
     parts_down : (q : ℕ) (plane : Plane) → KnowsBlock known q index plane → index ≢ 0 → Downwards key known index word
     parts_down zero plane knows other = nothing_down (λ rank p o k. let e : suc rank ≡ zero = same_rank (suc rank) zero index p plane other k knows in omega arith)
     parts_down (suc r) plane knows other =
-        let in_one = cells_inside words r (first_part word) in let in_two = cells_inside words r (second_part word) in
         let whole : IsSame plane (paired r (cells_of words r (first_part word)) (cells_of words r (second_part word))) =
         same_trans (same_sym (block_true key.shape.bits words known (suc r) index plane h knows).cells)
         (same_of _ _ (cells_paired words r index other ∙ ap (λ w. paired r (cells_of words r (first_part w)) (cells_of words r (second_part w))) there)) in
-        let also = knows_same known (suc r) index plane (paired r (cells_of words r (first_part word)) (cells_of words r (second_part word))) whole knows in
-        let one = entry_of (first_part word) r (cells_of words r (first_part word)) (cells_inside words r (first_part word)) in
-        let two = entry_of (second_part word) r (cells_of words r (second_part word)) (cells_inside words r (second_part word)) in
-        let both = entry_of (first_part word) r (cells_of words r (first_part word)) (cells_inside words r (first_part word)) ∷ entry_of (second_part word) r (cells_of words r (second_part word)) (cells_inside words r (second_part word)) ∷ [] in
+        let known_whole : KnowsWhole known r index (cells_of words r (first_part word)) (cells_of words r (second_part word)) = record {
+          some = other;
+          whole = knows_same known (suc r) index plane (paired r (cells_of words r (first_part word)) (cells_of words r (second_part word))) whole knows;
+          first_inside = cells_inside words r (first_part word);
+          second_inside = cells_inside words r (second_part word);
+        } in
+        let says = λ (n : ℕ). entry_says n r (cells_of words r n) (cells_inside words r n) in
+        let has : HasParts (part_entries words r word) r word plane = record {
+          one = cells_of words r (first_part word);
+          two = cells_of words r (second_part word);
+          cells = whole;
+          first = lists_first (first_part word) r (cells_of words r (first_part word)) (cells_inside words r (first_part word)) (block_entry words r (second_part word) ∷ []);
+          second = lists_more (block_entry words r (second_part word) ∷ []) (part_entries words r word) r (second_part word) (cells_of words r (second_part word))
+              (λ entry t. Contains-append_right (block_entry words r (first_part word) ∷ []) (block_entry words r (second_part word) ∷ []) entry t)
+              (lists_first (second_part word) r (cells_of words r (second_part word)) (cells_inside words r (second_part word)) []);
+        } in
         record {
-          more = entry_of (first_part word) r (cells_of words r (first_part word)) (cells_inside words r (first_part word)) ∷ entry_of (second_part word) r (cells_of words r (second_part word)) (cells_inside words r (second_part word)) ∷ [];
+          more = part_entries words r word;
           follow = (
-            as_first_part r (cells_of words r (first_part word)) (cells_of words r (second_part word)) other also in_one in_two refl refl (entry_same (first_part word) r (cells_of words r (first_part word)) in_one),
-            (as_second_part r (cells_of words r (first_part word)) (cells_of words r (second_part word)) other also in_one in_two refl refl (entry_same (second_part word) r (cells_of words r (second_part word)) in_two), tt),
+            as_first_part r (cells_of words r (first_part word)) (cells_of words r (second_part word)) known_whole (says (first_part word)),
+            (as_second_part r (cells_of words r (first_part word)) (cells_of words r (second_part word)) known_whole (says (second_part word)), tt),
           );
           parts = λ rank p o k.
               let e : suc rank ≡ suc r = same_rank (suc rank) (suc r) index p plane other k knows in
               let same : r ≡ rank = omega arith in
-              subst (λ s. HasParts (entry_of (first_part word) r (cells_of words r (first_part word)) (cells_inside words r (first_part word)) ∷ entry_of (second_part word) r (cells_of words r (second_part word)) (cells_inside words r (second_part word)) ∷ []) s word p) same (record {
-                one = cells_of words r (first_part word);
-                two = cells_of words r (second_part word);
-                cells = same_trans (agree (suc r) index p plane (subst (λ s. KnowsBlock known (suc s) index p) (sym same) k) knows) whole;
-                first = lists_first (first_part word) r (cells_of words r (first_part word)) in_one (two ∷ []);
-                second = lists_more (two ∷ []) (one ∷ two ∷ []) r (second_part word) (cells_of words r (second_part word)) (λ entry t. Contains-append_right (one ∷ []) (two ∷ []) entry t)
-                    (lists_first (second_part word) r (cells_of words r (second_part word)) in_two []);
-              });
+              let alike = agree (suc r) index p plane (subst (λ s. KnowsBlock known (suc s) index p) (sym same) k) knows in
+              subst (λ s. HasParts (part_entries words r word) s word p) same
+              (record { one = has.one; two = has.two; cells = same_trans alike has.cells; first = has.first; second = has.second });
         }
 
     down_of : Whether known index → Downwards key known index word
@@ -216,13 +245,12 @@ module _ (key : Key) (words : Words) (known : Knowledge) (good : IsGood key word
             is = refl;
             follow = all_append (Follows key known index word) up.more down.more up.follow down.follow;
             leaf = λ s. inr (left 0 index (bits_plane word) (up.leaf s));
-            pair = λ rank one two s a b. inr (left (suc rank) index (paired rank one two) (up.pair rank one two s a b));
+            pair = λ rank one two s both. inr (left (suc rank) index (paired rank one two) (up.pair rank one two s both));
             parts = λ rank plane other knows. let p : HasParts down.more rank word plane = down.parts rank plane other knows in record {
               one = p.one;
               two = p.two;
               cells = p.cells;
-              first = inr (right rank (first_part word) p.one p.first);
-              second = inr (right rank (second_part word) p.two p.second);
+              both = record { first = inr (right rank (first_part word) p.one p.first); second = inr (right rank (second_part word) p.two p.second) };
             };
           },
         )
@@ -255,7 +283,8 @@ module _ (key : Key) (words : Words) (known : Knowledge) (good : IsGood key word
   seen_agrees : (index word : ℕ) → words index ≡ word → (seen : ℕ) → HasSeen known index seen → (word ≡ seen) × (seen ≢ 0)
   seen_agrees index word there seen has = let t = seen_true key.shape.bits words known index seen h has in (sym there ∙ t.0, t.1)
 
-  result_agrees : (index word : ℕ) → words index ≡ word → (result : KnownResult) → Contains known.results result → index ≡ result_of key.shape.bits result.square → word ≡ 2 ^ 32 + result.future
+  result_agrees : (index word : ℕ) → words index ≡ word → (result : KnownResult) → Contains known.results result →
+      index ≡ result_of key.shape.bits result.square → word ≡ 2 ^ 32 + result.future
   result_agrees index word there result has e = let t = all_contains (IsTrueResult key.shape.bits words) known.results result h.results has in sym there ∙ ap words e ∙ t.told
 
   met_word : (index word : ℕ) → words index ≡ word → (after : Knowledge) × MeetsWord key known index word after
@@ -264,14 +293,16 @@ module _ (key : Key) (words : Words) (known : Knowledge) (good : IsGood key word
       (λ some. let l = word_learned index word some there in (l.0, record { none = λ z. absurd (some z); some = λ again. l.1; agrees = seen_agrees index word there }))
       (same_or_other word 0)
 
-  met_result : (count index word : ℕ) → words index ≡ word → MayAsk key.shape.bits known index → (after : Knowledge) × MeetsResult key known count index word after
+  met_result : (count index word : ℕ) → words index ≡ word → MayAsk key.shape.bits known index →
+      (after : Knowledge) × MeetsResult key known count index word after
   met_result count index word there of = ⊎_elim
       (λ z. (known, record { none = λ e. refl; some = λ some. absurd (some z); agrees = result_agrees index word there }))
       (λ some. let l = future_learned index word some there count of in (l.0, record { none = λ z. absurd (some z); some = λ again. l.1; agrees = result_agrees index word there }))
       (same_or_other word 0)
 
   -- there is what a desk knows after an event
-  learns_some : (event : Event) (word : ℕ) → IsLawful key known event → words (index_of event) ≡ word → (after : Knowledge) × Learns key event known word after
+  learns_some : (event : Event) (word : ℕ) → IsLawful key known event → words (index_of event) ≡ word →
+      (after : Knowledge) × Learns key event known word after
   learns_some (Look desk index) word lawful there = met_word index word there
   learns_some (Claim desk index claimed) word lawful there = met_word index word there
   learns_some (Ask desk index) word lawful there = met_result 1 index word there lawful

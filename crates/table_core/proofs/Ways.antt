@@ -1,11 +1,11 @@
 -- The ways of words. Nothing else here needs the arithmetic of the first slot.
-use Rattle.std.proofs.Common.{◌≡◌, ◌≢◌, ℕ, ◌+◌, ◌-◌, ◌*◌, ◌/◌, ◌%◌, ◌^◌, ◌<◌, ◌≤◌, sym, ◌∙◌, ap, subst, arith, refl}
+use Rattle.std.proofs.Common.{◌≡◌, ◌≢◌, ℕ, ◌+◌, ◌-◌, ◌*◌, ◌/◌, ◌%◌, ◌^◌, ◌<◌, ◌≤◌, ◌∙◌, ap, subst, arith, refl}
 use Rattle.std.proofs.lemmas.Nat.{pow_pos, pow-add}
 use Rattle.std.proofs.Math.Pow.{pow_mono}
 use Rattle.std.proofs.Math.Nat.{div-lt_iff_lt-mul}
 use Rattle.table_core.specs.declared.shape.Kind.{Kind}
 use Rattle.table_core.specs.declared.shape.Kind.TheVariants.{Leaf, Pair}
-use Rattle.table_core.specs.Layout.{slot_bits, start, IsSlot, result_of, size, first, slot_on_way, way, IsInShard, GoesThroughShard}
+use Rattle.table_core.specs.Layout.{slot_bits, start, IsSlot, result_of, size, first, slot_on_way, way, IsInShard}
 use Rattle.table_core.specs.Laws.{EveryWay}
 
 -- a slot of both kinds is none
@@ -50,7 +50,8 @@ first_below b word h =
 in_shards : (f x n : ℕ) → f < 256 * n → 256 * (f / 256) + x % 256 < 256 * n
 in_shards f x n h = omega arith
 
-pub on_way_below : (bits : ℕ) (kind : Kind) (word place : ℕ) → 10 ≤ bits → bits ≤ 64 → slot_on_way (slot_bits bits kind) word place < 2 ^ slot_bits bits kind
+pub on_way_below : (bits : ℕ) (kind : Kind) (word place : ℕ) → 10 ≤ bits → bits ≤ 64 →
+    slot_on_way (slot_bits bits kind) word place < 2 ^ slot_bits bits kind
 unfolding slot_on_way
 on_way_below bits kind word place h k =
     let m = long bits kind h in
@@ -65,16 +66,19 @@ pub way_is_slot : (bits : ℕ) (kind : Kind) (word place : ℕ) → 10 ≤ bits 
 unfolding way
 way_is_slot bits kind word place h k = let small = on_way_below bits kind word place h k in record { from = omega arith; below = omega arith }
 
-place_at : (f s index : ℕ) → s + 256 * (f / 256) ≤ index → index < s + 256 * (f / 256) + 256 → s + (256 * (f / 256) + (f + (index - (s + 256 * (f / 256)) + 256 - f % 256) % 256) % 256) ≡ index
+place_at : (f s index : ℕ) → s + 256 * (f / 256) ≤ index → index < s + 256 * (f / 256) + 256 →
+    s + (256 * (f / 256) + (f + (index - (s + 256 * (f / 256)) + 256 - f % 256) % 256) % 256) ≡ index
 place_at f s index low high = omega arith
 
-round : (f s index : ℕ) → s + 256 * (f / 256) ≤ index → index < s + 256 * (f / 256) + 256 → (place : ℕ) × (place < 256) × (s + (256 * (f / 256) + (f + place) % 256) ≡ index)
+round : (f s index : ℕ) → s + 256 * (f / 256) ≤ index → index < s + 256 * (f / 256) + 256 →
+    (place : ℕ) × (place < 256) × (s + (256 * (f / 256) + (f + place) % 256) ≡ index)
 round f s index low high =
     let i = index - (s + 256 * (f / 256)) in
     ((i + 256 - f % 256) % 256, omega arith, place_at f s index low high)
 
 -- a way has each slot of its shard
-pub way_covers : (bits : ℕ) (kind : Kind) (word index : ℕ) → IsInShard bits kind word index → (place : ℕ) × (place < 256) × (way bits kind word place ≡ index)
+pub way_covers : (bits : ℕ) (kind : Kind) (word index : ℕ) → IsInShard bits kind word index →
+    (place : ℕ) × (place < 256) × (way bits kind word place ≡ index)
 unfolding way slot_on_way IsInShard
 way_covers bits kind word index h = round (first (slot_bits bits kind) word) (start bits kind) index h.0 h.1
 
@@ -82,11 +86,11 @@ way_covers bits kind word index h = round (first (slot_bits bits kind) word) (st
 apart : (f s p q : ℕ) → p < 256 → q < 256 → s + (256 * (f / 256) + (f + p) % 256) ≡ s + (256 * (f / 256) + (f + q) % 256) → p ≡ q
 apart f s p q low_p low_q e = omega arith
 
-pub way_distinct : (bits : ℕ) (kind : Kind) (word p q : ℕ) → p < 256 → q < 256 → way bits kind word p ≡ way bits kind word q → p ≡ q
+way_distinct : (bits : ℕ) (kind : Kind) (word p q : ℕ) → p < 256 → q < 256 → way bits kind word p ≡ way bits kind word q → p ≡ q
 unfolding way slot_on_way
 way_distinct bits kind word p q low_p low_q e = apart (first (slot_bits bits kind) word) (start bits kind) p q low_p low_q e
 
-pub way_inside : (bits : ℕ) (kind : Kind) (word place : ℕ) → IsInShard bits kind word (way bits kind word place)
+way_inside : (bits : ℕ) (kind : Kind) (word place : ℕ) → IsInShard bits kind word (way bits kind word place)
 unfolding way slot_on_way IsInShard
 way_inside bits kind word place = (omega arith, omega arith)
 

@@ -24,16 +24,28 @@ pub record IsFutureOf (key : Key) (words : Words) (index number : ℕ) : Type 0 
   pub level : ℕ
   pub above : 3 < level
   pub square : IsBlock key.shape.bits words (square_rank level) index
-  pub shown : Shows key.shape.bits words (square_rank (level - 1)) number (future key.rule key.exponent level (cells_of words (square_rank level) index))
+  pub shown : Shows key.shape.bits words (square_rank (level - 1)) number
+      (future key.rule key.exponent level (cells_of words (square_rank level) index))
 
--- good words: the head names the rule and the exponent, a word stands once and on its own way, each pair is a finite block, of at most a square of level 65, and each result is a future
+-- the pair at the index is a finite block, of at most a square of level 65
+abbrev pub IsPairBlock : ℕ → Words → ℕ → Type 0
+IsPairBlock bits words index = (rank : ℕ) × (rank < largest_rank) × IsBlock bits words (suc rank) index
+
+-- the result word beside the pair at the index is that of a future
+abbrev pub HasFuture : Key → Words → ℕ → Type 0
+HasFuture key words index =
+    (number : ℕ) × (words (result_of key.shape.bits index) ≡ 2 ^ 32 + number) × IsFutureOf key words index number
+
+-- good words: the head names the rule and the exponent, a word of a leaf or a pair stands once, and on its own way, each
+-- pair is a block, and each result is that of a future
 pub record IsGood (key : Key) (words : Words) : Type 0 where
   pub names : words 0 ≡ head key
   pub fits : (index : ℕ) → words index < 2 ^ 64
-  pub once : (kind : Kind) (i j : ℕ) → IsSlot key.shape.bits kind i → IsSlot key.shape.bits kind j → words i ≢ 0 → words i ≡ words j → i ≡ j
+  pub once : (kind : Kind) (i j : ℕ) → IsSlot key.shape.bits kind i → IsSlot key.shape.bits kind j →
+      words i ≢ 0 → words i ≡ words j → i ≡ j
   pub on_way : (kind : Kind) (i : ℕ) → IsSlot key.shape.bits kind i → words i ≢ 0 → IsOnWay key.shape.bits words kind i
-  pub blocks : (i : ℕ) → IsSlot key.shape.bits Pair i → words i ≢ 0 → (rank : ℕ) × (rank < largest_rank) × IsBlock key.shape.bits words (suc rank) i
-  pub results : (i : ℕ) → IsSlot key.shape.bits Pair i → words (result_of key.shape.bits i) ≢ 0 → (number : ℕ) × (words (result_of key.shape.bits i) ≡ 2 ^ 32 + number) × IsFutureOf key words i number
+  pub blocks : (i : ℕ) → IsSlot key.shape.bits Pair i → words i ≢ 0 → IsPairBlock key.shape.bits words i
+  pub results : (i : ℕ) → IsSlot key.shape.bits Pair i → words (result_of key.shape.bits i) ≢ 0 → HasFuture key words i
 
 -- the words of a whole table, and good
 pub record AreGoodWords (key : Key) (words : List ℕ) : Type 0 where
@@ -57,7 +69,8 @@ pub record Fills (old new : Words) (index word : ℕ) : Type 0 where
 -- the parts of a pair's word stand for blocks of one rank, that of less than a square of level 65
 abbrev pub PartsStand : ℕ → Words → Kind → ℕ → Type 0
 PartsStand bits words Leaf word = Unit {0}
-PartsStand bits words Pair word = (rank : ℕ) × (rank < largest_rank) × IsBlock bits words rank (first_part word) × IsBlock bits words rank (second_part word)
+PartsStand bits words Pair word =
+    (rank : ℕ) × (rank < largest_rank) × IsBlock bits words rank (first_part word) × IsBlock bits words rank (second_part word)
 
 -- the word may come to the index: at each earlier place of its way another word stands, and its parts are there
 pub record MayStand (bits : ℕ) (words : Words) (kind : Kind) (index word : ℕ) : Type 0 where
@@ -66,5 +79,6 @@ pub record MayStand (bits : ℕ) (words : Words) (kind : Kind) (index word : ℕ
   pub place : ℕ
   pub short : place < 256
   pub here : way bits kind word place ≡ index
-  pub before : (earlier : ℕ) → earlier < place → (words (way bits kind word earlier) ≢ 0) × (words (way bits kind word earlier) ≢ word)
+  pub before : (earlier : ℕ) → earlier < place →
+      (words (way bits kind word earlier) ≢ 0) × (words (way bits kind word earlier) ≢ word)
   pub parts : PartsStand bits words kind word

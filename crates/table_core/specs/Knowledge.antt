@@ -1,5 +1,5 @@
 -- What a desk knows, and that it is true of the words.
-use Rattle.std.specs.Prelude.{◌≡◌, ◌≢◌, ℕ, zero, suc, ◌+◌, ◌-◌, ◌*◌, ◌/◌, ◌^◌, ◌<◌, ◌≤◌, ◌⊎◌, ◌==◌, Bool, true, false, ◌&&◌, ◌||◌, if◌then◌else◌, List, [], ◌∷◌, ◌++◌, Contains}
+use Rattle.std.specs.Prelude.{◌≡◌, ◌≢◌, ℕ, suc, ◌+◌, ◌^◌, ◌<◌, ◌≤◌, ◌⊎◌, ◌==◌, Bool, false, if◌then◌else◌, List, [], ◌∷◌, ◌++◌, Contains}
 use Rattle.std.specs.List.{AllByRecursion, list_any}
 use Rattle.plane.specs.Plane.{Plane}
 use Rattle.plane.specs.Square.{IsSame, empty}
@@ -8,20 +8,25 @@ use Rattle.plane.specs.Listing.{plane_of}
 use Rattle.table_core.specs.declared.knowledge.KnownBlock.{KnownBlock}
 use Rattle.table_core.specs.declared.knowledge.KnownResult.{KnownResult}
 use Rattle.table_core.specs.declared.knowledge.Knowledge.{Knowledge}
-use Rattle.table_core.specs.declared.shape.Kind.{Kind}
 use Rattle.table_core.specs.declared.shape.Kind.TheVariants.{Leaf, Pair}
-use Rattle.table_core.specs.Layout.{IsSlot, start, slot_bits, result_of}
+use Rattle.table_core.specs.Layout.{IsSlot, result_of}
 use Rattle.table_core.specs.Blocks.{Words, IsBlock, Shows, square_rank, largest_rank, width, height}
 
 -- it has seen this word at this index
 abbrev pub HasSeen : Knowledge → ℕ → ℕ → Type 0
 HasSeen known index word = Contains known.words (index, word)
 
--- the entries say that the number shows the block of this rank with these cells
-abbrev pub Lists : List KnownBlock → ℕ → ℕ → Plane → Type 0
-Lists blocks rank number plane = (entry : KnownBlock) × Contains blocks entry × (entry.number ≡ number) × (entry.rank ≡ rank) × IsSame (plane_of entry.live) plane
+-- the entry says that the number shows the block of this rank with these cells
+pub record Says (entry : KnownBlock) (rank number : ℕ) (plane : Plane) : Type 0 where
+  pub at_rank : entry.rank ≡ rank
+  pub of_number : entry.number ≡ number
+  pub cells : IsSame (plane_of entry.live) plane
 
--- it knows that the number shows the block of this rank with these cells; that number 0 shows the empty one is always known
+-- one of the entries says it
+abbrev pub Lists : List KnownBlock → ℕ → ℕ → Plane → Type 0
+Lists blocks rank number plane = (entry : KnownBlock) × Contains blocks entry × Says entry rank number plane
+
+-- it knows that the number shows the block of this rank with these cells; that 0 shows the empty one is always known
 abbrev pub KnowsBlock : Knowledge → ℕ → ℕ → Plane → Type 0
 KnowsBlock known rank number plane = ((number ≡ 0) × IsSame empty plane) ⊎ Lists known.blocks rank number plane
 
@@ -49,7 +54,8 @@ pub record IsTrueResult (bits : ℕ) (words : Words) (result : KnownResult) : Ty
 abbrev pub KnowsSquareOf : Knowledge → KnownResult → Type 0
 KnowsSquareOf known result = (plane : Plane) × KnowsBlock known (square_rank result.level) result.square plane
 
--- what a desk knows is true of the words: each word stands at its index and isn't 0, each number shows its block, and each result is told beside a square that it knows, which has no second one
+-- what a desk knows is true of the words: each word stands at its index and isn't 0, each number shows its block, and
+-- each result is told beside a square that it knows, which has no second one
 pub record IsTrueOf (bits : ℕ) (words : Words) (known : Knowledge) : Type 0 where
   pub seen : AllByRecursion (λ entry. (words entry.0 ≡ entry.1) × (entry.1 ≢ 0)) known.words
   pub blocks : AllByRecursion (λ entry. Shows bits words entry.rank entry.number (plane_of entry.live)) known.blocks
@@ -57,13 +63,17 @@ pub record IsTrueOf (bits : ℕ) (words : Words) (known : Knowledge) : Type 0 wh
   pub squares : AllByRecursion (KnowsSquareOf known) known.results
   pub once : HasEachOnce known.results
 
--- what a desk knows agrees with itself: a number shows one block, at the index of a leaf or a pair, of at most a square of level 65, and a block has one number; each result is of a square that it knows, which has no second one
+-- what a desk knows agrees with itself: a number shows one block, at the index of a leaf or a pair, of at most a square of
+-- level 65, and a block has one number; each result is of a square that it knows, which has no second one
 pub record IsConsistent (bits : ℕ) (known : Knowledge) : Type 0 where
-  pub one_block : (rank other number : ℕ) (plane also : Plane) → number ≢ 0 → KnowsBlock known rank number plane → KnowsBlock known other number also → (rank ≡ other) × IsSame plane also
-  pub one_number : (rank number other : ℕ) (plane : Plane) → KnowsBlock known rank number plane → KnowsBlock known rank other plane → number ≡ other
+  pub one_block : (rank other number : ℕ) (plane also : Plane) → number ≢ 0 →
+      KnowsBlock known rank number plane → KnowsBlock known other number also → (rank ≡ other) × IsSame plane also
+  pub one_number : (rank number other : ℕ) (plane : Plane) →
+      KnowsBlock known rank number plane → KnowsBlock known rank other plane → number ≡ other
   pub inside : (rank number : ℕ) (plane : Plane) → KnowsBlock known rank number plane → IsInside (width rank) (height rank) plane
   pub leaf : (number : ℕ) (plane : Plane) → number ≢ 0 → KnowsBlock known 0 number plane → IsSlot bits Leaf number
-  pub pair : (rank number : ℕ) (plane : Plane) → number ≢ 0 → KnowsBlock known (suc rank) number plane → IsSlot bits Pair number × (rank < largest_rank)
+  pub pair : (rank number : ℕ) (plane : Plane) → number ≢ 0 → KnowsBlock known (suc rank) number plane →
+      IsSlot bits Pair number × (rank < largest_rank)
   pub results : AllByRecursion (λ result. (3 < result.level) × (result.square ≢ 0) × KnowsSquareOf known result) known.results
   pub once : HasEachOnce known.results
 
@@ -90,24 +100,3 @@ united one two = record {
 
 abbrev pub nothing : Knowledge
 nothing = record { words = []; blocks = []; results = []; learned = 0 }
-
--- it has seen a word in each slot of a shard
-pub record KnowsFullShard (bits : ℕ) (known : Knowledge) : Type 0 where
-  pub kind : Kind
-  pub shard : ℕ
-  pub within : 256 * shard + 256 ≤ 2 ^ slot_bits bits kind
-  pub full : (slot : ℕ) → slot < 256 → (word : ℕ) × HasSeen known (start bits kind + (256 * shard + slot)) word
-
--- whether it has seen words at so many indices from the first on
-unfoldable pub has_seen_all : Knowledge → ℕ → ℕ → Bool
-has_seen_all known first zero = true
-has_seen_all known first (suc count) = list_any (λ entry. entry.0 == first + count) known.words && has_seen_all known first count
-
--- whether one of so many shards, the first of which begins at this index, is full
-unfoldable pub has_full_shard : Knowledge → ℕ → ℕ → Bool
-has_full_shard known first zero = false
-has_full_shard known first (suc count) = has_seen_all known (first + 256 * count) 256 || has_full_shard known first count
-
--- whether it knows a shard without a zero slot
-unfoldable pub knows_full_shard : ℕ → Knowledge → Bool
-knows_full_shard bits known = has_full_shard known (start bits Leaf) (2 ^ slot_bits bits Leaf / 256) || has_full_shard known (start bits Pair) (2 ^ slot_bits bits Pair / 256)

@@ -5,12 +5,14 @@ use Rattle.table_core.specs.declared.knowledge.Knowledge.{Knowledge}
 use Rattle.table_core.specs.declared.knowledge.KnownResult.{KnownResult}
 use Rattle.table_core.specs.declared.machine.Event.{Event}
 use Rattle.table_core.specs.declared.shape.Kind.{Kind}
-use Rattle.table_core.specs.Layout.{GoesThroughShard, IsSlot, size}
+use Rattle.table_core.specs.Layout.{GoesThroughShard, size}
 use Rattle.table_core.specs.Blocks.{Words, IsBlock, cells_of}
 use Rattle.table_core.specs.Good.{IsGood}
-use Rattle.table_core.specs.Knowledge.{IsTrueOf, IsTrueResult, IsConsistent, HasSeen, KnowsBlock, Grows, KnowsFullShard, knows_full_shard}
-use Rattle.table_core.specs.Events.{index_of, word_after}
-use Rattle.table_core.specs.Learning.{IsLawful, Learns}
+use Rattle.table_core.specs.Knowledge.{IsTrueOf, IsTrueResult, IsConsistent, HasSeen, KnowsBlock, Grows}
+use Rattle.table_core.specs.FullShards.{KnowsFullShard, knows_full_shard}
+use Rattle.table_core.specs.Events.{index_of}
+use Rattle.table_core.specs.Lawful.{IsLawful}
+use Rattle.table_core.specs.Learning.{Learns}
 
 abbrev pub EveryWay : Type 0
 EveryWay = (bits : ℕ) (kind : Kind) (word : ℕ) → 10 ≤ bits → bits ≤ 28 → GoesThroughShard bits kind word
@@ -23,11 +25,13 @@ pub record Teaches (key : Key) (words : Words) (known : Knowledge) (event : Even
 
 abbrev pub EveryEventTeaches : Type 0
 EveryEventTeaches =
-    (key : Key) (words : Words) (known : Knowledge) (event : Event) (word : ℕ) → IsGood key words → IsTrueOf key.shape.bits words known → IsLawful key known event →
-    words (index_of event) ≡ word → Teaches key words known event word
+    (key : Key) (words : Words) (known : Knowledge) (event : Event) (word : ℕ) →
+    IsGood key words → IsTrueOf key.shape.bits words known → IsLawful key known event → words (index_of event) ≡ word →
+    Teaches key words known event word
 
 abbrev pub EveryTruthIsConsistent : Type 0
-EveryTruthIsConsistent = (key : Key) (words : Words) (known : Knowledge) → IsGood key words → IsTrueOf key.shape.bits words known → IsConsistent key.shape.bits known
+EveryTruthIsConsistent =
+    (key : Key) (words : Words) (known : Knowledge) → IsGood key words → IsTrueOf key.shape.bits words known → IsConsistent key.shape.bits known
 
 -- all that good words say is known: each word, each block and each result
 pub record KnowsAll (bits : ℕ) (words : Words) (known : Knowledge) : Type 0 where

@@ -1,5 +1,5 @@
--- Which events are lawful, and what they teach.
-use Rattle.std.specs.Prelude.{◌≡◌, ◌≢◌, ℕ, suc, ◌+◌, ◌-◌, ◌*◌, ◌^◌, ◌<◌, if◌then◌else◌, List, [], ◌∷◌, ◌++◌, Contains}
+-- What events teach their desks.
+use Rattle.std.specs.Prelude.{◌≡◌, ◌≢◌, ℕ, suc, ◌+◌, ◌-◌, ◌^◌, if◌then◌else◌, List, [], ◌∷◌, ◌++◌, Contains}
 use Rattle.std.specs.List.{AllByRecursion}
 use Rattle.plane.specs.declared.cell.Cell.{Cell}
 use Rattle.plane.specs.Plane.{Plane}
@@ -12,77 +12,36 @@ use Rattle.table_core.specs.declared.knowledge.KnownResult.{KnownResult}
 use Rattle.table_core.specs.declared.knowledge.Knowledge.{Knowledge}
 use Rattle.table_core.specs.declared.machine.Event.{Event}
 use Rattle.table_core.specs.declared.machine.Event.TheVariants.{Look, Claim, Ask, Tell}
-use Rattle.table_core.specs.declared.shape.Kind.{Kind}
 use Rattle.table_core.specs.declared.shape.Kind.TheVariants.{Leaf, Pair}
-use Rattle.table_core.specs.Layout.{IsSlot, way, result_of, first_part, second_part}
-use Rattle.table_core.specs.Blocks.{paired, width, height, square_rank, largest_rank}
-use Rattle.table_core.specs.Knowledge.{HasSeen, KnowsBlock, has_result, with_result}
+use Rattle.table_core.specs.Layout.{IsSlot, result_of, first_part, second_part}
+use Rattle.table_core.specs.Blocks.{paired, width, height, square_rank}
+use Rattle.table_core.specs.Knowledge.{HasSeen, Says, KnowsBlock, has_result, with_result}
+use Rattle.table_core.specs.Lawful.{KnowsBoth, MayAsk}
 
--- it knows both parts of a pair's word, as blocks of one rank, that of less than a square of level 65
-pub record KnowsParts (known : Knowledge) (word : ℕ) : Type 0 where
-  pub rank : ℕ
-  pub low : rank < largest_rank
-  pub one : Plane
-  pub two : Plane
-  pub first : KnowsBlock known rank (first_part word) one
-  pub second : KnowsBlock known rank (second_part word) two
+-- it knows what the index shows, as two blocks of this rank
+pub record KnowsWhole (known : Knowledge) (rank index : ℕ) (one two : Plane) : Type 0 where
+  pub some : index ≢ 0
+  pub whole : KnowsBlock known (suc rank) index (paired rank one two)
+  pub first_inside : IsInside (width rank) (height rank) one
+  pub second_inside : IsInside (width rank) (height rank) two
 
--- it knows the parts that a word of this kind has
-abbrev pub KnowsPartsFor : Knowledge → Kind → ℕ → Type 0
-KnowsPartsFor known Leaf word = Unit {0}
-KnowsPartsFor known Pair word = KnowsParts known word
-
--- a word may be claimed: at each earlier place of its way the desk has seen another word, and it knows the word's parts
-pub record MayClaim (bits : ℕ) (known : Knowledge) (index word : ℕ) : Type 0 where
-  pub kind : Kind
-  pub some : word ≢ 0
-  pub fits : word < 2 ^ 64
-  pub place : ℕ
-  pub short : place < 256
-  pub here : way bits kind word place ≡ index
-  pub before : (earlier : ℕ) → earlier < place → (other : ℕ) × HasSeen known (way bits kind word earlier) other × (other ≢ word)
-  pub parts : KnowsPartsFor known kind word
-
--- a result may be asked for: the slot is that of a square that the desk knows
-pub record MayAsk (bits : ℕ) (known : Knowledge) (index : ℕ) : Type 0 where
-  pub square : ℕ
-  pub slot : IsSlot bits Pair square
-  pub beside : index ≡ result_of bits square
-  pub level : ℕ
-  pub above : 3 < level
-  pub plane : Plane
-  pub shown : KnowsBlock known (square_rank level) square plane
-
--- a result may be told: the desk knows the square, and that the number shows its future
-pub record MayTell (key : Key) (known : Knowledge) (index number : ℕ) : Type 0 where
-  pub of : MayAsk key.shape.bits known index
-  pub low : number < 2 ^ 32
-  pub shown : KnowsBlock known (square_rank (of.level - 1)) number (future key.rule key.exponent of.level of.plane)
-
--- the event is lawful for a desk that knows so much
-abbrev pub IsLawful : Key → Knowledge → Event → Type 0
-IsLawful key known (Look desk index) = Unit {0}
-IsLawful key known (Claim desk index word) = MayClaim key.shape.bits known index word
-IsLawful key known (Ask desk index) = MayAsk key.shape.bits known index
-IsLawful key known (Tell desk index number) = MayTell key known index number
-
--- what a number shows follows from the nonzero word at an index and what the desk knows: the index shows a leaf, or a pair whose parts it knows, or it knows what the index shows and the number is a part
+-- what an entry says follows from the nonzero word at an index and what the desk knows: it says what the index shows, a
+-- leaf, or a pair of parts that the desk knows, or what a part shows, of a whole that it knows
 pub data Follows (key : Key) (known : Knowledge) (index word : ℕ) (entry : KnownBlock) : Type 0 where
-  as_leaf : IsSlot key.shape.bits Leaf index → entry.number ≡ index → entry.rank ≡ 0 → IsSame (plane_of entry.live) (bits_plane word) → Follows key known index word entry
-  as_pair : (rank : ℕ) (one two : Plane) → IsSlot key.shape.bits Pair index → KnowsBlock known rank (first_part word) one → KnowsBlock known rank (second_part word) two
-      → entry.number ≡ index → entry.rank ≡ suc rank → IsSame (plane_of entry.live) (paired rank one two) → Follows key known index word entry
-  as_first_part : (rank : ℕ) (one two : Plane) → index ≢ 0 → KnowsBlock known (suc rank) index (paired rank one two) → IsInside (width rank) (height rank) one → IsInside (width rank) (height rank) two
-      → entry.number ≡ first_part word → entry.rank ≡ rank → IsSame (plane_of entry.live) one → Follows key known index word entry
-  as_second_part : (rank : ℕ) (one two : Plane) → index ≢ 0 → KnowsBlock known (suc rank) index (paired rank one two) → IsInside (width rank) (height rank) one → IsInside (width rank) (height rank) two
-      → entry.number ≡ second_part word → entry.rank ≡ rank → IsSame (plane_of entry.live) two → Follows key known index word entry
+  as_leaf : IsSlot key.shape.bits Leaf index → Says entry 0 index (bits_plane word) → Follows key known index word entry
+  as_pair : (rank : ℕ) (one two : Plane) → IsSlot key.shape.bits Pair index → KnowsBoth known rank word one two →
+      Says entry (suc rank) index (paired rank one two) → Follows key known index word entry
+  as_first_part : (rank : ℕ) (one two : Plane) → KnowsWhole known rank index one two →
+      Says entry rank (first_part word) one → Follows key known index word entry
+  as_second_part : (rank : ℕ) (one two : Plane) → KnowsWhole known rank index one two →
+      Says entry rank (second_part word) two → Follows key known index word entry
 
 -- it knows both parts of a word, and together they have these cells
 pub record KnowsPartsOf (known : Knowledge) (rank word : ℕ) (plane : Plane) : Type 0 where
   pub one : Plane
   pub two : Plane
   pub cells : IsSame plane (paired rank one two)
-  pub first : KnowsBlock known rank (first_part word) one
-  pub second : KnowsBlock known rank (second_part word) two
+  pub both : KnowsBoth known rank word one two
 
 -- it has seen one more word, and knows some more blocks
 abbrev pub with_word : Knowledge → ℕ → ℕ → List KnownBlock → Knowledge
@@ -93,14 +52,17 @@ with_word known index word more = record {
   learned = known.learned;
 }
 
--- what a nonzero word at an index teaches: the word; what the index shows, where it is a leaf or the desk knows both parts; what the parts show, where it knows what the index shows; and nothing else
+-- what a nonzero word at an index teaches: the word; what the index shows, where it is a leaf or the desk knows both
+-- parts; what the parts show, where it knows what the index shows; and nothing else
 pub record LearnsWord (key : Key) (known : Knowledge) (index word : ℕ) (after : Knowledge) : Type 0 where
   pub more : List KnownBlock
   pub is : after ≡ with_word known index word more
   pub follow : AllByRecursion (Follows key known index word) more
   pub leaf : IsSlot key.shape.bits Leaf index → KnowsBlock after 0 index (bits_plane word)
-  pub pair : (rank : ℕ) (one two : Plane) → IsSlot key.shape.bits Pair index → KnowsBlock known rank (first_part word) one → KnowsBlock known rank (second_part word) two → KnowsBlock after (suc rank) index (paired rank one two)
-  pub parts : (rank : ℕ) (plane : Plane) → index ≢ 0 → KnowsBlock known (suc rank) index plane → KnowsPartsOf after rank word plane
+  pub pair : (rank : ℕ) (one two : Plane) → IsSlot key.shape.bits Pair index → KnowsBoth known rank word one two →
+      KnowsBlock after (suc rank) index (paired rank one two)
+  pub parts : (rank : ℕ) (plane : Plane) → index ≢ 0 → KnowsBlock known (suc rank) index plane →
+      KnowsPartsOf after rank word plane
 
 -- it knows one more result, if it didn't, and what the future's number shows; so many are counted as learned
 abbrev pub with_future : Knowledge → ℕ → KnownResult → List Cell → Knowledge
@@ -111,28 +73,32 @@ with_future known count result live = record {
   learned = known.learned + (if has_result known.results result.square then 0 else count);
 }
 
--- what a nonzero result word teaches: the result, and that its number shows the future of the square, however the desk knows that
+-- what a nonzero result word teaches: the result, and that its number shows the future of the square that the desk knows
 pub record LearnsFuture (key : Key) (known : Knowledge) (count index word : ℕ) (after : Knowledge) : Type 0 where
   pub result : KnownResult
   pub live : List Cell
   pub is : after ≡ with_future known count result live
   pub beside : index ≡ result_of key.shape.bits result.square
   pub told : word ≡ 2 ^ 32 + result.future
-  pub shows : (of : MayAsk key.shape.bits known index) → (of.level ≡ result.level) × IsSame (plane_of live) (future key.rule key.exponent of.level of.plane)
+  pub shows : (of : MayAsk key.shape.bits known index) →
+      (of.level ≡ result.level) × IsSame (plane_of live) (future key.rule key.exponent of.level of.plane)
 
--- what a desk knows after a word was found or placed at the index of a leaf or a pair: nothing new where it is 0; a word that it had seen there is that word
+-- what a desk knows after a word was found or placed at the index of a leaf or a pair: nothing new where it is 0; a word
+-- that it had seen there is that word
 pub record MeetsWord (key : Key) (known : Knowledge) (index word : ℕ) (after : Knowledge) : Type 0 where
   pub none : word ≡ 0 → after ≡ known
   pub some : word ≢ 0 → LearnsWord key known index word after
   pub agrees : (seen : ℕ) → HasSeen known index seen → (word ≡ seen) × (seen ≢ 0)
 
--- what a desk knows after a result word was found or placed: nothing new where it is 0; a result that it knew is that of the word
+-- what a desk knows after a result word was found or placed: nothing new where it is 0; a result that it knew is that of
+-- the word
 pub record MeetsResult (key : Key) (known : Knowledge) (count index word : ℕ) (after : Knowledge) : Type 0 where
   pub none : word ≡ 0 → after ≡ known
   pub some : word ≢ 0 → LearnsFuture key known count index word after
-  pub agrees : (result : KnownResult) → Contains known.results result → index ≡ result_of key.shape.bits result.square → word ≡ 2 ^ 32 + result.future
+  pub agrees : (result : KnownResult) → Contains known.results result → index ≡ result_of key.shape.bits result.square →
+      word ≡ 2 ^ 32 + result.future
 
--- what an event teaches its desk by the word that stands there afterwards; a result counts as learned where the desk asked for it
+-- what an event teaches its desk by the word that stands there afterwards; a result counts as learned where the desk asked
 abbrev pub Learns : Key → Event → Knowledge → ℕ → Knowledge → Type 0
 Learns key (Look desk index) known word after = MeetsWord key known index word after
 Learns key (Claim desk index claimed) known word after = MeetsWord key known index word after

@@ -8,14 +8,16 @@ use Rattle.table_core.specs.declared.machine.Event.{Event}
 use Rattle.table_core.specs.Good.{AreGoodWords, KeepsWords}
 use Rattle.table_core.specs.Knowledge.{IsTrueOf, KnowsBlock, Grows, united, nothing}
 use Rattle.table_core.specs.Events.{desk_of, index_of, words_after}
-use Rattle.table_core.specs.Learning.{IsLawful, Learns}
+use Rattle.table_core.specs.Lawful.{IsLawful}
+use Rattle.table_core.specs.Learning.{Learns}
 
 -- the words, and what each desk knows
 pub record Table : Type 0 where
   pub words : List ℕ
   pub desks : List Knowledge
 
--- what may happen: an event; a desk is split, and a new one knows the same; a desk is joined into another, and then knows nothing of its own
+-- what may happen: an event; a desk is split, and a new one knows the same; another desk is joined into one, and then
+-- knows nothing of its own
 pub data Action : Type 0 where
   happens : Event → Action
   splits : ℕ → Action
@@ -80,7 +82,8 @@ heir (action ∷ actions) desk = heir actions (heir_at action desk)
 -- what every desk knew is still known
 abbrev pub KeepsKnowledge : List Action → Table → Table → Type 0
 KeepsKnowledge actions old new =
-    (desk : ℕ) (known : Knowledge) → slice_get old.desks desk ≡ Some known → (later : Knowledge) × (slice_get new.desks (heir actions desk) ≡ Some later) × Grows known later
+    (desk : ℕ) (known : Knowledge) → slice_get old.desks desk ≡ Some known →
+    (later : Knowledge) × (slice_get new.desks (heir actions desk) ≡ Some later) × Grows known later
 
 -- what holds of a table after a run
 pub record IsKept (key : Key) (actions : List Action) (old new : Table) : Type 0 where

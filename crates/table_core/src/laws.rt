@@ -1,7 +1,7 @@
 //! What holds of all tables, as calls that do nothing and say it in their clause.
 
 ghost use Rattle.table_core.specs.Laws.{EveryWay, EveryEventTeaches, EveryTruthIsConsistent, FullShardIsSeen, GoodWordsCanBeKnown};
-ghost use Rattle.table_core.specs.Opening.{EveryReopening};
+ghost use Rattle.table_core.specs.Opening.{EveryFreshTable, EveryReopening};
 ghost use Rattle.table_core.specs.Runs.{EveryRun};
 
 /// The way of a word has each slot of its shard, once.
@@ -14,6 +14,11 @@ pub fn every_way()
 /// whichever desks know it.
 pub fn every_run()
     ensures { EveryRun }
+{}
+
+/// The words of a table that was just made, with a head and nothing else, are good.
+pub fn every_fresh_table()
+    ensures { EveryFreshTable }
 {}
 
 /// Good words that are opened under another rule or exponent, with the results that may stay, are

@@ -4,7 +4,9 @@
 //! Nothing here runs at the same time as anything else. An atomic step is an `Event`, one load or
 //! one compare-exchange of one word, and `step` makes its change. `every_run` says what holds after
 //! every list of lawful events of any desks in any order; a running table has these definitions as
-//! its rule.
+//! its rule. In `specs/`, `Layout` says where words stand, `Blocks` what numbers show, `Good` which
+//! words are good, `Knowledge` what a desk knows, `Lawful` and `Learning` what it may do and what
+//! that teaches it, and `Runs` what a run is.
 #![tactic(auto)]
 
 mod key;
@@ -19,8 +21,8 @@ mod word;
 pub use key::Key;
 pub use knowledge::{Knowledge, KnownBlock, KnownResult};
 pub use laws::{
-    every_event_teaches, every_reopening, every_run, every_truth_is_consistent, every_way,
-    full_shard_is_seen, good_words_can_be_known,
+    every_event_teaches, every_fresh_table, every_reopening, every_run, every_truth_is_consistent,
+    every_way, full_shard_is_seen, good_words_can_be_known,
 };
 pub use machine::{Event, step};
 pub use shape::{Kind, LARGEST_PAIR_COUNT, SHARD_LEN, SMALLEST_PAIR_COUNT, Shape};

@@ -27,7 +27,7 @@ pub struct Shape {
 }
 
 impl Shape {
-    ghost use Rattle.table_core.specs.Layout.{first, slot_on_way, slot_bits, start, size, result_of, IsSlot};
+    ghost use Rattle.table_core.specs.Layout.{first, slot_on_way, way, slot_bits, start, size, result_of, IsSlot};
     ghost use Rattle.table_core.specs.declared.shape.Kind.TheVariants.{Pair};
 
     /// The shape of a table of so many pair slots.
@@ -71,6 +71,7 @@ impl Shape {
         requires { slot < 2 ^ slot_bits self.bits kind }
         ensures index { result ≡ start self.bits kind + slot }
         ensures slot { IsSlot self.bits kind result }
+        ensures range { result < size self.bits }
     {
         self.start(kind) + slot
     }
@@ -101,6 +102,16 @@ impl Shape {
     {
         let first = self.first(kind, word);
         SHARD_LEN * (first / SHARD_LEN) + (first + place) % SHARD_LEN
+    }
+
+    /// The index of the word at this place of a word's way.
+    pub fn way_index(self, kind: Kind, word: u64, place: u32) -> u32
+        requires { place < SHARD_LEN }
+        ensures index { result ≡ way self.bits kind word place }
+        ensures slot { IsSlot self.bits kind result }
+        ensures range { result < size self.bits }
+    {
+        self.index(kind, self.way(kind, word, place))
     }
 
     fn slot_bits(self, kind: Kind) -> u8

@@ -64,7 +64,7 @@ fn words_have_their_slots_and_indices(rt: HostRuntime) {
         assert_eq!(rt; found, slot, "word {word}, place {place}");
         assert_eq!(rt; shape.index(kind, found), index, "slot {slot}");
     }
-    let pair = shape.index(Kind::Pair, shape.way(Kind::Pair, 1, 200));
+    let pair = shape.way_index(Kind::Pair, 1, 200);
     assert_eq!(rt; shape.result_index(pair), 1857);
     assert_eq!(rt; shape.word_count(), 2305);
     let largest = shape_of(&rt, LARGEST_PAIR_COUNT);
@@ -169,7 +169,7 @@ fn numbered_by_two(
     word: u64,
 ) -> Option<usize> {
     for place in 0..SHARD_LEN {
-        let index = shape.index(Kind::Leaf, shape.way(Kind::Leaf, word, place));
+        let index = shape.way_index(Kind::Leaf, word, place);
         assert!(rt; (index as usize) < WORDS);
         let found = step(words, look(0, index));
         assert_eq!(rt; step(words, look(1, index)), found);

@@ -1,4 +1,4 @@
-use Rattle.std.proofs.Common.{rules, ◌≡◌, ◌≤◌, ◌<◌, ℕ, ◌+◌, ◌-◌, ◌*◌, ◌/◌, ◌%◌, ◌^◌, ◌∙◌, ap, subst, sym, arith, Fits, w32, w64, ⊎_elim}
+use Rattle.std.proofs.Common.{arith}
 use Rattle.table_core.proofs.key.Key.head.Goals as goal
 
 pub overflow_mul-result : goal.overflow_mul-result

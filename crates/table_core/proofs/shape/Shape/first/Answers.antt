@@ -1,5 +1,5 @@
-use Rattle.std.proofs.Common.{rules, ◌≡◌, ◌≤◌, ◌<◌, ℕ, ◌+◌, ◌-◌, ◌*◌, ◌/◌, ◌%◌, ◌^◌, ap, subst, sym, arith, Fits, w32}
-use Rattle.table_core.specs.Layout.{first, slot_bits}
+use Rattle.std.proofs.Common.{◌≤◌, ◌<◌, ℕ, ◌-◌, ◌*◌, ◌/◌, ◌%◌, ◌^◌, ap, subst, arith}
+use Rattle.table_core.specs.Layout.{first}
 use Rattle.table_core.proofs.Ways.{first_fits, first_below}
 use Rattle.table_core.proofs.shape.Shape.first.Goals as goal
 

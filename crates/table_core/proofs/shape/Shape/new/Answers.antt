@@ -1,4 +1,3 @@
-use Rattle.std.proofs.Common.{rules, ◌≡◌, ◌≤◌, ◌<◌, ℕ, ◌+◌, ◌-◌, ◌*◌, ◌/◌, ◌%◌, ◌^◌, ◌∙◌, ap, subst, sym, arith, Fits, w32, w64, ⊎_elim}
 use Rattle.table_core.proofs.Powers.{count_bits}
 use Rattle.table_core.proofs.shape.Shape.new.Goals as goal
 

@@ -1,4 +1,4 @@
-use Rattle.std.proofs.Common.{rules, ◌≡◌, ◌≤◌, ◌<◌, ℕ, ◌+◌, ◌-◌, ◌*◌, ◌/◌, ◌%◌, ◌^◌, ◌∙◌, ap, subst, sym, arith, Fits, w32, w64}
+use Rattle.std.proofs.Common.{arith}
 use Rattle.table_core.proofs.Ways.{size_fits}
 use Rattle.table_core.proofs.shape.Shape.result_index.Goals as goal
 

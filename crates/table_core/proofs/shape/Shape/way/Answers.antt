@@ -1,4 +1,4 @@
-use Rattle.std.proofs.Common.{rules, ◌≡◌, ◌≤◌, ◌<◌, ℕ, ◌+◌, ◌-◌, ◌*◌, ◌/◌, ◌%◌, ◌^◌, ◌∙◌, ap, subst, sym, arith, Fits, w32, w64}
+use Rattle.std.proofs.Common.{◌≡◌, ℕ, ◌+◌, ◌*◌, ◌/◌, ◌%◌, ap, arith}
 use Rattle.table_core.specs.Layout.{first, slot_on_way, slot_bits}
 use Rattle.table_core.proofs.Ways.{on_way_below}
 use Rattle.table_core.proofs.shape.Shape.way.Goals as goal
