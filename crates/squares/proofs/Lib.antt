@@ -1,4 +1,5 @@
 pub mod Centres
+pub mod CopyMaps
 pub mod EmptyFutures
 pub mod Kept
 pub mod KeptResults
@@ -12,3 +13,6 @@ pub mod PlainQuads
 pub mod Pushed
 pub mod RecordLists
 pub mod Results
+pub mod RunLevels
+pub mod SpanCells
+pub mod SpanSquares

@@ -1,7 +1,7 @@
 -- The nine overlapping squares, put together of quarters of quarters.
-use Rattle.std.proofs.Common.{◌≡◌, ℕ, zero, suc, ◌+◌, ◌-◌, ◌*◌, ◌^◌, ◌<◌, ◌≤◌, List, [], ◌∷◌, sym, ap, subst, arith, refl}
+use Rattle.std.proofs.Common.{◌≡◌, ℕ, zero, suc, ◌+◌, ◌-◌, ◌*◌, ◌^◌, ◌<◌, List, [], ◌∷◌, sym, ap, subst, arith, refl}
 use Rattle.plane.specs.Plane.{Plane}
-use Rattle.plane.specs.Square.{IsSame, cut, joined, ninth}
+use Rattle.plane.specs.Square.{IsSame, cut, ninth}
 use Rattle.plane.proofs.Ninths.{nw_ninth, ne_ninth, sw_ninth, se_ninth, upper_ninth, left_ninth, middle_ninth, right_ninth, lower_ninth}
 use Rattle.plane.proofs.Same.{plane_equal}
 use Rattle.squares.specs.Book.{Book, Shows, Keeps, AreQuarters, AreNinths, joined_squares, nth}

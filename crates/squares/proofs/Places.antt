@@ -1,6 +1,8 @@
 -- What stands at a place of a list that grows or changes.
-use Rattle.std.proofs.Common.{◌≡◌, ◌≢◌, ℕ, zero, suc, ◌⊎◌, List, [], ◌∷◌, ◌++◌, length, ◌∙◌, ap, refl, inl, inr, ⊎_elim}
-use Rattle.std.specs.Prelude.{Some, None, slice_get, slice_set, slice_index_or}
+use Rattle.std.proofs.Common.{◌≡◌, ◌≢◌, ℕ, zero, suc, ◌<◌, ◌⊎◌, cond, false, List, [], ◌∷◌, ◌++◌, length, ◌∙◌, ap, refl, inl, inr, ⊎_elim, arith}
+use Rattle.std.specs.Prelude.{Some, None, Result, Ok, Err, is_ok, is_err, slice_get, slice_set, slice_index_or}
+use Rattle.std.specs.List.{AllByRecursion}
+use Rattle.std.proofs.lemmas.Bool.{false≢true}
 
 some_same : {X : Type 0} (a b : X) → Some a ≡ Some b → a ≡ b
 some_same a b e = cc
@@ -40,3 +42,18 @@ pub read_there : {X : Type 0} (xs : List X) (i : ℕ) (x read : X) → slice_get
 read_there [] i x read h e = absurd (none_there x h)
 read_there (y ∷ ys) zero x read h e = e ∙ some_same y x h
 read_there (y ∷ ys) (suc i) x read h e = read_there ys i x read h e
+
+-- what a push that was made leaves
+pub pushed : {X T E : Type 0} (r : Result T E) (new with_it without : List X) → new ≡ cond (is_ok r) with_it without → false ≡ is_err r → new ≡ with_it
+pushed (Ok x) new with_it without h e = h
+pushed (Err x) new with_it without h e = absurd (false≢true e)
+
+-- a fact of each of some, at one more and at one of them
+pub all_push : {X : Type 0} (P : X → Type 0) (xs : List X) (x : X) → AllByRecursion P xs → P x → AllByRecursion P (xs ++ x ∷ [])
+all_push P [] x all h = (h, all)
+all_push P (y ∷ ys) x all h = (all.0, all_push P ys x all.1 h)
+
+pub all_at : {X : Type 0} (P : X → Type 0) (xs : List X) (i : ℕ) (d : X) → AllByRecursion P xs → i < length xs → P (slice_index_or xs i d)
+all_at P [] i d all h = absurd (omega arith)
+all_at P (x ∷ xs) zero d all h = all.0
+all_at P (x ∷ xs) (suc i) d all h = all_at P xs i d all.1 (omega arith)

@@ -2,12 +2,19 @@
 #![tactic(auto)]
 
 mod book;
+mod copies;
 mod node;
 mod plain_book;
+mod runs;
+mod spans;
 mod sq;
 mod subsquares;
+#[cfg(test)]
+mod tests;
 
 pub use book::{Look, Squares};
+pub use copies::copy_square;
 pub use plain_book::PlainBook;
+pub use runs::{cells_to_square, runs_to_square};
 pub use sq::{Num, Sq};
 pub use subsquares::{centre, nine};

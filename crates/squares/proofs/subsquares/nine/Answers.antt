@@ -1,4 +1,3 @@
-use Rattle.std.proofs.Common.{◌≡◌}
 use Rattle.squares.proofs.Kept.{keeps_trans, shows_kept}
 use Rattle.squares.proofs.NineSquares.{read_all, read_kept, upper_shown, left_shown, middle_shown, right_shown, lower_shown, all_nine}
 use Rattle.squares.proofs.subsquares.nine.Goals as goal
