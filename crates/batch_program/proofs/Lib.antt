@@ -1,17 +1,1 @@
 pub mod AskedWords
-pub mod BodyReading
-pub mod BodyText
-pub mod Decimals
-pub mod Drawings
-pub mod Empty
-pub mod Endings
-pub mod ItemReading
-pub mod OneRun
-pub mod OpeningReading
-pub mod Reports
-pub mod RunReading
-pub mod Runs
-pub mod ShortCounts
-pub mod Steps
-pub mod TextReading
-pub mod WholeText

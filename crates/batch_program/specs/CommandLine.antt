@@ -13,12 +13,12 @@ use Rattle.rule_text.specs.RuleText.{Reads}
 use Rattle.rule_text.specs.declared.fault.RuleFault.{RuleFault}
 use Rattle.plane.specs.declared.refusal.Refusal.{Refusal}
 use Rattle.plane.specs.declared.refusal.Refusal.TheVariants.{NoMemory}
-use Rattle.batch_program.specs.Judgement.{rule_refusal}
+use Rattle.engine.specs.Judgement.{rule_refusal}
 use Rattle.batch_program.specs.declared.command_line.WordsFault.{WordsFault}
 use Rattle.batch_program.specs.declared.command_line.WordsFault.TheVariants.{Clap, Unfit, Refused}
-use Rattle.batch_program.specs.declared.options.Asked.{Asked}
-use Rattle.batch_program.specs.declared.options.Format.{Format}
-use Rattle.batch_program.specs.declared.options.Format.TheVariants.{Rle}
+use Rattle.batch_program.specs.declared.request.Asked.{Asked}
+use Rattle.engine.specs.declared.options.Format.{Format}
+use Rattle.engine.specs.declared.options.Format.TheVariants.{Rle}
 
 -- `-m N`, `--generation N`: a number below 2^64, 0 if it is left out
 abbrev pub generation_option : Rule

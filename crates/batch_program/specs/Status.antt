@@ -8,11 +8,11 @@ use Rattle.plane.specs.declared.fault.Fault.{Fault}
 use Rattle.plane.specs.declared.refusal.Refusal.{Refusal}
 use Rattle.plane.specs.declared.refusal.Refusal.TheVariants.{BoxTooLarge, NoMemory, ReadFailed, WriteFailed}
 use Rattle.batch_program.specs.CommandLine.{AsksFor, IsFit, RefusesWords, command_form}
-use Rattle.batch_program.specs.Judgement.{Start, Judges, placeless}
-use Rattle.batch_program.specs.Run.{Finishes, IsBegun, IsTooLarge}
-use Rattle.batch_program.specs.declared.engine.Summary.{Summary}
-use Rattle.batch_program.specs.declared.options.Asked.{Asked}
-use Rattle.batch_program.specs.declared.options.Options.{Options}
+use Rattle.engine.specs.Judgement.{Start, Judges, placeless}
+use Rattle.engine.specs.Run.{Finishes, IsBegun, IsTooLarge}
+use Rattle.engine.specs.declared.running.Summary.{Summary}
+use Rattle.batch_program.specs.declared.request.Asked.{Asked}
+use Rattle.engine.specs.declared.options.Options.{Options}
 
 -- 3 where a device failed, else 1
 abbrev pub refused_status : Refusal → ℕ

@@ -1,15 +1,15 @@
 ghost use Rattle.std.specs.Prelude.{◌≡◌, ℕ, map, false, string_bytes, Option, IfOk, IfErr};
 ghost use Rattle.std.specs.Option.{option_copied, option_map};
 ghost use Rattle.clap.specs.Words.{app_of, found_of, one_text, rule_of};
-ghost use Rattle.batch_program.specs.declared.options.Format.{Format};
+ghost use Rattle.engine.specs.declared.options.Format.{Format};
 ghost use Rattle.plane.specs.declared.refusal.Refusal.TheVariants.{NoMemory};
 ghost use Rattle.batch_program.specs.declared.command_line.WordsFault.TheVariants.{Refused};
 ghost use Rattle.batch_program.specs.CommandLine.{AsksFor, IsAskedRule, IsFlag, IsFormat, IsNumber, IsRefusedRule, IsToldAs, IsWordsFault, command_form, file_argument, generation_option, is_rle_name, output_option, quiet_option, rule_option, step_option};
 
-use crate::engine::rule_refusal;
-use crate::options::{Asked, Format, Options};
+use crate::request::Asked;
 use clap::error::ErrorKind;
 use clap::{Arg, ArgAction, ArgMatches, Command, value_parser};
+use engine::{Format, Options, rule_refusal};
 use plane::Refusal;
 use rule_text::Rule;
 use std::alloc::{AllocError, Global};

@@ -2,21 +2,19 @@ ghost use Rattle.std.specs.Prelude.{◌≡◌, ◌≤◌, ◌⊎◌, ℕ, List, 
 ghost use Rattle.std.specs.Io.KnownBytes.{Appends};
 ghost use Rattle.plane.specs.Device.{HasFailed};
 ghost use Rattle.plane.specs.declared.fault.Fault.{Fault};
-ghost use Rattle.batch_program.specs.Judgement.{placeless};
+ghost use Rattle.engine.specs.Judgement.{placeless};
 ghost use Rattle.batch_program.specs.Messages.{bad_words_text, fault_line};
 ghost use Rattle.batch_program.specs.Status.{AskForHelp, AskForNothing, HasRun, HasStopped, IsDone, IsRefused, refused_status};
 ghost use Rattle.batch_program.specs.Stops.{IsStop};
 ghost use Rattle.batch_program.specs.declared.entry.Stop.TheVariants.{Refused};
 
 use crate::command_line::{WordsFault, asked};
-use crate::engine::run;
-use crate::input::load;
 use crate::messages::{refused_status, tell_bad_words, tell_fault};
-use crate::options::Asked;
 use crate::output_file::OutputFile;
-use crate::writing::write_all;
+use crate::request::Asked;
 use clap::error::ErrorKind;
-use plane::{Counted, Fault, Refusal, Sink};
+use engine::{load, run};
+use plane::{Counted, Fault, Refusal, Sink, write_all};
 use std::alloc::Global;
 use std::fs;
 use std::rt::Files;

@@ -1,26 +1,16 @@
-//! A run of `lifebatch`: the words of its command line, the file that it reads, its report, and the
-//! pattern file that it writes.
+//! The program as a library: the words of its command line, the files that it reads and writes, its
+//! messages and its exit status. What a run is stands in [`engine`], whose names are handed on here.
 #![tactic(auto)]
 
 mod command_line;
-mod engine;
 mod entry;
-mod generations;
-mod input;
-mod laws;
 mod messages;
-mod options;
 mod output_file;
-mod pattern;
-mod report;
-mod reported;
-mod rle_text;
-mod writing;
+mod request;
 
 pub use command_line::{WordsFault, asked};
-pub use engine::{Summary, run};
+pub use engine::{Format, Options, Summary, load, one_ending, one_judgement, run};
 pub use entry::program;
-pub use input::load;
-pub use laws::{distinct_texts, one_ending, one_judgement, same_text};
 pub use messages::{refused_status, tell_fault};
-pub use options::{Asked, Format, Options};
+pub use pattern_writers::{distinct_texts, same_text};
+pub use request::Asked;

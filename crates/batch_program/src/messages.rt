@@ -1,14 +1,13 @@
 ghost use Rattle.std.specs.Prelude.{◌≡◌, ℕ, List, OnOk, IfErr};
 ghost use Rattle.std.specs.Io.KnownBytes.{Appends};
-ghost use Rattle.batch_program.specs.Devices.{IsWriteRefusal};
+ghost use Rattle.plane.specs.Device.{IsWriteRefusal};
 ghost use Rattle.batch_program.specs.Messages.{bad_words_text, fault_line};
 ghost use Rattle.batch_program.specs.Status.{refused_status};
 
 use crate::command_line::WordsFault;
-use crate::writing::write_all;
 use arrayvec::ArrayString;
 use itoa::Buffer;
-use plane::{Fault, Refusal, Sink};
+use plane::{Fault, Refusal, Sink, write_all};
 use std::alloc::Global;
 
 // Room for two numbers of up to 40 digits, a name and the words round them.

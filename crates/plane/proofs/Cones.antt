@@ -72,7 +72,7 @@ next_moved : (rule : CountRule) (plane : Plane) (right down x y : ℤ) → next 
 next_moved rule plane right down x y =
     ap (lives rule (plane (x -ℤ right) (y -ℤ down))) (count_agrees _ _ (offsets rule.neighbourhood) (shown_moved plane right down x y (offsets rule.neighbourhood)))
 
-next_same : (rule : CountRule) (plane other : Plane) → ((x y : ℤ) → plane x y ≡ other x y) → (x y : ℤ) → next rule plane x y ≡ next rule other x y
+pub next_same : (rule : CountRule) (plane other : Plane) → ((x y : ℤ) → plane x y ≡ other x y) → (x y : ℤ) → next rule plane x y ≡ next rule other x y
 next_same rule plane other same x y = next_alike rule plane other x y (λ u v _ _. same u v)
 
 pub translation_lem : Translation

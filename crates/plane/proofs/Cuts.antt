@@ -77,7 +77,7 @@ joined_cuts h left top plane a b c d is_a is_b is_c is_d = record {
       ∙ ap (λ u. (spans (h + h) x && spans (h + h) y) && plane (x +ℤ pos left) u) (back h top y)));
 }
 
-moved_to : (side left left' top top' : ℕ) (plane part : Plane) → left ≡ left' → top ≡ top' → IsSame part (cut side left top plane) → IsSame part (cut side left' top' plane)
+pub moved_to : (side left left' top top' : ℕ) (plane part : Plane) → left ≡ left' → top ≡ top' → IsSame part (cut side left top plane) → IsSame part (cut side left' top' plane)
 moved_to side left left' top top' plane part el et h =
     subst (λ n. IsSame part (cut side left' n plane)) et (subst (λ n. IsSame part (cut side n top plane)) el h)
 
@@ -114,15 +114,15 @@ and_false true = refl
 and_false false = refl
 
 -- a plane that is dead outside the square is what shows inside
-cut_case : (b u v : Bool) → (b ≡ false → u ≡ false) → (b ≡ true → u ≡ v) → u ≡ (b && v)
+pub cut_case : (b u v : Bool) → (b ≡ false → u ≡ false) → (b ≡ true → u ≡ v) → u ≡ (b && v)
 cut_case true u v h k = k refl
 cut_case false u v h k = h refl
 
-cond_true : {A : Type 0} (b : Bool) (u v : A) → b ≡ true → cond b u v ≡ u
+pub cond_true : {A : Type 0} (b : Bool) (u v : A) → b ≡ true → cond b u v ≡ u
 cond_true true u v e = refl
 cond_true false u v e = absurd (false≢true e)
 
-cond_false : {A : Type 0} (b : Bool) (u v : A) → b ≡ false → cond b u v ≡ v
+pub cond_false : {A : Type 0} (b : Bool) (u v : A) → b ≡ false → cond b u v ≡ v
 cond_false true u v e = absurd (false≢true (sym e))
 cond_false false u v e = refl
 

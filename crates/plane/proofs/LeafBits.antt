@@ -34,4 +34,3 @@ bits_same w v h k same = same_from_bits_below 64 w v h k (λ i below.
 pub bits_none : (w : ℕ) → w < 2 ^ 64 → IsSame (bits_plane w) empty → w ≡ 0
 bits_none w h same = same_from_bits_below 64 w 0 h (omega arith) (λ i below.
     bit_same (bit_at w i) (bit_at 0 i) (bit_at-lt w i) (bit_at-lt 0 i) (sym (shows_bit w i below) ∙ same.same (pos (i % 8)) (pos (i / 8)) ∙ ap (λ t. t == 1) (sym (bit_at-zero i))))
-

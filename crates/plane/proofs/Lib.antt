@@ -1,5 +1,6 @@
 pub mod Around
 pub mod Blocks
+pub mod Borders
 pub mod Boxes
 pub mod Cells
 pub mod Cones
@@ -8,7 +9,13 @@ pub mod Growth
 pub mod LeafBits
 pub mod Listings
 pub mod Living
+pub mod Ninths
+pub mod Paddings
+pub mod Parts
+pub mod Populations
 pub mod Reading
+pub mod Rounds
 pub mod Same
 pub mod Turns
 pub mod Uniqueness
+pub mod Windows

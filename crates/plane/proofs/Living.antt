@@ -34,17 +34,17 @@ unfolding plane_of
 plane_of-push cells cell x y = any_push (is_at x y) cells cell
 
 -- what the plane has at a cell's place
-at_cell : (plane : Plane) (x y : ℤ) (cell : Cell) (b : Bool) → plane cell.x cell.y ≡ b → is_at x y cell ≡ true → plane x y ≡ b
+pub at_cell : (plane : Plane) (x y : ℤ) (cell : Cell) (b : Bool) → plane cell.x cell.y ≡ b → is_at x y cell ≡ true → plane x y ≡ b
 at_cell plane x y cell b is here =
     let place = at_place x y cell here in ap (λ u. plane u y) place.0 ∙ ap (λ v. plane cell.x v) place.1 ∙ is
 
 -- a cell that lives comes in
-kept_or : (here live among : Bool) → (here ≡ true → live ≡ true) → (here || (among && live)) ≡ ((here || among) && live)
+pub kept_or : (here live among : Bool) → (here ≡ true → live ≡ true) → (here || (among && live)) ≡ ((here || among) && live)
 kept_or true live among is = sym (is refl)
 kept_or false live among is = refl
 
 -- a cell that does not live stays out
-left_out : (here live among : Bool) → (here ≡ true → live ≡ false) → (among && live) ≡ ((here || among) && live)
+pub left_out : (here live among : Bool) → (here ≡ true → live ≡ false) → (among && live) ≡ ((here || among) && live)
 left_out true live true is = refl
 left_out true live false is = sym (is refl)
 left_out false live among is = refl

@@ -1,4 +1,6 @@
 use Rattle.std.specs.Prelude.{◌≡◌, ℕ, ◌+◌, ◌-◌, ◌^◌, ◌<◌, ◌⊎◌, min, Result, Ok, Err, Option, Some, List, drop}
+use Rattle.plane.specs.declared.refusal.Refusal.{Refusal}
+use Rattle.plane.specs.declared.refusal.Refusal.TheVariants.{WriteFailed}
 
 -- the largest count of failures: it stays there
 abbrev pub most_failures : ℕ
@@ -12,6 +14,10 @@ failures_after (Err error) count = min (count + 1) most_failures
 -- some call failed between the two counts
 abbrev pub HasFailed : ℕ → ℕ → Type 0
 HasFailed before after = (before < after) ⊎ (after ≡ most_failures)
+
+-- a call of the sink failed between the two counts
+abbrev pub IsWriteRefusal : ℕ → ℕ → Refusal → Type 0
+IsWriteRefusal before after refusal = (refusal ≡ WriteFailed) × HasFailed before after
 
 -- what a memory holds: its bytes, how many of them were read, the bytes that it has room for, and how many calls failed
 pub record MemoryContents : Type 0 where

@@ -4,8 +4,10 @@ mod counted;
 mod fail_at;
 mod memory;
 mod traits;
+mod writing;
 
 pub use counted::Counted;
 pub use fail_at::FailAt;
 pub use memory::Memory;
 pub use traits::{Failed, Sink, Source};
+pub use writing::write_all;

@@ -15,8 +15,8 @@ mod tests;
 
 pub use cell::{Bounds, Cell};
 pub use cell_set::CellSet;
-pub use device::{Counted, FailAt, Failed, Memory, Sink, Source};
+pub use device::{Counted, FailAt, Failed, Memory, Sink, Source, write_all};
 pub use fault::Fault;
-pub use laws::{light_cone, one_listing, smallest_box, translation};
+pub use laws::{bounded_listing, light_cone, nine_parts, one_listing, smallest_box, translation};
 pub use range::{COORDINATE_LIMIT, GENERATION_LIMIT, LIVE_CELL_LIMIT, reach};
 pub use refusal::Refusal;

@@ -1,7 +1,0 @@
-use Rattle.std.proofs.Common.{◌≡◌, ◌++◌, drop}
-use Rattle.batch_program.specs.Items.{items_of}
-use Rattle.batch_program.proofs.rle_text.items.items.Given as goal
-
-abbrev pub invariant-loop-run : goal.invariant-loop-run
-invariant-loop-run l =
-    items_of l.corner.x l.corner l.runs ≡ l.items.items ++ items_of l.corner.x l.next (drop l.run-index l.runs)

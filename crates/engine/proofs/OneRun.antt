@@ -1,0 +1,110 @@
+-- A run has one judgement and one ending.
+use Rattle.std.proofs.Common.{◌≡◌, ℕ, ◌+◌, List, [], ◌∷◌, length, Option, None, Some, Result, Ok, Err, refl, sym, ◌∙◌, ap, subst, inl, inr}
+use Rattle.std.specs.List.{AllZip, concat}
+use Rattle.rule_text.specs.CountRule.{CountRule}
+use Rattle.rule_text.specs.declared.fault.RuleFault.{RuleFault}
+use Rattle.rule_text.proofs.Readings.{one_reading}
+use Rattle.plane.specs.Listing.{IsListing}
+use Rattle.plane.specs.Plane.{Plane, after}
+use Rattle.plane.specs.declared.cell.Cell.{Cell}
+use Rattle.plane.specs.declared.fault.Fault.{Fault}
+use Rattle.plane.proofs.Uniqueness.{one_listing_lem}
+use Rattle.rle_reader.specs.Meaning.{Meaning, judged, live_plane}
+use Rattle.engine.specs.FileText.{file_text}
+use Rattle.engine.specs.Judgement.{Start, IsStart, Judges, StaysInRange, RefusesRange, RefusesRule, ReadsRule, rule_text_of}
+use Rattle.engine.specs.Report.{IsLineAfter, Shows, report_line}
+use Rattle.engine.specs.Run.{Finishes, last_generation}
+use Rattle.engine.specs.declared.running.Summary.{Summary}
+use Rattle.engine.specs.declared.options.Options.{Options}
+
+-- ---- one judgement
+
+-- a rule is read in one way
+one_rule : (given : Option CountRule) (meaning : Meaning) (read other : Result CountRule RuleFault) → ReadsRule given meaning read → ReadsRule given meaning other → read ≡ other
+one_rule (Some rule) meaning read other is is_other = is ∙ sym is_other
+one_rule None meaning read other reads others = one_reading (rule_text_of meaning) read other reads others
+
+module _ (bytes : List ℕ) (options : Options) where
+  one_meaning : (a b : Meaning) → judged bytes ≡ Ok a → judged bytes ≡ Ok b → a ≡ b
+  one_meaning a b is_a is_b = cc
+
+  -- a text is read as one rule or refused
+  one_rule_reading : (a b : Meaning) (read other : Result CountRule RuleFault) → judged bytes ≡ Ok a → judged bytes ≡ Ok b → ReadsRule options.rule a read → ReadsRule options.rule b other → read ≡ other
+  one_rule_reading a b read other is_a is_b reads others =
+      one_rule options.rule b read other (subst (λ m. ReadsRule options.rule m read) (one_meaning a b is_a is_b) reads) others
+
+  same_start : (a b : Start) → a.meaning ≡ b.meaning → a.rule ≡ b.rule → a.cells ≡ b.cells → a ≡ b
+  same_start a b meaning rule cells =
+      ap (λ m. record { meaning = m; rule = a.rule; cells = a.cells }) meaning
+      ∙ ap (λ r. record { meaning = b.meaning; rule = r; cells = a.cells }) rule
+      ∙ ap (λ c. record { meaning = b.meaning; rule = b.rule; cells = c }) cells
+
+  one_start : (a b : Start) → IsStart bytes options a → IsStart bytes options b → a ≡ b
+  one_start a b is_a is_b =
+      let meaning = one_meaning a.meaning b.meaning is_a.text is_b.text in
+      let rule : a.rule ≡ b.rule = let same = one_rule_reading a.meaning b.meaning (Ok a.rule) (Ok b.rule) is_a.text is_b.text is_a.rule is_b.rule in cc in
+      let cells = one_listing_lem (live_plane b.meaning) a.cells b.cells (subst (λ m. IsListing a.cells (live_plane m)) meaning is_a.cells) is_b.cells in
+      same_start a b meaning rule cells
+
+  not_both : (start : Start) (fault : Fault) → Judges bytes options (Ok start) → Judges bytes options (Err fault) → ⊥
+  not_both start fault accepted (inl text) = let is = accepted.0.text in cc
+  not_both start fault accepted (inr (inl rule)) =
+      let same = one_rule_reading start.meaning rule.meaning (Ok start.rule) (Err rule.rule_fault) accepted.0.text rule.text accepted.0.rule rule.rule in cc
+  not_both start fault accepted (inr (inr range)) =
+      range.outside (subst (StaysInRange options) (one_start start range.start accepted.0 range.accepted) accepted.1)
+
+  one_rule_fault : (a b : Fault) → RefusesRule bytes options a → RefusesRule bytes options b → a ≡ b
+  one_rule_fault a b refused other =
+      let meaning = one_meaning refused.meaning other.meaning refused.text other.text in
+      let fault : refused.rule_fault ≡ other.rule_fault =
+      let same = one_rule_reading refused.meaning other.meaning (Err refused.rule_fault) (Err other.rule_fault) refused.text other.text refused.rule other.rule in cc in
+      refused.is ∙ rw (meaning, fault) refl ∙ sym other.is
+
+  not_rule_and_range : (a b : Fault) → RefusesRule bytes options a → RefusesRange bytes options b → ⊥
+  not_rule_and_range a b rule range =
+      let same = one_rule_reading range.start.meaning rule.meaning (Ok range.start.rule) (Err rule.rule_fault) range.accepted.text rule.text range.accepted.rule rule.rule in cc
+
+  one_fault : (a b : Fault) → Judges bytes options (Err a) → Judges bytes options (Err b) → a ≡ b
+  one_fault a b (inl text) (inl other) = cc
+  one_fault a b (inl text) (inr (inl rule)) = let is = rule.text in cc
+  one_fault a b (inl text) (inr (inr range)) = let is = range.accepted.text in cc
+  one_fault a b (inr (inl rule)) (inl text) = let is = rule.text in cc
+  one_fault a b (inr (inl rule)) (inr (inl other)) = one_rule_fault a b rule other
+  one_fault a b (inr (inl rule)) (inr (inr range)) = absurd (not_rule_and_range a b rule range)
+  one_fault a b (inr (inr range)) (inl text) = let is = range.accepted.text in cc
+  one_fault a b (inr (inr range)) (inr (inl rule)) = absurd (not_rule_and_range b a rule range)
+  one_fault a b (inr (inr range)) (inr (inr other)) = range.is ∙ sym other.is
+
+pub one_judgement_lem : (bytes : List ℕ) (options : Options) (a b : Result Start Fault) → Judges bytes options a → Judges bytes options b → a ≡ b
+one_judgement_lem bytes options (Ok a) (Ok b) accepted other = ap Ok (one_start bytes options a b accepted.0 other.0)
+one_judgement_lem bytes options (Ok a) (Err b) accepted refused = absurd (not_both bytes options a b accepted refused)
+one_judgement_lem bytes options (Err a) (Ok b) refused accepted = absurd (not_both bytes options b a accepted refused)
+one_judgement_lem bytes options (Err a) (Err b) refused other = ap Err (one_fault bytes options a b refused other)
+
+-- ---- one ending
+
+module _ (rule : CountRule) (plane : Plane) (start : ℕ) where
+  one_line : (n : ℕ) (line other : List ℕ) → IsLineAfter rule plane start n line → IsLineAfter rule plane start n other → line ≡ other
+  one_line n line other is is_other =
+      is.2 ∙ ap (λ (cells : List Cell). report_line (start + n) (length cells)) (one_listing_lem (after rule plane n) is.0 is_other.0 is.1 is_other.1) ∙ sym is_other.2
+
+  one_lines : (ns : List ℕ) (lines others : List (List ℕ)) → AllZip (IsLineAfter rule plane start) ns lines → AllZip (IsLineAfter rule plane start) ns others → lines ≡ others
+  one_lines [] [] [] zipped other = refl
+  one_lines [] [] (y ∷ ys) zipped other = absurd other
+  one_lines [] (x ∷ xs) ys zipped other = absurd zipped
+  one_lines (n ∷ ns) [] ys zipped other = absurd zipped
+  one_lines (n ∷ ns) (x ∷ xs) [] zipped other = absurd other
+  one_lines (n ∷ ns) (x ∷ xs) (y ∷ ys) zipped other =
+      ap (λ line. line ∷ xs) (one_line n x y zipped.0 other.0) ∙ ap (λ lines. y ∷ lines) (one_lines ns xs ys zipped.1 other.1)
+
+  one_text : (ns text other : List ℕ) → Shows rule plane start ns text → Shows rule plane start ns other → text ≡ other
+  one_text ns text other shows also = shows.2 ∙ ap concat (one_lines ns shows.0 also.0 shows.1 also.1) ∙ sym also.2
+
+pub one_ending_lem : (start : Start) (options : Options) (a b : Summary) (said others drawn other : List ℕ) → Finishes start options a said drawn → Finishes start options b others other →
+    (a ≡ b) × (said ≡ others) × (drawn ≡ other)
+one_ending_lem start options a b said others drawn other finishes also =
+    let cells = one_listing_lem (after start.rule (live_plane start.meaning) options.gens) finishes.cells also.cells finishes.last also.last in (
+      finishes.summary ∙ rw cells refl ∙ sym also.summary,
+      one_text start.rule (live_plane start.meaning) start.meaning.generation _ said others finishes.report also.report,
+      finishes.file ∙ ap (λ (c : List Cell). file_text options.format start.meaning.comments start.rule (last_generation start options) c) cells ∙ sym also.file,
+    )

@@ -1,0 +1,161 @@
+-- The lines of a report, one after the other.
+use Rattle.std.proofs.Common.{◌≡◌, ℕ, zero, suc, ◌+◌, ◌-◌, ◌<◌, ◌≤◌, ◌&&◌, not, true, false, List, [], ◌∷◌, ◌++◌, length, filter, take, refl, sym, ◌∙◌, ap, subst, append_assoc, append-nil, arith, ℤ, Bool}
+use Rattle.std.specs.List.{AllZip, concat, range_with_len}
+use Rattle.rule_text.specs.CountRule.{CountRule}
+use Rattle.plane.specs.Listing.{IsListing, plane_of}
+use Rattle.plane.specs.Plane.{Plane, after, next}
+use Rattle.plane.specs.declared.cell.Cell.{Cell}
+use Rattle.plane.proofs.Cones.{light_cone_lem}
+use Rattle.engine.specs.Report.{report_line, shown_line, is_shown, shown_until, IsLineAfter, Shows}
+use Rattle.engine.specs.declared.options.Options.{Options}
+
+-- ---- numbers in a row that pass a test
+
+range-append : (a m k : ℕ) → range_with_len a (m + k) ≡ range_with_len a m ++ range_with_len (a + m) k
+range-append a zero k = let none : 0 + k ≡ k = omega arith in let same : a ≡ a + 0 = omega arith in ap (range_with_len a) none ∙ ap (λ b. range_with_len b k) same
+range-append a (suc m) k =
+    let one_more : suc m + k ≡ suc (m + k) = omega arith in
+    let same : (a + 1) + m ≡ a + suc m = omega arith in
+    ap (range_with_len a) one_more ∙ ap (λ l. a ∷ l) (range-append (a + 1) m k ∙ ap (λ b. range_with_len (a + 1) m ++ range_with_len b k) same)
+
+filter-cons : (p : ℕ → Bool) (b : Bool) (x : ℕ) (xs ys : List ℕ) → p x ≡ b → filter p (xs ++ ys) ≡ filter p xs ++ filter p ys → filter p ((x ∷ xs) ++ ys) ≡ filter p (x ∷ xs) ++ filter p ys
+filter-cons p true x xs ys is more = rw is (ap (λ l. x ∷ l) more)
+filter-cons p false x xs ys is more = rw is more
+
+filter-append : (p : ℕ → Bool) (xs ys : List ℕ) → filter p (xs ++ ys) ≡ filter p xs ++ filter p ys
+filter-append p [] ys = refl
+filter-append p (x ∷ xs) ys = filter-cons p (p x) x xs ys refl (filter-append p xs ys)
+
+filtered_out : (p : ℕ → Bool) (x : ℕ) (xs : List ℕ) → p x ≡ false → filter p (x ∷ xs) ≡ filter p xs
+filtered_out p x xs fails = rw fails refl
+
+filtered_in : (p : ℕ → Bool) (x : ℕ) (xs : List ℕ) → p x ≡ true → filter p (x ∷ xs) ≡ x ∷ filter p xs
+filtered_in p x xs holds = rw holds refl
+
+-- the last of some numbers in a row, where none before it passes
+last_alone : (p : ℕ → Bool) (a k : ℕ) → ((n : ℕ) → a ≤ n → n < a + k → p n ≡ false) → filter p (range_with_len a (suc k)) ≡ filter p ((a + k) ∷ [])
+last_alone p a zero none = let same : a ≡ a + 0 = omega arith in ap (λ n. filter p (n ∷ [])) same
+last_alone p a (suc k) none =
+    let first : p a ≡ false = none a (omega arith) (omega arith) in
+    let last : (a + 1) + k ≡ a + suc k = omega arith in
+    filtered_out p a (range_with_len (a + 1) (suc k)) first
+    ∙ last_alone p (a + 1) k (λ n from to. none n (omega (arith, from)) (omega (arith, to)))
+    ∙ ap (λ n. filter p (n ∷ [])) last
+
+-- ---- the numbers of generations that are shown
+
+and_true : (b : Bool) → (b && true) ≡ b
+and_true true = refl
+and_true false = refl
+
+-- the start is shown, unless nothing is
+pub start_shown : (options : Options) → is_shown options 0 ≡ not options.quiet
+start_shown options = and_true (not options.quiet)
+
+-- from one to the next, with none between
+pub shown_next : (options : Options) (done next : ℕ) → done < next → ((n : ℕ) → done < n → n < next → is_shown options n ≡ false) →
+    shown_until options next ≡ shown_until options done ++ filter (is_shown options) (next ∷ [])
+shown_next options done next later none =
+    let k = next - (done + 1) in
+    let length : next + 1 ≡ (done + 1) + suc k = omega (arith, later) in
+    let from : 0 + (done + 1) ≡ done + 1 = omega arith in
+    let last : (done + 1) + k ≡ next = omega (arith, later) in
+    ap (λ n. filter (is_shown options) (range_with_len 0 n)) length
+    ∙ ap (filter (is_shown options)) (range-append 0 (done + 1) (suc k))
+    ∙ filter-append (is_shown options) (range_with_len 0 (done + 1)) (range_with_len (0 + (done + 1)) (suc k))
+    ∙ ap (λ l. shown_until options done ++ filter (is_shown options) l) (ap (λ a. range_with_len a (suc k)) from)
+    ∙ ap (λ l. shown_until options done ++ l) (last_alone (is_shown options) (done + 1) k (λ n above below. none n (omega (arith, above)) (omega (arith, below, later))))
+    ∙ ap (λ n. shown_until options done ++ filter (is_shown options) (n ∷ [])) last
+
+-- those up to one of them are the first of all
+pub shown_first : (options : Options) (done last : ℕ) → done ≤ last → take (length (shown_until options done)) (shown_until options last) ≡ shown_until options done
+shown_first options done last within =
+    let numbers : last + 1 ≡ (done + 1) + (last - done) = omega (arith, within) in
+    let rest = filter (is_shown options) (range_with_len (0 + (done + 1)) (last - done)) in
+    ap (take (length (shown_until options done)))
+    (ap (λ n. filter (is_shown options) (range_with_len 0 n)) numbers
+    ∙ ap (filter (is_shown options)) (range-append 0 (done + 1) (last - done))
+    ∙ filter-append (is_shown options) (range_with_len 0 (done + 1)) (range_with_len (0 + (done + 1)) (last - done)))
+    ∙ take-length_append (shown_until options done) rest
+  where
+    take-length_append : (xs ys : List ℕ) → take (length xs) (xs ++ ys) ≡ xs
+    take-length_append [] ys = refl
+    take-length_append (x ∷ xs) ys = ap (λ l. x ∷ l) (take-length_append xs ys)
+
+-- ---- the lines
+
+module _ (rule : CountRule) (plane : Plane) (start : ℕ) where
+  AllZip-append : (ns ms : List ℕ) (xs ys : List (List ℕ)) → AllZip (IsLineAfter rule plane start) ns xs → AllZip (IsLineAfter rule plane start) ms ys →
+      AllZip (IsLineAfter rule plane start) (ns ++ ms) (xs ++ ys)
+  AllZip-append [] ms [] ys first second = second
+  AllZip-append [] ms (x ∷ xs) ys first second = absurd first
+  AllZip-append (n ∷ ns) ms [] ys first second = absurd first
+  AllZip-append (n ∷ ns) ms (x ∷ xs) ys first second = (first.0, AllZip-append ns ms xs ys first.1 second)
+
+  concat-more : (xs : List (List ℕ)) (x : List ℕ) → concat xs ++ x ≡ concat (xs ++ x ∷ [])
+  concat-more [] x = sym (append-nil x)
+  concat-more (y ∷ ys) x = append_assoc y (concat ys) x ∙ ap (λ l. y ++ l) (concat-more ys x)
+
+  pub shows_none : Shows rule plane start [] []
+  shows_none = ([], tt, refl)
+
+  -- one line more
+  pub shows_more : (ns : List ℕ) (n population : ℕ) (cells : List Cell) (generation : ℕ) (text : List ℕ) → Shows rule plane start ns text →
+      IsListing cells (after rule plane n) → generation ≡ start + n → population ≡ length cells → Shows rule plane start (ns ++ n ∷ []) (text ++ report_line generation population)
+  shows_more ns n population cells generation text shows listing generation_is population_is = (
+    shows.0 ++ report_line generation population ∷ [],
+    AllZip-append ns (n ∷ []) shows.0 (report_line generation population ∷ []) shows.1 ((cells, listing, rw (generation_is, population_is) refl), tt),
+    ap (λ l. l ++ report_line generation population) shows.2 ∙ concat-more shows.0 (report_line generation population),
+  )
+
+  same_shows_of : (ns ms text other : List ℕ) → ns ≡ ms → text ≡ other → Shows rule plane start ns text → Shows rule plane start ms other
+  same_shows_of ns ms text other numbers texts shows = subst (λ l. Shows rule plane start l other) numbers (subst (λ t. Shows rule plane start ns t) texts shows)
+
+  -- the line of one of the generations, if it is shown
+  pub shows_next : (options : Options) (ns : List ℕ) (n population : ℕ) (cells : List Cell) (generation : ℕ) (text : List ℕ) → Shows rule plane start ns text →
+      IsListing cells (after rule plane n) → generation ≡ start + n → population ≡ length cells → is_shown options n ≡ not options.quiet →
+      Shows rule plane start (ns ++ filter (is_shown options) (n ∷ [])) (text ++ shown_line options.quiet generation population)
+  shows_next options ns n population cells generation text shows listing generation_is population_is shown_is = go options.quiet refl
+    where
+      go : (quiet : Bool) → options.quiet ≡ quiet → Shows rule plane start (ns ++ filter (is_shown options) (n ∷ [])) (text ++ shown_line options.quiet generation population)
+      go true is =
+          let no_line : is_shown options n ≡ false = shown_is ∙ ap not is in
+          same_shows_of _ _ _ _
+          (sym (ap (λ l. ns ++ l) (filtered_out (is_shown options) n [] no_line) ∙ append-nil ns))
+          (sym (ap (λ quiet. text ++ shown_line quiet generation population) is ∙ append-nil text))
+          shows
+      go false is =
+          let line : is_shown options n ≡ true = shown_is ∙ ap not is in
+          same_shows_of _ _ _ _
+          (sym (ap (λ l. ns ++ l) (filtered_in (is_shown options) n [] line)))
+          (sym (ap (λ quiet. text ++ shown_line quiet generation population) is))
+          (shows_more ns n population cells generation text shows listing generation_is population_is)
+
+-- ---- generations after generations
+
+after_sum : (rule : CountRule) (plane : Plane) (d k : ℕ) → after rule (after rule plane d) k ≡ after rule plane (k + d)
+after_sum rule plane d zero = let same : d ≡ 0 + d = omega arith in ap (after rule plane) same
+after_sum rule plane d (suc k) = let same : suc (k + d) ≡ suc k + d = omega arith in ap (next rule) (after_sum rule plane d k) ∙ ap (after rule plane) same
+
+-- ---- planes with the same cells
+
+module _ (rule : CountRule) (plane other : Plane) (same : (x y : ℤ) → plane x y ≡ other x y) where
+  pub same_after : (n : ℕ) (cells : List Cell) → IsListing cells (after rule plane n) → IsListing cells (after rule other n)
+  same_after n cells listing =
+      record { rising = listing.rising; live = λ x y. listing.live x y ∙ light_cone_lem rule plane other n x y (λ u v _ _. same u v) }
+
+  same_lines : (start : ℕ) (ns : List ℕ) (lines : List (List ℕ)) → AllZip (IsLineAfter rule plane start) ns lines → AllZip (IsLineAfter rule other start) ns lines
+  same_lines start [] [] zipped = tt
+  same_lines start [] (line ∷ lines) zipped = absurd zipped
+  same_lines start (n ∷ ns) [] zipped = absurd zipped
+  same_lines start (n ∷ ns) (line ∷ lines) zipped =
+      let first = zipped.0 in ((first.0, same_after n first.0 first.1, first.2), same_lines start ns lines zipped.1)
+
+  pub same_shows : (start : ℕ) (ns : List ℕ) (text : List ℕ) → Shows rule plane start ns text → Shows rule other start ns text
+  same_shows start ns text shows = (shows.0, same_lines start ns shows.0 shows.1, shows.2)
+
+-- the cells so many generations after those of a generation
+pub lists_after : (rule : CountRule) (plane : Plane) (cells more : List Cell) (d k n : ℕ) → IsListing cells (after rule plane d) → IsListing more (after rule (plane_of cells) k) → k + d ≡ n →
+    IsListing more (after rule plane n)
+lists_after rule plane cells more d k n listing later sum =
+    subst (λ p. IsListing more p) (after_sum rule plane d k ∙ ap (after rule plane) sum) (same_after rule (plane_of cells) (after rule plane d) listing.live k more later)

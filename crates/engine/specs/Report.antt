@@ -1,0 +1,39 @@
+-- The report of a run.
+use Rattle.std.specs.Prelude.{◌≡◌, ℕ, ◌+◌, ◌%◌, ◌==◌, nat_lt, ◌&&◌, ◌||◌, not, if◌then◌else◌, Bool, List, [], ◌++◌, length, filter, codes, decimal}
+use Rattle.std.specs.List.{AllZip, concat, range_with_len}
+use Rattle.rule_text.specs.CountRule.{CountRule}
+use Rattle.plane.specs.Listing.{IsListing}
+use Rattle.plane.specs.Plane.{Plane, after}
+use Rattle.plane.specs.declared.cell.Cell.{Cell}
+use Rattle.engine.specs.declared.options.Options.{Options}
+
+-- the line of one generation: its number and how many cells are live
+abbrev pub report_line : ℕ → ℕ → List ℕ
+report_line generation population = decimal generation ++ codes ": " ++ decimal population ++ codes "\n"
+
+-- the same, and nothing where the report is left out
+abbrev pub shown_line : Bool → ℕ → ℕ → List ℕ
+shown_line quiet generation population = if quiet then [] else report_line generation population
+
+-- a run has a line after so many generations: after none and after all of them, and after each multiple of the step
+abbrev pub is_shown : Options → ℕ → Bool
+is_shown options done =
+    not options.quiet && (done == 0 || done == options.gens || (nat_lt 0 options.step && (done % options.step) == 0))
+
+-- all such numbers up to one of them, rising
+abbrev pub shown_until : Options → ℕ → List ℕ
+shown_until options last = filter (is_shown options) (range_with_len 0 (last + 1))
+
+-- all such numbers
+abbrev pub shown : Options → List ℕ
+shown options = shown_until options options.gens
+
+-- the line of the cells after so many generations from the start
+abbrev pub IsLineAfter : CountRule → Plane → ℕ → ℕ → List ℕ → Type 0
+IsLineAfter rule plane start done line =
+    (cells : List Cell) × IsListing cells (after rule plane done) × (line ≡ report_line (start + done) (length cells))
+
+-- the text is the lines after each of these numbers of generations
+abbrev pub Shows : CountRule → Plane → ℕ → List ℕ → List ℕ → Type 0
+Shows rule plane start numbers text =
+    (lines : List (List ℕ)) × AllZip (IsLineAfter rule plane start) numbers lines × (text ≡ concat lines)

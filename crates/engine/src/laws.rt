@@ -1,0 +1,20 @@
+//! What holds of every run.
+
+ghost use Rattle.std.specs.Prelude.{◌≡◌, ℕ, List, Result};
+ghost use Rattle.plane.specs.declared.fault.Fault.{Fault};
+ghost use Rattle.engine.specs.Judgement.{Start, Judges};
+ghost use Rattle.engine.specs.Run.{Finishes};
+ghost use Rattle.engine.specs.declared.running.Summary.{Summary};
+ghost use Rattle.engine.specs.declared.options.Options.{Options};
+
+/// A run has one judgement: it is accepted or refused, and never both.
+pub fn one_judgement()
+    ensures { (bytes : List ℕ) (options : Options) (a b : Result Start Fault) → Judges bytes options a → Judges bytes options b → a ≡ b }
+{}
+
+/// An accepted run has one answer, one report and one file.
+pub fn one_ending()
+    ensures { (start : Start) (options : Options) (a b : Summary) (said others drawn other : List ℕ) →
+        Finishes start options a said drawn → Finishes start options b others other →
+        (a ≡ b) × (said ≡ others) × (drawn ≡ other) }
+{}

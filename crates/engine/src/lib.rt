@@ -1,0 +1,16 @@
+//! A run from a file's bytes to its report and its pattern file, without a command line.
+#![tactic(auto)]
+
+mod generations;
+mod input;
+mod laws;
+mod options;
+mod pattern;
+mod report;
+mod reported;
+mod running;
+
+pub use input::load;
+pub use laws::{one_ending, one_judgement};
+pub use options::{Format, Options};
+pub use running::{Summary, rule_refusal, run};

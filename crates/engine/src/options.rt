@@ -1,0 +1,24 @@
+use rule_text::Rule;
+
+/// What a run is asked to do.
+#[derive(Clone, Copy, Debug, PartialEq, Eq)]
+pub struct Options {
+    /// The number of generations to run on from the file's own.
+    pub gens: u64,
+    /// How many generations lie from one reported generation to the next; 0 where only the first and the
+    /// last are reported.
+    pub step: u64,
+    /// The rule to run by in place of the file's, if one is given.
+    pub rule: Option<Rule>,
+    /// The format of the pattern that is written, if one is.
+    pub format: Option<Format>,
+    /// Whether the report is left out.
+    pub quiet: bool,
+}
+
+/// A format of pattern files.
+#[derive(Clone, Copy, Debug, PartialEq, Eq)]
+pub enum Format {
+    /// Run length encoded, with a `#CXRLE` line.
+    Rle,
+}

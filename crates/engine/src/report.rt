@@ -1,0 +1,46 @@
+ghost use Rattle.std.specs.Prelude.{◌≡◌, OnOk, IfErr};
+ghost use Rattle.std.specs.Io.KnownBytes.{Appends};
+ghost use Rattle.plane.specs.Device.{IsWriteRefusal};
+ghost use Rattle.engine.specs.Report.{report_line, shown_line};
+
+use arrayvec::ArrayString;
+use itoa::Buffer;
+use plane::{Refusal, Sink, write_all};
+
+// Room for two numbers of up to 40 digits and what stands round them.
+const LINE_ROOM: usize = 96;
+
+// Writes the line of one generation, unless the report is left out.
+pub(crate) fn report_generation<W: Sink>(
+    report: &mut W,
+    quiet: bool,
+    generation: u64,
+    population: u128,
+) -> Result<(), Refusal>
+    ensures written { OnOk result (Appends (W.taken report.old) (W.taken report.new) (shown_line quiet generation population)) }
+    ensures unfailed { OnOk result (W.failure_count report.new ≡ W.failure_count report.old) }
+    ensures refused { IfErr result (IsWriteRefusal (W.failure_count report.old) (W.failure_count report.new)) }
+{
+    if quiet {
+        return Ok(());
+    }
+    write_report_line(report, generation, population)
+}
+
+// Writes the line of one generation: its number and how many cells are live.
+fn write_report_line<W: Sink>(
+    report: &mut W,
+    generation: u64,
+    population: u128,
+) -> Result<(), Refusal>
+    ensures written { OnOk result (Appends (W.taken report.old) (W.taken report.new) (report_line generation population)) }
+    ensures unfailed { OnOk result (W.failure_count report.new ≡ W.failure_count report.old) }
+    ensures refused { IfErr result (IsWriteRefusal (W.failure_count report.old) (W.failure_count report.new)) }
+{
+    let mut line = ArrayString::<LINE_ROOM>::new();
+    line.push_str(Buffer::new().format(generation));
+    line.push_str(": ");
+    line.push_str(Buffer::new().format(population));
+    line.push_str("\n");
+    write_all(report, line.as_str().as_bytes())
+}

@@ -1,0 +1,62 @@
+-- How the body of an RLE text grows item by item.
+use Rattle.std.proofs.Common.{◌≡◌, ℕ, ◌+◌, ◌<◌, List, [], ◌∷◌, ◌++◌, length, map, take, drop, get_or, codes, ap, sym, ◌∙◌, refl, append_assoc, add-one, drop-cons}
+use Rattle.std.proofs.Common.{arith}
+use Rattle.std.specs.Bool.{Decides}
+use Rattle.std.proofs.lemmas.Bool.Decides.{Decides-int_eq}
+use Rattle.std.proofs.lemmas.List.{take_more, map-append}
+use Rattle.plane.specs.declared.cell.Cell.{Cell}
+use Rattle.std.specs.Prelude.{ℤ, if◌then◌else◌}
+use Rattle.std.specs.Ordering.{int_eq}
+use Rattle.rle_reader.specs.declared.item.Tag.TheVariants.{Dead, Live, Row}
+use Rattle.pattern_writers.specs.declared.rle_text.items.Item.{Item}
+use Rattle.pattern_writers.specs.declared.rle_text.row_run.RowRun.{RowRun}
+use Rattle.pattern_writers.specs.Items.{item_text, items_of, next_cell, run_items, counted, distance}
+use Rattle.pattern_writers.specs.Layout.{laid_out, body_text, LaysOut}
+
+-- pieces and then more pieces
+LaysOut-trans : (a b c : List ℕ) (ps qs : List (List ℕ)) (o p : List ℕ) → LaysOut a ps b o → LaysOut b qs c p → LaysOut a (ps ++ qs) c (o ++ p)
+LaysOut-trans a b c ps qs o p first second = λ rest.
+    ap (laid_out a) (append_assoc ps qs rest) ∙ first (qs ++ rest) ∙ ap (λ l. o ++ l) (second rest) ∙ sym (append_assoc o p (laid_out c rest))
+
+-- the texts of one item more
+texts_more : (items : List Item) (i : ℕ) (d : Item) → i < length items → map item_text (take (i + 1) items) ≡ map item_text (take i items) ++ item_text (get_or items i d) ∷ []
+texts_more items i d h = ap (map item_text) (take_more items i d h) ∙ map-append item_text (take i items) (get_or items i d ∷ [])
+
+-- one item more leads to the line that its text leads to
+pub LaysOut-more : (items : List Item) (i : ℕ) (d : Item) (text line next out more : List ℕ) → i < length items → text ≡ item_text (get_or items i d)
+    → LaysOut [] (map item_text (take i items)) line out → LaysOut line (text ∷ []) next more
+    → LaysOut [] (map item_text (take (i + 1) items)) next (out ++ more)
+LaysOut-more items i d text line next out more h is first second = λ rest.
+    ap (λ pieces. laid_out [] (pieces ++ rest)) (texts_more items i d h ∙ ap (λ t. map item_text (take i items) ++ t ∷ []) (sym is))
+    ∙ LaysOut-trans [] line next (map item_text (take i items)) (text ∷ []) out more first second rest
+
+-- after all items and the `!` the last line is left
+pub body_text-ends : (items : List Item) (line last out more : List ℕ) → LaysOut [] (map item_text items) line out → LaysOut line (codes "!" ∷ []) last more
+    → body_text items ≡ (out ++ more) ++ (last ++ codes "\n")
+body_text-ends items line last out more first second =
+    first (codes "!" ∷ []) ∙ ap (λ l. out ++ l) (second []) ∙ sym (append_assoc out more (last ++ codes "\n"))
+
+drop_step : {X : Type 0} → (xs : List X) (i : ℕ) (d : X) → i < length xs → drop i xs ≡ get_or xs i d ∷ drop (i + 1) xs
+drop_step xs i d h = rw (drop-cons xs i d h, add-one) refl
+
+-- the items of one run more
+pub items_of-more : (left : ℤ) (next : Cell) (runs : List RowRun) (i : ℕ) (d : RowRun) (done : List Item) → i < length runs →
+    done ++ items_of left next (drop i runs)
+    ≡ (done ++ run_items left next (get_or runs i d)) ++ items_of left (next_cell (get_or runs i d)) (drop (i + 1) runs)
+items_of-more left next runs i d done h =
+    ap (λ l. done ++ items_of left next l) (drop_step runs i d h)
+    ∙ sym (append_assoc done (run_items left next (get_or runs i d)) (items_of left (next_cell (get_or runs i d)) (drop (i + 1) runs)))
+
+-- what the items of a run are pushed as
+pub run_items-pushed : (before one two three : List Item) (left : ℤ) (next : Cell) (run : RowRun) (start : ℤ) (rows dead live : ℕ) →
+    rows ≡ distance next.y run.row → start ≡ (if int_eq run.row next.y then next.x else left) → dead ≡ distance start run.first → live ≡ distance run.first run.end →
+    one ≡ before ++ counted Row rows → two ≡ one ++ counted Dead dead → three ≡ two ++ counted Live live →
+    three ≡ before ++ run_items left next run
+run_items-pushed before one two three left next run start rows dead live is_rows is_start is_dead is_live first second third =
+    third ∙ rw (second, first, is_rows, is_dead, is_start, is_live) (simp append_assoc)
+
+-- the choice of another value
+pub chosen_other : (a b x y start : ℤ) → (a ≡ b → ⊥) → start ≡ y → start ≡ (if int_eq a b then x else y)
+chosen_other a b x y start other is =
+    let decides : Decides (int_eq a b) (a ≡ b) = Decides-int_eq a b in
+    is ∙ grind arith

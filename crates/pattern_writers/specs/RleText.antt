@@ -1,0 +1,29 @@
+-- The text of a pattern in RLE.
+use Rattle.std.specs.Prelude.{ℕ, List, ◌++◌, codes}
+use Rattle.std.specs.List.{flat_map}
+use Rattle.rule_text.specs.CountRule.{CountRule}
+use Rattle.rule_text.specs.RuleText.{canonical_text}
+use Rattle.plane.specs.Bounds.{bounds_of}
+use Rattle.plane.specs.declared.cell.Cell.{Cell}
+use Rattle.pattern_writers.specs.Frame.{frame_of}
+use Rattle.pattern_writers.specs.Items.{items_of}
+use Rattle.pattern_writers.specs.Layout.{body_text}
+use Rattle.pattern_writers.specs.Opening.{header_line, position_line}
+use Rattle.pattern_writers.specs.RowRuns.{runs_of}
+use Rattle.pattern_writers.specs.declared.rle_text.frame.Frame.{Frame}
+
+-- each comment as a line
+abbrev pub comment_lines : List (List ℕ) → List ℕ
+comment_lines comments = flat_map (λ comment. comment ++ codes "\n") comments
+
+-- the text of the cells of a frame
+abbrev pub framed_text : Frame → List (List ℕ) → CountRule → ℕ → List Cell → List ℕ
+framed_text frame comments rule generation cells =
+    position_line frame.corner.x frame.corner.y generation
+    ++ comment_lines comments
+    ++ header_line frame.width frame.height (canonical_text rule)
+    ++ body_text (items_of frame.corner.x frame.corner (runs_of cells))
+
+-- the text of the cells, with the comments, the rule and the generation
+abbrev pub rle_text : List (List ℕ) → CountRule → ℕ → List Cell → List ℕ
+rle_text comments rule generation cells = framed_text (frame_of (bounds_of cells)) comments rule generation cells

@@ -1,0 +1,23 @@
+-- The runs of live cells in rows.
+use Rattle.std.specs.Prelude.{pos, ◌+ℤ◌, List, [], ◌∷◌, if◌then◌else◌}
+use Rattle.plane.specs.declared.cell.Cell.{Cell}
+use Rattle.plane.specs.Listing.{is_at}
+use Rattle.pattern_writers.specs.declared.rle_text.row_run.RowRun.{RowRun}
+
+-- the run of one cell
+abbrev pub run_at : Cell → RowRun
+run_at cell = record { row = cell.y; first = cell.x; end = cell.x +ℤ pos 1 }
+
+-- the first cell of a run
+abbrev pub first_cell : RowRun → Cell
+first_cell run = record { y = run.row; x = run.first }
+
+-- a run and the runs that follow it: if the first of these begins where it ends, they are one run
+abbrev pub joined : RowRun → List RowRun → List RowRun
+joined run [] = run ∷ []
+joined run (next ∷ runs) = if is_at run.end run.row (first_cell next) then (record run { end = next.end } ∷ runs) else (run ∷ next ∷ runs)
+
+-- the longest runs of cells in the order of reading
+abbrev pub runs_of : List Cell → List RowRun
+runs_of [] = []
+runs_of (cell ∷ cells) = joined (run_at cell) (runs_of cells)

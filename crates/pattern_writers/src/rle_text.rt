@@ -1,0 +1,71 @@
+//! The text of a pattern in RLE.
+
+ghost use Rattle.std.specs.Prelude.{◌≡◌, ◌⊎◌, OnOk, IfErr};
+ghost use Rattle.std.specs.Io.KnownBytes.{Appends};
+ghost use Rattle.plane.specs.Bounds.{bounds_of};
+ghost use Rattle.plane.specs.Device.{IsWriteRefusal};
+ghost use Rattle.pattern_writers.specs.Frame.{FitsRle};
+ghost use Rattle.pattern_writers.specs.RleText.{comment_lines, rle_text};
+
+mod frame;
+mod items;
+mod layout;
+mod opening;
+mod row_run;
+
+use frame::Frame;
+use items::items;
+use layout::write_body;
+use opening::{header_line, position_line};
+use plane::{CellSet, Refusal, Sink, write_all};
+use rle_reader::Comments;
+use row_run::row_runs;
+use rule_text::Rule;
+use std::alloc::Global;
+
+/// Writes the cells with the comments, the rule and the generation. It refuses `BoxTooLarge` where a
+/// side of their box is 2^31 or more, and `NoMemory`, both before the first byte, and `WriteFailed`
+/// where the sink failed.
+pub fn write_rle<V: Sink>(
+    alloc: Global,
+    cells: &CellSet,
+    comments: Comments<'_>,
+    rule: &Rule,
+    generation: u64,
+    file: &mut V,
+) -> Result<(), Refusal>
+    ensures written { OnOk result (Appends (V.taken file.old) (V.taken file.new) (rle_text comments.entry rule.now generation cells.now)) }
+    ensures fits { OnOk result (FitsRle (bounds_of cells.now)) }
+    ensures unfailed { OnOk result (V.failure_count file.new ≡ V.failure_count file.old) }
+    ensures refused { IfErr result (λ refusal.
+        (refusal ≡ Refusal.BoxTooLarge × ¬ FitsRle (bounds_of cells.now) × file.new ≡ file.old)
+        ⊎ (refusal ≡ Refusal.NoMemory × file.new ≡ file.old)
+        ⊎ IsWriteRefusal (V.failure_count file.old) (V.failure_count file.new) refusal) }
+{
+    let frame = Frame::round(cells.bounds())?;
+    let Ok(runs) = row_runs(alloc, cells) else {
+        return Err(Refusal::NoMemory);
+    };
+    let Ok(items) = items(alloc, frame.corner, runs.as_slice()) else {
+        return Err(Refusal::NoMemory);
+    };
+    let position = position_line(frame.corner, generation);
+    write_all(file, position.as_str().as_bytes())?;
+    write_comments(file, comments)?;
+    let header = header_line(frame.width, frame.height, rule.text().as_str());
+    write_all(file, header.as_str().as_bytes())?;
+    write_body(file, items.as_slice())
+}
+
+// Writes each comment as a line.
+fn write_comments<V: Sink>(file: &mut V, comments: Comments<'_>) -> Result<(), Refusal>
+    ensures written { OnOk result (Appends (V.taken file.old) (V.taken file.new) (comment_lines comments.entry)) }
+    ensures unfailed { OnOk result (V.failure_count file.new ≡ V.failure_count file.old) }
+    ensures refused { IfErr result (IsWriteRefusal (V.failure_count file.old) (V.failure_count file.new)) }
+{
+    for comment in comments {
+        write_all(file, comment)?;
+        write_all(file, b"\n")?;
+    }
+    Ok(())
+}

@@ -1,0 +1,58 @@
+ghost use Rattle.std.specs.Prelude.{◌≡◌, ◌+◌, ◌^◌, ◌<◌, ◌↔◌, IfOk, IsOk, IsOkUnless, SomeIff};
+ghost use Rattle.pattern_writers.specs.Frame.{frame_of, FitsRle, side};
+
+use plane::{Bounds, Cell, Refusal};
+
+// A box that is written has sides below this.
+const SIDE_LIMIT: u64 = 1 << 31;
+
+// Where a pattern lies: its upper left corner and its two sides.
+#[derive(Clone, Copy, Debug, PartialEq, Eq)]
+pub(crate) struct Frame {
+    pub corner: Cell,
+    pub width: u64,
+    pub height: u64,
+}
+
+impl Frame {
+    // The frame of a box, or of no cells. `BoxTooLarge` if a side is 2^31 or more.
+    pub(crate) fn round(bounds: Option<Bounds>) -> Result<Self, Refusal>
+        ensures frame { IfOk result (λ frame. frame ≡ frame_of bounds) }
+        ensures fits { IsOk result ↔ FitsRle bounds }
+        ensures too_large { IsOkUnless result Refusal.BoxTooLarge }
+    {
+        let Some(bounds) = bounds else {
+            return Ok(Frame {
+                corner: Cell { y: 0, x: 0 },
+                width: 0,
+                height: 0,
+            });
+        };
+        let (Some(width), Some(height)) = (
+            side(bounds.left, bounds.right),
+            side(bounds.top, bounds.bottom),
+        ) else {
+            return Err(Refusal::BoxTooLarge);
+        };
+        Ok(Frame {
+            corner: Cell {
+                y: bounds.top,
+                x: bounds.left,
+            },
+            width,
+            height,
+        })
+    }
+}
+
+// How many columns or rows there are from the first to the last, if that is below the limit.
+fn side(first: i64, last: i64) -> Option<u64>
+    ensures { SomeIff result (side first last < 2 ^ 31) (side first last) }
+{
+    let steps = last.abs_diff(first);
+    if steps < SIDE_LIMIT - 1 {
+        Some(steps + 1)
+    } else {
+        None
+    }
+}

@@ -1,0 +1,31 @@
+-- The cells of a window: so many columns from its left on, so many rows from its top on.
+use Rattle.std.specs.Prelude.{◌≡◌, ℕ, zero, suc, ℤ, pos, ◌+ℤ◌, ◌-ℤ◌, false, ◌&&◌, List, [], ◌∷◌, ◌++◌, filter}
+use Rattle.plane.specs.declared.cell.Cell.{Cell}
+use Rattle.plane.specs.Plane.{Plane}
+use Rattle.plane.specs.Square.{spans}
+
+-- so many places of a row, from this one on to the right
+unfoldable pub row_places : ℤ → ℤ → ℕ → List Cell
+row_places x y zero = []
+row_places x y (suc wide) = record { x = x; y = y } ∷ row_places (x +ℤ pos 1) y wide
+
+-- the places of a window, row by row from its top
+unfoldable pub places : ℤ → ℤ → ℕ → ℕ → List Cell
+places left top wide zero = []
+places left top wide (suc tall) = row_places left top wide ++ places left (top +ℤ pos 1) wide tall
+
+-- the live cells of a window, in the order of reading
+unfoldable pub cells_in : ℤ → ℤ → ℕ → ℕ → Plane → List Cell
+cells_in left top wide tall plane = filter (λ cell. plane cell.x cell.y) (places left top wide tall)
+
+-- the live cells of the square of this side
+abbrev pub square_cells : ℕ → Plane → List Cell
+square_cells side = cells_in (pos 0) (pos 0) side side
+
+-- the plane has no live cell outside the window
+pub record IsInWindow (left top : ℤ) (wide tall : ℕ) (plane : Plane) : Type 0 where
+  pub dead : (x y : ℤ) → (spans wide (x -ℤ left) && spans tall (y -ℤ top)) ≡ false → plane x y ≡ false
+
+-- the cell, moved so far to the right and down
+abbrev pub moved_cell : ℤ → ℤ → Cell → Cell
+moved_cell right down cell = record { x = cell.x +ℤ right; y = cell.y +ℤ down }

@@ -1,0 +1,23 @@
+ghost use Rattle.std.specs.Prelude.{◌≡◌, OnOk, IfErr};
+ghost use Rattle.std.specs.Io.KnownBytes.{Appends};
+ghost use Rattle.plane.specs.Device.{IsWriteRefusal};
+
+use crate::device::traits::Sink;
+use crate::refusal::Refusal;
+
+/// Writes all of the bytes. `WriteFailed` where the sink failed in this call; it may have taken some of
+/// them then.
+pub fn write_all<W: Sink>(sink: &mut W, bytes: &[u8]) -> Result<(), Refusal>
+    ensures written { OnOk result (Appends (W.taken sink.old) (W.taken sink.new) bytes.now) }
+    ensures unfailed { OnOk result (W.failure_count sink.new ≡ W.failure_count sink.old) }
+    ensures refused { IfErr result (IsWriteRefusal (W.failure_count sink.old) (W.failure_count sink.new)) }
+{
+    let mut written = 0;
+    while written < bytes.len() {
+        let Ok(count) = sink.write_some(&bytes[written..]) else {
+            return Err(Refusal::WriteFailed);
+        };
+        written += count;
+    }
+    Ok(())
+}

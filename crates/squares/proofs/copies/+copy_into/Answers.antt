@@ -1,0 +1,50 @@
+use Rattle.std.proofs.Common.{sym, subst, arith}
+use Rattle.std.proofs.lemmas.Result.{IfOk-weaker}
+use Rattle.squares.specs.Book.{Shows}
+use Rattle.squares.specs.declared.sq.Sq.{Sq}
+use Rattle.squares.proofs.CopyMaps.{copies_kept, leaf_copied, noted_copies, quad_copied}
+use Rattle.squares.proofs.Kept.{keeps_trans, shows_kept}
+use Rattle.squares.proofs.copies.+copy_into.Goals as goal
+
+pub returns-in_err-copy-clause-copies : goal.returns-in_err-copy-clause-copies
+returns-in_err-copy-clause-copies g t c = copies_kept c.leaf.ensures.keeps c.requires.copies
+
+pub returns-then-level-eq3-clause-copies : goal.returns-then-level-eq3-clause-copies
+returns-then-level-eq3-clause-copies g t c =
+    let from = g.L.Look.book c.args.from.now in
+    let to = g.S.Squares.book c.leaf.new.self in
+    noted_copies from to c.args.copies.now c.noted.new.copies c.args.sq c.in_ok-copy.copy c.noted.result c.noted.ensures.updates c.noted.ensures.err
+    (leaf_copied from to c.args.sq c.in_ok-copy.copy c.bits.result c.if-level-eq3.true c.bits.ensures c.in_ok-copy.ensures.ok) (copies_kept c.leaf.ensures.keeps c.requires.copies)
+
+pub returns-in_err-copy-2-clause-copies : goal.returns-in_err-copy-2-clause-copies
+returns-in_err-copy-2-clause-copies g t c = copies_kept c.quad.ensures.keeps c.copy_into-4.ensures.copies
+
+pub returns-clause-ok : goal.returns-clause-ok
+returns-clause-ok g t c =
+    let book = g.S.Squares.book in
+    let from = g.L.Look.book c.args.from.now in
+    let sq = c.args.sq in
+    let k4 = c.copy_into-4.ensures.keeps in
+    let k3 = keeps_trans c.copy_into-3.ensures.keeps k4 in
+    let k2 = keeps_trans c.copy_into-2.ensures.keeps k3 in
+    let low = c.requires.known.low in
+    let more = c.if-level-eq3.false in
+    let shown = quad_copied from (book c.copy_into-4.new.to) (book c.quad.new.self) sq.level (from.cells sq) c.parts.result c.in_ok-nw.nw c.in_ok-ne.ne c.in_ok-sw.sw c.in_ok-se.se c.in_ok-copy-2.copy (omega arith)
+    ((g.met.L.Look.is_book c.args.from.now).square sq c.requires.known.known) c.parts.ensures
+    (shows_kept k2 c.in_ok-nw.ensures.ok) (shows_kept k3 c.in_ok-ne.ensures.ok) (shows_kept k4 c.in_ok-sw.ensures.ok) c.in_ok-se.ensures.ok c.in_ok-copy-2.ensures.ok in
+    IfOk-weaker c.noted-2.result _ _ (λ (noted : Sq) same. subst (Shows (book c.quad.new.self) sq.level (from.cells sq)) (sym same) shown) c.noted-2.ensures.ok
+
+pub returns-clause-copies : goal.returns-clause-copies
+returns-clause-copies g t c =
+    let book = g.S.Squares.book in
+    let from = g.L.Look.book c.args.from.now in
+    let sq = c.args.sq in
+    let k4 = c.copy_into-4.ensures.keeps in
+    let k3 = keeps_trans c.copy_into-3.ensures.keeps k4 in
+    let k2 = keeps_trans c.copy_into-2.ensures.keeps k3 in
+    let low = c.requires.known.low in
+    let more = c.if-level-eq3.false in
+    let shown = quad_copied from (book c.copy_into-4.new.to) (book c.quad.new.self) sq.level (from.cells sq) c.parts.result c.in_ok-nw.nw c.in_ok-ne.ne c.in_ok-sw.sw c.in_ok-se.se c.in_ok-copy-2.copy (omega arith)
+    ((g.met.L.Look.is_book c.args.from.now).square sq c.requires.known.known) c.parts.ensures
+    (shows_kept k2 c.in_ok-nw.ensures.ok) (shows_kept k3 c.in_ok-ne.ensures.ok) (shows_kept k4 c.in_ok-sw.ensures.ok) c.in_ok-se.ensures.ok c.in_ok-copy-2.ensures.ok in
+    noted_copies from (book c.quad.new.self) c.copy_into-4.new.copies c.noted-2.new.copies sq c.in_ok-copy-2.copy c.noted-2.result c.noted-2.ensures.updates c.noted-2.ensures.err shown (copies_kept c.quad.ensures.keeps c.copy_into-4.ensures.copies)

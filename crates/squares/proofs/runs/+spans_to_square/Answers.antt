@@ -1,0 +1,32 @@
+use Rattle.std.proofs.Common.{◌≡◌, rules, arith, sym, vec_len, []}
+use Rattle.std.proofs.lemmas.Bool.{eqb-true}
+use Rattle.std.proofs.lemmas.List.{nil_from_length}
+use Rattle.std.proofs.lemmas.Result.{IfOk-weaker}
+use Rattle.squares.specs.declared.sq.Sq.{Sq}
+use Rattle.squares.proofs.Kept.{keeps_trans, shows_kept}
+use Rattle.squares.proofs.SpanSquares.{no_spans, quarters_marked}
+use Rattle.squares.proofs.runs.+spans_to_square.Goals as goal
+
+pub returns-then-is_empty-clause-ok : goal.returns-then-is_empty-clause-ok
+returns-then-is_empty-clause-ok g t c =
+    let size : vec_len c.args.spans ≡ 0 = eqb-true (vec_len c.args.spans) 0 (sym c.if-is_empty.ensures) in
+    let none : c.args.spans.items ≡ [] = nil_from_length c.args.spans.items (search (rules, size)) in
+    let low = c.requires.level.0 in
+    let high = c.requires.level.1 in
+    no_spans (g.S.Squares.book c.args.book.now) c.args.level c.args.spans.items (g.met.S.Squares.is_book c.args.book.now) low (omega arith) none
+
+pub returns-clause-ok : goal.returns-clause-ok
+returns-clause-ok g t c =
+    let book = g.S.Squares.book in
+    let k4 = c.spans_to_square-4.ensures.keeps in
+    let k3 = keeps_trans c.spans_to_square-3.ensures.keeps k4 in
+    let k2 = keeps_trans c.spans_to_square-2.ensures.keeps k3 in
+    let low = c.requires.level.0 in
+    IfOk-weaker c.quad.result _ _
+    (λ (sq : Sq) made. quarters_marked (book c.spans_to_square-4.new.book) (book c.quad.new.self) c.args.level c.half_side-half.result c.args.spans.items
+    c.deref-2.result.now c.deref-3.result.now c.deref-4.result.now c.deref-5.result.now c.in_ok-nw.nw.items c.in_ok-ne.ne.items c.in_ok-sw.sw.items c.in_ok-se.se.items
+    c.in_ok-nw-2.nw c.in_ok-ne-2.ne c.in_ok-sw-2.sw c.in_ok-se-2.se sq (omega arith) c.half_side-half.ensures.value
+    c.deref-2.ensures.value c.deref-3.ensures.value c.deref-4.ensures.value c.deref-5.ensures.value
+    c.in_ok-nw.ensures.ok c.in_ok-ne.ensures.ok c.in_ok-sw.ensures.ok c.in_ok-se.ensures.ok
+    (shows_kept k2 c.in_ok-nw-2.ensures.ok) (shows_kept k3 c.in_ok-ne-2.ensures.ok) (shows_kept k4 c.in_ok-sw-2.ensures.ok) c.in_ok-se-2.ensures.ok made)
+    c.quad.ensures.ok

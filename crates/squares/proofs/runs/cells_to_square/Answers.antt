@@ -1,0 +1,16 @@
+use Rattle.std.proofs.Common.{◌∙◌, sym, subst}
+use Rattle.std.specs.List.{AllByRecursion}
+use Rattle.std.proofs.lemmas.Result.{IfOk-weaker}
+use Rattle.plane.specs.Runs.{IsRun}
+use Rattle.squares.specs.declared.sq.Sq.{Sq}
+use Rattle.squares.proofs.RunLevels.{round_cells_of, single_runs}
+use Rattle.squares.proofs.runs.cells_to_square.Goals as goal
+
+pub runs_to_square-requires : goal.runs_to_square-requires
+runs_to_square-requires g c = subst (AllByRecursion IsRun) (sym (c.deref.ensures.value ∙ c.in_ok-runs.ensures.ok)) (single_runs c.args.cells.now c.in_ok-runs.ensures.set.in_range)
+
+pub returns-clause-ok : goal.returns-clause-ok
+returns-clause-ok g c =
+    IfOk-weaker c.runs_to_square.result _ _
+    (λ (sq : Sq) shown. round_cells_of (g.S.Squares.book c.runs_to_square.new.book) _ c.args.cells.now sq (c.deref.ensures.value ∙ c.in_ok-runs.ensures.ok) shown)
+    c.runs_to_square.ensures.ok

@@ -1,0 +1,76 @@
+ghost use Rattle.std.specs.Prelude.{◌≡◌, ◌⊎◌, IfOk, IfErr, OnOk, OnErr, IsOkUnless, Some};
+ghost use Rattle.std.specs.BTreeMap.{IsUnchanged, Updates};
+ghost use Rattle.squares.specs.Book.{IsKnown, Keeps, KeepsResults, MayRefuse, Shows};
+ghost use Rattle.squares.specs.Copies.{AreCopies, sq_order};
+
+use crate::book::{Look, Squares};
+use crate::sq::{Num, Sq};
+use plane::Refusal;
+use std::alloc::Global;
+use std::collections::BTreeMap;
+
+// Notes the copy of a square.
+fn noted(copies: &mut BTreeMap<Sq, Num>, sq: Sq, copy: Sq) -> Result<Sq, Refusal>
+    ensures ok { IfOk result (λ noted. noted ≡ copy) }
+    ensures updates { OnOk result (Updates sq_order copies.old copies.new sq (Some copy.num)) }
+    ensures err { OnErr result (IsUnchanged copies.old copies.new) }
+    ensures memory { IsOkUnless result Refusal.NoMemory }
+{
+    if copies.insert(sq, copy.num).is_err() {
+        return Err(Refusal::NoMemory);
+    }
+    Ok(copy)
+}
+
+// Copies a square, and notes the copies that are made on the way.
+fn copy_into<L: Look, S: Squares>(
+    from: &L,
+    sq: Sq,
+    to: &mut S,
+    copies: &mut BTreeMap<Sq, Num>,
+) -> Result<Sq, Refusal>
+    requires known { IsKnown (L.book from.now) sq.level sq }
+    requires copies { AreCopies (L.book from.now) (S.book to.old) copies.old }
+    ensures ok { IfOk result (Shows (S.book to.new) sq.level ((L.book from.now).cells sq)) }
+    ensures copies { AreCopies (L.book from.now) (S.book to.new) copies.new }
+    ensures refusal { IfErr result (λ refusal. (refusal ≡ Refusal.NoMemory) ⊎ MayRefuse (S.book to.new) refusal) }
+    ensures keeps { Keeps (S.book to.old) (S.book to.new) }
+    ensures results { KeepsResults (S.book to.old) (S.book to.new) }
+{
+    let level = sq.level;
+    if sq.num.0 == 0 {
+        return Ok(sq);
+    }
+    if let Some(num) = copies.get(&sq) {
+        return Ok(Sq { level, num: *num });
+    }
+    if level == 3 {
+        let copy = to.leaf(from.bits(sq))?;
+        return noted(copies, sq, copy);
+    }
+    let [nw, ne, sw, se] = from.parts(sq);
+    let nw = copy_into(from, nw, to, copies)?;
+    let ne = copy_into(from, ne, to, copies)?;
+    let sw = copy_into(from, sw, to, copies)?;
+    let se = copy_into(from, se, to, copies)?;
+    let copy = to.quad([nw, ne, sw, se])?;
+    noted(copies, sq, copy)
+}
+
+/// The square with the same level and the same cells in another book; each number is copied once.
+/// `NoMemory` where memory ran out, and what that book refuses.
+pub fn copy_square<L: Look, S: Squares>(
+    alloc: Global,
+    from: &L,
+    sq: Sq,
+    to: &mut S,
+) -> Result<Sq, Refusal>
+    requires { IsKnown (L.book from.now) sq.level sq }
+    ensures ok { IfOk result (Shows (S.book to.new) sq.level ((L.book from.now).cells sq)) }
+    ensures refusal { IfErr result (λ refusal. (refusal ≡ Refusal.NoMemory) ⊎ MayRefuse (S.book to.new) refusal) }
+    ensures keeps { Keeps (S.book to.old) (S.book to.new) }
+    ensures results { KeepsResults (S.book to.old) (S.book to.new) }
+{
+    let mut copies = BTreeMap::new(alloc);
+    copy_into(from, sq, to, &mut copies)
+}

@@ -1,0 +1,140 @@
+ghost use Rattle.std.specs.Prelude.{◌≡◌, ◌⊎◌, ◌+◌, ◌-◌, ◌^◌, ◌<◌, ◌≤◌, ◌↔◌, IfOk, IfErr, IsOkUnless, IsTrue, map};
+ghost use Rattle.std.specs.List.{AllByRecursion};
+ghost use Rattle.plane.specs.Centred.{IsSmallestLevel};
+ghost use Rattle.plane.specs.CellSet.{IsCellSet};
+ghost use Rattle.plane.specs.Listing.{plane_of};
+ghost use Rattle.plane.specs.Runs.{IsRun, runs_plane};
+ghost use Rattle.plane.specs.Square.{cut};
+ghost use Rattle.squares.specs.Book.{IsKnown, Keeps, KeepsResults, MayRefuse, Shows};
+ghost use Rattle.squares.specs.Rounds.{IsRound};
+ghost use Rattle.squares.specs.Spans.{FitsRound, in_spans, marked, single_run};
+
+use crate::book::Squares;
+use crate::spans::{Span, clipped, distance, half_side, leaf_bits, spans_of};
+use crate::sq::{Num, Sq};
+use plane::{Cell, CellSet, Refusal};
+use std::alloc::Global;
+
+// Whether the run lies in the square of this half side round (0,0).
+fn fits(run: (Cell, u64), half: u64) -> bool
+    requires half { half ≤ 2 ^ 62 }
+    requires run { IsRun run }
+    ensures { IsTrue result ↔ FitsRound half run }
+{
+    let (cell, count) = run;
+    let far = half as i64;
+    if cell.x < -far || cell.y < -far || far <= cell.y {
+        return false;
+    }
+    distance(cell.x, half) + count <= 2 * half
+}
+
+fn all_fit(runs: &[(Cell, u64)], half: u64) -> bool
+    requires half { half ≤ 2 ^ 62 }
+    requires runs { AllByRecursion IsRun runs.now }
+    ensures { IsTrue result ↔ AllByRecursion (FitsRound half) runs.now }
+{
+    for run in runs {
+        if !fits(*run, half) {
+            return false;
+        }
+    }
+    true
+}
+
+// The smallest level of at least 4 whose square round (0,0) has all the runs.
+fn smallest_level(runs: &[(Cell, u64)]) -> u8
+    requires { AllByRecursion IsRun runs.now }
+    ensures smallest { IsSmallestLevel result (runs_plane runs.now) }
+    ensures fits { AllByRecursion (FitsRound (2 ^ (result - 1))) runs.now }
+    ensures high { result ≤ 63 }
+{
+    for level in 4..63 {
+        if all_fit(runs, half_side(level)) {
+            return level;
+        }
+    }
+    63
+}
+
+// The square of this level with the spans' cells, made from the quarters up.
+fn spans_to_square<S: Squares>(
+    alloc: Global,
+    book: &mut S,
+    spans: Vec<Span>,
+    level: u8,
+) -> Result<Sq, Refusal>
+    requires level { (3 ≤ level) × (level ≤ 63) }
+    ensures ok { IfOk result (Shows (S.book book.new) level (cut (2 ^ level) 0 0 (marked (in_spans spans.items)))) }
+    ensures refusal { IfErr result (λ refusal. (refusal ≡ Refusal.NoMemory) ⊎ MayRefuse (S.book book.new) refusal) }
+    ensures keeps { Keeps (S.book book.old) (S.book book.new) }
+    ensures results { KeepsResults (S.book book.old) (S.book book.new) }
+{
+    if spans.is_empty() {
+        return Ok(Sq { level, num: Num(0) });
+    }
+    if level == 3 {
+        return book.leaf(leaf_bits(&spans));
+    }
+    let half = half_side(level);
+    let nw = clipped(alloc, &spans, 0, 0, half)?;
+    let ne = clipped(alloc, &spans, half, 0, half)?;
+    let sw = clipped(alloc, &spans, 0, half, half)?;
+    let se = clipped(alloc, &spans, half, half, half)?;
+    drop(spans);
+    let nw = spans_to_square(alloc, book, nw, level - 1)?;
+    let ne = spans_to_square(alloc, book, ne, level - 1)?;
+    let sw = spans_to_square(alloc, book, sw, level - 1)?;
+    let se = spans_to_square(alloc, book, se, level - 1)?;
+    book.quad([nw, ne, sw, se])
+}
+
+/// The square of the runs' cells, at the smallest level of at least 4 round (0,0): a square of level
+/// n has the cells from -2^(n-1) to 2^(n-1) - 1. `NoMemory` where memory ran out, and what the book
+/// refuses.
+pub fn runs_to_square<S: Squares>(
+    alloc: Global,
+    book: &mut S,
+    runs: &[(Cell, u64)],
+) -> Result<Sq, Refusal>
+    requires { AllByRecursion IsRun runs.now }
+    ensures ok { IfOk result (IsRound (S.book book.new) (runs_plane runs.now)) }
+    ensures refusal { IfErr result (λ refusal. (refusal ≡ Refusal.NoMemory) ⊎ MayRefuse (S.book book.new) refusal) }
+    ensures keeps { Keeps (S.book book.old) (S.book book.new) }
+    ensures results { KeepsResults (S.book book.old) (S.book book.new) }
+{
+    let level = smallest_level(runs);
+    let spans = spans_of(alloc, runs, half_side(level))?;
+    spans_to_square(alloc, book, spans, level)
+}
+
+// Each cell of the set as a run.
+fn runs_of(alloc: Global, cells: &CellSet) -> Result<Vec<(Cell, u64)>, Refusal>
+    ensures ok { IfOk result (λ runs. runs.items ≡ map single_run cells.now) }
+    ensures set { IsCellSet cells.now }
+    ensures memory { IsOkUnless result Refusal.NoMemory }
+{
+    let mut runs = Vec::new(alloc);
+    for cell in cells.iter() {
+        if runs.push((*cell, 1)).is_err() {
+            return Err(Refusal::NoMemory);
+        }
+    }
+    Ok(runs)
+}
+
+/// The square of the set's cells, at the smallest level of at least 4 round (0,0). `NoMemory` where
+/// memory ran out, and what the book refuses.
+pub fn cells_to_square<S: Squares>(
+    alloc: Global,
+    book: &mut S,
+    cells: &CellSet,
+) -> Result<Sq, Refusal>
+    ensures ok { IfOk result (IsRound (S.book book.new) (plane_of cells.now)) }
+    ensures refusal { IfErr result (λ refusal. (refusal ≡ Refusal.NoMemory) ⊎ MayRefuse (S.book book.new) refusal) }
+    ensures keeps { Keeps (S.book book.old) (S.book book.new) }
+    ensures results { KeepsResults (S.book book.old) (S.book book.new) }
+{
+    let runs = runs_of(alloc, cells)?;
+    runs_to_square(alloc, book, &runs)
+}

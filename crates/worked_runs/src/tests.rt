@@ -1,0 +1,6 @@
+mod accepted;
+mod devices;
+mod ended;
+mod refused;
+mod rows;
+mod want_of_memory;

@@ -1,0 +1,281 @@
+//! Runs that are accepted: the report, and the pattern as RLE.
+
+use crate::tests::ended::Ended;
+use crate::tests::rows::{BLINKER, PLAIN, R_PENTOMINO, Row};
+use engine::{Format, Options};
+use rule_text::Rule;
+use std::process::Abort;
+use std::test::Fail;
+
+const PATTERNS: [Row; 12] = [
+    Row {
+        file: "x = 0, y = 0, rule = B3/S23\n!\n",
+        generations: 1000,
+        step: 0,
+        report: "0: 0\n1000: 0\n",
+        rle: "#CXRLE Pos=0,0 Gen=1000\nx = 0, y = 0, rule = B3/S23\n!\n",
+    },
+    Row {
+        file: "x = 3, y = 3, rule = B3/S23\nb2o$2o$bo!",
+        generations: 0,
+        step: 0,
+        report: "0: 5\n",
+        rle: "#CXRLE Pos=0,0 Gen=0\nx = 3, y = 3, rule = B3/S23\nb2o$2o$bo!\n",
+    },
+    BLINKER,
+    Row {
+        file: "x = 1, y = 1, rule = B1/SV\no!",
+        generations: 1,
+        step: 0,
+        report: "0: 1\n1: 4\n",
+        rle: "#CXRLE Pos=-1,-1 Gen=1\nx = 3, y = 3, rule = B1/SV\nbo$obo$bo!\n",
+    },
+    Row {
+        file: "x = 1, y = 1, rule = B1/SV\no!",
+        generations: 2,
+        step: 0,
+        report: "0: 1\n2: 4\n",
+        rle: "#CXRLE Pos=-2,-2 Gen=2\nx = 5, y = 5, rule = B1/SV\n2bo2$o3bo2$2bo!\n",
+    },
+    Row {
+        file: "x = 1, y = 1, rule = B1/SH\no!",
+        generations: 1,
+        step: 0,
+        report: "0: 1\n1: 6\n",
+        rle: "#CXRLE Pos=-1,-1 Gen=1\nx = 3, y = 3, rule = B1/SH\n2o$obo$b2o!\n",
+    },
+    Row {
+        file: "x = 3, y = 1, rule = b3s23\n3o!",
+        generations: 0,
+        step: 0,
+        report: "0: 3\n",
+        rle: "#CXRLE Pos=0,0 Gen=0\nx = 3, y = 1, rule = B3/S23\n3o!\n",
+    },
+    Row {
+        file: "x = 12, y = 1\n1\n2o\n#C here\n!junk",
+        generations: 0,
+        step: 0,
+        report: "0: 12\n",
+        rle: "#CXRLE Pos=0,0 Gen=0\nx = 12, y = 1, rule = B3/S23\n12o!\n",
+    },
+    Row {
+        file: "x = 12, y = 1\r\n1\r\n2o\r\n#C here\r\n",
+        generations: 0,
+        step: 0,
+        report: "0: 12\n",
+        rle: "#CXRLE Pos=0,0 Gen=0\nx = 12, y = 1, rule = B3/S23\n12o!\n",
+    },
+    Row {
+        file: "#N Glider\n#r 23/3\nx = 3, y = 3\nbob$2bo$3o!",
+        generations: 4,
+        step: 0,
+        report: "0: 5\n4: 5\n",
+        rle: "#CXRLE Pos=1,1 Gen=4\n#N Glider\nx = 3, y = 3, rule = B3/S23\nbo$2bo$3o!\n",
+    },
+    Row {
+        file: "#CXRLE Gen=7\nx = 3, y = 3, rule = B3/S23\nbo$2bo$3o!",
+        generations: 10,
+        step: 4,
+        report: "7: 5\n11: 5\n15: 5\n17: 5\n",
+        rle: "#CXRLE Pos=2,3 Gen=17\nx = 3, y = 3, rule = B3/S23\n2bo$obo$b2o!\n",
+    },
+    // The first side that is too large for a file is one more.
+    Row {
+        file: "x = 1, y = 1\no2147483645bo!",
+        generations: 0,
+        step: 0,
+        report: "0: 2\n",
+        rle: "#CXRLE Pos=0,0 Gen=0\nx = 2147483647, y = 1, rule = B3/S23\no2147483645bo!\n",
+    },
+];
+
+// The ends of the range and of the generations, and the position that was the last one of a smaller range.
+const LIMITS: [Row; 5] = [
+    Row {
+        file: "#CXRLE Pos=4611686018427387903,0\nx = 1, y = 1\no!",
+        generations: 0,
+        step: 0,
+        report: "0: 1\n",
+        rle: "#CXRLE Pos=4611686018427387903,0 Gen=0\nx = 1, y = 1, rule = B3/S23\no!\n",
+    },
+    Row {
+        file: "#CXRLE Pos=-4611686018427387904,-4611686018427387904\nx = 1, y = 1\no!",
+        generations: 0,
+        step: 0,
+        report: "0: 1\n",
+        rle: "#CXRLE Pos=-4611686018427387904,-4611686018427387904 Gen=0\n\
+         x = 1, y = 1, rule = B3/S23\no!\n",
+    },
+    Row {
+        file: "#CXRLE Gen=9223372036854775808\nx = 1, y = 1\no!",
+        generations: 0,
+        step: 0,
+        report: "9223372036854775808: 1\n",
+        rle: "#CXRLE Pos=0,0 Gen=9223372036854775808\nx = 1, y = 1, rule = B3/S23\no!\n",
+    },
+    Row {
+        file: "#CXRLE Pos=1152921504606846975,0\nx = 1, y = 1\no!",
+        generations: 1,
+        step: 0,
+        report: "0: 1\n1: 0\n",
+        rle: "#CXRLE Pos=0,0 Gen=1\nx = 0, y = 0, rule = B3/S23\n!\n",
+    },
+    Row {
+        file: "x = 0, y = 0\n!",
+        generations: LAST,
+        step: 0,
+        report: "0: 0\n9223372036854775808: 0\n",
+        rle: NONE_LEFT,
+    },
+];
+
+// The last generation that there is, and the text of no cells in it.
+const LAST: u64 = 1 << 63;
+
+const NONE_LEFT: &str = "#CXRLE Pos=0,0 Gen=9223372036854775808\nx = 0, y = 0, rule = B3/S23\n!\n";
+
+// The 36 cells at (0,0), (2,0), .. (70,0), and the 34 cells at (0,0), .. (66,0) with (68,0), (69,0):
+// a body line takes an item, or the `!`, where it then has at most 70 bytes.
+const LONG_ROWS: [Row; 2] = [
+    Row {
+        file: "x = 71, y = 1\nobobobobobobobobobobobobobobobobobobobobobobobobobobobobobobobobobobobo!",
+        generations: 0,
+        step: 0,
+        report: "0: 36\n",
+        rle: "#CXRLE Pos=0,0 Gen=0\nx = 71, y = 1, rule = B3/S23\n\
+         obobobobobobobobobobobobobobobobobobobobobobobobobobobobobobobobobobob\no!\n",
+    },
+    Row {
+        file: "x = 70, y = 1\nobobobobobobobobobobobobobobobobobobobobobobobobobobobobobobobobobob2o!",
+        generations: 0,
+        step: 0,
+        report: "0: 36\n",
+        rle: "#CXRLE Pos=0,0 Gen=0\nx = 70, y = 1, rule = B3/S23\n\
+         obobobobobobobobobobobobobobobobobobobobobobobobobobobobobobobobobob2o\n!\n",
+    },
+];
+
+const UPRIGHT: &str = "#CXRLE Pos=1,-1 Gen=5\nx = 1, y = 3, rule = B3/S23\no$o$o!\n";
+
+const FLAT: &str = "#CXRLE Pos=0,0 Gen=4\nx = 3, y = 1, rule = B3/S23\n3o!\n";
+
+const STEPS: [Row; 7] = [
+    Row {
+        file: "x = 3, y = 1\n3o!",
+        generations: 5,
+        step: 2,
+        report: "0: 3\n2: 3\n4: 3\n5: 3\n",
+        rle: UPRIGHT,
+    },
+    Row {
+        file: "x = 3, y = 1\n3o!",
+        generations: 5,
+        step: 5,
+        report: "0: 3\n5: 3\n",
+        rle: UPRIGHT,
+    },
+    Row {
+        file: "x = 3, y = 1\n3o!",
+        generations: 5,
+        step: 6,
+        report: "0: 3\n5: 3\n",
+        rle: UPRIGHT,
+    },
+    Row {
+        file: "x = 3, y = 1\n3o!",
+        generations: 5,
+        step: u64::MAX,
+        report: "0: 3\n5: 3\n",
+        rle: UPRIGHT,
+    },
+    Row {
+        file: "x = 3, y = 1\n3o!",
+        generations: 4,
+        step: 2,
+        report: "0: 3\n2: 3\n4: 3\n",
+        rle: FLAT,
+    },
+    Row {
+        file: "x = 3, y = 1\n3o!",
+        generations: 4,
+        step: 1,
+        report: "0: 3\n1: 3\n2: 3\n3: 3\n4: 3\n",
+        rle: FLAT,
+    },
+    // No cells take no step, so these answer at once.
+    Row {
+        file: "x = 0, y = 0\n!",
+        generations: LAST,
+        step: LAST / 2,
+        report: "0: 0\n4611686018427387904: 0\n9223372036854775808: 0\n",
+        rle: NONE_LEFT,
+    },
+];
+
+/// Runs rows, with their reports and without, and compares what is written with what they say.
+fn assert_written<R: Abort + AllocGlobal>(rt: &R, rows: &[Row]) -> Result<(), Fail> {
+    for row in rows {
+        for quiet in [false, true] {
+            let options = Options {
+                quiet,
+                ..row.options()
+            };
+            let end = Ended::of(rt, row.file, &options)?;
+            assert!(rt; end.outcome.is_ok(), "for {}", row.file);
+            assert_eq!(rt; end.report()?, if quiet { "" } else { row.report });
+            assert_eq!(rt; end.file()?, row.rle);
+        }
+    }
+    Ok(())
+}
+
+#[test]
+fn writes_patterns(rt: HostRuntime) -> Result<(), Fail> {
+    assert_written(&rt, &PATTERNS)
+}
+
+#[test]
+fn runs_at_the_limits(rt: HostRuntime) -> Result<(), Fail> {
+    assert_written(&rt, &LIMITS)
+}
+
+#[test]
+fn wraps_lines_at_70_bytes(rt: HostRuntime) -> Result<(), Fail> {
+    assert_written(&rt, &LONG_ROWS)
+}
+
+#[test]
+fn reports_each_step_and_the_last_generation_once(rt: HostRuntime) -> Result<(), Fail> {
+    assert_written(&rt, &STEPS)
+}
+
+#[test]
+fn runs_by_another_rule(rt: HostRuntime) -> Result<(), Fail> {
+    let options = Options {
+        rule: Some(Rule::read(b"b3s23")?),
+        format: Some(Format::Rle),
+        ..PLAIN
+    };
+    let end = Ended::of(&rt, "x = 1, y = 1, rule = B03/S23\no!", &options)?;
+    assert_eq!(rt; end.report()?, "0: 1\n");
+    assert_eq!(rt;
+        end.file()?,
+        "#CXRLE Pos=0,0 Gen=0\nx = 1, y = 1, rule = B3/S23\no!\n"
+    );
+    Ok(())
+}
+
+// The R-pentomino settles after 1103 generations.
+#[test]
+fn answers_the_last_generation_and_its_population(rt: HostRuntime) -> Result<(), Fail> {
+    let options = Options {
+        gens: 1103,
+        ..PLAIN
+    };
+    let end = Ended::of(&rt, R_PENTOMINO.file, &options)?;
+    assert_eq!(rt; end.report()?, "0: 5\n1103: 116\n");
+    assert_eq!(rt; end.file()?, "");
+    let summary = end.outcome?;
+    assert_eq!(rt; (summary.generation, summary.population), (1103, 116));
+    Ok(())
+}
