@@ -6,3 +6,4 @@ pub mod LineLemmas
 pub mod MeaningLemmas
 pub mod OrderLemmas
 pub mod RangeLemmas
+pub mod SliceLemmas

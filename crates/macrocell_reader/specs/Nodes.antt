@@ -32,6 +32,10 @@ pub record WrittenNode : Type 0 where
   pub place : ℕ
   pub node : Node
 
+-- the line of a node
+abbrev pub line_of : WrittenNode → Line
+line_of written = record { place = written.place; text = written.text }
+
 -- the line with its node, if it writes one
 abbrev pub written_node : Line → Option WrittenNode
 written_node line = option_map (λ node. record { text = line.text; place = line.place; node = node }) (node_of line.text)

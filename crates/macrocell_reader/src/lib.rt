@@ -15,7 +15,7 @@ mod settings;
 mod tests;
 
 pub use comments::Comments;
-pub use laws::{accepted_in_range, faults_have_places, leaf_cells};
+pub use laws::{accepted_in_range, faults_have_places, leaf_cells, node_lines_are_slices};
 pub use mc_file::McFile;
 pub use node::{Node, NodeLine};
 pub use node_lines::NodeLines;
