@@ -1,5 +1,6 @@
 pub mod Around
 pub mod Blocks
+pub mod Borders
 pub mod Boxes
 pub mod Cells
 pub mod Cones

@@ -134,7 +134,7 @@ centred_centre level plane least is =
           ∙ ap (plane (x +ℤ pos (2 ^ (level - 1)))) (twice_moved _ _ (2 ^ (level - 1)) y sum))));
     }
 
-holds_same : (level : ℕ) (plane other : Plane) → IsSame plane other → Holds level plane → Holds level other
+pub holds_same : (level : ℕ) (plane other : Plane) → IsSame plane other → Holds level plane → Holds level other
 holds_same level plane other same is = record { dead = λ x y e. sym (same.same x y) ∙ is.dead x y e }
 
 -- the future of a padded square, round (0,0), is what its cells become

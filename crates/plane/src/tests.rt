@@ -93,7 +93,7 @@ fn sets_of_cells(rt: HostRuntime) -> Result<(), Fail> {
 
 #[test]
 fn reaches(rt: HostRuntime) {
-    let corner = (1 << 60) - 1;
+    let corner = (1 << 62) - 1;
     let last = Bounds {
         left: corner,
         top: 0,

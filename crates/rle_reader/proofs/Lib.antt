@@ -14,3 +14,4 @@ mod CutLemmas
 mod PositionLemmas
 mod RangeLemmas
 mod CountLemmas
+mod RunLists

@@ -10,3 +10,4 @@ pub mod Items
 pub mod State
 pub mod Meaning
 pub mod Seen
+pub mod LiveRuns

@@ -37,6 +37,16 @@ impl Pen {
         }
     }
 
+    /// The cell at which the next item begins.
+    pub(crate) fn cell(&self) -> Cell
+        ensures { result ≡ record { y = self.now.row; x = self.now.column } }
+    {
+        Cell {
+            y: self.row,
+            x: self.column,
+        }
+    }
+
     /// Goes on past an item.
     pub(crate) fn pass(&mut self, run: &Run<'_>) -> Result<(), Refusal>
         ensures ok { OnOk result ((motion_fault (state_at self.old.column self.old.row self.old.live) run.now.tag run.now.count ≡ None)

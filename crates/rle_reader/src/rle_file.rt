@@ -1,20 +1,25 @@
 //! A checked RLE file.
 
-ghost use Rattle.std.specs.Prelude.{◌≡◌, ◌≤◌, length, true, IfErr, OnOk};
+ghost use Rattle.std.specs.Prelude.{◌≡◌, ◌<◌, ◌≤◌, ◌++◌, length, true, IfOk, IfErr, OnOk};
+ghost use Rattle.std.specs.List.{AllByRecursion};
 ghost use Rattle.std.specs.Option.{option_copied};
 ghost use Rattle.rle_reader.specs.Body.{struck_from};
 ghost use Rattle.rle_reader.specs.Items.{items_of};
-ghost use Rattle.rle_reader.specs.Meaning.{StayInRange, body_fault, judged};
+ghost use Rattle.rle_reader.specs.LiveRuns.{live_run};
+ghost use Rattle.rle_reader.specs.Meaning.{StayInRange, body_fault, judged, live_plane};
 ghost use Rattle.rle_reader.specs.State.{start_at};
 ghost use Rattle.plane.specs.Range.{IsInRange};
+ghost use Rattle.plane.specs.Runs.{AreRuns, runs_plane};
+ghost use Rattle.plane.specs.Square.{IsSame};
 
 use crate::body::Body;
 use crate::comments::Comments;
-use crate::item::next_run;
+use crate::item::{Run, Tag, next_run};
 use crate::pen::Pen;
 use crate::preamble::Preamble;
 use crate::runs::Runs;
 use plane::{Cell, Fault};
+use std::alloc::{AllocError, Global};
 use std::marker::Model;
 
 /// An RLE file whose whole text was checked. What it hands out are slices of that text, and they stay
@@ -112,9 +117,37 @@ impl<'a> RleFile<'a> {
     pub fn runs(&self) -> Runs<'a>
         ensures value { result ≡ self.now.runs }
         ensures in_range { StayInRange self.now.pos.x (start_at self.now.pos) self.now.runs }
+        ensures counted { AllByRecursion (λ run. 0 < run.count) self.now.runs }
     {
         Runs::new(self.source, self.preamble.body)
     }
+
+    /// The live items, each as its first cell and how many cells it has to the right, in the order of
+    /// reading. The only error is that there is no room for them.
+    pub fn live_runs(&self, alloc: Global) -> Result<Vec<(Cell, u64)>, AllocError>
+        ensures runs { IfOk result (λ runs. AreRuns runs.items) }
+        ensures cells { IfOk result (λ runs. IsSame (runs_plane runs.items) (live_plane self.now)) }
+    {
+        let mut live = Vec::new(alloc);
+        let mut pen = Pen::new(self.pos());
+        for run in self.runs() {
+            push_live(&mut live, pen.cell(), &run)?;
+            if pen.pass(&run).is_err() {
+                unreachable!()
+            }
+        }
+        Ok(live)
+    }
+}
+
+/// Adds the run of an item whose first cell is this one, if it is of live cells.
+fn push_live(live: &mut Vec<(Cell, u64)>, first: Cell, run: &Run<'_>) -> Result<(), AllocError>
+    ensures { OnOk result (live.new.items ≡ live.old.items ++ live_run first run.now.tag run.now.count) }
+{
+    if run.tag == Tag::Live {
+        live.push((first, run.count))?;
+    }
+    Ok(())
 }
 
 /// Goes through the items, each with what comes before it.

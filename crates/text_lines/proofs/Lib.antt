@@ -1,3 +1,4 @@
 pub mod TrimLemmas
 pub mod NumberLemmas
 pub mod LineLemmas
+pub mod SliceLemmas

@@ -1,5 +1,5 @@
 -- The lines of a text.
-use Rattle.std.specs.Prelude.{ℕ, ◌+◌, Bool, if◌then◌else◌, List, [], ◌∷◌, length, take, drop, codes, ◌-◌}
+use Rattle.std.specs.Prelude.{◌≡◌, ◌≤◌, slice_range, ℕ, ◌+◌, Bool, if◌then◌else◌, List, [], ◌∷◌, length, take, drop, codes, ◌-◌}
 use Rattle.std.specs.Str.{byte}
 use Rattle.text_lines.specs.Bytes.{is_byte, ends_with, ended_parts}
 
@@ -33,3 +33,11 @@ lines place text = placed_lines place (raw_lines text)
 -- the lines of a source from this place on
 abbrev pub lines_from : List ℕ → ℕ → List Line
 lines_from source place = lines place (drop place source)
+
+-- these lines stand in a source at their places, which rise from this one on
+abbrev pub StandIn : List ℕ → ℕ → List Line → Type 0
+StandIn source from [] = Unit {0}
+StandIn source from (line ∷ rest) =
+    (from ≤ line.place)
+    × (slice_range source line.place (line.place + length line.text) ≡ line.text)
+    × StandIn source (line.place + 1) rest

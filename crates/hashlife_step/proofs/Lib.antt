@@ -1,0 +1,10 @@
+pub mod Counted
+pub mod EmptyBorders
+pub mod Grown
+pub mod LeafSquares
+pub mod NineFutures
+pub mod Planned
+pub mod Replaced
+pub mod RoundSquares
+pub mod Stepped
+pub mod Trimmed

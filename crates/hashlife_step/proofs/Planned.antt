@@ -1,0 +1,60 @@
+-- The powers of two that add up to a number, found one after the other.
+use Rattle.std.proofs.Common.{◌≡◌, ◌≢◌, ◌^◌, ◌<◌, All, sum_by, ℕ, ◌+◌, ◌*◌, ◌/◌, ◌%◌, ◌≤◌, List, [], ◌∷◌, ◌++◌, length, sym, ◌∙◌, ap, arith}
+use Rattle.std.specs.Int.{bit_at}
+use Rattle.std.specs.Prelude.{bit_and}
+use Rattle.std.specs.List.Sorted.{IsStrictlyIncreasing}
+use Rattle.std.proofs.lemmas.List.{length_push, get_or_append_left, get_or_push}
+use Rattle.std.proofs.lemmas.List.Elements.{All-push}
+use Rattle.std.proofs.lemmas.List.Sums.{sum_by_push}
+use Rattle.std.proofs.lemmas.Nat.{mod-pow-add}
+use Rattle.std.proofs.lemmas.Nat.Bits.{bit_at-lt, shr_and_one}
+
+-- these are the powers below 2^place that stand in the number
+pub record IsPlanned (number place : ℕ) (exponents : List ℕ) : Type 0 where
+  pub short : length exponents ≤ place
+  pub rising : IsStrictlyIncreasing exponents
+  pub below : All (λ exponent. exponent < place) exponents
+  pub sum : sum_by (λ exponent. 2 ^ exponent) exponents ≡ number % 2 ^ place
+
+-- one more place, with its digit
+next_digit : (number place : ℕ) → number % 2 ^ (place + 1) ≡ bit_at number place * 2 ^ place + number % 2 ^ place
+next_digit number place =
+    let e : place + 1 ≡ 1 + place = omega arith in
+    ap (λ n. number % 2 ^ n) e ∙ mod-pow-add number 1 place
+
+no_digit : (b : ℕ) → b < 2 → b ≢ 1 → b ≡ 0
+no_digit b low other = omega arith
+
+rising_push : (xs : List ℕ) (y : ℕ) → IsStrictlyIncreasing xs → All (λ x. x < y) xs → IsStrictlyIncreasing (xs ++ y ∷ [])
+rising_push xs y rising below k less =
+    let longer = length_push xs y in
+    let here = get_or_append_left xs (y ∷ []) 0 k in
+    let next = get_or_append_left xs (y ∷ []) 0 (k + 1) in
+    let last = get_or_push xs y 0 (k + 1) in
+    let old = rising k in let low = below k 0 in
+    grind arith
+
+pub planned_none : (number : ℕ) → IsPlanned number 0 []
+planned_none number = record { short = omega arith; rising = λ k less. absurd (omega arith); below = λ k d less. absurd (omega arith); sum = omega arith }
+
+pub planned_more : (number place : ℕ) (exponents : List ℕ) → bit_and (number / 2 ^ place) 1 ≡ 1 → IsPlanned number place exponents → IsPlanned number (place + 1) (exponents ++ place ∷ [])
+planned_more number place exponents one is = record {
+  short = omega (arith, length_push exponents place, is.short);
+  rising = rising_push exponents place is.rising is.below;
+  below = All-push (λ exponent. exponent < place + 1) exponents place (λ k d less. let e = is.below k d less in omega arith) (omega arith);
+  sum = let digit = sym (shr_and_one number place) ∙ one in
+      let whole = next_digit number place ∙ ap (λ b. b * 2 ^ place + number % 2 ^ place) digit in
+      let pushed = sum_by_push (λ exponent. 2 ^ exponent) exponents place in
+      let so_far = is.sum in omega arith;
+}
+
+pub planned_same : (number place : ℕ) (exponents : List ℕ) → bit_and (number / 2 ^ place) 1 ≢ 1 → IsPlanned number place exponents → IsPlanned number (place + 1) exponents
+planned_same number place exponents other is = record {
+  short = let s = is.short in omega arith;
+  rising = is.rising;
+  below = λ k d less. let e = is.below k d less in omega arith;
+  sum = let same = shr_and_one number place in let low = bit_at-lt number place in
+      let digit : bit_at number place ≡ 0 = no_digit (bit_at number place) low (λ e. other (same ∙ e)) in
+      let whole = next_digit number place ∙ ap (λ b. b * 2 ^ place + number % 2 ^ place) digit in
+      let so_far = is.sum in omega arith;
+}

@@ -1,0 +1,50 @@
+-- Squares with the same cells round (0,0), from one book to the next.
+use Rattle.std.proofs.Common.{◌≡◌, ℕ, ◌+◌, ◌-◌, ◌^◌, ◌<◌, ◌≤◌, max, arith, refl}
+use Rattle.plane.specs.Centred.{centred, Holds}
+use Rattle.plane.specs.Plane.{Plane, after}
+use Rattle.plane.specs.Square.{IsSame}
+use Rattle.plane.proofs.Paddings.{padded_after, square_held}
+use Rattle.plane.proofs.Same.{same_trans, same_refl}
+use Rattle.squares.specs.Book.{Book, IsBook, IsKnown, Keeps, KeepsResults}
+use Rattle.squares.specs.declared.sq.Sq.{Sq}
+use Rattle.squares.proofs.Kept.{keeps_trans, keeps_none, results_trans}
+use Rattle.hashlife_step.specs.Round.{ShowsRound}
+
+-- a square of some level that has the cells, in a book that has only grown
+pub record IsReached (old new : Book) (plane : Plane) (low high : ℕ) (sq : Sq) : Type 0 where
+  pub keeps : Keeps old new
+  pub results : KeepsResults old new
+  pub shown : ShowsRound new plane sq
+  pub above : low ≤ sq.level
+  pub below : sq.level ≤ high
+
+pub round_as : {book : Book} {plane other : Plane} {sq : Sq} → ShowsRound book plane sq → IsSame plane other → ShowsRound book other sq
+round_as is same = record { known = is.known; cells = same_trans is.cells same }
+
+pub reached_first : (book : Book) (low high : ℕ) (sq : Sq) → IsKnown book sq.level sq → low ≤ sq.level → sq.level ≤ high →
+    IsReached book book (centred sq.level (book.cells sq)) low high sq
+reached_first book low high sq known above below = record {
+  keeps = keeps_none book;
+  results = record { results = refl; learned = refl };
+  shown = record { known = known; cells = same_refl _ };
+  above = above;
+  below = below;
+}
+
+-- one step on
+pub reached_next : (old now new : Book) (plane : Plane) (low high : ℕ) (sq next : Sq) → IsReached old now plane low high sq → Keeps now new → KeepsResults now new →
+    ShowsRound new (centred sq.level (now.cells sq)) next → low ≤ next.level → next.level ≤ high → IsReached old new plane low high next
+reached_next old now new plane low high sq next is keeps results shown above below = record {
+  keeps = keeps_trans is.keeps keeps;
+  results = results_trans is.results results;
+  shown = round_as shown is.shown.cells;
+  above = above;
+  below = below;
+}
+
+-- there is room for what the cells become
+pub room_after : (book : Book) (sq : Sq) (exponent level : ℕ) → IsBook book → IsKnown book sq.level sq → 3 < sq.level → level ≡ max (sq.level + 2) (exponent + 3) →
+    Holds (level - 1) (after book.rule (centred sq.level (book.cells sq)) (2 ^ exponent))
+room_after book sq exponent level is known low e =
+    padded_after book.rule is.rule.no_birth_on_zero sq.level exponent level (centred sq.level (book.cells sq)) (omega arith) (omega arith) (omega arith)
+    (square_held sq.level (book.cells sq) (is.square sq known.known))

@@ -1,0 +1,129 @@
+use Rattle.std.proofs.Common.{rules, arith, ◌≡◌, ◌-◌, ◌<◌, length, subst}
+use Rattle.std.proofs.lemmas.Result.{IfOk-weaker}
+use Rattle.plane.specs.Square.{future}
+use Rattle.squares.specs.Book.{nth}
+use Rattle.squares.proofs.Kept.{keeps_trans, known_kept}
+use Rattle.squares.proofs.Results.{future_kept}
+use Rattle.hashlife_step.specs.Tallies.{Tallies}
+use Rattle.hashlife_step.proofs.Counted.{made_and_kept, made_between, made_twice, results_none, tallies_learned, tallies_trans}
+use Rattle.hashlife_step.proofs.LeafSquares.{future_later}
+use Rattle.hashlife_step.proofs.NineFutures.{IsFinished, finished_known, futures_known, nine_futures, ninths_known}
+use Rattle.hashlife_step.proofs.Replaced.{future_shown, next_known, next_made, replaced_more}
+use Rattle.hashlife_step.proofs.recursion.+future.Goals as goal
+
+pub future-returns-in-Some-clause-tally : goal.future-returns-in-Some-clause-tally
+future-returns-in-Some-clause-tally g t c =
+    tallies_learned (g.S.Squares.book c.args.book.now) (g.S.Squares.book c.recall.new.self) c.args.sq c.args.sq.level c.args.tally.now.expansions (omega arith) c.in-Some.ensures.results
+
+pub future-returns-in_err-future-clause-tally : goal.future-returns-in_err-future-clause-tally
+future-returns-in_err-future-clause-tally g t c =
+    made_between (g.S.Squares.book c.args.book.now) (g.S.Squares.book c.recall.new.self) (g.S.Squares.book c.make.new.book) (g.S.Squares.book c.make.new.book)
+    (c.args.sq.level - 1) c.args.sq.level c.args.tally.now.expansions c.make.new.tally.expansions (omega arith) c.in_default.ensures.results c.make.ensures.tally (results_none _)
+
+pub future-returns-in_err-keep-clause-keeps : goal.future-returns-in_err-keep-clause-keeps
+future-returns-in_err-keep-clause-keeps g t c = keeps_trans c.recall.ensures.keeps (keeps_trans c.make.ensures.keeps c.keep.ensures.keeps)
+
+pub future-returns-in_err-keep-clause-tally : goal.future-returns-in_err-keep-clause-tally
+future-returns-in_err-keep-clause-tally g t c =
+    made_between (g.S.Squares.book c.args.book.now) (g.S.Squares.book c.recall.new.self) (g.S.Squares.book c.make.new.book) (g.S.Squares.book c.keep.new.self)
+    (c.args.sq.level - 1) c.args.sq.level c.args.tally.now.expansions c.make.new.tally.expansions (omega arith) c.in_default.ensures.results c.make.ensures.tally c.in_err-keep.ensures.err
+
+pub future-returns-clause-ok : goal.future-returns-clause-ok
+future-returns-clause-ok g t c =
+    future_kept (g.S.Squares.book c.make.new.book) (g.S.Squares.book c.keep.new.self) c.args.sq c.in_ok-future.future c.keep.ensures.keeps
+    (known_kept (keeps_trans c.recall.ensures.keeps c.make.ensures.keeps) c.requires.known) c.in_ok-future.ensures.ok
+
+pub future-returns-clause-keeps : goal.future-returns-clause-keeps
+future-returns-clause-keeps g t c = keeps_trans c.recall.ensures.keeps (keeps_trans c.make.ensures.keeps c.keep.ensures.keeps)
+
+pub future-returns-clause-tally : goal.future-returns-clause-tally
+future-returns-clause-tally g t c =
+    made_and_kept (g.S.Squares.book c.args.book.now) (g.S.Squares.book c.recall.new.self) (g.S.Squares.book c.make.new.book) (g.S.Squares.book c.keep.new.self) c.args.sq
+    c.args.tally.now.expansions c.make.new.tally.expansions c.add.new.self.expansions c.requires.low c.in_default.ensures.results c.in_default.ensures.none c.make.ensures.tally c.in_ok-keep.ensures.ok c.add.ensures
+
+pub make-replace_by_futures-requires : goal.make-replace_by_futures-requires
+make-replace_by_futures-requires g t c κs within =
+    let known = ninths_known (g.S.Squares.book c.nine.new.book) c.args.sq.level _ c.in_ok-parts.parts (search rules) c.in_ok-parts.ensures.ok in
+    search rules
+
+pub make-returns-in_err-replace_by_futures-clause-tally :
+    goal.make-returns-in_err-replace_by_futures-clause-tally
+make-returns-in_err-replace_by_futures-clause-tally g t c =
+    made_between (g.S.Squares.book c.args.book.now) (g.S.Squares.book c.nine.new.book) (g.S.Squares.book c.replace_by_futures.new.book) (g.S.Squares.book c.replace_by_futures.new.book)
+    (c.args.sq.level - 1) (c.args.sq.level - 1) _ _ (omega arith) c.nine.ensures.results c.replace_by_futures.ensures.tally (results_none _)
+
+pub make-overlaps-requires-clause-known : goal.make-overlaps-requires-clause-known
+make-overlaps-requires-clause-known g t c =
+    futures_known (g.S.Squares.book c.replace_by_futures.new.book) (c.args.sq.level - 1) c.in_ok-parts.parts c.replace_by_futures.new.squares c.replace_by_futures.auto.squares c.in_ok-replace_by_futures.ensures.ok
+
+pub make-returns-in_err-quarters-clause-tally : goal.make-returns-in_err-quarters-clause-tally
+make-returns-in_err-quarters-clause-tally g t c =
+    made_between (g.S.Squares.book c.args.book.now) (g.S.Squares.book c.nine.new.book) (g.S.Squares.book c.replace_by_futures.new.book) (g.S.Squares.book c.overlaps.new.book)
+    (c.args.sq.level - 1) (c.args.sq.level - 1) _ _ (omega arith) c.nine.ensures.results c.replace_by_futures.ensures.tally c.overlaps.ensures.results
+
+pub make-returns-in_err-finish-clause-tally : goal.make-returns-in_err-finish-clause-tally
+make-returns-in_err-finish-clause-tally g t c =
+    let book = g.S.Squares.book in
+    made_twice (book c.args.book.now) (book c.nine.new.book) (book c.replace_by_futures.new.book) (book c.overlaps.new.book) (book c.finish.new.book) (book c.finish.new.book) (c.args.sq.level - 1) _ _ _
+    c.nine.ensures.results c.replace_by_futures.ensures.tally c.overlaps.ensures.results c.finish.ensures.tally (results_none _)
+
+pub make-quad-requires-clause-known : goal.make-quad-requires-clause-known
+make-quad-requires-clause-known g t c =
+    let book = g.S.Squares.book in
+    let long : length c.in_ok-quarters.quarters ≡ 4 = search rules in
+    finished_known (book c.finish.new.book) (book c.overlaps.new.book).exponent (c.args.sq.level - 1) c.in_ok-quarters.quarters c.finish.new.quarters c.finish.auto.quarters (omega arith)
+    (record { futures = c.in_ok-finish.ensures.futures; centres = c.in_ok-finish.ensures.centres })
+
+pub make-returns-clause-ok : goal.make-returns-clause-ok
+make-returns-clause-ok g t c =
+    let book = g.S.Squares.book in
+    let old = book c.args.book.now in
+    let b1 = book c.nine.new.book in let b2 = book c.replace_by_futures.new.book in let b3 = book c.overlaps.new.book in let b4 = book c.finish.new.book in
+    let k1 = c.nine.ensures.keeps in let k2 = c.replace_by_futures.ensures.keeps in let k3 = c.overlaps.ensures.keeps in let k4 = c.finish.ensures.keeps in
+    let to2 = keeps_trans k1 k2 in let to3 = keeps_trans to2 k3 in let to4 = keeps_trans to3 k4 in
+    let nine : length c.in_ok-parts.parts ≡ 9 = search rules in
+    let four : length c.in_ok-quarters.quarters ≡ 4 = search rules in
+    let finished : IsFinished b4 b3.exponent (c.args.sq.level - 1) c.in_ok-quarters.quarters c.finish.new.quarters = record { futures = c.in_ok-finish.ensures.futures; centres = c.in_ok-finish.ensures.centres } in
+    let at_exponent : IsFinished b4 old.exponent (c.args.sq.level - 1) c.in_ok-quarters.quarters c.finish.new.quarters =
+    subst (λ n. IsFinished b4 n (c.args.sq.level - 1) c.in_ok-quarters.quarters c.finish.new.quarters) to3.exponent finished in
+    let least : 4 < c.args.sq.level = omega arith in
+    IfOk-weaker c.quad.result _ _
+    (λ res shown. future_later old (book c.quad.new.self) c.args.sq res (keeps_trans to4 c.quad.ensures.keeps) c.requires.known
+    (nine_futures c.args.sq.level old.rule old.exponent (old.cells c.args.sq) b1 b2 b3 b4 (book c.quad.new.self) c.in_ok-parts.parts c.replace_by_futures.new.squares c.in_ok-quarters.quarters c.finish.new.quarters res
+    least nine four to2.rule to2.exponent to4.rule to4.exponent c.in_ok-parts.ensures.ok k2 c.in_ok-replace_by_futures.ensures.ok k3 c.in_ok-quarters.ensures.ok k4 at_exponent shown))
+    c.quad.ensures.ok
+
+pub make-returns-clause-keeps : goal.make-returns-clause-keeps
+make-returns-clause-keeps g t c =
+    keeps_trans c.nine.ensures.keeps (keeps_trans c.replace_by_futures.ensures.keeps (keeps_trans c.overlaps.ensures.keeps (keeps_trans c.finish.ensures.keeps c.quad.ensures.keeps)))
+
+pub make-returns-clause-tally : goal.make-returns-clause-tally
+make-returns-clause-tally g t c =
+    let book = g.S.Squares.book in
+    made_twice (book c.args.book.now) (book c.nine.new.book) (book c.replace_by_futures.new.book) (book c.overlaps.new.book) (book c.finish.new.book) (book c.quad.new.self) (c.args.sq.level - 1) _ _ _
+    c.nine.ensures.results c.replace_by_futures.ensures.tally c.overlaps.ensures.results c.finish.ensures.tally c.quad.ensures.results
+
+pub replace_by_futures-returns-in_err-squares-clause-tally :
+    goal.replace_by_futures-returns-in_err-squares-clause-tally
+replace_by_futures-returns-in_err-squares-clause-tally g t c =
+    let book = g.S.Squares.book in
+    let replaced = c.loop-i.invariant.0 in
+    let same = replaced.same_length in
+    let known = next_known _ (book c.args.book.now) (book c.loop-i.book) c.args.level c.loop-i.i c.args.squares.now c.loop-i.squares replaced (omega arith) c.requires.known in
+    tallies_trans (book c.args.book.now) (book c.loop-i.book) (book c.future.new.book) c.args.level c.args.level _ _ _ (omega arith) c.loop-i.invariant.1
+    (subst (λ n. Tallies (book c.loop-i.book) (book c.future.new.book) n c.loop-i.tally.expansions c.future.new.tally.expansions) known.at_level c.future.ensures.tally)
+
+pub replace_by_futures-loop-i-preserved : goal.replace_by_futures-loop-i-preserved
+replace_by_futures-loop-i-preserved g t c =
+    let book = g.S.Squares.book in
+    let old = book c.args.book.now in
+    let replaced = c.loop-i.invariant.0 in
+    let same = replaced.same_length in
+    let inside : c.loop-i.i < length c.args.squares.now = omega arith in
+    let known = next_known (future old.rule old.exponent c.args.level) old (book c.loop-i.book) c.args.level c.loop-i.i c.args.squares.now c.loop-i.squares replaced inside c.requires.known in
+    let shown = future_shown old (book c.loop-i.book) (book c.future.new.book) c.args.level (nth c.loop-i.squares c.loop-i.i) c.in_ok-squares.field-0 replaced.keeps c.future.ensures.keeps known c.in_ok-squares.ensures.ok in
+    let made = next_made (future old.rule old.exponent c.args.level) old (book c.loop-i.book) (book c.future.new.book) c.args.level c.loop-i.i c.args.squares.now c.loop-i.squares c.in_ok-squares.field-0 replaced inside c.requires.known shown in (
+      replaced_more (future old.rule old.exponent c.args.level) old (book c.loop-i.book) (book c.future.new.book) c.args.level c.loop-i.i c.args.squares.now c.loop-i.squares c.in_ok-squares.field-0 replaced inside c.future.ensures.keeps made,
+      tallies_trans old (book c.loop-i.book) (book c.future.new.book) c.args.level c.args.level _ _ _ (omega arith) c.loop-i.invariant.1
+          (subst (λ n. Tallies (book c.loop-i.book) (book c.future.new.book) n c.loop-i.tally.expansions c.future.new.tally.expansions) known.at_level c.future.ensures.tally),
+    )

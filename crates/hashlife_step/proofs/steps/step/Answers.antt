@@ -1,0 +1,48 @@
+use Rattle.std.proofs.Common.{arith, ◌≡◌, ℕ, ◌+◌, ◌^◌, sym, ◌∙◌, ap, subst}
+use Rattle.std.proofs.lemmas.Result.{IfOk-weaker}
+use Rattle.plane.specs.Centred.{centred, IsSmallestLevel}
+use Rattle.plane.specs.Plane.{Plane, after}
+use Rattle.plane.proofs.Same.{plane_equal}
+use Rattle.squares.proofs.Kept.{keeps_trans}
+use Rattle.hashlife_step.specs.Round.{ShowsRound}
+use Rattle.hashlife_step.proofs.Counted.{made_between, results_none, tallies_none}
+use Rattle.hashlife_step.proofs.RoundSquares.{round_as}
+use Rattle.hashlife_step.proofs.Stepped.{future_round}
+use Rattle.hashlife_step.proofs.steps.step.Given as given
+use Rattle.hashlife_step.proofs.steps.step.Goals as goal
+
+-- what the future of the padded root shows
+next_shown : (g : given.Over) (c : goal.After-trim g) →
+    ShowsRound (g.S.Squares.book c.future.new.book)
+    (after (g.S.Squares.book c.args.book.now).rule (centred c.args.root.level ((g.S.Squares.book c.args.book.now).cells c.args.root)) (2 ^ (g.S.Squares.book c.args.book.now).exponent)) c.in_ok-next.next
+next_shown g c =
+    let book = g.S.Squares.book in
+    let old = book c.args.book.now in
+    let plane : Plane = centred c.args.root.level (old.cells c.args.root) in
+    let keeps = keeps_trans c.pad.ensures.keeps c.future.ensures.keeps in
+    let level = c.in_ok-padded.ensures.level in
+    let shown = future_round (book c.pad.new.book) (book c.future.new.book) old.rule c.exponent-exponent.result plane c.in_ok-padded.padded c.in_ok-next.next
+    c.in_ok-padded.ensures.cells c.future.ensures.keeps (omega arith) keeps.rule (keeps.exponent ∙ sym c.exponent-exponent.ensures) c.in_ok-padded.ensures.room c.in_ok-next.ensures.ok in
+    subst (λ n. ShowsRound (book c.future.new.book) (after old.rule plane (2 ^ n)) c.in_ok-next.next) c.exponent-exponent.ensures shown
+
+pub returns-in_err-padded-clause-tally : goal.returns-in_err-padded-clause-tally
+returns-in_err-padded-clause-tally g c = tallies_none _ _ 65 _ c.pad.ensures.results
+
+pub returns-in_err-next-clause-tally : goal.returns-in_err-next-clause-tally
+returns-in_err-next-clause-tally g c =
+    let book = g.S.Squares.book in
+    let level = c.in_ok-padded.ensures.level in let high = c.requires.high in let exponent = c.exponent-exponent.ensures in
+    made_between (book c.args.book.now) (book c.pad.new.book) (book c.future.new.book) (book c.future.new.book) c.in_ok-padded.padded.level 65 _ _ (omega arith) c.pad.ensures.results c.future.ensures.tally (results_none _)
+
+pub returns-clause-cells : goal.returns-clause-cells
+returns-clause-cells g c = IfOk-weaker c.trim.result _ _ (λ trimmed shown. round_as shown (next_shown g c).cells) c.trim.ensures.cells
+
+pub returns-clause-level : goal.returns-clause-level
+returns-clause-level g c =
+    IfOk-weaker c.trim.result _ _ (λ trimmed smallest. subst (IsSmallestLevel trimmed.level) (plane_equal _ _ (next_shown g c).cells) smallest) c.trim.ensures.level
+
+pub returns-clause-tally : goal.returns-clause-tally
+returns-clause-tally g c =
+    let book = g.S.Squares.book in
+    let level = c.in_ok-padded.ensures.level in let high = c.requires.high in let exponent = c.exponent-exponent.ensures in
+    made_between (book c.args.book.now) (book c.pad.new.book) (book c.future.new.book) (book c.trim.new.book) c.in_ok-padded.padded.level 65 _ _ (omega arith) c.pad.ensures.results c.future.ensures.tally c.trim.ensures.results

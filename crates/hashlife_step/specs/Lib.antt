@@ -1,0 +1,3 @@
+pub mod Futures
+pub mod Round
+pub mod Tallies

@@ -1,0 +1,21 @@
+//! HashLife over any book of squares: the future of a square from those of smaller ones, the room
+//! round a square that a step needs, and the steps that a number of generations takes.
+#![tactic(auto)]
+
+mod leaf_squares;
+mod overlaps;
+mod padding;
+mod plans;
+mod recursion;
+mod steps;
+mod tally;
+#[cfg(test)]
+mod tests;
+mod trimming;
+
+pub use padding::pad;
+pub use plans::plan;
+pub use recursion::future;
+pub use steps::step;
+pub use tally::Tally;
+pub use trimming::trim;

@@ -1,0 +1,54 @@
+ghost use Rattle.std.specs.Prelude.{◌≡◌, ◌+◌, ◌-◌, ◌^◌, ◌<◌, ◌≤◌, max, IfOk, IfErr};
+ghost use Rattle.plane.specs.Centred.{centred, Holds};
+ghost use Rattle.plane.specs.Plane.{after};
+ghost use Rattle.squares.specs.Book.{IsKnown, Keeps, KeepsResults, MayRefuse};
+ghost use Rattle.hashlife_step.specs.Round.{ShowsRound};
+
+use plane::Refusal;
+use squares::{Num, Sq, Squares};
+
+// The square of twice the side that has this one in its middle.
+fn grow<S: Squares>(book: &mut S, sq: Sq) -> Result<Sq, Refusal>
+    requires known { IsKnown (S.book book.old) sq.level sq }
+    requires low { 3 < sq.level }
+    requires high { sq.level < 65 }
+    ensures level { IfOk result (λ grown. grown.level ≡ sq.level + 1) }
+    ensures cells { IfOk result (ShowsRound (S.book book.new) (centred sq.level ((S.book book.old).cells sq))) }
+    ensures refusal { IfErr result (MayRefuse (S.book book.new)) }
+    ensures keeps { Keeps (S.book book.old) (S.book book.new) }
+    ensures results { KeepsResults (S.book book.old) (S.book book.new) }
+{
+    let empty = Sq {
+        level: sq.level - 1,
+        num: Num(0),
+    };
+    let [nw, ne, sw, se] = book.read_parts(sq);
+    let upper_left = book.quad([empty, empty, empty, nw])?;
+    let upper_right = book.quad([empty, empty, ne, empty])?;
+    let lower_left = book.quad([empty, sw, empty, empty])?;
+    let lower_right = book.quad([se, empty, empty, empty])?;
+    book.quad([upper_left, upper_right, lower_left, lower_right])
+}
+
+/// The square with empty squares round it, so that there is room for 2^exponent generations: at the
+/// level `max(level + 2, exponent + 3)`, with the same cells round its centre.
+pub fn pad<S: Squares>(book: &mut S, sq: Sq, exponent: u8) -> Result<Sq, Refusal>
+    requires known { IsKnown (S.book book.old) sq.level sq }
+    requires low { 3 < sq.level }
+    requires high { max (sq.level + 2) (exponent + 3) ≤ 65 }
+    ensures level { IfOk result (λ padded. padded.level ≡ max (sq.level + 2) (exponent + 3)) }
+    ensures cells { IfOk result (ShowsRound (S.book book.new) (centred sq.level ((S.book book.old).cells sq))) }
+    // What the cells become in that time lies in the square of the level below, round the same centre.
+    ensures room { IfOk result (λ padded. Holds (padded.level - 1)
+        (after (S.book book.old).rule (centred sq.level ((S.book book.old).cells sq)) (2 ^ exponent))) }
+    ensures refusal { IfErr result (MayRefuse (S.book book.new)) }
+    ensures keeps { Keeps (S.book book.old) (S.book book.new) }
+    ensures results { KeepsResults (S.book book.old) (S.book book.new) }
+{
+    let level = u8::max(sq.level + 2, exponent + 3);
+    let mut padded = sq;
+    while padded.level < level {
+        padded = grow(book, padded)?;
+    }
+    Ok(padded)
+}

@@ -1,0 +1,97 @@
+ghost use Rattle.std.specs.Prelude.{◌≡◌, ◌+◌, ◌-◌, ◌<◌, ◌≤◌, All, IfOk, IfErr, OnOk};
+ghost use Rattle.squares.specs.Book.{HasResult, IsFuture, IsKnown, Keeps, KeepsResults, MayRefuse};
+ghost use Rattle.hashlife_step.specs.Futures.{AreCentres, AreFutures};
+ghost use Rattle.hashlife_step.specs.Tallies.{Tallies};
+
+use crate::leaf_squares::leaf_future;
+use crate::overlaps::{overlaps, replace_by_centres};
+use crate::tally::Tally;
+use plane::Refusal;
+use squares::{Sq, Squares, nine};
+
+/// The future of a square: its centre, which has half its side, after 2^exponent generations of the
+/// book's exponent, or after 2^(level - 2) if that is less. A result that the book knows is recalled,
+/// and one that is made is kept in the book and counted.
+#[cycle(future)]
+pub fn future<S: Squares>(book: &mut S, sq: Sq, tally: &mut Tally) -> Result<Sq, Refusal>
+    requires known { IsKnown (S.book book.old) sq.level sq }
+    requires low { 3 < sq.level }
+    ensures ok { IfOk result (IsFuture (S.book book.new) sq) }
+    ensures kept { OnOk result (HasResult (S.book book.new) sq) }
+    ensures refusal { IfErr result (MayRefuse (S.book book.new)) }
+    ensures keeps { Keeps (S.book book.old) (S.book book.new) }
+    ensures tally { Tallies (S.book book.old) (S.book book.new) sq.level tally.old.expansions tally.new.expansions }
+{
+    if let Some(future) = book.recall(sq) {
+        return Ok(future);
+    }
+    let future = make(book, sq, tally)?;
+    book.keep(sq, future)?;
+    tally.add();
+    Ok(future)
+}
+
+// The future of a square whose result is not known.
+#[cycle(future)]
+fn make<S: Squares>(book: &mut S, sq: Sq, tally: &mut Tally) -> Result<Sq, Refusal>
+    requires known { IsKnown (S.book book.old) sq.level sq }
+    requires low { 3 < sq.level }
+    ensures ok { IfOk result (IsFuture (S.book book.new) sq) }
+    ensures refusal { IfErr result (MayRefuse (S.book book.new)) }
+    ensures keeps { Keeps (S.book book.old) (S.book book.new) }
+    ensures tally { Tallies (S.book book.old) (S.book book.new) (sq.level - 1) tally.old.expansions tally.new.expansions }
+{
+    if sq.level == 4 {
+        return leaf_future(book, sq);
+    }
+    let level = sq.level - 1;
+    let mut parts = nine(book, sq)?;
+    replace_by_futures(book, level, &mut parts, tally)?;
+    let mut quarters = overlaps(book, level - 1, parts)?;
+    finish(book, level, &mut quarters, tally)?;
+    book.quad(quarters)
+}
+
+// Puts its future in the place of each quarter, if there is time for it, else its centre.
+#[cycle(future)]
+fn finish<S: Squares>(
+    book: &mut S,
+    level: u8,
+    quarters: &mut [Sq],
+    tally: &mut Tally,
+) -> Result<(), Refusal>
+    requires known { All (IsKnown (S.book book.old) level) quarters.old }
+    requires low { 3 < level }
+    ensures futures { OnOk result (level ≤ (S.book book.old).exponent + 1 → AreFutures (S.book book.new) level quarters.old quarters.new) }
+    ensures centres { OnOk result ((S.book book.old).exponent + 1 < level → AreCentres (S.book book.new) level quarters.old quarters.new) }
+    ensures refusal { IfErr result (MayRefuse (S.book book.new)) }
+    ensures keeps { Keeps (S.book book.old) (S.book book.new) }
+    ensures tally { Tallies (S.book book.old) (S.book book.new) level tally.old.expansions tally.new.expansions }
+{
+    if book.exponent() >= level - 1 {
+        replace_by_futures(book, level, quarters, tally)
+    } else {
+        replace_by_centres(book, level, quarters)
+    }
+}
+
+// Puts its future in the place of each square.
+#[cycle(future)]
+fn replace_by_futures<S: Squares>(
+    book: &mut S,
+    level: u8,
+    squares: &mut [Sq],
+    tally: &mut Tally,
+) -> Result<(), Refusal>
+    requires known { All (IsKnown (S.book book.old) level) squares.old }
+    requires low { 3 < level }
+    ensures ok { OnOk result (AreFutures (S.book book.new) level squares.old squares.new) }
+    ensures refusal { IfErr result (MayRefuse (S.book book.new)) }
+    ensures keeps { Keeps (S.book book.old) (S.book book.new) }
+    ensures tally { Tallies (S.book book.old) (S.book book.new) level tally.old.expansions tally.new.expansions }
+{
+    for i in 0..squares.len() {
+        squares[i] = future(book, squares[i], tally)?;
+    }
+    Ok(())
+}

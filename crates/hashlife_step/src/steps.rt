@@ -1,0 +1,34 @@
+ghost use Rattle.std.specs.Prelude.{◌+◌, ◌^◌, ◌<◌, ◌≤◌, max, IfOk, IfErr};
+ghost use Rattle.plane.specs.Centred.{centred, IsSmallestLevel};
+ghost use Rattle.plane.specs.Plane.{after};
+ghost use Rattle.squares.specs.Book.{IsKnown, Keeps, MayRefuse};
+ghost use Rattle.hashlife_step.specs.Round.{ShowsRound};
+ghost use Rattle.hashlife_step.specs.Tallies.{Tallies};
+
+use crate::padding::pad;
+use crate::recursion::future;
+use crate::tally::Tally;
+use crate::trimming::trim;
+use plane::Refusal;
+use squares::{Sq, Squares};
+
+/// One step of 2^exponent generations, by the book's exponent: the root is padded, its future taken
+/// and trimmed. The answer has the cells that those of the root become, at the smallest level of at
+/// least 4, round the same centre.
+pub fn step<S: Squares>(book: &mut S, root: Sq, tally: &mut Tally) -> Result<Sq, Refusal>
+    requires known { IsKnown (S.book book.old) root.level root }
+    requires low { 3 < root.level }
+    requires high { max (root.level + 2) ((S.book book.old).exponent + 3) ≤ 65 }
+    ensures cells { IfOk result (ShowsRound (S.book book.new)
+        (after (S.book book.old).rule (centred root.level ((S.book book.old).cells root)) (2 ^ (S.book book.old).exponent))) }
+    ensures level { IfOk result (λ next. IsSmallestLevel next.level
+        (after (S.book book.old).rule (centred root.level ((S.book book.old).cells root)) (2 ^ (S.book book.old).exponent))) }
+    ensures refusal { IfErr result (MayRefuse (S.book book.new)) }
+    ensures keeps { Keeps (S.book book.old) (S.book book.new) }
+    ensures tally { Tallies (S.book book.old) (S.book book.new) 65 tally.old.expansions tally.new.expansions }
+{
+    let exponent = book.exponent();
+    let padded = pad(book, root, exponent)?;
+    let next = future(book, padded, tally)?;
+    trim(book, next)
+}

@@ -1,0 +1,51 @@
+ghost use Rattle.std.specs.Prelude.{◌↔◌, ◌-◌, ◌<◌, All, IfOk, IfErr, IsTrue};
+ghost use Rattle.plane.specs.Centred.{centred, Holds, IsSmallestLevel};
+ghost use Rattle.squares.specs.Book.{IsEmpty, IsKnown, Keeps, KeepsResults, MayRefuse};
+ghost use Rattle.hashlife_step.specs.Round.{ShowsRound};
+
+use plane::Refusal;
+use squares::{Sq, Squares, centre};
+
+fn are_empty(squares: &[Sq]) -> bool
+    ensures { IsTrue result ↔ All IsEmpty squares.now }
+{
+    for sq in squares {
+        if sq.num.0 != 0 {
+            return false;
+        }
+    }
+    true
+}
+
+// Whether all live cells lie in the square at the centre.
+fn has_empty_border<S: Squares>(book: &mut S, sq: Sq) -> bool
+    requires known { IsKnown (S.book book.old) sq.level sq }
+    requires low { 4 < sq.level }
+    ensures value { IsTrue result ↔ Holds (sq.level - 1) (centred sq.level ((S.book book.old).cells sq)) }
+    ensures keeps { Keeps (S.book book.old) (S.book book.new) }
+    ensures results { KeepsResults (S.book book.old) (S.book book.new) }
+{
+    let [nw, ne, sw, se] = book.read_parts(sq);
+    let [a, b, c, _] = book.read_parts(nw);
+    let [d, e, _, f] = book.read_parts(ne);
+    let [g, _, h, i] = book.read_parts(sw);
+    let [_, j, k, l] = book.read_parts(se);
+    are_empty(&[a, b, c, d, e, f, g, h, i, j, k, l])
+}
+
+/// The square of the smallest level, but at least 4, that has the same cells round its centre.
+pub fn trim<S: Squares>(book: &mut S, sq: Sq) -> Result<Sq, Refusal>
+    requires known { IsKnown (S.book book.old) sq.level sq }
+    requires low { 3 < sq.level }
+    ensures cells { IfOk result (ShowsRound (S.book book.new) (centred sq.level ((S.book book.old).cells sq))) }
+    ensures level { IfOk result (λ trimmed. IsSmallestLevel trimmed.level (centred sq.level ((S.book book.old).cells sq))) }
+    ensures refusal { IfErr result (MayRefuse (S.book book.new)) }
+    ensures keeps { Keeps (S.book book.old) (S.book book.new) }
+    ensures results { KeepsResults (S.book book.old) (S.book book.new) }
+{
+    let mut trimmed = sq;
+    while trimmed.level > 4 && has_empty_border(book, trimmed) {
+        trimmed = centre(book, trimmed)?;
+    }
+    Ok(trimmed)
+}

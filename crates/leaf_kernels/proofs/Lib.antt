@@ -1,0 +1,11 @@
+pub mod Adders
+pub mod Births
+pub mod Bits
+pub mod Bytes
+pub mod Cells
+pub mod Futures
+pub mod Lanes
+pub mod Moves
+pub mod Neighbours
+pub mod Numbers
+pub mod Squares

@@ -1,0 +1,5 @@
+use Rattle.leaf_kernels.proofs.Moves.{from_above_cells}
+use Rattle.leaf_kernels.proofs.rows.from_above.Goals as goal
+
+pub returns : goal.returns
+returns c = from_above_cells c.args.rows c.fits-rows.0

@@ -1,0 +1,21 @@
+//! Macrocell pattern files: [`McFile::open`] checks a whole text once, and its comments, its rule and its
+//! node lines are slices of that text.
+#![tactic(auto)]
+
+mod comments;
+mod inner;
+mod laws;
+mod leaf;
+mod mc_file;
+mod node;
+mod node_faults;
+mod node_lines;
+mod settings;
+#[cfg(test)]
+mod tests;
+
+pub use comments::Comments;
+pub use laws::{accepted_in_range, faults_have_places, leaf_cells, node_lines_are_slices};
+pub use mc_file::McFile;
+pub use node::{Node, NodeLine};
+pub use node_lines::NodeLines;

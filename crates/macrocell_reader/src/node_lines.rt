@@ -1,0 +1,68 @@
+//! The node lines of a file, one after the other.
+
+ghost use Rattle.std.specs.Prelude.{◌≡◌, [], ◌∷◌, MatchOption};
+ghost use Rattle.std.specs.Iterator.{YieldsFirstBy, item_count};
+ghost use Rattle.text_lines.specs.Lines.{lines_from};
+ghost use Rattle.macrocell_reader.specs.Seen.{nodes_kept, written_seen};
+
+use crate::node::{NodeLine, node_of};
+use std::marker::Model;
+use text_lines::Lines;
+
+/// The node lines of a file, in order. A contract sees those that are still to come.
+#[derive(Debug, Drop)]
+pub struct NodeLines<'a> {
+    rest: Lines<'a>,
+}
+
+impl<'a> Model for NodeLines<'a> {
+    ghost use Rattle.std.specs.Prelude.{List};
+    ghost use Rattle.text_lines.specs.Lines.{lines_from};
+    ghost use Rattle.macrocell_reader.specs.Nodes.{WrittenNode};
+    ghost use Rattle.macrocell_reader.specs.Seen.{nodes_kept};
+
+    ghost Value = { List WrittenNode };
+
+    ghost view = { λ lines. nodes_kept (lines_from lines.rest.source.now lines.rest.at) };
+}
+
+impl<'a> NodeLines<'a> {
+    /// The node lines among these lines.
+    pub(crate) fn new(rest: Lines<'a>) -> Self
+        ensures { result ≡ nodes_kept (lines_from rest.entry.source.now rest.entry.at) }
+    {
+        NodeLines { rest }
+    }
+}
+
+impl<'a> Iterator for NodeLines<'a> {
+    type Item = NodeLine<'a>;
+
+    ghost next_gives = { YieldsFirstBy written_seen (λ lines. lines) };
+
+    ghost remaining = { item_count (λ lines. lines) };
+
+    fn next(&mut self) -> Option<NodeLine<'a>> {
+        next_node(&mut self.rest)
+    }
+}
+
+/// Takes lines up to the next node line, or all if there is none.
+fn next_node<'a>(lines: &mut Lines<'a>) -> Option<NodeLine<'a>>
+    ensures { MatchOption result
+        ((nodes_kept (lines_from lines.old.source.now lines.old.at) ≡ [])
+        × (nodes_kept (lines_from lines.new.source.now lines.new.at) ≡ []))
+        (λ node. nodes_kept (lines_from lines.old.source.now lines.old.at)
+        ≡ written_seen node ∷ nodes_kept (lines_from lines.new.source.now lines.new.at)) }
+{
+    while let Some(line) = lines.next_line() {
+        if let Some(node) = node_of(line.text) {
+            return Some(NodeLine {
+                text: line.text,
+                place: line.place as u64,
+                node,
+            });
+        }
+    }
+    None
+}

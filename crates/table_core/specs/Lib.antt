@@ -1,0 +1,12 @@
+pub mod Blocks
+pub mod Events
+pub mod FullShards
+pub mod Good
+pub mod Knowledge
+pub mod Lawful
+pub mod Laws
+pub mod Layout
+pub mod Learning
+pub mod Opening
+pub mod Runs
+pub mod Sizes

@@ -1,0 +1,29 @@
+//! The words of the shared table of squares: where they stand, what they show, what a desk at the
+//! table may do to them, and what it learns.
+//!
+//! Nothing here runs at the same time as anything else. An atomic step is an `Event`, one load or
+//! one compare-exchange of one word, and `step` makes its change. `every_run` says what holds after
+//! every list of lawful events of any desks in any order; a running table has these definitions as
+//! its rule. In `specs/`, `Layout` says where words stand, `Blocks` what numbers show, `Good` which
+//! words are good, `Knowledge` what a desk knows, `Lawful` and `Learning` what it may do and what
+//! that teaches it, and `Runs` what a run is.
+#![tactic(auto)]
+
+mod key;
+mod knowledge;
+mod laws;
+mod machine;
+mod shape;
+#[cfg(test)]
+mod tests;
+mod word;
+
+pub use key::Key;
+pub use knowledge::{Knowledge, KnownBlock, KnownResult};
+pub use laws::{
+    every_event_teaches, every_fresh_table, every_reopening, every_run, every_truth_is_consistent,
+    every_way, full_shard_is_seen, good_words_can_be_known,
+};
+pub use machine::{Event, step};
+pub use shape::{Kind, LARGEST_PAIR_COUNT, SHARD_LEN, SMALLEST_PAIR_COUNT, Shape};
+pub use word::{pair_word, parts, result_word};
