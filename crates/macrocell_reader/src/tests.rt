@@ -14,6 +14,14 @@ fn refused(alloc: Global, text: &[u8]) -> Option<(Refusal, u64)> {
     }
 }
 
+/// The bytes of a text, if there is one.
+fn bytes_of(text: Option<&str>) -> Option<&[u8]> {
+    match text {
+        Some(text) => Some(text.as_bytes()),
+        None => None,
+    }
+}
+
 #[test]
 fn refuses_lines(rt: HostRuntime) {
     for (text, refusal, place) in [
@@ -104,10 +112,7 @@ fn reads_settings(rt: HostRuntime) {
         assert!(rt; read.is_ok(), "{text:?}");
         if let Ok(file) = read {
             assert_eq!(rt; file.generation(), generation, "{text:?}");
-            assert!(rt;
-                file.rule_slice() == rule.map(|rule| rule.as_bytes()),
-                "{text:?}"
-            );
+            assert!(rt; file.rule_slice() == bytes_of(rule), "{text:?}");
             assert_eq!(rt; file.rule_place(), place, "{text:?}");
         }
     }
@@ -130,8 +135,7 @@ fn keeps_comments(rt: HostRuntime) {
         assert!(rt; read.is_ok(), "{lines:?}");
         if let Ok(file) = read {
             let mut comments = file.comments();
-            let want = comment.map(|comment| comment.as_bytes());
-            assert!(rt; comments.next() == want, "{lines:?}");
+            assert!(rt; comments.next() == bytes_of(comment), "{lines:?}");
             assert!(rt; comments.next().is_none(), "{lines:?}");
         }
     }
