@@ -1,0 +1,42 @@
+-- What stays known from one book to the next, and results with it.
+use Rattle.std.proofs.Common.{ℕ, ◌∙◌, refl}
+use Rattle.plane.specs.Plane.{Plane}
+use Rattle.plane.proofs.Same.{same_trans, same_refl}
+use Rattle.plane.specs.Square.{IsSame}
+use Rattle.squares.specs.declared.sq.Sq.{Sq}
+use Rattle.squares.specs.Book.{Book, IsKnown, Shows, Keeps, KeepsResults}
+
+pub keeps_trans : {a b c : Book} → Keeps a b → Keeps b c → Keeps a c
+keeps_trans h k = record {
+  rule = k.rule ∙ h.rule;
+  exponent = k.exponent ∙ h.exponent;
+  known = λ sq s. k.known sq (h.known sq s);
+  cells = λ sq s. same_trans (k.cells sq (h.known sq s)) (h.cells sq s);
+  results = λ sq s. k.results sq (h.results sq s);
+  full = λ s. k.full (h.full s);
+  memory = k.memory ∙ h.memory;
+}
+
+pub known_kept : {a b : Book} {level : ℕ} {sq : Sq} → Keeps a b → IsKnown a level sq → IsKnown b level sq
+known_kept {sq = sq} h k = record { known = h.known sq k.known; at_level = k.at_level; low = k.low; high = k.high }
+
+pub shows_kept : {a b : Book} {level : ℕ} {plane : Plane} {sq : Sq} → Keeps a b → Shows a level plane sq → Shows b level plane sq
+shows_kept {sq = sq} h s = record { known = known_kept h s.known; cells = same_trans (h.cells sq s.known.known) s.cells }
+
+-- a square's cells, once it is known, are those that are shown now
+pub same_later : {a b : Book} {level : ℕ} {plane : Plane} {sq : Sq} → Keeps a b → Shows a level plane sq → IsSame (b.cells sq) plane
+same_later {sq = sq} h s = same_trans (h.cells sq s.known.known) s.cells
+
+pub keeps_none : (a : Book) → Keeps a a
+keeps_none a = record {
+  rule = refl;
+  exponent = refl;
+  known = λ sq s. s;
+  cells = λ sq s. same_refl (a.cells sq);
+  results = λ sq s. s;
+  full = λ s. s;
+  memory = refl;
+}
+
+pub results_trans : {a b c : Book} → KeepsResults a b → KeepsResults b c → KeepsResults a c
+results_trans h k = record { results = k.results ∙ h.results; learned = k.learned ∙ h.learned }

@@ -1,0 +1,3 @@
+pub mod Centres
+pub mod Kept
+pub mod Results

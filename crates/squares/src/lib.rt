@@ -1,0 +1,10 @@
+//! Squares of cells, the books that number them, and what holds over any book.
+#![tactic(auto)]
+
+mod book;
+mod sq;
+mod subsquares;
+
+pub use book::{Look, Squares};
+pub use sq::{Num, Sq};
+pub use subsquares::centre;
