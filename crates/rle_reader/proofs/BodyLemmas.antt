@@ -6,11 +6,11 @@ use Rattle.std.proofs.lemmas.Bool.{cases_lt}
 use Rattle.std.proofs.lemmas.Bool.Decides.{nat_tests}
 use Rattle.std.proofs.lemmas.List.{drop_all, drop_more, drop-drop, take-append-drop}
 use Rattle.std.proofs.lemmas.Slice.Eq.{bytes_eq-Decides}
-use Rattle.rle_reader.specs.Bytes.{ends_with}
-use Rattle.rle_reader.specs.Lines.{is_line_feed, lines, without_return}
-use Rattle.rle_reader.specs.Opening.{is_comment}
+use Rattle.text_lines.specs.Bytes.{ends_with}
+use Rattle.text_lines.specs.Lines.{is_line_feed, lines, without_return}
+use Rattle.text_lines.specs.Comments.{is_comment}
 use Rattle.rle_reader.specs.Body.{Spot, spots, counting, is_skipped, struck, struck_line, struck_inside, struck_from}
-use Rattle.rle_reader.proofs.LineLemmas.{lines-first, lines-nil}
+use Rattle.text_lines.proofs.LineLemmas.{lines-first, lines-nil}
 
 spots-cons : (place first : ℕ) (rest : List ℕ) → spots place (first ∷ rest) ≡ record { place = place; byte = first } ∷ spots (place + 1) rest
 unfolding spots

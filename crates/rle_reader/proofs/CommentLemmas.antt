@@ -1,8 +1,9 @@
 -- The kept comments before the header, one line after the other.
 use Rattle.std.proofs.Common.{◌≡◌, ℕ, Bool, true, false, cond, List, [], ◌∷◌, refl, ap, ◌∙◌}
 use Rattle.std.specs.List.{prefix_len}
-use Rattle.rle_reader.specs.Lines.{Line, lines_from}
-use Rattle.rle_reader.specs.Opening.{may_stand, before_header, comments_of, comments_from, is_kept}
+use Rattle.text_lines.specs.Lines.{Line, lines_from}
+use Rattle.rle_reader.specs.Opening.{may_stand, before_header, comments_from}
+use Rattle.text_lines.specs.Comments.{comments_of, is_kept}
 use Rattle.rle_reader.proofs.OpeningLemmas.{before_step, before_stop}
 
 module _ (source before : List ℕ) (at : ℕ) where

@@ -7,10 +7,10 @@ use Rattle.plane.specs.declared.fault.Fault.{Fault}
 use Rattle.plane.specs.declared.refusal.Refusal.{Refusal}
 use Rattle.plane.specs.declared.refusal.Refusal.TheVariants.{BadCount, OutOfRange, TooManyCells}
 use Rattle.rle_reader.specs.Body.{Spot}
-use Rattle.rle_reader.specs.Faults.{fault_at}
+use Rattle.text_lines.specs.Faults.{fault_at}
 use Rattle.rle_reader.specs.Items.{Item, Drawn, place_of, count_of, tag_of, drawn_as, drawn_from, next_among}
 use Rattle.rle_reader.specs.Meaning.{item_fault, state_after, first_fault_from}
-use Rattle.rle_reader.specs.Numbers.{capped}
+use Rattle.text_lines.specs.Numbers.{capped}
 use Rattle.rle_reader.specs.Range.{IsWithinReach}
 use Rattle.rle_reader.specs.State.{State, after_item, leaves_range, passes_cells, passes_limit, when, faults_of, first_fault, motion_fault}
 use Rattle.rle_reader.specs.declared.item.Tag.{Tag}

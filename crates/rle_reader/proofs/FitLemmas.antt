@@ -6,7 +6,7 @@ use Rattle.std.proofs.lemmas.Int.{ints}
 use Rattle.plane.specs.declared.refusal.Refusal.{Refusal}
 use Rattle.plane.specs.declared.refusal.Refusal.TheVariants.{BadCount, OutOfRange, TooManyCells}
 use Rattle.rle_reader.specs.Body.{Spot, struck, struck_from}
-use Rattle.rle_reader.specs.Lines.{lines_from}
+use Rattle.text_lines.specs.Lines.{lines_from}
 use Rattle.rle_reader.specs.Opening.{Opening}
 use Rattle.rle_reader.specs.Seen.{opening_seen}
 use Rattle.rle_reader.specs.declared.preamble.Preamble.{Preamble}

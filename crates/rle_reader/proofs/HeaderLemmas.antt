@@ -4,7 +4,7 @@ use Rattle.std.specs.List.{list_any, before_first}
 use Rattle.std.specs.Str.{byte}
 use Rattle.plane.specs.declared.refusal.Refusal.{Refusal}
 use Rattle.plane.specs.declared.refusal.Refusal.TheVariants.{BadHeader}
-use Rattle.rle_reader.specs.Bytes.{is_byte}
+use Rattle.text_lines.specs.Bytes.{is_byte}
 use Rattle.rle_reader.specs.Header.{header_rule, begins_as_header, is_side, value_behind, rule_behind}
 use Rattle.rle_reader.proofs.SplitLemmas.{after_first-none}
 

@@ -7,15 +7,15 @@ use Rattle.std.specs.List.{AllByRecursion}
 use Rattle.std.specs.Option.{option_map}
 use Rattle.std.specs.Result.{result_map_both}
 use Rattle.std.proofs.lemmas.Bool.Decides.{nat_tests}
-use Rattle.rle_reader.proofs.NumberLemmas.{capped_step}
+use Rattle.text_lines.proofs.NumberLemmas.{capped_step}
 use Rattle.plane.specs.declared.fault.Fault.{Fault}
 use Rattle.plane.specs.declared.refusal.Refusal.{Refusal}
 use Rattle.plane.specs.declared.refusal.Refusal.TheVariants.{BadCount}
 use Rattle.rle_reader.specs.Body.{Spot}
-use Rattle.rle_reader.specs.Faults.{fault_at}
+use Rattle.text_lines.specs.Faults.{fault_at}
 use Rattle.rle_reader.specs.Items.{Drawn, IsEnd, is_digit_spot, is_end_spot, items_of, with_digit, with_tag, place_of, count_of, tag_of, drawn_as, drawn_from, next_among, next_of, items_after, kept}
-use Rattle.rle_reader.specs.Numbers.{decimal_value, capped}
-use Rattle.rle_reader.specs.Numbers as numbers
+use Rattle.text_lines.specs.Numbers.{decimal_value, capped}
+use Rattle.text_lines.specs.Numbers as numbers
 use Rattle.rle_reader.specs.Seen.{IsCount, spot_seen}
 use Rattle.rle_reader.specs.declared.body.Placed.{Placed}
 use Rattle.rle_reader.specs.declared.item.Count.{Count}

@@ -1,7 +1,5 @@
-mod TrimLemmas
 mod SplitLemmas
 mod NumberLemmas
-mod LineLemmas
 mod HeaderLemmas
 mod SettingsLemmas
 mod OpeningLemmas

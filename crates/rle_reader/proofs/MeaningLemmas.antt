@@ -2,9 +2,9 @@
 use Rattle.std.proofs.Common.{◌≡◌, ℕ, true, List, length, None, Some, Result, Ok, Err, refl, ap, sym, ◌∙◌}
 use Rattle.plane.specs.declared.fault.Fault.{Fault}
 use Rattle.rle_reader.specs.Body.{struck, struck_from}
-use Rattle.rle_reader.specs.Faults.{◌>>=◌}
+use Rattle.text_lines.specs.Faults.{◌>>=◌}
 use Rattle.rle_reader.specs.Items.{items_of}
-use Rattle.rle_reader.specs.Lines.{lines_from}
+use Rattle.text_lines.specs.Lines.{lines_from}
 use Rattle.rle_reader.specs.Meaning.{Meaning, judged, unless, body_fault, meaning_of}
 use Rattle.rle_reader.specs.Opening.{Opening, opening_of}
 use Rattle.rle_reader.specs.Seen.{opening_seen}

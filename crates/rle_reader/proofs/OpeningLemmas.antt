@@ -3,9 +3,10 @@ use Rattle.std.proofs.Common.{◌≡◌, ℕ, ◌+◌, Bool, true, false, cond, 
 use Rattle.std.specs.List.{prefix_len}
 use Rattle.plane.specs.declared.fault.Fault.{Fault}
 use Rattle.plane.specs.declared.refusal.Refusal.TheVariants.{NotAPattern}
-use Rattle.rle_reader.specs.Faults.{fault_at, at_place, ◌>>=◌}
-use Rattle.rle_reader.specs.Lines.{Line, lines_from}
-use Rattle.rle_reader.specs.Opening.{Opening, may_stand, before_header, from_header, after_lines, with_header, opening_of, comments_of}
+use Rattle.text_lines.specs.Faults.{fault_at, at_place, ◌>>=◌}
+use Rattle.text_lines.specs.Lines.{Line, lines_from}
+use Rattle.rle_reader.specs.Opening.{Opening, may_stand, before_header, from_header, after_lines, with_header, opening_of}
+use Rattle.text_lines.specs.Comments.{comments_of}
 use Rattle.rle_reader.specs.Settings.{nothing_said, after_line}
 use Rattle.rle_reader.specs.Header.{header_rule}
 use Rattle.rle_reader.specs.Seen.{seen_opening}
@@ -73,14 +74,6 @@ module _ (end : ℕ) (comments : List (List ℕ)) (settings : Settings) where
         let h = before_stop (may_stand line) line rest (prefix_len may_stand rest) stops in
         ap (λ before. after_lines settings before >>= λ next. with_header end comments next (from_header (line ∷ rest))) h.0
         ∙ ap (λ from. with_header end comments settings from) h.1
-
--- the next line, said of the source
-pub lines_of_source : (source before after : List ℕ) (at next : ℕ) (line : Line) → before ≡ source → after ≡ before → lines_from before at ≡ line ∷ lines_from after next → lines_from source at ≡ line ∷ lines_from source next
-lines_of_source source before after at next line before_is after_is found =
-    ap (λ s. lines_from s at) (sym before_is) ∙ found ∙ ap (λ s. line ∷ lines_from s next) (after_is ∙ before_is)
-
-pub no_lines_of_source : (source before : List ℕ) (at : ℕ) → before ≡ source → lines_from before at ≡ [] → lines_from source at ≡ []
-no_lines_of_source source before at before_is found = ap (λ s. lines_from s at) (sym before_is) ∙ found
 
 -- what was read at the header is the opening
 pub seen_with_header : (source : List ℕ) (end : ℕ) (settings : Settings) (line : Line) (body : ℕ) (result : Result Preamble Fault) →

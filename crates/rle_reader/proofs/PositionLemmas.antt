@@ -9,13 +9,17 @@ use Rattle.plane.specs.declared.fault.Fault.{Fault}
 use Rattle.plane.specs.declared.range.TheConstants.{COORDINATE_LIMIT}
 use Rattle.plane.specs.declared.refusal.Refusal.{Refusal}
 use Rattle.plane.specs.declared.refusal.Refusal.TheVariants.{OutOfRange}
-use Rattle.rle_reader.specs.Bytes.{begins_with, is_byte, words}
-use Rattle.rle_reader.specs.Faults.{at_place, ◌>>=◌}
+use Rattle.rle_reader.specs.Bytes.{words}
+use Rattle.text_lines.specs.Bytes.{begins_with, is_byte}
+use Rattle.text_lines.specs.Faults.{at_place, ◌>>=◌}
 use Rattle.rle_reader.specs.Header.{header_rule}
-use Rattle.rle_reader.specs.Lines.{Line}
-use Rattle.rle_reader.specs.Numbers.{number_of, integer_of}
-use Rattle.rle_reader.specs.Opening.{Opening, opening_of, after_lines, with_header, before_header, from_header, comments_of}
-use Rattle.rle_reader.specs.Settings.{nothing_said, after_word, after_readings, after_line, unless_refused, lowest, is_settings_line}
+use Rattle.text_lines.specs.Lines.{Line}
+use Rattle.rle_reader.specs.Numbers.{integer_of}
+use Rattle.text_lines.specs.Numbers.{number_of}
+use Rattle.rle_reader.specs.Opening.{Opening, opening_of, after_lines, with_header, before_header, from_header}
+use Rattle.text_lines.specs.Comments.{comments_of}
+use Rattle.rle_reader.specs.Settings.{nothing_said, after_word, after_readings, after_line, unless_refused, lowest}
+use Rattle.text_lines.specs.Comments.{is_settings_line}
 use Rattle.rle_reader.specs.Words.{GivesCellInRange, is_coordinate, cell_at, position_of, generation_at, word_of}
 use Rattle.rle_reader.specs.declared.settings.Settings.{Settings}
 use Rattle.rle_reader.specs.declared.settings.Word.{Word}

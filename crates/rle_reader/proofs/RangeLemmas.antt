@@ -9,7 +9,7 @@ use Rattle.plane.specs.declared.fault.Fault.{Fault}
 use Rattle.plane.specs.declared.range.TheConstants.{COORDINATE_LIMIT, LIVE_CELL_LIMIT}
 use Rattle.rle_reader.specs.Body.{struck}
 use Rattle.rle_reader.specs.Items.{Drawn, items_of}
-use Rattle.rle_reader.specs.Lines.{lines_from}
+use Rattle.text_lines.specs.Lines.{lines_from}
 use Rattle.rle_reader.specs.Meaning.{Meaning, StayInRange, body_fault, covers, is_covered, is_live, judged, live_cells, live_plane, meaning_of, unless}
 use Rattle.rle_reader.specs.Opening.{Opening, opening_of}
 use Rattle.rle_reader.specs.Range.{IsWithinReach}

@@ -2,9 +2,9 @@
 use Rattle.std.specs.Prelude.{ℕ, ◌+◌, ◌==◌, ◌||◌, not, Bool, if◌then◌else◌, List, [], ◌∷◌, ◌++◌, filter, drop, true, false}
 use Rattle.std.specs.List.{flat_map, before_first, after_first, position_or_len}
 use Rattle.std.specs.Str.{byte}
-use Rattle.rle_reader.specs.Bytes.{is_blank}
-use Rattle.rle_reader.specs.Lines.{Line, is_line_feed, lines, lines_from}
-use Rattle.rle_reader.specs.Opening.{is_comment}
+use Rattle.text_lines.specs.Bytes.{is_blank}
+use Rattle.text_lines.specs.Lines.{Line, is_line_feed, lines, lines_from}
+use Rattle.text_lines.specs.Comments.{is_comment}
 
 -- a byte and its place
 pub record Spot : Type 0 where

@@ -1,36 +1,7 @@
--- Bytes, and texts without what stands at their ends.
-use Rattle.std.specs.Prelude.{ℕ, Bool, ◌==◌, ◌||◌, if◌then◌else◌, List, [], ◌∷◌, reverse, take, drop, length, ◌-◌}
+-- The words of a text.
+use Rattle.std.specs.Prelude.{ℕ, List}
 use Rattle.std.specs.List.{slice_split}
-use Rattle.std.specs.Str.{byte, bytes_eq}
-
--- the test that a byte is this one
-abbrev pub is_byte : ℕ → ℕ → Bool
-is_byte wanted other = other == wanted
-
--- the text begins with these bytes
-abbrev pub begins_with : List ℕ → List ℕ → Bool
-begins_with front text = bytes_eq (take (length front) text) front
-
--- the text ends with these bytes
-abbrev pub ends_with : List ℕ → List ℕ → Bool
-ends_with back text = bytes_eq (drop (length text - length back) text) back
-
--- a space or a tab
-abbrev pub is_blank : ℕ → Bool
-is_blank other = other == byte " " || other == byte "\t"
-
--- the text from its first byte on that is no blank
-unfoldable pub trimmed_start : List ℕ → List ℕ
-trimmed_start [] = []
-trimmed_start (first ∷ rest) = if is_blank first then trimmed_start rest else first ∷ rest
-
--- the text up to its last byte that is no blank
-unfoldable pub trimmed_end : List ℕ → List ℕ
-trimmed_end text = reverse (trimmed_start (reverse text))
-
--- the text without the blanks at its ends
-abbrev pub trimmed : List ℕ → List ℕ
-trimmed text = trimmed_end (trimmed_start text)
+use Rattle.text_lines.specs.Bytes.{is_blank}
 
 -- the parts between the blanks of a text
 abbrev pub words : List ℕ → List (List ℕ)

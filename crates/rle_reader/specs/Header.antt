@@ -8,8 +8,8 @@ use Rattle.std.specs.Result.{result_map_both}
 use Rattle.std.specs.Str.{byte, str_eq_ignore_ascii_case}
 use Rattle.plane.specs.declared.refusal.Refusal.{Refusal}
 use Rattle.plane.specs.declared.refusal.Refusal.TheVariants.{NotAPattern, BadHeader}
-use Rattle.rle_reader.specs.Bytes.{is_byte, trimmed, trimmed_start}
-use Rattle.rle_reader.specs.Numbers.{number_of}
+use Rattle.text_lines.specs.Bytes.{is_byte, trimmed, trimmed_start}
+use Rattle.text_lines.specs.Numbers.{number_of}
 
 -- the name is the key, whichever case their letters stand in
 abbrev pub is_key : List ℕ → List ℕ → Bool

@@ -8,8 +8,8 @@ use Rattle.std.specs.Str.{byte}
 use Rattle.plane.specs.declared.refusal.Refusal.{Refusal}
 use Rattle.plane.specs.declared.refusal.Refusal.TheVariants.{BadTag, MoreStates, BadCount}
 use Rattle.rle_reader.specs.Body.{Spot}
-use Rattle.rle_reader.specs.Numbers.{decimal_value, capped}
-use Rattle.rle_reader.specs.Faults.{fault_at}
+use Rattle.text_lines.specs.Numbers.{decimal_value, capped}
+use Rattle.text_lines.specs.Faults.{fault_at}
 use Rattle.plane.specs.declared.fault.Fault.{Fault}
 use Rattle.std.specs.Result.{result_map_both}
 use Rattle.rle_reader.specs.declared.item.Tag.{Tag}

@@ -1,11 +1,9 @@
 pub mod Range
 pub mod Bytes
-pub mod Lines
 pub mod Numbers
 pub mod Words
 pub mod Settings
 pub mod Header
-pub mod Faults
 pub mod Opening
 pub mod Body
 pub mod Items

@@ -9,8 +9,8 @@ use Rattle.plane.specs.declared.fault.Fault.{Fault}
 use Rattle.plane.specs.declared.refusal.Refusal.{Refusal}
 use Rattle.plane.specs.declared.refusal.Refusal.TheVariants.{BadCount}
 use Rattle.plane.specs.Plane.{Plane}
-use Rattle.rle_reader.specs.Faults.{fault_at, ◌>>=◌}
-use Rattle.rle_reader.specs.Lines.{lines}
+use Rattle.text_lines.specs.Faults.{fault_at, ◌>>=◌}
+use Rattle.text_lines.specs.Lines.{lines}
 use Rattle.rle_reader.specs.Opening.{Opening, opening_of}
 use Rattle.rle_reader.specs.Body.{Spot, struck}
 use Rattle.rle_reader.specs.Items.{Item, Items, Drawn, items_of, place_of, count_of, tag_of, run_of, kept}

@@ -1,36 +1,19 @@
 -- What stands before the body of a file, and the body's lines.
-use Rattle.std.specs.Prelude.{ℕ, ◌==◌, Bool, false, not, ◌&&◌, ◌||◌, List, [], ◌∷◌, map, filter, drop, Option, codes}
+use Rattle.std.specs.Prelude.{ℕ, Bool, ◌||◌, List, [], ◌∷◌, drop, Option}
 use Rattle.std.specs.Prelude.{Result, Ok, Err}
-use Rattle.std.specs.List.{list_all, take_while, prefix_len}
-use Rattle.std.specs.Str.{byte}
+use Rattle.std.specs.List.{take_while, prefix_len}
 use Rattle.plane.specs.declared.fault.Fault.{Fault}
 use Rattle.plane.specs.declared.refusal.Refusal.TheVariants.{NotAPattern}
-use Rattle.rle_reader.specs.Bytes.{begins_with, is_blank}
-use Rattle.rle_reader.specs.Faults.{fault_at, at_place, ◌>>=◌}
-use Rattle.rle_reader.specs.Lines.{Line, lines_from}
-use Rattle.rle_reader.specs.Settings.{nothing_said, after_line, is_settings_line}
+use Rattle.text_lines.specs.Faults.{fault_at, at_place, ◌>>=◌}
+use Rattle.text_lines.specs.Lines.{Line, lines_from}
+use Rattle.rle_reader.specs.Settings.{nothing_said, after_line}
+use Rattle.text_lines.specs.Comments.{is_comment, is_blank_line, comments_of}
 use Rattle.rle_reader.specs.Header.{header_rule}
 use Rattle.rle_reader.specs.declared.settings.Settings.{Settings}
 
--- the first byte is `#`
-abbrev pub is_comment : List ℕ → Bool
-is_comment [] = false
-is_comment (first ∷ rest) = first == byte "#"
-
 -- a line that may stand before the header: a comment, or nothing but blanks
 unfoldable pub stands_before_header : List ℕ → Bool
-stands_before_header line = is_comment line || list_all is_blank line
-
--- the line begins with `#C`, `#D`, `#N` or `#O`, and not with `#CXRLE`
-unfoldable pub is_kept : List ℕ → Bool
-is_kept line =
-    not (is_settings_line line)
-    && (begins_with (codes "#C") line || begins_with (codes "#D") line
-    || begins_with (codes "#N") line || begins_with (codes "#O") line)
-
--- the kept comments among these lines
-abbrev pub comments_of : List Line → List (List ℕ)
-comments_of all = filter is_kept (map (λ line. line.text) all)
+stands_before_header line = is_comment line || is_blank_line line
 
 -- what is said after these lines, or the first fault of a line
 unfoldable pub after_lines : Settings → List Line → Result Settings Fault

@@ -4,15 +4,16 @@ use Rattle.std.specs.Prelude.{Result}
 use Rattle.std.specs.Option.{option_copied}
 use Rattle.std.specs.Result.{result_map_both}
 use Rattle.plane.specs.declared.fault.Fault.{Fault}
-use Rattle.rle_reader.specs.Lines.{lines_from}
-use Rattle.rle_reader.specs.Opening.{Opening, comments_of, before_header}
+use Rattle.text_lines.specs.Lines.{lines_from}
+use Rattle.rle_reader.specs.Opening.{Opening, before_header}
+use Rattle.text_lines.specs.Comments.{comments_of}
 use Rattle.std.specs.Prelude.{◌≡◌, ◌↔◌, ◌<◌, true, false, [], ◌++◌, length, IfSome, IfNone, IsTrue, Option}
 use Rattle.std.specs.Option.{option_map, option_to_list}
 use Rattle.std.specs.List.{AllByRecursion}
 use Rattle.std.specs.Char.{is_ascii_digit}
 use Rattle.rle_reader.specs.Body.{Spot}
 use Rattle.rle_reader.specs.Items.{Drawn, is_digit_spot, count_of}
-use Rattle.rle_reader.specs.Numbers.{capped}
+use Rattle.text_lines.specs.Numbers.{capped}
 use Rattle.rle_reader.specs.declared.body.Placed.{Placed}
 use Rattle.rle_reader.specs.declared.item.Count.{Count}
 use Rattle.rle_reader.specs.declared.item.Run.{Run}

@@ -1,11 +1,12 @@
 -- What the `#CXRLE` lines say together.
-use Rattle.std.specs.Prelude.{ℕ, pos, Bool, nat_le, if◌then◌else◌, List, [], map, fold, Option, None, Some, codes}
+use Rattle.std.specs.Prelude.{ℕ, pos, nat_le, if◌then◌else◌, List, [], map, fold, Option, None, Some}
 use Rattle.std.specs.Prelude.{Result, Ok, Err}
 use Rattle.std.specs.List.{filter_map}
 use Rattle.std.specs.Result.{result_ok, result_err}
 use Rattle.plane.specs.Refusal.{number_of}
 use Rattle.plane.specs.declared.refusal.Refusal.{Refusal}
-use Rattle.rle_reader.specs.Bytes.{begins_with, words}
+use Rattle.rle_reader.specs.Bytes.{words}
+use Rattle.text_lines.specs.Comments.{is_settings_line}
 use Rattle.rle_reader.specs.Words.{word_of}
 use Rattle.rle_reader.specs.declared.settings.Settings.{Settings}
 use Rattle.rle_reader.specs.declared.settings.Word.{Word}
@@ -29,10 +30,6 @@ lower (Some other) refusal = if nat_le (number_of other) (number_of refusal) the
 -- the refusal of the lowest number
 abbrev pub lowest : List Refusal → Option Refusal
 lowest refusals = fold lower None refusals
-
--- the first six bytes are `#CXRLE`
-abbrev pub is_settings_line : List ℕ → Bool
-is_settings_line line = begins_with (codes "#CXRLE") line
 
 -- these settings, unless something was refused
 abbrev pub unless_refused : Option Refusal → Settings → Result Settings Refusal

@@ -8,8 +8,9 @@ use Rattle.plane.specs.declared.cell.Cell.{Cell}
 use Rattle.plane.specs.declared.refusal.Refusal.{Refusal}
 use Rattle.plane.specs.declared.refusal.Refusal.TheVariants.{BadHeader, OutOfRange, BadGen}
 use Rattle.plane.specs.declared.range.TheConstants.{COORDINATE_LIMIT, GENERATION_LIMIT}
-use Rattle.rle_reader.specs.Bytes.{begins_with, is_byte}
-use Rattle.rle_reader.specs.Numbers.{number_of, integer_of}
+use Rattle.text_lines.specs.Bytes.{begins_with, is_byte}
+use Rattle.rle_reader.specs.Numbers.{integer_of}
+use Rattle.text_lines.specs.Numbers.{number_of}
 use Rattle.plane.specs.Range.{IsInRange}
 use Rattle.rle_reader.specs.declared.settings.Word.{Word}
 use Rattle.rle_reader.specs.declared.settings.Word.TheVariants.{Pos, Gen, Other}

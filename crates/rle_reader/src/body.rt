@@ -3,8 +3,7 @@
 ghost use Rattle.std.specs.Prelude.{◌≡◌, ◌<◌, ◌≤◌, [], ◌∷◌, true, length, slice_index, MatchOption, IsTrue};
 ghost use Rattle.rle_reader.specs.Body.{is_skipped, struck_from};
 
-use crate::bytes::is_blank;
-use crate::lines::line_length;
+use text_lines::{is_blank, line_length};
 
 /// A byte and its place.
 #[derive(Clone, Copy, Debug)]

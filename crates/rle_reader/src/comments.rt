@@ -2,13 +2,11 @@
 
 ghost use Rattle.std.specs.Prelude.{◌≡◌, [], ◌∷◌, MatchOption};
 ghost use Rattle.std.specs.Iterator.{YieldsFirstRef, item_count};
-ghost use Rattle.rle_reader.specs.Opening.{comments_from, is_kept};
+ghost use Rattle.rle_reader.specs.Opening.{comments_from};
 
-use crate::bytes::begins_with;
-use crate::lines::Lines;
 use crate::preamble::stands_before_header;
-use crate::settings::is_settings_line;
 use std::marker::Model;
+use text_lines::{Lines, is_kept};
 
 /// The kept comments of a file, in order, each without its line end. A contract sees the comments that
 /// are still to come.
@@ -66,16 +64,4 @@ fn next_comment<'a>(lines: &mut Lines<'a>) -> Option<&'a [u8]>
         }
     }
     None
-}
-
-/// Whether the line begins with `#C`, `#D`, `#N` or `#O`, and not with `#CXRLE`.
-#[tactic(auto, unfolding(crate::specs::Opening::is_kept))]
-fn is_kept(line: &[u8]) -> bool
-    ensures { result ≡ is_kept line.now }
-{
-    !is_settings_line(line)
-        && (begins_with(line, b"#C")
-            || begins_with(line, b"#D")
-            || begins_with(line, b"#N")
-            || begins_with(line, b"#O"))
 }

@@ -4,12 +4,12 @@ ghost use Rattle.std.specs.Prelude.{◌≡◌};
 ghost use Rattle.std.specs.List.{before_first};
 ghost use Rattle.std.specs.Option.{option_copied};
 ghost use Rattle.std.specs.Str.{byte};
-ghost use Rattle.rle_reader.specs.Bytes.{is_byte};
+ghost use Rattle.text_lines.specs.Bytes.{is_byte};
 ghost use Rattle.rle_reader.specs.Header.{header_rule, rule_behind, begins_as_header, is_side, is_key, value_behind, seen_rule};
 
-use crate::bytes::{split_at_byte, trimmed, trimmed_start};
-use crate::number::number;
+use crate::bytes::split_at_byte;
 use plane::Refusal;
+use text_lines::{number, trimmed, trimmed_start};
 
 /// The rule of a header line, if it names one.
 #[tactic(auto, unfolding(crate::specs::Header::header_rule))]

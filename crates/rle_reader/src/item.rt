@@ -5,14 +5,13 @@ ghost use Rattle.std.specs.Option.{option_map};
 ghost use Rattle.std.specs.Result.{result_map_both};
 ghost use Rattle.plane.specs.declared.refusal.Refusal.TheVariants.{BadCount};
 ghost use Rattle.rle_reader.specs.Body.{struck_from};
-ghost use Rattle.rle_reader.specs.Faults.{fault_at};
+ghost use Rattle.text_lines.specs.Faults.{fault_at};
 ghost use Rattle.rle_reader.specs.Items.{items_of, items_after, next_of, kept, drawn_from, tag_of};
 ghost use Rattle.rle_reader.specs.Seen.{seen_next, spot_seen, IsCount};
 
 use crate::body::{Body, Placed};
-use crate::faults::fault_at;
-use crate::number::with_digit;
 use plane::{Fault, Refusal};
+use text_lines::{fault_at, with_digit};
 
 /// What an item is about.
 #[derive(Clone, Copy, Debug, PartialEq, Eq)]

@@ -5,11 +5,9 @@
 mod body;
 mod bytes;
 mod comments;
-mod faults;
 mod header;
 mod item;
 mod laws;
-mod lines;
 mod number;
 mod pen;
 mod preamble;

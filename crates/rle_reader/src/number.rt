@@ -1,37 +1,10 @@
-//! Decimal numbers of any length.
+//! Whole numbers of any length, which may have a `-` before them.
 
-ghost use Rattle.std.specs.Prelude.{◌≡◌, ◌+◌, ◌-◌, ◌*◌, min, pos, neg_ℤ};
-ghost use Rattle.std.specs.Char.{IsAsciiDigit};
+ghost use Rattle.std.specs.Prelude.{◌≡◌, min, pos, neg_ℤ};
 ghost use Rattle.std.specs.Option.{option_map};
-ghost use Rattle.rle_reader.specs.Numbers.{number_of, integer_of, with_digit, capped, clamped};
+ghost use Rattle.rle_reader.specs.Numbers.{integer_of, clamped};
 
-/// The number as it stands after one digit more. It stays at the largest `u64` once it is as large.
-pub(crate) fn with_digit(number: u64, digit: u8) -> u64
-    requires { IsAsciiDigit digit }
-    ensures { result ≡ capped (with_digit number digit) }
-{
-    number
-        .saturating_mul(10)
-        .saturating_add(u64::from(digit - b'0'))
-}
-
-/// The value of a text of one or more digits, or the largest `u64` if the value is larger. Other texts
-/// are no numbers.
-pub(crate) fn number(text: &[u8]) -> Option<u64>
-    ensures { result ≡ option_map capped (number_of text.now) }
-{
-    if text.is_empty() {
-        return None;
-    }
-    let mut value = 0;
-    for byte in text {
-        if !byte.is_ascii_digit() {
-            return None;
-        }
-        value = with_digit(value, *byte);
-    }
-    Some(value)
-}
+use text_lines::number;
 
 /// The value of a number that may have a `-` before it, or what is nearest to it in the range of `i64`
 /// without its least number.

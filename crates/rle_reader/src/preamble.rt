@@ -2,21 +2,17 @@
 
 ghost use Rattle.std.specs.Prelude.{◌≡◌, ◌≤◌, length, IfOk, IfErr};
 ghost use Rattle.std.specs.Option.{option_copied};
-ghost use Rattle.rle_reader.specs.Faults.{at_place};
+ghost use Rattle.text_lines.specs.Faults.{at_place};
 ghost use Rattle.rle_reader.specs.Header.{header_rule};
-ghost use Rattle.rle_reader.specs.Lines.{lines_from};
+ghost use Rattle.text_lines.specs.Lines.{lines_from};
 ghost use Rattle.plane.specs.Range.{IsInRange};
 ghost use Rattle.rle_reader.specs.Seen.{seen_opening};
-ghost use Rattle.std.specs.List.{list_all};
-ghost use Rattle.rle_reader.specs.Bytes.{is_blank};
-ghost use Rattle.rle_reader.specs.Opening.{stands_before_header, is_comment, opening_of};
+ghost use Rattle.rle_reader.specs.Opening.{stands_before_header, opening_of};
 
-use crate::bytes::is_blank;
-use crate::faults::fault_at;
 use crate::header::header_rule;
-use crate::lines::{Line, Lines};
 use crate::settings::Settings;
 use plane::{Fault, Refusal};
+use text_lines::{Line, Lines, fault_at, is_blank_line, is_comment};
 
 /// What stands before the body.
 #[derive(Clone, Copy, Debug)]
@@ -71,19 +67,4 @@ pub(crate) fn stands_before_header(line: &[u8]) -> bool
     ensures { result ≡ stands_before_header line.now }
 {
     is_comment(line) || is_blank_line(line)
-}
-
-fn is_comment(line: &[u8]) -> bool
-    ensures { result ≡ is_comment line.now }
-{
-    match line.first() {
-        Some(first) => *first == b'#',
-        None => false,
-    }
-}
-
-fn is_blank_line(line: &[u8]) -> bool
-    ensures { result ≡ list_all is_blank line.now }
-{
-    line.iter().all(|byte| is_blank(*byte))
 }

@@ -3,18 +3,19 @@
 ghost use Rattle.std.specs.Prelude.{◌≡◌, ◌↔◌, ◌∷◌, ◌<◌, length, map, IfOk, IfSome, IsTrue};
 ghost use Rattle.std.specs.List.{position};
 ghost use Rattle.std.specs.Option.{option_copied};
-ghost use Rattle.rle_reader.specs.Bytes.{is_blank, words};
-ghost use Rattle.rle_reader.specs.Faults.{at_place};
-ghost use Rattle.rle_reader.specs.Numbers.{number_of};
+ghost use Rattle.rle_reader.specs.Bytes.{words};
+ghost use Rattle.text_lines.specs.Bytes.{is_blank};
+ghost use Rattle.text_lines.specs.Faults.{at_place};
+ghost use Rattle.text_lines.specs.Numbers.{number_of};
 ghost use Rattle.plane.specs.Range.{IsInRange, IsCoordinate};
 ghost use Rattle.rle_reader.specs.Words.{GivesCellInRange, word_of, position_of, generation_at, cell_at, is_coordinate};
-ghost use Rattle.rle_reader.specs.Settings.{is_settings_line, nothing_said, after_word, after_readings, after_line, lower, words_left};
+ghost use Rattle.rle_reader.specs.Settings.{nothing_said, after_word, after_readings, after_line, lower, words_left};
+ghost use Rattle.text_lines.specs.Comments.{is_settings_line};
 
-use crate::bytes::{begins_with, is_blank, split_at_byte};
-use crate::faults::fault_at;
-use crate::lines::Line;
-use crate::number::{integer, number};
+use crate::bytes::split_at_byte;
+use crate::number::integer;
 use plane::{COORDINATE_LIMIT, Cell, Fault, GENERATION_LIMIT, Refusal};
+use text_lines::{Line, fault_at, is_blank, is_settings_line, number};
 
 /// What the `#CXRLE` lines say.
 #[derive(Clone, Copy, Debug)]
@@ -120,13 +121,6 @@ fn first_blank(text: &[u8]) -> Option<usize>
     ensures { result ≡ position is_blank text.now }
 {
     text.iter().position(|byte| is_blank(*byte))
-}
-
-/// Whether the line begins with `#CXRLE`.
-pub(crate) fn is_settings_line(line: &[u8]) -> bool
-    ensures { result ≡ is_settings_line line.now }
-{
-    begins_with(line, b"#CXRLE")
 }
 
 /// Of two refusals the one of the lower number.

@@ -1,5 +1,5 @@
 use Rattle.std.proofs.Common.{◌∙◌, sym, ap}
-use Rattle.rle_reader.specs.Lines.{Line}
+use Rattle.text_lines.specs.Lines.{Line}
 use Rattle.rle_reader.specs.Opening.{comments_from}
 use Rattle.rle_reader.proofs.CommentLemmas.{comments_from-nil, comments_from-kept, comments_from-other, comments_from-header}
 use Rattle.rle_reader.proofs.comments.next_comment.Goals as goal

@@ -1,5 +1,5 @@
 use Rattle.std.proofs.Common.{sym}
-use Rattle.rle_reader.specs.Bytes.{is_byte}
+use Rattle.text_lines.specs.Bytes.{is_byte}
 use Rattle.rle_reader.proofs.SplitLemmas.{before_first-none}
 use Rattle.rle_reader.proofs.header.until_comma.Goals as goal
 

@@ -1,5 +1,5 @@
 use Rattle.std.proofs.Common.{◌∙◌, ap}
-use Rattle.rle_reader.specs.Numbers.{number_of}
+use Rattle.text_lines.specs.Numbers.{number_of}
 use Rattle.rle_reader.specs.Words.{generation_at}
 use Rattle.rle_reader.proofs.SettingsLemmas.{generation_at-capped}
 use Rattle.rle_reader.proofs.settings.generation_of.Goals as goal

@@ -1,7 +1,7 @@
 use Rattle.std.proofs.Common.{◌≤◌, ◌+◌, length, min, sym, ap, subst, ◌∙◌}
 use Rattle.std.specs.List.{position_or_len}
 use Rattle.std.proofs.lemmas.List.{take_rest}
-use Rattle.rle_reader.specs.Lines.{is_line_feed}
+use Rattle.text_lines.specs.Lines.{is_line_feed}
 use Rattle.rle_reader.proofs.BodyLemmas.{struck_from-comment}
 use Rattle.rle_reader.proofs.body.Body.skip_line.Goals as goal
 

@@ -1,9 +1,11 @@
 use Rattle.std.proofs.Common.{◌∙◌, sym, ap, length, Err, ◌∷◌}
 use Rattle.std.proofs.lemmas.Result.{err_from_is_err_and}
-use Rattle.rle_reader.specs.Lines.{Line, lines_from}
-use Rattle.rle_reader.specs.Opening.{comments_of, before_header, with_header}
+use Rattle.text_lines.specs.Lines.{Line, lines_from}
+use Rattle.rle_reader.specs.Opening.{before_header, with_header}
+use Rattle.text_lines.specs.Comments.{comments_of}
 use Rattle.rle_reader.specs.Seen.{seen_opening}
-use Rattle.rle_reader.proofs.OpeningLemmas.{opening_on, opening_on-start, opening_on-nil, opening_on-line, opening_on-fault, opening_on-header, lines_of_source, no_lines_of_source, seen_with_header}
+use Rattle.rle_reader.proofs.OpeningLemmas.{opening_on, opening_on-start, opening_on-nil, opening_on-line, opening_on-fault, opening_on-header, seen_with_header}
+use Rattle.text_lines.proofs.LineLemmas.{lines_of_source, no_lines_of_source}
 use Rattle.rle_reader.proofs.preamble.Preamble.read.Goals as goal
 
 pub loop-line-init : goal.loop-line-init

@@ -1,6 +1,7 @@
 use Rattle.std.proofs.Common.{◌≡◌, ◌-◌, length}
-use Rattle.rle_reader.specs.Lines.{lines_from}
-use Rattle.rle_reader.specs.Opening.{comments_of, before_header, opening_of}
+use Rattle.text_lines.specs.Lines.{lines_from}
+use Rattle.rle_reader.specs.Opening.{before_header, opening_of}
+use Rattle.text_lines.specs.Comments.{comments_of}
 use Rattle.plane.specs.Range.{IsInRange}
 use Rattle.rle_reader.proofs.OpeningLemmas.{opening_on}
 use Rattle.rle_reader.proofs.preamble.Preamble.read.Given as goal

@@ -1,9 +1,0 @@
-use Rattle.std.proofs.Common.{◌≡◌, length}
-use Rattle.rle_reader.specs.Bytes.{trimmed_start}
-use Rattle.rle_reader.proofs.bytes.trimmed_start.Given as goal
-
-abbrev pub invariant-loop-first : goal.invariant-loop-first
-invariant-loop-first l = trimmed_start l.rest ≡ trimmed_start l.text
-
-abbrev pub decreases-loop-first : goal.decreases-loop-first
-decreases-loop-first l = length l.rest

@@ -1,8 +1,0 @@
-use Rattle.std.proofs.Common.{◌∙◌}
-use Rattle.rle_reader.specs.Lines.{is_line_feed}
-use Rattle.rle_reader.proofs.LineLemmas.{first_byte}
-use Rattle.rle_reader.proofs.lines.line_length.Goals as goal
-
-pub returns-clause-value : goal.returns-clause-value
-returns-clause-value c =
-    c.unwrap_or.ensures ∙ first_byte is_line_feed c.args.text.now c.memchr.result c.memchr.ensures

@@ -1,6 +1,0 @@
-use Rattle.std.proofs.Common.{◌≡◌, ◌<◌, drop}
-use Rattle.rle_reader.proofs.NumberLemmas.{read_on}
-use Rattle.rle_reader.proofs.number.number.Given as goal
-
-abbrev pub invariant-loop-byte : goal.invariant-loop-byte
-invariant-loop-byte l = (read_on l.value (drop l.byte-index l.text) ≡ read_on 0 l.text) × (l.value < 18446744073709551616)

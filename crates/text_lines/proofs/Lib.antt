@@ -1,0 +1,3 @@
+pub mod TrimLemmas
+pub mod NumberLemmas
+pub mod LineLemmas

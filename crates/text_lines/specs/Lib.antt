@@ -1,0 +1,5 @@
+pub mod Bytes
+pub mod Lines
+pub mod Numbers
+pub mod Comments
+pub mod Faults

@@ -1,0 +1,55 @@
+//! The beginning of a text, and a text without the blanks at its ends.
+
+ghost use Rattle.std.specs.Prelude.{◌≡◌};
+ghost use Rattle.text_lines.specs.Bytes.{begins_with, is_blank, trimmed, trimmed_start, trimmed_end};
+
+/// Whether the text begins with these bytes.
+pub fn begins_with(text: &[u8], front: &[u8]) -> bool
+    ensures { result ≡ begins_with front.now text.now }
+{
+    text.strip_prefix(front).is_some()
+}
+
+/// Whether the byte is a space or a tab.
+pub fn is_blank(byte: u8) -> bool
+    ensures { result ≡ is_blank byte }
+{
+    byte == b' ' || byte == b'\t'
+}
+
+/// The text from its first byte on that is no blank.
+#[tactic(auto, unfolding(crate::specs::Bytes::trimmed_start))]
+pub fn trimmed_start(text: &[u8]) -> &[u8]
+    ensures { result.now ≡ trimmed_start text.now }
+{
+    let mut rest = text;
+    while let Some((first, others)) = rest.split_first() {
+        if !is_blank(*first) {
+            return rest;
+        }
+        rest = others;
+    }
+    rest
+}
+
+/// The text up to its last byte that is no blank.
+#[tactic(auto, using(crate::proofs::TrimLemmas::trimmed_ends))]
+pub fn trimmed_end(text: &[u8]) -> &[u8]
+    ensures { result.now ≡ trimmed_end text.now }
+{
+    let mut rest = text;
+    while let Some((last, others)) = rest.split_last() {
+        if !is_blank(*last) {
+            return rest;
+        }
+        rest = others;
+    }
+    rest
+}
+
+/// The text without the blanks at its ends.
+pub fn trimmed(text: &[u8]) -> &[u8]
+    ensures { result.now ≡ trimmed text.now }
+{
+    trimmed_end(trimmed_start(text))
+}

@@ -1,0 +1,15 @@
+//! What the readers of pattern files share: the lines of a text with their places, blanks at the ends of
+//! a text, numbers of any length, comments, and faults at a place.
+#![tactic(auto)]
+
+mod bytes;
+mod comments;
+mod faults;
+mod lines;
+mod numbers;
+
+pub use bytes::{begins_with, is_blank, trimmed, trimmed_end, trimmed_start};
+pub use comments::{is_blank_line, is_comment, is_kept, is_settings_line};
+pub use faults::fault_at;
+pub use lines::{Line, Lines, line_length};
+pub use numbers::{number, with_digit};
