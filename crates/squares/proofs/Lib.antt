@@ -1,3 +1,14 @@
 pub mod Centres
+pub mod EmptyFutures
 pub mod Kept
+pub mod KeptResults
+pub mod NineSquares
+pub mod NodeLaws
+pub mod NodeLists
+pub mod NumberMaps
+pub mod Places
+pub mod PlainLaws
+pub mod PlainQuads
+pub mod Pushed
+pub mod RecordLists
 pub mod Results

@@ -1,8 +1,8 @@
 -- What a book of squares knows.
-use Rattle.std.specs.Prelude.{◌≡◌, ℕ, suc, ◌-◌, ◌<◌, ◌≤◌, ◌^◌, ◌⊎◌, ◌↔◌, Bool, IsTrue, List, length, Some, Contains, slice_index_or, slice_get}
+use Rattle.std.specs.Prelude.{◌≡◌, ℕ, suc, ◌+◌, ◌-◌, ◌*◌, ◌<◌, ◌≤◌, ◌^◌, ◌⊎◌, ◌↔◌, Bool, IsTrue, List, [], length, Some, Contains, slice_index_or, slice_get}
 use Rattle.rule_text.specs.CountRule.{CountRule, IsRule}
 use Rattle.plane.specs.Plane.{Plane}
-use Rattle.plane.specs.Square.{IsSame, IsSquare, cut, joined, empty, future}
+use Rattle.plane.specs.Square.{IsSame, IsSquare, cut, joined, ninth, empty, future}
 use Rattle.plane.specs.declared.refusal.Refusal.{Refusal}
 use Rattle.plane.specs.declared.refusal.Refusal.TheVariants.{NodesFull, NoMemory}
 use Rattle.squares.specs.declared.sq.Sq.{Sq}
@@ -57,6 +57,14 @@ pub record IsBook (book : Book) : Type 0 where
   pub results : (sq : Sq) → Contains book.results sq → IsTrue (book.knows sq) × (3 < sq.level) × (¬ IsEmpty sq)
   pub results_once : (i j : ℕ) (sq : Sq) → slice_get book.results i ≡ Some sq → slice_get book.results j ≡ Some sq → i ≡ j
 
+-- a book for results under this rule and exponent that knows the empty squares alone
+pub record IsFresh (rule : CountRule) (exponent : ℕ) (book : Book) : Type 0 where
+  pub same_rule : book.rule ≡ rule
+  pub same_exponent : book.exponent ≡ exponent
+  pub empty : (sq : Sq) → IsTrue (book.knows sq) → IsEmpty sq
+  pub results : book.results ≡ []
+  pub learned : book.learned ≡ 0
+
 -- all that was known stays known, with the same cells, and a full book stays full
 pub record Keeps (old new : Book) : Type 0 where
   pub rule : new.rule ≡ old.rule
@@ -102,6 +110,10 @@ pub record AreQuarters (book : Book) (level : ℕ) (plane : Plane) (quarters : L
   pub ne : Shows book (level - 1) (cut (2 ^ (level - 1)) (2 ^ (level - 1)) 0 plane) (nth quarters 1)
   pub sw : Shows book (level - 1) (cut (2 ^ (level - 1)) 0 (2 ^ (level - 1)) plane) (nth quarters 2)
   pub se : Shows book (level - 1) (cut (2 ^ (level - 1)) (2 ^ (level - 1)) (2 ^ (level - 1)) plane) (nth quarters 3)
+
+-- the nine overlapping squares of a square of this level with these cells, row by row
+pub record AreNinths (book : Book) (level : ℕ) (plane : Plane) (squares : List Sq) : Type 0 where
+  pub shown : (row column : ℕ) → row < 3 → column < 3 → Shows book (level - 1) (ninth level row column plane) (nth squares (3 * row + column))
 
 -- the cells of four squares of a level, beside and below one another
 abbrev pub joined_squares : Book → ℕ → List Sq → Plane

@@ -1,2 +1,4 @@
 pub mod Accounts
 pub mod Book
+pub mod Nodes
+pub mod Quarters

@@ -1,0 +1,42 @@
+-- What stands at a place of a list that grows or changes.
+use Rattle.std.proofs.Common.{◌≡◌, ◌≢◌, ℕ, zero, suc, ◌⊎◌, List, [], ◌∷◌, ◌++◌, length, ◌∙◌, ap, refl, inl, inr, ⊎_elim}
+use Rattle.std.specs.Prelude.{Some, None, slice_get, slice_set, slice_index_or}
+
+some_same : {X : Type 0} (a b : X) → Some a ≡ Some b → a ≡ b
+some_same a b e = cc
+
+none_there : {X : Type 0} (x : X) → None ≡ Some x → ⊥
+none_there x e = cc
+
+pub get_later : {X : Type 0} (xs more : List X) (i : ℕ) (x : X) → slice_get xs i ≡ Some x → slice_get (xs ++ more) i ≡ Some x
+get_later [] more i x h = absurd (none_there x h)
+get_later (y ∷ ys) more zero x h = h
+get_later (y ∷ ys) more (suc i) x h = get_later ys more i x h
+
+pub get_last : {X : Type 0} (xs : List X) (x : X) → slice_get (xs ++ x ∷ []) (length xs) ≡ Some x
+get_last [] x = refl
+get_last (y ∷ ys) x = get_last ys x
+
+pub get_push : {X : Type 0} (xs : List X) (last x : X) (i : ℕ) → slice_get (xs ++ last ∷ []) i ≡ Some x → (slice_get xs i ≡ Some x) ⊎ ((i ≡ length xs) × (last ≡ x))
+get_push [] last x zero h = inr (refl, some_same last x h)
+get_push [] last x (suc i) h = absurd (none_there x h)
+get_push (y ∷ ys) last x zero h = inl h
+get_push (y ∷ ys) last x (suc i) h = ⊎_elim (λ t. inl t) (λ t. inr (ap suc t.0, t.1)) (get_push ys last x i h)
+
+pub set_same : {X : Type 0} (xs : List X) (i : ℕ) (old new : X) → slice_get xs i ≡ Some old → slice_get (slice_set xs i new) i ≡ Some new
+set_same [] i old new h = absurd (none_there old h)
+set_same (x ∷ xs) zero old new h = refl
+set_same (x ∷ xs) (suc i) old new h = set_same xs i old new h
+
+pub set_other : {X : Type 0} (xs : List X) (i j : ℕ) (new : X) → j ≢ i → slice_get (slice_set xs i new) j ≡ slice_get xs j
+set_other [] i j new h = refl
+set_other (x ∷ xs) zero zero new h = absurd (h refl)
+set_other (x ∷ xs) zero (suc j) new h = refl
+set_other (x ∷ xs) (suc i) zero new h = refl
+set_other (x ∷ xs) (suc i) (suc j) new h = set_other xs i j new (λ e. h (ap suc e))
+
+-- what a read gives
+pub read_there : {X : Type 0} (xs : List X) (i : ℕ) (x read : X) → slice_get xs i ≡ Some x → read ≡ slice_index_or xs i read → read ≡ x
+read_there [] i x read h e = absurd (none_there x h)
+read_there (y ∷ ys) zero x read h e = e ∙ some_same y x h
+read_there (y ∷ ys) (suc i) x read h e = read_there ys i x read h e
