@@ -1,12 +1,12 @@
 -- A step: a padded square's future, round (0,0).
-use Rattle.std.proofs.Common.{◌≡◌, ℕ, ◌+◌, ◌-◌, ◌^◌, ◌<◌, ◌≤◌, arith, sym, ◌∙◌, ap, subst, refl}
+use Rattle.std.proofs.Common.{◌≡◌, ℕ, ◌+◌, ◌-◌, ◌^◌, ◌≤◌, arith, sym, subst}
 use Rattle.rule_text.specs.CountRule.{CountRule}
-use Rattle.plane.specs.Centred.{centred, Holds, IsSmallestLevel}
+use Rattle.plane.specs.Centred.{centred, Holds}
 use Rattle.plane.specs.Plane.{Plane, after}
 use Rattle.plane.specs.Square.{IsSame, future}
 use Rattle.plane.proofs.Paddings.{centred_future}
-use Rattle.plane.proofs.Same.{same_trans, same_sym, plane_equal}
-use Rattle.squares.specs.Book.{Book, IsFuture, IsKnown, Keeps}
+use Rattle.plane.proofs.Same.{same_trans, plane_equal}
+use Rattle.squares.specs.Book.{Book, IsFuture, Keeps}
 use Rattle.squares.specs.declared.sq.Sq.{Sq}
 use Rattle.hashlife_step.specs.Round.{ShowsRound}
 use Rattle.hashlife_step.proofs.Grown.{shows_round}

@@ -1,8 +1,8 @@
 ghost use Rattle.std.specs.Prelude.{◌+◌, ◌^◌, ◌<◌, ◌≤◌, max, IfOk, IfErr};
-ghost use Rattle.plane.specs.Centred.{centred, IsSmallestLevel};
+ghost use Rattle.plane.specs.Centred.{centred};
 ghost use Rattle.plane.specs.Plane.{after};
 ghost use Rattle.squares.specs.Book.{IsKnown, Keeps, MayRefuse};
-ghost use Rattle.hashlife_step.specs.Round.{ShowsRound};
+ghost use Rattle.squares.specs.Rounds.{IsRound};
 ghost use Rattle.hashlife_step.specs.Tallies.{Tallies};
 
 use crate::padding::pad;
@@ -19,9 +19,7 @@ pub fn step<S: Squares>(book: &mut S, root: Sq, tally: &mut Tally) -> Result<Sq,
     requires known { IsKnown (S.book book.old) root.level root }
     requires low { 3 < root.level }
     requires high { max (root.level + 2) ((S.book book.old).exponent + 3) ≤ 65 }
-    ensures cells { IfOk result (ShowsRound (S.book book.new)
-        (after (S.book book.old).rule (centred root.level ((S.book book.old).cells root)) (2 ^ (S.book book.old).exponent))) }
-    ensures level { IfOk result (λ next. IsSmallestLevel next.level
+    ensures ok { IfOk result (IsRound (S.book book.new)
         (after (S.book book.old).rule (centred root.level ((S.book book.old).cells root)) (2 ^ (S.book book.old).exponent))) }
     ensures refusal { IfErr result (MayRefuse (S.book book.new)) }
     ensures keeps { Keeps (S.book book.old) (S.book book.new) }

@@ -1,6 +1,9 @@
+ghost use Rattle.plane.specs.Range.{IsInRange};
+
 use crate::{Tally, future, pad, plan, step, trim};
+use plane::{Cell, CellSet, Refusal, reach};
 use rule_text::Rule;
-use squares::{Look, PlainBook, Sq, Squares};
+use squares::{Look, PlainBook, Squares, cells_to_square};
 use std::alloc::Global;
 use std::test::Fail;
 
@@ -125,6 +128,74 @@ fn level_of_stepped_glider(alloc: Global, exponent: u8) -> Result<u8, Fail> {
 fn a_glider_goes_far(rt: HostRuntime) -> Result<(), Fail> {
     for (exponent, level) in [(0, 4), (4, 4), (5, 5), (6, 6), (40, 40), (62, 62)] {
         assert_eq!(rt; level_of_stepped_glider(rt.alloc(), exponent)?, level);
+    }
+    Ok(())
+}
+
+fn cell_at(place: (i8, i8)) -> Cell
+    ensures { IsInRange result }
+{
+    Cell {
+        y: i64::from(place.1),
+        x: i64::from(place.0),
+    }
+}
+
+// About a quarter of the cells of a square of 8 by 8 at (-4, -4), by a linear congruential generator.
+fn soup(alloc: Global, seed: u32) -> Result<CellSet, Refusal> {
+    let mut cells = CellSet::new(alloc);
+    let mut word = seed;
+    for y in -4..4i8 {
+        for x in -4..4i8 {
+            word = word.wrapping_mul(1664525).wrapping_add(1013904223);
+            if word >> 16 & 3 == 0 {
+                cells.insert(cell_at((x, y)))?;
+            }
+        }
+    }
+    Ok(cells)
+}
+
+fn next(alloc: Global, cells: &CellSet, rule: &Rule) -> Result<CellSet, Refusal> {
+    reach(cells.bounds(), 0, 1)?;
+    cells.next(alloc, rule)
+}
+
+// Whether a step gives the square of the cells that single generations give.
+fn steps_agree(alloc: Global, text: &str, exponent: u8, mut cells: CellSet) -> Result<bool, Fail> {
+    let rule = Rule::read(text.as_bytes())?;
+    let mut book = PlainBook::new(alloc, rule, exponent);
+    let root = cells_to_square(alloc, &mut book, &cells)?;
+    if exponent > 6 || root.level > 60 {
+        return Ok(false);
+    }
+    let stepped = step(&mut book, root, &mut Tally { expansions: 0 })?;
+    for _ in 0..1u64 << exponent {
+        cells = next(alloc, &cells, &rule)?;
+    }
+    Ok(cells_to_square(alloc, &mut book, &cells)? == stepped)
+}
+
+// Rules of the three neighbourhoods, and exponents.
+const SOUPS: [(&str, u8); 8] = [
+    ("B3/S23", 0),
+    ("B3/S23", 3),
+    ("B3/S23", 6),
+    ("B2/S34H", 1),
+    ("B2/S34H", 4),
+    ("B13/S024V", 2),
+    ("B13/S024V", 4),
+    ("B1357/S1357", 3),
+];
+
+#[test]
+fn steps_of_soups(rt: HostRuntime) -> Result<(), Fail> {
+    for (text, exponent) in SOUPS {
+        let cells = soup(rt.alloc(), u32::from(exponent))?;
+        assert!(rt;
+            steps_agree(rt.alloc(), text, exponent, cells)?,
+            "{text}, {exponent}"
+        );
     }
     Ok(())
 }

@@ -1,5 +1,7 @@
-use Rattle.std.proofs.Common.{arith, ◌≡◌, ℕ, ◌+◌, ◌^◌, sym, ◌∙◌, ap, subst}
+use Rattle.std.proofs.Common.{arith, ◌^◌, sym, ◌∙◌, subst}
+use Rattle.std.proofs.Common.{Result, Ok, Err, IfOk}
 use Rattle.std.proofs.lemmas.Result.{IfOk-weaker}
+use Rattle.squares.specs.declared.sq.Sq.{Sq}
 use Rattle.plane.specs.Centred.{centred, IsSmallestLevel}
 use Rattle.plane.specs.Plane.{Plane, after}
 use Rattle.plane.proofs.Same.{plane_equal}
@@ -10,6 +12,10 @@ use Rattle.hashlife_step.proofs.RoundSquares.{round_as}
 use Rattle.hashlife_step.proofs.Stepped.{future_round}
 use Rattle.hashlife_step.proofs.steps.step.Given as given
 use Rattle.hashlife_step.proofs.steps.step.Goals as goal
+
+both_ok : {E : Type 0} (r : Result Sq E) (P Q R : Sq → Type 0) → ((sq : Sq) → P sq → Q sq → R sq) → IfOk r P → IfOk r Q → IfOk r R
+both_ok (Ok sq) P Q R join p q = join sq p q
+both_ok (Err e) P Q R join p q = tt
 
 -- what the future of the padded root shows
 next_shown : (g : given.Over) (c : goal.After-trim g) →
@@ -34,12 +40,12 @@ returns-in_err-next-clause-tally g c =
     let level = c.in_ok-padded.ensures.level in let high = c.requires.high in let exponent = c.exponent-exponent.ensures in
     made_between (book c.args.book.now) (book c.pad.new.book) (book c.future.new.book) (book c.future.new.book) c.in_ok-padded.padded.level 65 _ _ (omega arith) c.pad.ensures.results c.future.ensures.tally (results_none _)
 
-pub returns-clause-cells : goal.returns-clause-cells
-returns-clause-cells g c = IfOk-weaker c.trim.result _ _ (λ trimmed shown. round_as shown (next_shown g c).cells) c.trim.ensures.cells
-
-pub returns-clause-level : goal.returns-clause-level
-returns-clause-level g c =
-    IfOk-weaker c.trim.result _ _ (λ trimmed smallest. subst (IsSmallestLevel trimmed.level) (plane_equal _ _ (next_shown g c).cells) smallest) c.trim.ensures.level
+pub returns-clause-ok : goal.returns-clause-ok
+returns-clause-ok g c =
+    let next = next_shown g c in
+    let round = IfOk-weaker c.trim.result _ _ (λ trimmed shown. round_as shown next.cells) c.trim.ensures.cells in
+    let smallest = IfOk-weaker c.trim.result _ _ (λ trimmed least. subst (IsSmallestLevel trimmed.level) (plane_equal _ _ next.cells) least) c.trim.ensures.level in
+    both_ok c.trim.result _ _ _ (λ trimmed shown least. record { known = shown.known; smallest = least; cells = shown.cells }) round smallest
 
 pub returns-clause-tally : goal.returns-clause-tally
 returns-clause-tally g c =
