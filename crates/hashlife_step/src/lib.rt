@@ -9,6 +9,8 @@ mod plans;
 mod recursion;
 mod steps;
 mod tally;
+#[cfg(test)]
+mod tests;
 mod trimming;
 
 pub use padding::pad;

@@ -1,6 +1,5 @@
 -- The centre of a square, put together of quarters of its quarters.
-use Rattle.std.proofs.Common.{◌≡◌, ℕ, suc, ◌+◌, ◌-◌, ◌*◌, ◌^◌, ◌<◌, List, sym, ◌∙◌, ap, subst, arith}
-use Rattle.std.proofs.Math.Nat.{pow-suc}
+use Rattle.std.proofs.Common.{◌≡◌, ℕ, ◌+◌, ◌-◌, ◌^◌, ◌<◌, List, sym, ◌∙◌, ap, subst, arith}
 use Rattle.plane.specs.Plane.{Plane}
 use Rattle.squares.specs.declared.sq.Sq.{Sq}
 use Rattle.plane.specs.Square.{IsSame, cut, joined, centre_of}
@@ -8,12 +7,7 @@ use Rattle.squares.specs.Book.{Book, IsKnown, Shows, Keeps, AreQuarters, nth}
 use Rattle.plane.proofs.Same.{same_trans}
 use Rattle.squares.proofs.Kept.{keeps_trans, same_later}
 use Rattle.plane.proofs.Cuts.{centre_joined}
-
-double : (level : ℕ) → 1 < level → 2 ^ (level - 1) ≡ 2 ^ (level - 2) + 2 ^ (level - 2)
-double level h =
-    let e : level - 1 ≡ suc (level - 2) = omega arith in
-    let two : 2 ^ suc (level - 2) ≡ 2 ^ (level - 2) * 2 = pow-suc 2 (level - 2) in
-    ap (λ n. 2 ^ n) e ∙ omega (arith, two)
+use Rattle.plane.proofs.Ninths.{half_of}
 
 pub lowered : (book : Book) (level level' : ℕ) (plane : Plane) (quarters : List Sq) → level ≡ level' → AreQuarters book level plane quarters → AreQuarters book level' plane quarters
 lowered book level level' plane quarters e h = subst (λ n. AreQuarters book n plane quarters) e h
@@ -34,7 +28,7 @@ centre_shown level b1 b2 b3 b4 b5 plane q qa qb qc qd above all k2 in_a k3 in_b 
     let d = lowered b5 _ (level - 1) _ qd all.se.known.at_level in_d in
     let shown = centre_joined (2 ^ (level - 1)) (2 ^ (level - 1 - 1)) plane (b1.cells (nth q 0)) (b2.cells (nth q 1)) (b3.cells (nth q 2)) (b4.cells (nth q 3))
     (b5.cells (nth qa 3)) (b5.cells (nth qb 2)) (b5.cells (nth qc 1)) (b5.cells (nth qd 0))
-    (double level (omega arith) ∙ ap (λ n. 2 ^ n + 2 ^ n) (sym low))
+    (half_of level (omega arith) ∙ ap (λ n. 2 ^ n + 2 ^ n) (sym low))
     all.nw.cells (same_later k2 all.ne) (same_later (keeps_trans k2 k3) all.sw) (same_later (keeps_trans k2 (keeps_trans k3 k4)) all.se)
     (same_later (keeps_trans k3 (keeps_trans k4 k5)) a.se) (same_later (keeps_trans k4 k5) b.sw) (same_later k5 c.ne) d.nw.cells in
     subst (λ n. IsSame (joined (2 ^ n) (b5.cells (nth qa 3)) (b5.cells (nth qb 2)) (b5.cells (nth qc 1)) (b5.cells (nth qd 0))) (cut (2 ^ (level - 1)) (2 ^ n) (2 ^ n) plane)) low shown

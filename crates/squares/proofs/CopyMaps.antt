@@ -1,15 +1,15 @@
 -- Maps of copies, and what a copy shows.
-use Rattle.std.proofs.Common.{◌≡◌, ℕ, suc, ◌+◌, ◌-◌, ◌*◌, ◌^◌, ◌<◌, List, [], ◌∷◌, sym, ◌∙◌, ap, subst, arith, refl}
+use Rattle.std.proofs.Common.{◌≡◌, ℕ, ◌+◌, ◌-◌, ◌^◌, ◌<◌, List, [], ◌∷◌, sym, ◌∙◌, ap, subst, arith, refl}
 use Rattle.std.specs.Prelude.{IsTrue, Some, None, Result, Ok, Err, OnOk, OnErr}
 use Rattle.std.specs.BTreeMap.{BTreeMap, get, is_at, Updates, IsUnchanged}
 use Rattle.std.specs.Map.{lookup}
 use Rattle.std.specs.Ordering.{nat_cmp, is_eq}
 use Rattle.std.proofs.lemmas.Map.Lookups.{CmpEqualImpliesEq, exact_unsigned}
-use Rattle.std.proofs.Math.Nat.{pow-suc}
 use Rattle.plane.specs.Plane.{Plane}
 use Rattle.plane.specs.Square.{IsSame, IsSquare, bits_plane}
 use Rattle.plane.specs.declared.refusal.Refusal.{Refusal}
 use Rattle.plane.proofs.Rounds.{whole_joined}
+use Rattle.plane.proofs.Paddings.{twice_half}
 use Rattle.plane.proofs.Same.{same_sym, same_trans}
 use Rattle.squares.specs.Book.{Book, IsBook, IsKnown, Shows, Keeps, AreQuarters, joined_squares, numbered, nth}
 use Rattle.squares.specs.Copies.{AreCopies, sq_order}
@@ -65,13 +65,6 @@ empty_copied from to sq is_from is_to known none =
 pub leaf_copied : (from to : Book) (sq copy : Sq) (word : ℕ) → sq.level ≡ 3 → Shows from 3 (bits_plane word) sq → Shows to 3 (bits_plane word) copy → Shows to sq.level (from.cells sq) copy
 leaf_copied from to sq copy word e is made = shows_as to 3 sq.level (bits_plane word) (from.cells sq) copy (sym e) (same_sym is.cells) made
 
-twice : (level : ℕ) → 0 < level → 2 ^ (level - 1) + 2 ^ (level - 1) ≡ 2 ^ level
-twice level h =
-    let e : suc (level - 1) ≡ level = omega arith in
-    let two : 2 ^ suc (level - 1) ≡ 2 ^ (level - 1) * 2 = pow-suc 2 (level - 1) in
-    let s : 2 ^ (level - 1) + 2 ^ (level - 1) ≡ 2 ^ suc (level - 1) = omega (arith, two) in
-    s ∙ ap (λ n. 2 ^ n) e
-
 copied_part : (from to : Book) (level : ℕ) (plane : Plane) (part copy : Sq) → Shows from level plane part → Shows to part.level (from.cells part) copy → IsSame (to.cells copy) plane
 copied_part from to level plane part copy is copied = same_trans copied.cells is.cells
 
@@ -81,7 +74,7 @@ pub quad_copied : (from to new : Book) (level : ℕ) (plane : Plane) (parts : Li
     Shows new (nw.level + 1) (joined_squares to nw.level (nw ∷ ne ∷ sw ∷ se ∷ [])) copy → Shows new level plane copy
 quad_copied from to new level plane parts nw ne sw se copy above square is is_nw is_ne is_sw is_se made =
     let low : nw.level ≡ level - 1 = is_nw.known.at_level ∙ is.nw.known.at_level in
-    let whole : IsSquare (2 ^ (level - 1) + 2 ^ (level - 1)) plane = subst (λ side. IsSquare side plane) (sym (twice level (omega arith))) square in
+    let whole : IsSquare (2 ^ (level - 1) + 2 ^ (level - 1)) plane = subst (λ side. IsSquare side plane) (twice_half level (omega arith)) square in
     let same = whole_joined (2 ^ (level - 1)) plane (to.cells nw) (to.cells ne) (to.cells sw) (to.cells se) whole
     (copied_part from to (level - 1) _ (nth parts 0) nw is.nw is_nw) (copied_part from to (level - 1) _ (nth parts 1) ne is.ne is_ne)
     (copied_part from to (level - 1) _ (nth parts 2) sw is.sw is_sw) (copied_part from to (level - 1) _ (nth parts 3) se is.se is_se) in

@@ -1,9 +1,8 @@
 -- The level of a square round (0,0) that has some runs.
-use Rattle.std.proofs.Common.{◌≡◌, ℕ, suc, ◌+◌, ◌-◌, ◌*◌, ◌^◌, ◌<◌, ◌≤◌, ℤ, pos, negsuc, ◌+ℤ◌, ◌-ℤ◌, ◌≤ℤ◌, ◌<ℤ◌, Bool, true, false, List, [], ◌∷◌, map, sym, ◌∙◌, ap, subst, arith, refl}
+use Rattle.std.proofs.Common.{◌≡◌, ℕ, ◌+◌, ◌-◌, ◌^◌, ◌<◌, ◌≤◌, ℤ, pos, negsuc, ◌+ℤ◌, ◌-ℤ◌, ◌≤ℤ◌, ◌<ℤ◌, Bool, true, false, List, [], ◌∷◌, map, sym, ◌∙◌, ap, subst, arith, refl}
 use Rattle.std.specs.Prelude.{◌&&◌, ◌||◌, ◌==◌, nat_le, nat_lt, int_le, int_lt, unsigned_abs}
 use Rattle.std.specs.List.{AllByRecursion}
 use Rattle.std.specs.Ordering.{int_eq}
-use Rattle.std.proofs.Math.Nat.{pow-suc}
 use Rattle.std.proofs.lemmas.Bool.{false≢true}
 use Rattle.std.proofs.lemmas.Bool.Decides.{nat_tests, Decides-int_eq}
 use Rattle.std.proofs.lemmas.Int.{ints}
@@ -14,6 +13,7 @@ use Rattle.plane.specs.Runs.{IsRun, is_in_run, runs_plane}
 use Rattle.plane.specs.Square.{IsSame, spans, cut}
 use Rattle.plane.specs.declared.cell.Cell.{Cell}
 use Rattle.plane.proofs.Cuts.{and_left, and_right}
+use Rattle.plane.proofs.Paddings.{twice_half}
 use Rattle.plane.proofs.Same.{plane_equal}
 use Rattle.squares.specs.Book.{Book, IsKnown, Shows}
 use Rattle.squares.specs.Rounds.{IsRound}
@@ -41,12 +41,6 @@ not_first false b h = refl
 not_rest : (a b : Bool) → (a || b) ≡ false → b ≡ false
 not_rest true b h = absurd (false≢true (sym h))
 not_rest false b h = h
-
-twice : (level : ℕ) → 1 ≤ level → 2 ^ level ≡ 2 ^ (level - 1) + 2 ^ (level - 1)
-twice level h =
-    let e : level ≡ suc (level - 1) = omega arith in
-    let two : 2 ^ suc (level - 1) ≡ 2 ^ (level - 1) * 2 = pow-suc 2 (level - 1) in
-    ap (λ n. 2 ^ n) e ∙ omega (arith, two)
 
 same_place : (z row : ℤ) → int_eq z row ≡ true → z ≡ row
 same_place z row e = (Decides-int_eq z row).0 e
@@ -98,7 +92,7 @@ none_outside half (run ∷ runs) x y all e = first_run run runs x y ∙ neither 
 pub fitting_held : (level : ℕ) (runs : List (Cell × ℕ)) → 1 ≤ level → AllByRecursion (FitsRound (2 ^ (level - 1))) runs → Holds level (runs_plane runs)
 fitting_held level runs least all = record {
   dead = λ x y e. none_outside (2 ^ (level - 1)) runs x y all
-      (ap (λ n. spans n (x +ℤ pos (2 ^ (level - 1))) && spans n (y +ℤ pos (2 ^ (level - 1)))) (sym (twice level least)) ∙ e);
+      (ap (λ n. spans n (x +ℤ pos (2 ^ (level - 1))) && spans n (y +ℤ pos (2 ^ (level - 1)))) (sym (twice_half level least)) ∙ e);
 }
 
 -- a square that has the ends of a run has the run
@@ -142,7 +136,7 @@ module _ (half : ℕ) where
 
 pub held_fitting : (level : ℕ) (runs : List (Cell × ℕ)) → 1 ≤ level → AllByRecursion IsRun runs → Holds level (runs_plane runs) → AllByRecursion (FitsRound (2 ^ (level - 1))) runs
 held_fitting level runs least all holds = held_runs (2 ^ (level - 1)) runs all
-    (λ x y e. holds.dead x y (ap (λ n. spans n (x +ℤ pos (2 ^ (level - 1))) && spans n (y +ℤ pos (2 ^ (level - 1)))) (twice level least) ∙ e))
+    (λ x y e. holds.dead x y (ap (λ n. spans n (x +ℤ pos (2 ^ (level - 1))) && spans n (y +ℤ pos (2 ^ (level - 1)))) (twice_half level least) ∙ e))
 
 -- the whole range fits at level 63
 in_range : (run : Cell × ℕ) → IsRun run → FitsRound (2 ^ 62) run

@@ -1,9 +1,9 @@
 -- The square of some spans, made of the squares of its quarters.
-use Rattle.std.proofs.Common.{◌≡◌, ℕ, suc, ◌+◌, ◌-◌, ◌*◌, ◌^◌, ◌<◌, ◌≤◌, ℤ, pos, ◌+ℤ◌, Bool, true, false, List, [], ◌∷◌, sym, ◌∙◌, ap, subst, arith, refl}
+use Rattle.std.proofs.Common.{◌≡◌, ℕ, ◌+◌, ◌-◌, ◌*◌, ◌^◌, ◌<◌, ◌≤◌, ℤ, pos, ◌+ℤ◌, Bool, true, false, List, [], ◌∷◌, sym, ◌∙◌, ap, subst, arith, refl}
 use Rattle.std.specs.Prelude.{◌&&◌, int_le, unsigned_abs}
-use Rattle.std.proofs.Math.Nat.{pow-suc}
 use Rattle.plane.specs.Square.{IsSame, spans as spans_at, bits_plane, bit, cut, joined}
 use Rattle.plane.proofs.Cuts.{joined_cuts, moved_to}
+use Rattle.plane.proofs.Paddings.{twice_half}
 use Rattle.plane.proofs.Same.{same_trans}
 use Rattle.squares.specs.Book.{Book, IsBook, Shows, joined_squares, numbered}
 use Rattle.squares.specs.Spans.{in_spans, marked}
@@ -11,13 +11,6 @@ use Rattle.squares.specs.declared.spans.Span.{Span}
 use Rattle.squares.specs.declared.sq.Sq.{Sq}
 use Rattle.squares.proofs.Centres.{shows_as}
 use Rattle.squares.proofs.SpanCells.{cut_marked, leaf_marked, none_in}
-
-twice : (level : ℕ) → 0 < level → 2 ^ (level - 1) + 2 ^ (level - 1) ≡ 2 ^ level
-twice level h =
-    let e : suc (level - 1) ≡ level = omega arith in
-    let two : 2 ^ suc (level - 1) ≡ 2 ^ (level - 1) * 2 = pow-suc 2 (level - 1) in
-    let s : 2 ^ (level - 1) + 2 ^ (level - 1) ≡ 2 ^ suc (level - 1) = omega (arith, two) in
-    s ∙ ap (λ n. 2 ^ n) e
 
 pub quarters_marked : (to new : Book) (level half : ℕ) (spans s_a s_b s_c s_d a b c d : List Span) (nw ne sw se copy : Sq) → 0 < level → half ≡ 2 ^ (level - 1) → s_a ≡ spans → s_b ≡ spans → s_c ≡ spans → s_d ≡ spans →
     ((x y : ℕ) → x < half → y < half → in_spans a x y ≡ in_spans s_a (x + 0) (y + 0)) →
@@ -41,7 +34,7 @@ quarters_marked to new level half spans s_a s_b s_c s_d a b c d nw ne sw se copy
     let whole = joined_cuts h 0 0 plane (to.cells nw) (to.cells ne) (to.cells sw) (to.cells se) one
     (moved_to h h (0 + h) 0 0 plane (to.cells ne) (omega arith) refl two) (moved_to h 0 0 h (0 + h) plane (to.cells sw) refl (omega arith) three)
     (moved_to h h (0 + h) h (0 + h) plane (to.cells se) (omega arith) (omega arith) four) in
-    let same : IsSame (joined h (to.cells nw) (to.cells ne) (to.cells sw) (to.cells se)) (cut (2 ^ level) 0 0 plane) = subst (λ side. IsSame (joined h (to.cells nw) (to.cells ne) (to.cells sw) (to.cells se)) (cut side 0 0 plane)) (twice level least) whole in
+    let same : IsSame (joined h (to.cells nw) (to.cells ne) (to.cells sw) (to.cells se)) (cut (2 ^ level) 0 0 plane) = subst (λ side. IsSame (joined h (to.cells nw) (to.cells ne) (to.cells sw) (to.cells se)) (cut side 0 0 plane)) (sym (twice_half level (omega arith))) whole in
     shows_as new (level - 1 + 1) level _ _ copy (omega arith) same (subst (λ n. Shows new (n + 1) (joined_squares to n (nw ∷ ne ∷ sw ∷ se ∷ [])) copy) at_nw.known.at_level made)
 
 -- a leaf of the spans' bits

@@ -9,6 +9,8 @@ mod runs;
 mod spans;
 mod sq;
 mod subsquares;
+#[cfg(test)]
+mod tests;
 
 pub use book::{Look, Squares};
 pub use copies::copy_square;

@@ -1,0 +1,9 @@
+pub mod BoxesRound
+pub mod Counts
+pub mod FirstRows
+pub mod LeafBoxes
+pub mod LeafRows
+pub mod Leaves
+pub mod Quarters
+pub mod RowsOfSquares
+pub mod RunsBeside

@@ -1,0 +1,4 @@
+pub mod BoundingBox
+pub mod Population
+pub mod RowRuns
+pub mod Rows

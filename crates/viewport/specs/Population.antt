@@ -1,0 +1,39 @@
+-- How many live cells planes and squares have.
+use Rattle.std.specs.Prelude.{◌≡◌, ℕ, ◌*◌, ◌^◌, ◌≤◌, ◌==◌, ◌&&◌, Bool, List, length, Some, Option}
+use Rattle.std.specs.declared.hash.FoldHasher.{FoldHasher}
+use Rattle.std.specs.declared.hash.BuildHasherDefault.{BuildHasherDefault}
+use Rattle.std.specs.HashMap.{HashMap, get}
+use Rattle.plane.specs.declared.cell.Cell.{Cell}
+use Rattle.plane.specs.Listing.{IsListing}
+use Rattle.plane.specs.Plane.{Plane}
+use Rattle.plane.specs.Square.{bits_plane}
+use Rattle.plane.specs.Window.{square_cells}
+use Rattle.squares.specs.Book.{Book}
+use Rattle.squares.specs.declared.sq.Sq.{Sq}
+
+-- the plane has so many live cells
+pub record HasPopulation (plane : Plane) (population : ℕ) : Type 0 where
+  pub cells : List Cell
+  pub listing : IsListing cells plane
+  pub count : population ≡ length cells
+
+-- how many live cells the square of this side has
+abbrev pub cell_count : ℕ → Plane → ℕ
+cell_count side plane = length (square_cells side plane)
+
+-- whether two keys are the same level and number
+abbrev pub is_same_key : (ℕ × ℕ) → (ℕ × ℕ) → Bool
+is_same_key a b = (a.0 == b.0) && (a.1 == b.1)
+
+-- the value that is kept of a square, by its level and number
+abbrev pub value_of : {Value : Type 0} → HashMap (ℕ × ℕ) Value (BuildHasherDefault FoldHasher) → Sq → Option Value
+value_of values sq = get is_same_key values (sq.level, sq.num.0)
+
+-- the number of live cells of a square of a book: at most one for each place
+pub record IsCount (book : Book) (sq : Sq) (population : ℕ) : Type 0 where
+  pub cells : population ≡ cell_count (2 ^ sq.level) (book.cells sq)
+  pub most : population ≤ 2 ^ (2 * sq.level)
+
+-- each value that is kept is the number of live cells of its square
+pub record AreCounts (book : Book) (counts : HashMap (ℕ × ℕ) ℕ (BuildHasherDefault FoldHasher)) : Type 0 where
+  pub count : (sq : Sq) (population : ℕ) → value_of counts sq ≡ Some population → IsCount book sq population

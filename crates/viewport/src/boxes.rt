@@ -1,0 +1,113 @@
+ghost use Rattle.std.specs.Prelude.{◌≡◌, ◌≤◌, ◌^◌, IfOk, IsOkUnless};
+ghost use Rattle.std.specs.Option.{ForSome};
+ghost use Rattle.plane.specs.Centred.{centred};
+ghost use Rattle.plane.specs.Square.{bits_plane};
+ghost use Rattle.squares.specs.Book.{IsKnown};
+ghost use Rattle.viewport.specs.BoundingBox.{AreBoxes, FitsMoved, HasBounds, IsLocalBox, box_round, moved_box};
+
+use crate::sides::half_side;
+use plane::{Bounds, Refusal};
+use squares::{Look, Sq};
+use std::alloc::Global;
+use std::collections::HashMap;
+
+// The boxes of squares, by level and number, from the square's upper left corner.
+type Boxes = HashMap<(u8, u32), Option<Bounds>>;
+
+/// The smallest box round the live cells of a square of a level up to 63, if it has any. Each number
+/// above level 3 is visited once. `NoMemory` where there is no room for one more box.
+pub fn bounds<L: Look>(look: &L, alloc: Global, sq: Sq) -> Result<Option<Bounds>, Refusal>
+    requires known { IsKnown (L.book look.now) sq.level sq }
+    requires level { sq.level ≤ 63 }
+    ensures ok { IfOk result (HasBounds (centred sq.level ((L.book look.now).cells sq))) }
+    ensures memory { IsOkUnless result Refusal.NoMemory }
+{
+    let mut boxes = HashMap::new(alloc);
+    let local = local_box(look, sq, &mut boxes)?;
+    let half = half_side(sq.level);
+    Ok(moved(local, -half, -half))
+}
+
+// The box of the square's live cells, by the boxes that are known; it adds what it finds to them.
+fn local_box<L: Look>(look: &L, sq: Sq, boxes: &mut Boxes) -> Result<Option<Bounds>, Refusal>
+    requires known { IsKnown (L.book look.now) sq.level sq }
+    requires level { sq.level ≤ 63 }
+    requires boxed { AreBoxes (L.book look.now) boxes.old }
+    ensures ok { IfOk result (IsLocalBox (2 ^ sq.level) ((L.book look.now).cells sq)) }
+    ensures boxed { AreBoxes (L.book look.now) boxes.new }
+    ensures memory { IsOkUnless result Refusal.NoMemory }
+{
+    if sq.num.0 == 0 {
+        return Ok(None);
+    }
+    if sq.level == 3 {
+        return Ok(leaf_box(look.bits(sq)));
+    }
+    let key = (sq.level, sq.num.0);
+    if let Some(known) = boxes.get(&key) {
+        return Ok(*known);
+    }
+    let [nw, ne, sw, se] = look.parts(sq);
+    let half = half_side(sq.level);
+    let nw = local_box(look, nw, boxes)?;
+    let ne = local_box(look, ne, boxes)?;
+    let sw = local_box(look, sw, boxes)?;
+    let se = local_box(look, se, boxes)?;
+    let upper = round(nw, moved(ne, half, 0));
+    let lower = round(moved(sw, 0, half), moved(se, half, half));
+    let whole = round(upper, lower);
+    let Ok(_) = boxes.insert(key, whole) else {
+        return Err(Refusal::NoMemory);
+    };
+    Ok(whole)
+}
+
+// The box, moved so far to the right and down.
+fn moved(bounds: Option<Bounds>, right: i64, down: i64) -> Option<Bounds>
+    requires { ForSome bounds (FitsMoved right down) }
+    ensures { result ≡ moved_box right down bounds }
+{
+    let bounds = bounds?;
+    Some(Bounds {
+        left: bounds.left + right,
+        top: bounds.top + down,
+        right: bounds.right + right,
+        bottom: bounds.bottom + down,
+    })
+}
+
+// The smallest box round two boxes, either of which may hold nothing.
+fn round(a: Option<Bounds>, b: Option<Bounds>) -> Option<Bounds>
+    ensures { result ≡ box_round a b }
+{
+    match (a, b) {
+        (Some(a), Some(b)) => Some(Bounds {
+            left: a.left.min(b.left),
+            top: a.top.min(b.top),
+            right: a.right.max(b.right),
+            bottom: a.bottom.max(b.bottom),
+        }),
+        (None, b) => b,
+        (a, None) => a,
+    }
+}
+
+// The box of a leaf's live cells.
+fn leaf_box(word: u64) -> Option<Bounds>
+    ensures { IsLocalBox 8 (bits_plane word) result }
+{
+    let mut bounds = None;
+    for place in 0..64u8 {
+        if (word >> place) & 1 == 1 {
+            let (x, y) = (i64::from(place % 8), i64::from(place / 8));
+            let cell = Bounds {
+                left: x,
+                top: y,
+                right: x,
+                bottom: y,
+            };
+            bounds = round(bounds, Some(cell));
+        }
+    }
+    bounds
+}

@@ -1,0 +1,16 @@
+//! What a square shows, over any book that can be looked at: how many live cells it has, the smallest
+//! box round them, the runs of a row, and the first row with a live cell. A square of level k covers
+//! -2^(k-1) to 2^(k-1)-1 in both directions, so (0,0) lies at its centre. Squares that share their
+//! quarters are no slower for it, however many cells they have.
+#![tactic(auto)]
+
+mod boxes;
+mod populations;
+mod rows;
+mod runs;
+mod sides;
+
+pub use boxes::bounds;
+pub use populations::population;
+pub use rows::first_row;
+pub use runs::row_runs;

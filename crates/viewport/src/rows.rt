@@ -1,0 +1,69 @@
+ghost use Rattle.std.specs.Prelude.{◌≡◌, ◌≤◌, ◌<◌};
+ghost use Rattle.plane.specs.Centred.{centred};
+ghost use Rattle.plane.specs.Square.{bits_plane};
+ghost use Rattle.squares.specs.Book.{IsKnown};
+ghost use Rattle.viewport.specs.Rows.{IsFirstRow, IsFirstRowBelow};
+
+use crate::sides::{half_side, row_at, rows_above, side};
+use squares::{Look, Sq};
+
+/// The first row, from row y on downwards, in which a square of a level up to 63 has a live cell.
+/// Empty squares are passed over, so that its time follows what the square has near the rows from y to
+/// that one, and not how many rows lie between.
+pub fn first_row<L: Look>(look: &L, sq: Sq, y: i64) -> Option<i64>
+    requires known { IsKnown (L.book look.now) sq.level sq }
+    requires level { sq.level ≤ 63 }
+    ensures { IsFirstRow (centred sq.level ((L.book look.now).cells sq)) y result }
+{
+    let half = half_side(sq.level);
+    if y >= half {
+        return None;
+    }
+    let from = rows_above(y, half);
+    let row = first_row_below(look, sq, from, side(sq.level))?;
+    Some(row_at(row, half))
+}
+
+// The first row with a live cell, from one row on and above another, counted from the square's top.
+fn first_row_below<L: Look>(look: &L, sq: Sq, from: u64, end: u64) -> Option<u64>
+    requires known { IsKnown (L.book look.now) sq.level sq }
+    requires level { sq.level ≤ 63 }
+    ensures { IsFirstRowBelow ((L.book look.now).cells sq) from end result }
+{
+    if sq.num.0 == 0 || end <= from {
+        return None;
+    }
+    if sq.level == 3 {
+        return first_leaf_row(look.bits(sq), from, end);
+    }
+    let half = side(sq.level - 1);
+    let [nw, ne, sw, se] = look.parts(sq);
+    let left_end = end.min(half);
+    let left = first_row_below(look, nw, from, left_end);
+    let right = first_row_below(look, ne, from, left.unwrap_or(left_end));
+    let upper = right.or(left);
+    if upper.is_some() {
+        return upper;
+    }
+    let from = from.saturating_sub(half);
+    let left_end = end.saturating_sub(half);
+    let left = first_row_below(look, sw, from, left_end);
+    let right = first_row_below(look, se, from, left.unwrap_or(left_end));
+    let lower = right.or(left)?;
+    Some(lower + half)
+}
+
+// The first row of a leaf with a live cell, from one row on and above another.
+fn first_leaf_row(word: u64, from: u64, end: u64) -> Option<u64>
+    ensures { IsFirstRowBelow (bits_plane word) from end result }
+{
+    if from >= 8 {
+        return None;
+    }
+    let rest = word >> (8 * from);
+    if rest == 0 {
+        return None;
+    }
+    let row = from + u64::from(rest.trailing_zeros() / 8);
+    if row < end { Some(row) } else { None }
+}

@@ -1,0 +1,115 @@
+ghost use Rattle.std.specs.Prelude.{◌≡◌, ◌≤◌, ◌<◌, ◌^◌, ◌+◌, ◌+ℤ◌, ◌≤ℤ◌, ◌↔◌, pos, IfOk, IsOkUnless, IsTrue, OnOk};
+ghost use Rattle.plane.specs.Centred.{centred};
+ghost use Rattle.plane.specs.Square.{bits_plane};
+ghost use Rattle.squares.specs.Book.{IsKnown};
+ghost use Rattle.viewport.specs.RowRuns.{AddsCells, AreRowRuns, EndBy, cells_at, end_of, run_cells};
+
+use crate::sides::{half_side, rows_above, side};
+use plane::Refusal;
+use squares::{Look, Sq};
+use std::alloc::{AllocError, Global};
+
+/// The runs of live cells in row y of a square of a level up to 63, from left to right, each as long
+/// as it can be: its first cell, and how many there are. Empty squares are passed over. `NoMemory`
+/// where there is no room for one more run.
+pub fn row_runs<L: Look>(
+    look: &L,
+    alloc: Global,
+    sq: Sq,
+    y: i64,
+) -> Result<Vec<(i64, u64)>, Refusal>
+    requires known { IsKnown (L.book look.now) sq.level sq }
+    requires level { sq.level ≤ 63 }
+    ensures ok { IfOk result (λ runs. AreRowRuns (centred sq.level ((L.book look.now).cells sq)) y runs.items) }
+    ensures memory { IsOkUnless result Refusal.NoMemory }
+{
+    let mut runs = Vec::new(alloc);
+    let half = half_side(sq.level);
+    if y < -half || y >= half {
+        return Ok(runs);
+    }
+    let Ok(_) = add_row(look, sq, -half, rows_above(y, half), &mut runs) else {
+        return Err(Refusal::NoMemory);
+    };
+    Ok(runs)
+}
+
+// Adds the cells of a row of the square that begins at left; the runs so far end there or before.
+fn add_row<L: Look>(
+    look: &L,
+    sq: Sq,
+    left: i64,
+    y: u64,
+    runs: &mut Vec<(i64, u64)>,
+) -> Result<(), AllocError>
+    requires known { IsKnown (L.book look.now) sq.level sq }
+    requires level { sq.level ≤ 63 }
+    requires row { y < 2 ^ sq.level }
+    requires room { (left +ℤ pos (2 ^ sq.level)) ≤ℤ pos (2 ^ 62) }
+    requires before { EndBy left runs.old.items }
+    ensures ok { OnOk result (AddsCells left (2 ^ sq.level) (cells_at ((L.book look.now).cells sq) left y) runs.old.items runs.new.items) }
+{
+    if sq.num.0 == 0 {
+        return Ok(());
+    }
+    if sq.level == 3 {
+        return add_leaf_row(look.bits(sq), left, y, runs);
+    }
+    let [nw, ne, sw, se] = look.parts(sq);
+    let half = side(sq.level - 1);
+    let middle = left + half_side(sq.level);
+    if y < half {
+        add_row(look, nw, left, y, runs)?;
+        add_row(look, ne, middle, y, runs)
+    } else {
+        add_row(look, sw, left, y - half, runs)?;
+        add_row(look, se, middle, y - half, runs)
+    }
+}
+
+// Adds the cells of a row of the leaf that begins at left; the runs so far end there or before.
+fn add_leaf_row(word: u64, left: i64, y: u64, runs: &mut Vec<(i64, u64)>) -> Result<(), AllocError>
+    requires row { y < 8 }
+    requires room { (left +ℤ pos 8) ≤ℤ pos (2 ^ 62) }
+    requires before { EndBy left runs.old.items }
+    ensures ok { OnOk result (AddsCells left 8 (cells_at (bits_plane word) left y) runs.old.items runs.new.items) }
+{
+    for x in 0..8u8 {
+        if (word >> (8 * y + u64::from(x))) & 1 == 1 {
+            add_run(left + i64::from(x), 1, runs)?;
+        }
+    }
+    Ok(())
+}
+
+// Adds a run behind the others; where the last one ends at its first cell they become one.
+fn add_run(first: i64, count: u64, runs: &mut Vec<(i64, u64)>) -> Result<(), AllocError>
+    requires some { 0 < count }
+    requires room { (first +ℤ pos count) ≤ℤ pos (2 ^ 62) }
+    requires before { EndBy first runs.old.items }
+    ensures ok { OnOk result (AddsCells first count (run_cells first count) runs.old.items runs.new.items) }
+{
+    if let Some(last) = runs.last_mut() {
+        if ends_at(*last, first) {
+            *last = longer(*last, count);
+            return Ok(());
+        }
+    }
+    runs.push((first, count))?;
+    Ok(())
+}
+
+// Whether the run ends where another one begins.
+fn ends_at(run: (i64, u64), first: i64) -> bool
+    ensures { IsTrue result ↔ (end_of run ≡ first) }
+{
+    run.0.checked_add_unsigned(run.1) == Some(first)
+}
+
+// The run with so many cells more at its end.
+fn longer(run: (i64, u64), count: u64) -> (i64, u64)
+    requires { (end_of run +ℤ pos count) ≤ℤ pos (2 ^ 62) }
+    ensures { result ≡ (run.0, run.1 + count) }
+{
+    (run.0, run.1 + count)
+}

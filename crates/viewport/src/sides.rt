@@ -1,0 +1,41 @@
+ghost use Rattle.std.specs.Prelude.{◌≡◌, ◌≤◌, ◌<◌, ◌-◌, ◌^◌, pos, ◌+ℤ◌, ◌-ℤ◌, ◌≤ℤ◌, ◌<ℤ◌};
+ghost use Rattle.std.specs.Int.{int_max};
+
+// The side of a square of this level.
+pub fn side(level: u8) -> u64
+    requires { level ≤ 63 }
+    ensures side { result ≡ 2 ^ level }
+    ensures half { level ≤ 62 → result ≤ 2 ^ 62 }
+{
+    1 << level
+}
+
+// How far (0,0) lies from the left side and from the top of a square of this level.
+pub fn half_side(level: u8) -> i64
+    requires low { 1 ≤ level }
+    requires high { level ≤ 63 }
+    ensures side { result ≡ pos (2 ^ (level - 1)) }
+    ensures small { 2 ^ (level - 1) ≤ 2 ^ 62 }
+{
+    side(level - 1) as i64
+}
+
+// How many rows lie above row y, from the top on.
+pub fn rows_above(y: i64, half: i64) -> u64
+    requires low { pos 0 ≤ℤ half }
+    requires high { half ≤ℤ pos (2 ^ 62) }
+    requires below { y <ℤ half }
+    ensures { pos result ≡ int_max (pos 0) (y +ℤ half) }
+{
+    if y < -half { 0 } else { (y + half) as u64 }
+}
+
+// The row that has so many rows above it, counted from (0,0).
+pub fn row_at(row: u64, half: i64) -> i64
+    requires low { pos 0 ≤ℤ half }
+    requires high { half ≤ℤ pos (2 ^ 62) }
+    requires row { row < 2 ^ 63 }
+    ensures { result ≡ pos row -ℤ half }
+{
+    row as i64 - half
+}
