@@ -1,13 +1,13 @@
 -- Boxes round planes: of two planes, of a plane that was moved, of a square, and of a listing.
-use Rattle.std.proofs.Common.{◌≡◌, ℕ, zero, suc, ◌+◌, ◌-◌, ◌^◌, ◌<◌, ◌≤◌, ℤ, pos, ◌+ℤ◌, ◌-ℤ◌, ◌≤ℤ◌, ◌<ℤ◌, Bool, true, false, cond, ◌&&◌, ◌||◌, List, [], ◌∷◌, map, fold, refl, sym, ◌∙◌, ap, subst, arith}
-use Rattle.std.specs.Prelude.{Option, Some, None, IfSome, int_lt, FitsSigned}
-use Rattle.std.specs.Int.{int_min, int_max, w64}
+use Rattle.std.proofs.Common.{◌≡◌, ℕ, ◌+◌, ◌-◌, ◌^◌, ◌≤◌, ℤ, pos, ◌+ℤ◌, ◌-ℤ◌, ◌≤ℤ◌, ◌<ℤ◌, Bool, true, false, cond, ◌||◌, List, [], ◌∷◌, map, refl, sym, ◌∙◌, ap, subst, arith}
+use Rattle.std.specs.Prelude.{Option, Some, None, int_lt}
+use Rattle.std.specs.Int.{int_min, int_max}
 use Rattle.std.specs.List.{AllByRecursion, list_any}
 use Rattle.std.proofs.lemmas.Int.{ints, clamps}
 use Rattle.std.proofs.lemmas.Bool.{false≢true}
 use Rattle.plane.specs.declared.cell.Cell.{Cell}
 use Rattle.plane.specs.declared.cell.Bounds.{Bounds}
-use Rattle.plane.specs.Bounds.{bounds_of, box_with, IsWithin}
+use Rattle.plane.specs.Bounds.{bounds_of, IsWithin}
 use Rattle.plane.specs.Centred.{centred}
 use Rattle.plane.specs.Laws.{moved, IsSmallest}
 use Rattle.plane.specs.Listing.{is_at, plane_of, IsListing}
@@ -19,7 +19,7 @@ use Rattle.plane.proofs.Boxes.{smallest_box_lem, some_box, box_at}
 use Rattle.plane.proofs.Listings.{is_at-own}
 use Rattle.plane.proofs.Paddings.{centred_moved}
 use Rattle.plane.proofs.Same.{plane_equal, same_sym}
-use Rattle.viewport.specs.BoundingBox.{HasBounds, IsBoxOf, IsInside, IsLocalBox, FitsMoved, box_round, moved_bounds, moved_box}
+use Rattle.viewport.specs.BoundingBox.{HasBounds, IsBoxOf, IsInside, IsLocalBox, FitsMoved, box_round, moved_box}
 use Rattle.viewport.proofs.Counts.{by_cases, centred_listing}
 use Rattle.viewport.proofs.Quarters.{either, beside, dead_column, dead_row, from_nothing, IsQuartered, over}
 

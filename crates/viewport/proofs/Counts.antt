@@ -1,6 +1,6 @@
 -- Counts of live cells: of empty squares, of leaves, of four quarters, and those that are kept.
-use Rattle.std.proofs.Common.{◌≡◌, ℕ, zero, suc, ◌+◌, ◌-◌, ◌*◌, ◌^◌, ◌≤◌, ◌<◌, pow_mono, ℤ, pos, ◌-ℤ◌, Bool, true, false, cond, ◌&&◌, List, [], length, map, refl, sym, ◌∙◌, ap, subst, arith}
-use Rattle.std.specs.Prelude.{◌==◌, Option, Some, None}
+use Rattle.std.proofs.Common.{◌≡◌, ℕ, suc, ◌+◌, ◌-◌, ◌*◌, ◌^◌, ◌≤◌, ◌<◌, pow_mono, pos, ◌-ℤ◌, Bool, true, false, cond, length, map, refl, sym, ◌∙◌, ap, subst, arith}
+use Rattle.std.specs.Prelude.{Some}
 use Rattle.std.specs.declared.hash.FoldHasher.{FoldHasher}
 use Rattle.std.specs.declared.hash.BuildHasherDefault.{BuildHasherDefault}
 use Rattle.std.specs.HashMap.{HashMap, Updates}
@@ -9,7 +9,7 @@ use Rattle.std.proofs.lemmas.Bool.{eqb-true}
 use Rattle.std.proofs.lemmas.List.{length-map}
 use Rattle.plane.specs.Centred.{centred}
 use Rattle.plane.specs.Plane.{Plane}
-use Rattle.plane.specs.Square.{IsSquare, IsSame, joined, empty}
+use Rattle.plane.specs.Square.{IsSquare, IsSame, empty}
 use Rattle.plane.specs.Listing.{IsListing}
 use Rattle.plane.specs.Window.{square_cells, moved_cell}
 use Rattle.plane.proofs.Cuts.{and_left, and_right}
@@ -19,7 +19,7 @@ use Rattle.plane.proofs.Same.{plane_equal, same_sym}
 use Rattle.plane.proofs.Windows.{square_listing}
 use Rattle.squares.specs.Book.{Book, IsBook, IsKnown, numbered}
 use Rattle.squares.specs.declared.sq.Sq.{Sq}
-use Rattle.viewport.specs.Population.{AreCounts, HasPopulation, IsCount, cell_count, is_same_key, value_of}
+use Rattle.viewport.specs.Population.{HasPopulation, IsCount, cell_count, is_same_key, value_of}
 use Rattle.viewport.proofs.Quarters.{IsQuartered}
 
 pub by_cases : {A : Type 0} (b : Bool) → (b ≡ true → A) → (b ≡ false → A) → A

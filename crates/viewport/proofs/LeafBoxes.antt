@@ -1,17 +1,17 @@
 -- The box of a leaf's cells, one bit after the other.
-use Rattle.std.proofs.Common.{◌≡◌, ◌≢◌, ℕ, zero, suc, ◌+◌, ◌*◌, ◌/◌, ◌%◌, ◌^◌, ◌<◌, ◌≤◌, ℤ, pos, ◌≤ℤ◌, ◌<ℤ◌, Bool, true, false, ◌&&◌, ◌||◌, refl, sym, ◌∙◌, ap, subst, arith}
+use Rattle.std.proofs.Common.{◌≡◌, ◌≢◌, ℕ, suc, ◌+◌, ◌*◌, ◌/◌, ◌%◌, ◌<◌, ℤ, pos, ◌≤ℤ◌, Bool, true, false, ◌&&◌, ◌||◌, refl, sym, ◌∙◌, ap, subst, arith}
 use Rattle.std.specs.Prelude.{◌==◌, nat_lt, unsigned_abs, Option, Some, None}
 use Rattle.std.specs.Int.{bit_at}
 use Rattle.std.specs.Ordering.{int_eq}
-use Rattle.std.proofs.lemmas.Bool.{false≢true, eqb-true, eqb-false}
+use Rattle.std.proofs.lemmas.Bool.{eqb-true, eqb-false}
 use Rattle.std.proofs.lemmas.Bool.Decides.{nat_tests}
 use Rattle.std.proofs.lemmas.Int.{ints}
 use Rattle.plane.specs.declared.cell.Bounds.{Bounds}
 use Rattle.plane.specs.Plane.{Plane}
-use Rattle.plane.specs.Square.{IsSame, bits_plane, bit, spans, empty}
+use Rattle.plane.specs.Square.{bits_plane, bit, spans}
 use Rattle.plane.proofs.Cuts.{and_left, and_right}
-use Rattle.plane.proofs.Same.{plane_equal, same_sym}
-use Rattle.viewport.specs.BoundingBox.{IsBoxOf, box_round}
+use Rattle.plane.proofs.Same.{plane_equal}
+use Rattle.viewport.specs.BoundingBox.{box_round}
 use Rattle.viewport.proofs.BoxesRound.{BoxMatches, either_box}
 use Rattle.viewport.proofs.Counts.{by_cases}
 use Rattle.viewport.proofs.Quarters.{either, and_dead_right}

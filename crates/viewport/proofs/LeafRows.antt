@@ -1,6 +1,6 @@
 -- The first row of a leaf with a live cell, by the place of its lowest bit.
-use Rattle.std.proofs.Common.{◌≡◌, ◌≢◌, ℕ, ◌+◌, inl, inr, ◌-◌, ◌*◌, ◌/◌, ◌%◌, ◌^◌, ◌<◌, ◌≤◌, ℤ, pos, ◌≤ℤ◌, ◌<ℤ◌, Bool, true, false, ◌&&◌, sym, ◌∙◌, ap, subst, refl, arith, w64}
-use Rattle.std.specs.Prelude.{◌==◌, unsigned_abs}
+use Rattle.std.proofs.Common.{◌≡◌, ◌≢◌, ℕ, ◌+◌, inl, inr, ◌-◌, ◌*◌, ◌/◌, ◌%◌, ◌^◌, ◌<◌, ◌≤◌, ℤ, pos, ◌≤ℤ◌, ◌<ℤ◌, true, ◌&&◌, sym, ◌∙◌, ap, arith, w64}
+use Rattle.std.specs.Prelude.{◌==◌}
 use Rattle.std.specs.Int.{bit_at, trailing_zeros}
 use Rattle.std.proofs.lemmas.Bool.{eqb-true, cases_lt}
 use Rattle.std.proofs.lemmas.Int.{ints}
@@ -9,7 +9,7 @@ use lib.Pow.{shr-shr}
 use native.Mathlib.Nat.{div-le_self}
 use Rattle.plane.specs.Square.{bits_plane, bit, spans}
 use Rattle.plane.proofs.Cuts.{and_left, and_right}
-use Rattle.viewport.specs.Rows.{AreDeadRows, IsFirstRowBelow, IsLiveRow}
+use Rattle.viewport.specs.Rows.{AreDeadRows, IsLiveRow}
 use Rattle.viewport.proofs.Counts.{by_cases}
 use Rattle.viewport.proofs.LeafBoxes.{place_of}
 use Rattle.viewport.proofs.Leaves.{shows}

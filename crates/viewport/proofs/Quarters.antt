@@ -1,5 +1,5 @@
 -- A square is its quarters, laid over one another.
-use Rattle.std.proofs.Common.{◌≡◌, ℕ, ◌+◌, ◌-◌, ◌^◌, ◌<◌, ℤ, pos, ◌-ℤ◌, ◌+ℤ◌, Bool, true, false, cond, ◌&&◌, ◌||◌, List, refl, sym, ◌∙◌, ap, subst, arith}
+use Rattle.std.proofs.Common.{◌≡◌, ℕ, ◌-◌, ◌^◌, ◌<◌, ℤ, pos, ◌-ℤ◌, Bool, true, false, cond, ◌&&◌, ◌||◌, List, refl, sym, ◌∙◌, ap, subst, arith}
 use Rattle.std.specs.Prelude.{int_lt}
 use Rattle.std.proofs.lemmas.Int.{ints}
 use Rattle.plane.specs.Laws.{moved}

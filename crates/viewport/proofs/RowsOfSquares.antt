@@ -7,16 +7,15 @@ use Rattle.std.proofs.lemmas.Bool.Decides.{nat_tests}
 use Rattle.std.proofs.lemmas.Int.{ints, clamps}
 use Rattle.plane.specs.Centred.{centred}
 use Rattle.plane.specs.Plane.{Plane}
-use Rattle.plane.specs.Square.{IsSame, IsSquare, spans, empty, bits_plane, bit}
+use Rattle.plane.specs.Square.{IsSame, IsSquare, spans, bits_plane, bit}
 use Rattle.plane.proofs.Paddings.{twice_half}
-use Rattle.plane.proofs.Same.{plane_equal, same_sym}
 use Rattle.viewport.specs.RowRuns.{AddsCells, AreRowRuns, EndBy, cells_at, is_in_some, run_cells}
-use Rattle.viewport.proofs.BoxesRound.{both_dead, or_false}
+use Rattle.viewport.proofs.BoxesRound.{or_false}
 use Rattle.viewport.proofs.Counts.{by_cases}
-use Rattle.viewport.proofs.FirstRows.{IsInRows, rows_beside, outside_low, outside_high}
+use Rattle.viewport.proofs.FirstRows.{rows_beside, outside_low, outside_high}
 use Rattle.viewport.proofs.LeafBoxes.{eq_true}
 use Rattle.viewport.proofs.Leaves.{shows}
-use Rattle.viewport.proofs.Quarters.{beside, either, dead_row, from_nothing, IsQuartered, over}
+use Rattle.viewport.proofs.Quarters.{beside, dead_row, from_nothing, IsQuartered, over}
 use Rattle.viewport.proofs.RunsBeside.{adds_as, adds_no_more, adds_then}
 
 no_cells : (x : ℤ) → is_in_some [] x ≡ false

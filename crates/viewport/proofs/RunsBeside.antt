@@ -1,23 +1,12 @@
 -- Runs behind one another, and the rows of squares that they make.
-use Rattle.std.proofs.Common.{◌≡◌, ◌≢◌, ℕ, zero, suc, ◌+◌, ◌-◌, ◌*◌, ◌^◌, ◌<◌, ◌≤◌, ℤ, pos, ◌+ℤ◌, ◌-ℤ◌, ◌≤ℤ◌, ◌<ℤ◌, Bool, true, false, ◌&&◌, ◌||◌, List, [], ◌∷◌, ◌++◌, length, get_or, set, refl, sym, ◌∙◌, ap, subst, arith, w64, SFits}
-use Rattle.std.specs.Int.{int_max, bit_at}
+use Rattle.std.proofs.Common.{◌≡◌, ◌≢◌, ℕ, suc, ◌+◌, ◌-◌, ◌^◌, ◌<◌, ℤ, pos, ◌+ℤ◌, ◌-ℤ◌, ◌≤ℤ◌, ◌<ℤ◌, Bool, true, false, ◌||◌, List, [], ◌∷◌, ◌++◌, length, get_or, set, refl, sym, ◌∙◌, ap, subst, arith, w64, SFits}
 use Rattle.std.specs.List.{AllByRecursion, list_any}
-use Rattle.std.specs.Ordering.{int_eq}
-use Rattle.std.proofs.lemmas.Int.{ints, clamps}
+use Rattle.std.proofs.lemmas.Int.{ints}
 use Rattle.std.proofs.lemmas.List.Folds.{list_any-append}
-use Rattle.plane.specs.Centred.{centred}
-use Rattle.plane.specs.Plane.{Plane}
-use Rattle.plane.specs.Square.{IsSame, IsSquare, spans, empty, bits_plane, bit}
-use Rattle.plane.proofs.Paddings.{twice_half}
-use Rattle.plane.proofs.Same.{plane_equal, same_sym}
+use Rattle.plane.specs.Square.{spans}
 use Rattle.plane.proofs.Turns.{AllByRecursion-append, AllByRecursion-weaker}
-use Rattle.viewport.specs.RowRuns.{AddsCells, AreApart, AreRowRuns, EndBy, cells_at, end_of, is_in_run, is_in_some, run_cells}
-use Rattle.viewport.proofs.BoxesRound.{both_dead, or_false}
-use Rattle.viewport.proofs.Counts.{by_cases}
-use Rattle.viewport.proofs.FirstRows.{IsInRows, rows_beside, outside_low, outside_high}
-use Rattle.viewport.proofs.LeafBoxes.{eq_true}
-use Rattle.viewport.proofs.Leaves.{shows}
-use Rattle.viewport.proofs.Quarters.{beside, either, dead_row, from_nothing, IsQuartered, over}
+use Rattle.viewport.specs.RowRuns.{AddsCells, AreApart, EndBy, end_of, is_in_run, is_in_some, run_cells}
+use Rattle.viewport.proofs.BoxesRound.{or_false}
 
 -- a list by all but its last item and that item
 pub record IsEnded {X : Type 0} (xs front : List X) (last : X) : Type 0 where

@@ -6,7 +6,6 @@ use Rattle.std.specs.HashMap.{HashMap, get}
 use Rattle.plane.specs.declared.cell.Cell.{Cell}
 use Rattle.plane.specs.Listing.{IsListing}
 use Rattle.plane.specs.Plane.{Plane}
-use Rattle.plane.specs.Square.{bits_plane}
 use Rattle.plane.specs.Window.{square_cells}
 use Rattle.squares.specs.Book.{Book}
 use Rattle.squares.specs.declared.sq.Sq.{Sq}

@@ -9,6 +9,8 @@ mod populations;
 mod rows;
 mod runs;
 mod sides;
+#[cfg(test)]
+mod tests;
 
 pub use boxes::bounds;
 pub use populations::population;

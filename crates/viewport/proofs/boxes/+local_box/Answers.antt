@@ -1,11 +1,10 @@
-use Rattle.std.proofs.Common.{◌≡◌, ◌+◌, ◌-◌, ◌^◌, ◌<◌, ◌≤◌, ℕ, pos, sym, ap, ◌∙◌, subst, arith, rules, w64, SFits}
+use Rattle.std.proofs.Common.{◌≡◌, ◌-◌, ◌^◌, ℕ, sym, subst, arith, rules, w64, SFits}
 use Rattle.std.specs.Prelude.{Option}
-use Rattle.std.proofs.lemmas.Int.{to_z-of_z, ints}
+use Rattle.std.proofs.lemmas.Int.{to_z-of_z}
 use Rattle.plane.specs.declared.cell.Bounds.{Bounds}
 use Rattle.plane.specs.Square.{IsSquare}
 use Rattle.plane.proofs.Paddings.{twice_half}
-use Rattle.squares.specs.Book.{nth}
-use Rattle.viewport.specs.BoundingBox.{IsLocalBox, box_round, moved_box}
+use Rattle.viewport.specs.BoundingBox.{IsLocalBox}
 use Rattle.viewport.proofs.BoxesRound.{box_level, four_boxes, inside_of, leaf_as, quarters_box, room}
 use Rattle.viewport.proofs.Counts.{true_of_kept}
 use Rattle.viewport.proofs.Quarters.{known_square, quartered}

@@ -1,4 +1,4 @@
-use Rattle.std.proofs.Common.{◌≡◌, ◌-◌, ◌^◌, ◌≤◌, pow_mono, pos, ◌-ℤ◌, ◌∙◌, sym, ap, subst, arith, rules, w64, SFits}
+use Rattle.std.proofs.Common.{◌-◌, ◌^◌, pow_mono, pos, ◌-ℤ◌, sym, subst, arith, rules, w64, SFits}
 use Rattle.std.specs.Prelude.{Option}
 use Rattle.std.proofs.lemmas.Int.{to_z-of_z, ints}
 use Rattle.plane.specs.Centred.{centred}

@@ -1,4 +1,4 @@
-use Rattle.std.proofs.Common.{◌≡◌, ◌≢◌, ℕ, suc, ◌+◌, ◌∙◌, sym, ap, subst, refl, arith, rules, w64, SFits}
+use Rattle.std.proofs.Common.{◌≡◌, ◌≢◌, suc, ◌+◌, ◌∙◌, sym, ap, subst, refl, arith, rules, w64, SFits}
 use Rattle.std.specs.Prelude.{Option, Some}
 use Rattle.std.specs.Int.{bit_at}
 use Rattle.std.proofs.lemmas.Int.{to_z-of_z}

@@ -1,4 +1,4 @@
-use Rattle.std.proofs.Common.{◌≡◌, ◌+ℤ◌, rules, w64, SFits}
+use Rattle.std.proofs.Common.{◌+ℤ◌, rules, w64, SFits}
 use Rattle.std.proofs.lemmas.Int.{to_z-of_z}
 use Rattle.viewport.specs.BoundingBox.{FitsMoved}
 use Rattle.viewport.proofs.boxes.moved.Goals as goal

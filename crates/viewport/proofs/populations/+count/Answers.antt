@@ -1,4 +1,4 @@
-use Rattle.std.proofs.Common.{◌≡◌, ◌+◌, ◌<◌, ◌≤◌, ◌^◌, sym, arith}
+use Rattle.std.proofs.Common.{sym, arith}
 use Rattle.squares.specs.Book.{nth}
 use Rattle.viewport.specs.Population.{IsCount}
 use Rattle.viewport.proofs.Counts.{none_counted, four_counted, few, true_of_kept}

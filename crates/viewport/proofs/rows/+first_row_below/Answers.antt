@@ -1,9 +1,8 @@
-use Rattle.std.proofs.Common.{◌≡◌, ◌+◌, ◌-◌, ◌^◌, ◌<◌, min, ℕ, sym, ap, ◌∙◌, subst, arith}
+use Rattle.std.proofs.Common.{◌≡◌, ◌+◌, ◌-◌, ◌^◌, min, ℕ, sym, ap, ◌∙◌, subst, arith}
 use Rattle.std.specs.Prelude.{Option, Some, None}
 use Rattle.std.specs.Option.{option_map}
-use Rattle.squares.specs.Book.{nth}
 use Rattle.viewport.specs.Rows.{IsFirstRowBelow}
-use Rattle.viewport.proofs.FirstRows.{upper_part, lower_part, rows_as}
+use Rattle.viewport.proofs.FirstRows.{upper_part, lower_part}
 use Rattle.viewport.proofs.Quarters.{quartered}
 use Rattle.viewport.proofs.rows.+first_row_below.Goals as goal
 

@@ -1,7 +1,6 @@
-use Rattle.std.proofs.Common.{◌≡◌, ◌+◌, ◌/◌, ◌^◌, ◌*◌, ◌<◌, ◌≤◌, pos, sym, ap, subst, arith, w64}
-use Rattle.std.specs.Int.{trailing_zeros}
+use Rattle.std.proofs.Common.{◌+◌, pos, sym, ap, subst, arith}
 use Rattle.plane.specs.Square.{bits_plane}
-use Rattle.viewport.specs.Rows.{AreDeadRows, IsFirstRowBelow, IsLiveRow}
+use Rattle.viewport.specs.Rows.{IsLiveRow}
 use Rattle.viewport.proofs.LeafRows.{none_left, dead_before, live_there, lower_rest}
 use Rattle.viewport.proofs.rows.first_leaf_row.Goals as goal
 

@@ -1,8 +1,6 @@
-use Rattle.std.proofs.Common.{◌≡◌, ◌+◌, ◌-◌, ◌^◌, ◌≤◌, ℕ, pos, ◌+ℤ◌, ◌-ℤ◌, ◌∙◌, sym, ap, subst, arith, rules, w64, SFits}
+use Rattle.std.proofs.Common.{ℕ, sym, subst, arith, rules, w64, SFits}
 use Rattle.std.specs.Prelude.{Option, Some, None}
-use Rattle.std.specs.Int.{int_max}
-use Rattle.std.specs.Option.{option_map}
-use Rattle.std.proofs.lemmas.Int.{to_z-of_z, ints}
+use Rattle.std.proofs.lemmas.Int.{to_z-of_z}
 use Rattle.plane.specs.Centred.{centred}
 use Rattle.viewport.specs.Rows.{IsFirstRow, IsFirstRowBelow}
 use Rattle.viewport.proofs.FirstRows.{centred_rows}

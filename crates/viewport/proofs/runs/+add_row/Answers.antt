@@ -1,8 +1,8 @@
-use Rattle.std.proofs.Common.{◌≡◌, ◌+◌, ◌-◌, ◌^◌, ◌<◌, ◌≤◌, ℕ, ℤ, pos, ◌+ℤ◌, ◌-ℤ◌, ◌≤ℤ◌, ◌||◌, refl, sym, ap, ◌∙◌, subst, arith, rules, w64, SFits}
-use Rattle.std.proofs.lemmas.Int.{to_z-of_z, ints}
+use Rattle.std.proofs.Common.{◌≡◌, ◌-◌, ◌^◌, ◌<◌, ◌≤◌, ℤ, pos, ◌+ℤ◌, ◌-ℤ◌, ◌||◌, refl, sym, ap, ◌∙◌, subst, arith, rules, w64, SFits}
+use Rattle.std.proofs.lemmas.Int.{to_z-of_z}
 use Rattle.std.proofs.lemmas.Result.{IfOk-weaker}
 use Rattle.squares.specs.Book.{nth}
-use Rattle.viewport.specs.RowRuns.{AddsCells, EndBy, cells_at}
+use Rattle.viewport.specs.RowRuns.{cells_at}
 use Rattle.viewport.proofs.Counts.{zero_is_empty}
 use Rattle.viewport.proofs.Quarters.{own_level, quartered}
 use Rattle.viewport.proofs.RowsOfSquares.{ends_between, middle_fits, quarter_high, quarter_low, quarter_room, quarter_rows, under_row, upper_row}

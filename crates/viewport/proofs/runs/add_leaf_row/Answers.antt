@@ -1,6 +1,6 @@
-use Rattle.std.proofs.Common.{◌≡◌, ◌≢◌, ◌+◌, ◌*◌, ◌<◌, pos, ◌+ℤ◌, ◌≤ℤ◌, sym, ap, ◌∙◌, arith, rules, w64, SFits}
+use Rattle.std.proofs.Common.{◌≡◌, ◌≢◌, ◌+◌, ◌*◌, ◌+ℤ◌, sym, ap, ◌∙◌, arith, rules, w64, SFits}
 use Rattle.std.specs.Int.{bit_at}
-use Rattle.std.proofs.lemmas.Int.{to_z-of_z, ints}
+use Rattle.std.proofs.lemmas.Int.{to_z-of_z}
 use Rattle.std.proofs.lemmas.Nat.Bits.{shr_and_one}
 use Rattle.viewport.proofs.RowsOfSquares.{column_fits, step_passed, step_taken, whole_row}
 use Rattle.viewport.proofs.runs.add_leaf_row.Goals as goal

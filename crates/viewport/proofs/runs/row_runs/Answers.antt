@@ -1,6 +1,5 @@
-use Rattle.std.proofs.Common.{◌≡◌, ◌+◌, ◌-◌, ◌^◌, ◌≤◌, ℕ, pos, ◌+ℤ◌, ◌-ℤ◌, ◌≤ℤ◌, [], sym, ap, ◌∙◌, subst, arith, rules, w64, SFits}
+use Rattle.std.proofs.Common.{◌-◌, ◌^◌, pos, ◌-ℤ◌, arith, rules, w64, SFits}
 use Rattle.std.proofs.lemmas.Int.{to_z-of_z, ints}
-use Rattle.viewport.specs.RowRuns.{AddsCells, AreRowRuns, cells_at}
 use Rattle.viewport.proofs.Quarters.{known_square}
 use Rattle.viewport.proofs.RowsOfSquares.{centred_runs, no_runs_above, no_runs_below, not_above, room_there}
 use Rattle.viewport.proofs.runs.row_runs.Goals as goal

@@ -1,4 +1,4 @@
-use Rattle.std.proofs.Common.{◌≡◌, ◌*◌, ◌%◌, ◌^◌, ◌<◌, ◌≤◌, pow_mono, arith}
+use Rattle.std.proofs.Common.{pow_mono, arith}
 use Rattle.std.proofs.lemmas.Nat.{one_shl}
 use Rattle.viewport.proofs.sides.side.Goals as goal
 
