@@ -4,6 +4,7 @@ pub mod FirstRows
 pub mod LeafBoxes
 pub mod LeafRows
 pub mod Leaves
+pub mod OneList
 pub mod Quarters
 pub mod RowsOfSquares
 pub mod RunsBeside

@@ -43,3 +43,7 @@ cells_at plane left y x = plane (x -ℤ left) (pos y)
 -- the cells of one run
 abbrev pub run_cells : ℤ → ℕ → ℤ → Bool
 run_cells first count x = is_in_run x (first, count)
+
+-- a row has one list of runs
+abbrev pub OneListOfRuns : Type 0
+OneListOfRuns = (plane : Plane) (y : ℤ) (runs others : List (ℤ × ℕ)) → AreRowRuns plane y runs → AreRowRuns plane y others → runs ≡ others

@@ -5,6 +5,7 @@
 #![tactic(auto)]
 
 mod boxes;
+mod laws;
 mod populations;
 mod rows;
 mod runs;
@@ -13,6 +14,7 @@ mod sides;
 mod tests;
 
 pub use boxes::bounds;
+pub use laws::one_list_of_runs;
 pub use populations::population;
 pub use rows::first_row;
 pub use runs::row_runs;
