@@ -1,6 +1,6 @@
-pub mod Drawings
-pub mod Empty
 pub mod Endings
+pub mod Held
 pub mod OneRun
+pub mod Patterns
 pub mod Reports
 pub mod Steps

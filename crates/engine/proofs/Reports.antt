@@ -2,11 +2,12 @@
 use Rattle.std.proofs.Common.{◌≡◌, ℕ, zero, suc, ◌+◌, ◌-◌, ◌<◌, ◌≤◌, ◌&&◌, not, true, false, List, [], ◌∷◌, ◌++◌, length, filter, take, refl, sym, ◌∙◌, ap, subst, append_assoc, append-nil, arith, ℤ, Bool}
 use Rattle.std.specs.List.{AllZip, concat, range_with_len}
 use Rattle.rule_text.specs.CountRule.{CountRule}
-use Rattle.plane.specs.Listing.{IsListing, plane_of}
-use Rattle.plane.specs.Plane.{Plane, after, next}
+use Rattle.plane.specs.Listing.{IsListing}
+use Rattle.plane.specs.Plane.{Plane, after}
+use Rattle.plane.specs.Square.{IsSame}
 use Rattle.plane.specs.declared.cell.Cell.{Cell}
 use Rattle.plane.proofs.Cones.{light_cone_lem}
-use Rattle.engine.specs.Report.{report_line, shown_line, is_shown, shown_until, IsLineAfter, Shows}
+use Rattle.engine.specs.Report.{report_line, is_shown, shown_until, IsLineAfter, IsSaid, Shows}
 use Rattle.engine.specs.declared.options.Options.{Options}
 
 -- ---- numbers in a row that pass a test
@@ -111,31 +112,25 @@ module _ (rule : CountRule) (plane : Plane) (start : ℕ) where
   same_shows_of : (ns ms text other : List ℕ) → ns ≡ ms → text ≡ other → Shows rule plane start ns text → Shows rule plane start ms other
   same_shows_of ns ms text other numbers texts shows = subst (λ l. Shows rule plane start l other) numbers (subst (λ t. Shows rule plane start ns t) texts shows)
 
-  -- the line of one of the generations, if it is shown
-  pub shows_next : (options : Options) (ns : List ℕ) (n population : ℕ) (cells : List Cell) (generation : ℕ) (text : List ℕ) → Shows rule plane start ns text →
-      IsListing cells (after rule plane n) → generation ≡ start + n → population ≡ length cells → is_shown options n ≡ not options.quiet →
-      Shows rule plane start (ns ++ filter (is_shown options) (n ∷ [])) (text ++ shown_line options.quiet generation population)
-  shows_next options ns n population cells generation text shows listing generation_is population_is shown_is = go options.quiet refl
+  -- what is said of one of the generations, if it is shown
+  pub shows_next : (options : Options) (ns : List ℕ) (n : ℕ) (here : Plane) (text said : List ℕ) → Shows rule plane start ns text →
+      IsSame here (after rule plane n) → IsSaid options.quiet (start + n) here said → is_shown options n ≡ not options.quiet →
+      Shows rule plane start (ns ++ filter (is_shown options) (n ∷ [])) (text ++ said)
+  shows_next options ns n here text said shows same is_said shown_is = go options.quiet refl is_said
     where
-      go : (quiet : Bool) → options.quiet ≡ quiet → Shows rule plane start (ns ++ filter (is_shown options) (n ∷ [])) (text ++ shown_line options.quiet generation population)
-      go true is =
+      go : (quiet : Bool) → options.quiet ≡ quiet → IsSaid quiet (start + n) here said → Shows rule plane start (ns ++ filter (is_shown options) (n ∷ [])) (text ++ said)
+      go true is nothing =
           let no_line : is_shown options n ≡ false = shown_is ∙ ap not is in
           same_shows_of _ _ _ _
           (sym (ap (λ l. ns ++ l) (filtered_out (is_shown options) n [] no_line) ∙ append-nil ns))
-          (sym (ap (λ quiet. text ++ shown_line quiet generation population) is ∙ append-nil text))
+          (sym (ap (λ l. text ++ l) nothing ∙ append-nil text))
           shows
-      go false is =
+      go false is (cells, listing, line_is) =
           let line : is_shown options n ≡ true = shown_is ∙ ap not is in
           same_shows_of _ _ _ _
           (sym (ap (λ l. ns ++ l) (filtered_in (is_shown options) n [] line)))
-          (sym (ap (λ quiet. text ++ shown_line quiet generation population) is))
-          (shows_more ns n population cells generation text shows listing generation_is population_is)
-
--- ---- generations after generations
-
-after_sum : (rule : CountRule) (plane : Plane) (d k : ℕ) → after rule (after rule plane d) k ≡ after rule plane (k + d)
-after_sum rule plane d zero = let same : d ≡ 0 + d = omega arith in ap (after rule plane) same
-after_sum rule plane d (suc k) = let same : suc (k + d) ≡ suc k + d = omega arith in ap (next rule) (after_sum rule plane d k) ∙ ap (after rule plane) same
+          (sym (ap (λ l. text ++ l) line_is))
+          (shows_more ns n (length cells) cells (start + n) text shows (record { rising = listing.rising; live = λ x y. listing.live x y ∙ same.same x y }) refl refl)
 
 -- ---- planes with the same cells
 
@@ -153,9 +148,3 @@ module _ (rule : CountRule) (plane other : Plane) (same : (x y : ℤ) → plane 
 
   pub same_shows : (start : ℕ) (ns : List ℕ) (text : List ℕ) → Shows rule plane start ns text → Shows rule other start ns text
   same_shows start ns text shows = (shows.0, same_lines start ns shows.0 shows.1, shows.2)
-
--- the cells so many generations after those of a generation
-pub lists_after : (rule : CountRule) (plane : Plane) (cells more : List Cell) (d k n : ℕ) → IsListing cells (after rule plane d) → IsListing more (after rule (plane_of cells) k) → k + d ≡ n →
-    IsListing more (after rule plane n)
-lists_after rule plane cells more d k n listing later sum =
-    subst (λ p. IsListing more p) (after_sum rule plane d k ∙ ap (after rule plane) sum) (same_after rule (plane_of cells) (after rule plane d) listing.live k more later)

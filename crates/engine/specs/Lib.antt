@@ -1,6 +1,7 @@
+pub mod Books
 pub mod Devices
-pub mod Drawing
 pub mod FileText
 pub mod Judgement
+pub mod Pattern
 pub mod Report
 pub mod Run

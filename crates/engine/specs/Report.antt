@@ -1,5 +1,5 @@
 -- The report of a run.
-use Rattle.std.specs.Prelude.{◌≡◌, ℕ, ◌+◌, ◌%◌, ◌==◌, nat_lt, ◌&&◌, ◌||◌, not, if◌then◌else◌, Bool, List, [], ◌++◌, length, filter, codes, decimal}
+use Rattle.std.specs.Prelude.{◌≡◌, ℕ, ◌+◌, ◌%◌, ◌==◌, nat_lt, ◌&&◌, ◌||◌, not, Bool, true, false, List, [], ◌++◌, length, filter, codes, decimal}
 use Rattle.std.specs.List.{AllZip, concat, range_with_len}
 use Rattle.rule_text.specs.CountRule.{CountRule}
 use Rattle.plane.specs.Listing.{IsListing}
@@ -10,10 +10,6 @@ use Rattle.engine.specs.declared.options.Options.{Options}
 -- the line of one generation: its number and how many cells are live
 abbrev pub report_line : ℕ → ℕ → List ℕ
 report_line generation population = decimal generation ++ codes ": " ++ decimal population ++ codes "\n"
-
--- the same, and nothing where the report is left out
-abbrev pub shown_line : Bool → ℕ → ℕ → List ℕ
-shown_line quiet generation population = if quiet then [] else report_line generation population
 
 -- a run has a line after so many generations: after none and after all of them, and after each multiple of the step
 abbrev pub is_shown : Options → ℕ → Bool
@@ -37,3 +33,8 @@ IsLineAfter rule plane start done line =
 abbrev pub Shows : CountRule → Plane → ℕ → List ℕ → List ℕ → Type 0
 Shows rule plane start numbers text =
     (lines : List (List ℕ)) × AllZip (IsLineAfter rule plane start) numbers lines × (text ≡ concat lines)
+
+-- what is said of a generation with these cells: its line, or nothing where the report is left out
+abbrev pub IsSaid : Bool → ℕ → Plane → List ℕ → Type 0
+IsSaid true generation plane said = said ≡ []
+IsSaid false generation plane said = (cells : List Cell) × IsListing cells plane × (said ≡ report_line generation (length cells))

@@ -1,35 +1,36 @@
-ghost use Rattle.std.specs.Prelude.{ℕ, ◌+◌, IfOk, IsOkUnless};
+ghost use Rattle.std.specs.Prelude.{ℕ, ◌<◌, ◌≤◌, ◌^◌, IfOk, IsOkUnless};
 ghost use Rattle.rule_text.specs.CountRule.{IsRule};
-ghost use Rattle.plane.specs.Bounds.{HasReach};
-ghost use Rattle.plane.specs.CellSet.{IsCellSet};
-ghost use Rattle.plane.specs.Listing.{plane_of, IsListing};
 ghost use Rattle.plane.specs.Plane.{after};
+ghost use Rattle.plane.specs.Square.{IsSame, empty};
+ghost use Rattle.engine.specs.Pattern.{StaysHeld, plane_of};
 
-use plane::{CellSet, Refusal};
+use crate::pattern::Pattern;
+use hashlife_step::plan;
+use plane::Refusal;
 use rule_text::Rule;
 use std::alloc::Global;
 
-// The cells after so many generations by the rule. The empty pattern takes no step. What had room for more
-// generations has room for those after these. `NoMemory` if there is no room for the cells.
+// The pattern after so many generations by the rule: a step for each binary digit of their number. The
+// empty pattern takes no step. `NoMemory` if there is no room for the cells.
 pub(crate) fn after(
     alloc: Global,
-    start: CellSet,
+    start: Pattern,
     rule: &Rule,
     generations: u64,
-) -> Result<CellSet, Refusal>
+) -> Result<Pattern, Refusal>
     requires rule { IsRule rule.now }
-    requires cells { IsCellSet start }
-    requires reach { HasReach generations start }
-    ensures ok { IfOk result (λ cells. IsListing cells (after rule.now (plane_of start) generations)) }
-    ensures reach { IfOk result (λ cells. (more : ℕ) → HasReach (more + generations) start → HasReach more cells) }
+    requires held { StaysHeld rule.now (plane_of start) generations }
+    requires short { (IsSame (plane_of start) empty → ⊥) → generations < 2 ^ 63 }
+    ensures ok { IfOk result (λ later. IsSame (plane_of later) (after rule.now (plane_of start) generations)) }
     ensures memory { IsOkUnless result Refusal.NoMemory }
 {
-    let mut cells = start;
-    for _done in 0..generations {
-        if cells.is_empty() {
-            return Ok(cells);
-        }
-        cells = cells.next(alloc, rule)?;
+    if start.is_empty() {
+        return Ok(start);
     }
-    Ok(cells)
+    let mut pattern = start;
+    let steps = plan(generations);
+    'steps: for exponent in steps.as_slice() {
+        pattern = pattern.step(alloc, rule, *exponent)?;
+    }
+    Ok(pattern)
 }

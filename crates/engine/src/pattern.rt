@@ -1,118 +1,124 @@
-ghost use Rattle.std.specs.Prelude.{◌≡◌, ◌+ℤ◌, ◌≤ℤ◌, pos, false, IfOk, OnOk, IsOkUnless};
-ghost use Rattle.std.specs.List.Sorted.{IsStrictlySortedBy};
-ghost use Rattle.plane.specs.Listing.{plane_of, reading_order, IsListing};
-ghost use Rattle.plane.specs.Range.{IsCoordinate, IsInRange};
-ghost use Rattle.plane.specs.declared.range.TheConstants.{COORDINATE_LIMIT};
-ghost use Rattle.rle_reader.specs.Meaning.{live_plane};
-ghost use Rattle.rle_reader.specs.Range.{IsWithinReach};
-ghost use Rattle.rle_reader.specs.Seen.{run_seen};
-ghost use Rattle.rle_reader.specs.State.{after_item, leaves_range, state_at};
-ghost use Rattle.engine.specs.Drawing.{with_item, with_row};
+//! A pattern, as a square of a book.
 
-use plane::{Cell, CellSet, Refusal};
-use rle_reader::{RleFile, Run, Tag};
+ghost use Rattle.std.specs.Prelude.{◌≡◌, ◌⊎◌, ◌^◌, ◌<◌, ◌≤◌, ◌↔◌, IfOk, IfErr, OnOk, IsOkUnless, IsTrue};
+ghost use Rattle.squares.specs.Book.{IsKnown};
+ghost use Rattle.plane.specs.Square.{IsSame, empty};
+ghost use Rattle.plane.specs.Runs.{AreRuns, runs_plane};
+ghost use Rattle.engine.specs.Books.{book_of};
+ghost use Rattle.viewport.specs.BoundingBox.{HasBounds};
+ghost use Rattle.viewport.specs.Population.{HasPopulation};
+
+use hashlife_step::{Tally, future, pad, trim};
+use pattern_writers::write_rle;
+use plane::{Bounds, Cell, Refusal, Sink};
+use rle_reader::{Comments, RleFile};
+use rule_text::Rule;
+use squares::{PlainBook, Sq, copy_square, runs_to_square};
 use std::alloc::Global;
+use viewport::{bounds, population};
 
-// Where the next item of a file begins, in rows that begin in the column `left`.
-#[derive(Clone, Copy, Debug)]
-struct Pen {
-    left: i64,
-    column: i64,
-    row: i64,
-    ghost left_in_reach: { IsWithinReach left },
-    ghost column_in_reach: { IsWithinReach column },
-    ghost row_in_reach: { IsWithinReach row },
+// Live cells in the range, as a square whose centre corner is (0,0).
+#[derive(Drop)]
+pub(crate) struct Pattern {
+    book: PlainBook,
+    root: Sq,
+    ghost known: { IsKnown (book_of book) root.level root },
+    ghost level: { (3 < root.level) × (root.level ≤ 63) },
 }
 
-impl Pen {
-    // Before the first item of a pattern whose upper left corner is this cell.
-    fn at(corner: Cell) -> Self
-        requires { IsInRange corner }
-        ensures left { result.left ≡ corner.x }
-        ensures column { result.column ≡ corner.x }
-        ensures row { result.row ≡ corner.y }
+impl Pattern {
+    ghost use Rattle.rule_text.specs.CountRule.{IsRule};
+    ghost use Rattle.plane.specs.Centred.{Holds};
+    ghost use Rattle.plane.specs.Plane.{after};
+    ghost use Rattle.plane.specs.Device.{IsWriteRefusal};
+    ghost use Rattle.rle_reader.specs.Meaning.{live_plane};
+    ghost use Rattle.pattern_writers.specs.RleText.{IsTooLarge, WritesRle};
+    ghost use Rattle.engine.specs.Pattern.{plane_of};
+
+    // The cells of runs.
+    pub(crate) fn of_runs(
+        alloc: Global,
+        rule: Rule,
+        runs: &[(Cell, u64)],
+    ) -> Result<Self, Refusal>
+        requires { AreRuns runs.now }
+        ensures ok { IfOk result (λ pattern. IsSame (plane_of pattern) (runs_plane runs.now)) }
+        ensures memory { IsOkUnless result Refusal.NoMemory }
     {
-        Pen {
-            left: corner.x,
-            column: corner.x,
-            row: corner.y,
-        }
+        let mut book = PlainBook::new(alloc, rule, 0);
+        let root = runs_to_square(alloc, &mut book, runs)?;
+        Ok(Pattern { book, root })
     }
 
-    // Behind an item.
-    fn past(self, run: &Run<'_>) -> Self
-        requires { leaves_range (state_at self.column self.row 0) run.now.tag run.now.count ≡ false }
-        ensures left { result.left ≡ self.left }
-        ensures column { result.column ≡ (after_item self.left (state_at self.column self.row 0) run.now.tag run.now.count).column }
-        ensures row { result.row ≡ (after_item self.left (state_at self.column self.row 0) run.now.tag run.now.count).row }
+    // The cells that a file makes live. `NoMemory` if there is no room for them.
+    pub(crate) fn of_file(alloc: Global, rule: Rule, text: &RleFile<'_>) -> Result<Self, Refusal>
+        ensures ok { IfOk result (λ pattern. IsSame (plane_of pattern) (live_plane text.now)) }
+        ensures memory { IsOkUnless result Refusal.NoMemory }
     {
-        match run.tag {
-            Tag::Row => Pen {
-                left: self.left,
-                column: self.left,
-                row: behind(self.row, run.count),
-            },
-            Tag::Dead | Tag::Live => Pen {
-                left: self.left,
-                column: behind(self.column, run.count),
-                row: self.row,
-            },
-        }
+        let Ok(runs) = text.live_runs(alloc) else {
+            return Err(Refusal::NoMemory);
+        };
+        Pattern::of_runs(alloc, rule, runs.as_slice())
     }
-}
 
-// The coordinate that lies so far behind this one.
-fn behind(coordinate: i64, count: u64) -> i64
-    requires from { IsWithinReach coordinate }
-    requires to { IsWithinReach (coordinate +ℤ pos count) }
-    ensures value { result ≡ coordinate +ℤ pos count }
-    ensures in_reach { IsWithinReach result }
-{
-    coordinate.saturating_add_unsigned(count)
-}
-
-// The cells that the items of a file make live. `NoMemory` if there is no room for them.
-pub(crate) fn live_cells(alloc: Global, text: &RleFile<'_>) -> Result<CellSet, Refusal>
-    ensures ok { IfOk result (λ cells. IsListing cells (live_plane text.now)) }
-    ensures memory { IsOkUnless result Refusal.NoMemory }
-{
-    let mut cells = CellSet::new(alloc);
-    let mut pen = Pen::at(text.pos());
-    for run in text.runs() {
-        draw(&mut cells, pen, &run)?;
-        pen = pen.past(&run);
+    // Whether no cell is live.
+    pub(crate) fn is_empty(&self) -> bool
+        ensures { IsTrue result ↔ IsSame (plane_of self.now) empty }
+    {
+        self.root.num.0 == 0
     }
-    Ok(cells)
-}
 
-// Adds the live cells of an item.
-fn draw(cells: &mut CellSet, pen: Pen, run: &Run<'_>) -> Result<(), Refusal>
-    requires rising { IsStrictlySortedBy reading_order cells.old }
-    requires stays { leaves_range (state_at pen.column pen.row 0) run.now.tag run.now.count ≡ false }
-    ensures ok { OnOk result (IsListing cells.new (with_item (state_at pen.column pen.row 0) (run_seen run.now) (plane_of cells.old))) }
-    ensures memory { IsOkUnless result Refusal.NoMemory }
-{
-    if run.tag != Tag::Live {
-        return Ok(());
+    // How many cells are live. `NoMemory` where there is no room to count them.
+    pub(crate) fn population(&self, alloc: Global) -> Result<u128, Refusal>
+        ensures ok { IfOk result (HasPopulation (plane_of self.now)) }
+        ensures memory { IsOkUnless result Refusal.NoMemory }
+    {
+        population(&self.book, alloc, self.root)
     }
-    let first = Cell {
-        y: pen.row,
-        x: pen.column,
-    };
-    insert_row(cells, first, behind(pen.column, run.count))
-}
 
-// Adds the cells of a row from one on up to a column.
-fn insert_row(cells: &mut CellSet, first: Cell, end: i64) -> Result<(), Refusal>
-    requires rising { IsStrictlySortedBy reading_order cells.old }
-    requires row { IsCoordinate first.y }
-    requires first { IsWithinReach first.x }
-    requires end { (first.x ≤ℤ end) × (end ≤ℤ COORDINATE_LIMIT) }
-    ensures ok { OnOk result (IsListing cells.new (with_row first.y first.x end (plane_of cells.old))) }
-    ensures memory { IsOkUnless result Refusal.NoMemory }
-{
-    for x in first.x..end {
-        cells.insert(Cell { y: first.y, x })?;
+    // The smallest box that holds the live cells. `NoMemory` where there is no room to find it.
+    pub(crate) fn bounds(&self, alloc: Global) -> Result<Option<Bounds>, Refusal>
+        ensures ok { IfOk result (HasBounds (plane_of self.now)) }
+        ensures memory { IsOkUnless result Refusal.NoMemory }
+    {
+        bounds(&self.book, alloc, self.root)
     }
-    Ok(())
+
+    // The cells after 2^exponent generations. `NoMemory` if there is no room for them.
+    pub(crate) fn step(&self, alloc: Global, rule: &Rule, exponent: u8) -> Result<Self, Refusal>
+        requires rule { IsRule rule.now }
+        requires exponent { exponent ≤ 62 }
+        requires held { Holds 63 (after rule.now (plane_of self.now) (2 ^ exponent)) }
+        ensures ok { IfOk result (λ later. IsSame (plane_of later) (after rule.now (plane_of self.now) (2 ^ exponent))) }
+        ensures memory { IsOkUnless result Refusal.NoMemory }
+    {
+        let mut book = PlainBook::new(alloc, *rule, exponent);
+        let root = copy_square(alloc, &self.book, self.root, &mut book)?;
+        let root = pad(&mut book, root, exponent)?;
+        let root = future(&mut book, root, &mut Tally { expansions: 0 })?;
+        let root = trim(&mut book, root)?;
+        Ok(Pattern { book, root })
+    }
+
+    // Writes the pattern as RLE, with the comments, the rule and the generation. It refuses `BoxTooLarge` where a
+    // side of its box is 2^31 or more, and `NoMemory`, both before the first byte, and `WriteFailed`.
+    pub(crate) fn write_rle<V: Sink>(
+        &self,
+        alloc: Global,
+        comments: Comments<'_>,
+        rule: &Rule,
+        generation: u64,
+        file: &mut V,
+    ) -> Result<(), Refusal>
+        ensures written { OnOk result (WritesRle (plane_of self.now) comments.entry rule.now generation (V.taken file.old) (V.taken file.new)) }
+        ensures unfailed { OnOk result (V.failure_count file.new ≡ V.failure_count file.old) }
+        ensures refused { IfErr result (λ refusal.
+            (refusal ≡ Refusal.BoxTooLarge × IsTooLarge (plane_of self.now) × file.new ≡ file.old)
+            ⊎ (refusal ≡ Refusal.NoMemory × file.new ≡ file.old)
+            ⊎ IsWriteRefusal (V.failure_count file.old) (V.failure_count file.new) refusal) }
+    {
+        write_rle(
+            &self.book, alloc, self.root, comments, rule, generation, file,
+        )
+    }
 }

@@ -1,29 +1,37 @@
-ghost use Rattle.std.specs.Prelude.{◌≡◌, OnOk, IfErr};
+ghost use Rattle.std.specs.Prelude.{◌≡◌, ◌⊎◌, ℕ, List, OnOk, IfErr};
 ghost use Rattle.std.specs.Io.KnownBytes.{Appends};
 ghost use Rattle.plane.specs.Device.{IsWriteRefusal};
-ghost use Rattle.engine.specs.Report.{report_line, shown_line};
+ghost use Rattle.engine.specs.Pattern.{plane_of};
+ghost use Rattle.engine.specs.Report.{IsSaid, report_line};
 
+use crate::pattern::Pattern;
 use arrayvec::ArrayString;
 use itoa::Buffer;
 use plane::{Refusal, Sink, write_all};
+use std::alloc::Global;
 
 // Room for two numbers of up to 40 digits and what stands round them.
 const LINE_ROOM: usize = 96;
 
-// Writes the line of one generation, unless the report is left out.
+// Says how many cells of a generation are live, unless the report is left out. `NoMemory` if there is no room to
+// count them.
 pub(crate) fn report_generation<W: Sink>(
+    alloc: Global,
     report: &mut W,
     quiet: bool,
     generation: u64,
-    population: u128,
+    pattern: &Pattern,
 ) -> Result<(), Refusal>
-    ensures written { OnOk result (Appends (W.taken report.old) (W.taken report.new) (shown_line quiet generation population)) }
+    ensures written { OnOk result ((said : List ℕ) × IsSaid quiet generation (plane_of pattern.now) said
+        × Appends (W.taken report.old) (W.taken report.new) said) }
     ensures unfailed { OnOk result (W.failure_count report.new ≡ W.failure_count report.old) }
-    ensures refused { IfErr result (IsWriteRefusal (W.failure_count report.old) (W.failure_count report.new)) }
+    ensures refused { IfErr result (λ refusal. ((refusal ≡ Refusal.NoMemory) × (report.new ≡ report.old))
+        ⊎ IsWriteRefusal (W.failure_count report.old) (W.failure_count report.new) refusal) }
 {
     if quiet {
         return Ok(());
     }
+    let population = pattern.population(alloc)?;
     write_report_line(report, generation, population)
 }
 

@@ -1,34 +1,36 @@
-ghost use Rattle.std.specs.Prelude.{◌≡◌, ◌⊎◌, ◌+◌, ◌<◌, ◌≤◌, ℕ, List, take, not, false, IfOk, IfErr, OnOk};
+ghost use Rattle.std.specs.Prelude.{◌≡◌, ◌⊎◌, ◌+◌, ◌^◌, ◌<◌, ◌≤◌, ℕ, List, take, not, false, IfOk, IfErr, OnOk};
 ghost use Rattle.std.specs.Io.KnownBytes.{Appends};
 ghost use Rattle.rule_text.specs.CountRule.{IsRule};
-ghost use Rattle.plane.specs.Bounds.{HasReach};
-ghost use Rattle.plane.specs.Listing.{plane_of, IsListing};
 ghost use Rattle.plane.specs.Plane.{after};
+ghost use Rattle.plane.specs.Square.{IsSame, empty};
 ghost use Rattle.plane.specs.declared.range.TheConstants.{GENERATION_LIMIT};
 ghost use Rattle.plane.specs.Device.{IsWriteRefusal};
+ghost use Rattle.engine.specs.Pattern.{StaysHeld, plane_of};
 ghost use Rattle.engine.specs.Report.{Shows, is_shown, shown};
 
 use crate::generations::after;
 use crate::options::Options;
+use crate::pattern::Pattern;
 use crate::report::report_generation;
-use plane::{CellSet, Refusal, Sink};
+use plane::{Refusal, Sink};
 use rule_text::Rule;
 use std::alloc::Global;
 
-// Runs cells of a generation as many generations on as the options ask for, and reports generations on the
+// Runs a pattern of a generation as many generations on as the options ask for, and reports generations on the
 // way. `NoMemory` comes between two lines.
 pub(crate) fn run_reported<W: Sink>(
     alloc: Global,
-    start: CellSet,
+    start: Pattern,
     rule: &Rule,
     generation: u64,
     options: &Options,
     report: &mut W,
-) -> Result<CellSet, Refusal>
+) -> Result<Pattern, Refusal>
     requires rule { IsRule rule.now }
-    requires reach { HasReach options.now.gens start }
+    requires held { StaysHeld rule.now (plane_of start) options.now.gens }
+    requires short { (IsSame (plane_of start) empty → ⊥) → options.now.gens < 2 ^ 63 }
     requires last { generation + options.now.gens ≤ GENERATION_LIMIT }
-    ensures cells { IfOk result (λ cells. IsListing cells (after rule.now (plane_of start) options.now.gens)) }
+    ensures cells { IfOk result (λ last. IsSame (plane_of last) (after rule.now (plane_of start) options.now.gens)) }
     ensures reported { OnOk result ((said : List ℕ) × Shows rule.now (plane_of start) generation (shown options.now) said
         × Appends (W.taken report.old) (W.taken report.new) said) }
     ensures unfailed { OnOk result (W.failure_count report.new ≡ W.failure_count report.old) }
@@ -38,21 +40,16 @@ pub(crate) fn run_reported<W: Sink>(
         × Appends (W.taken report.old) (W.taken report.new) said))
         ⊎ IsWriteRefusal (W.failure_count report.old) (W.failure_count report.new) refusal) }
 {
-    let mut cells = start;
+    let mut pattern = start;
     let mut done = 0;
-    report_generation(report, options.quiet, generation, cells.len() as u128)?;
+    report_generation(alloc, report, options.quiet, generation, &pattern)?;
     while done < options.gens {
         let next = next_shown(options, done);
-        cells = after(alloc, cells, rule, next - done)?;
+        pattern = after(alloc, pattern, rule, next - done)?;
         done = next;
-        report_generation(
-            report,
-            options.quiet,
-            generation + done,
-            cells.len() as u128,
-        )?;
+        report_generation(alloc, report, options.quiet, generation + done, &pattern)?;
     }
-    Ok(cells)
+    Ok(pattern)
 }
 
 // The next number of generations after which there is a line, or that of the last where there are none.

@@ -7,9 +7,8 @@ ghost use Rattle.engine.specs.Judgement.{Start, Judges, ReadsRule, placeless, ru
 ghost use Rattle.engine.specs.Run.{Finishes, IsBegun, IsTooLarge};
 
 use crate::options::{Format, Options};
-use crate::pattern::live_cells;
+use crate::pattern::Pattern;
 use crate::reported::run_reported;
-use pattern_writers::write_rle;
 use plane::{Bounds, Fault, Refusal, Sink, reach};
 use rle_reader::RleFile;
 use rule_text::{Rule, RuleFault};
@@ -69,24 +68,17 @@ pub fn run<R, W: Sink, V: Sink>(
 {
     let text = RleFile::open(bytes)?;
     let rule = rule_of(&text, options.rule)?;
-    let cells = live_cells(alloc, &text)?;
+    let pattern = Pattern::of_file(alloc, rule, &text)?;
     let start = text.generation();
-    reach(cells.bounds(), start, options.gens)?;
-    let cells = run_reported(alloc, cells, &rule, start, options, report)?;
+    reach(pattern.bounds(alloc)?, start, options.gens)?;
+    let pattern = run_reported(alloc, pattern, &rule, start, options, report)?;
     let summary = Summary {
         generation: start + options.gens,
-        population: cells.len() as u128,
-        bounds: cells.bounds(),
+        population: pattern.population(alloc)?,
+        bounds: pattern.bounds(alloc)?,
     };
     if let Some(Format::Rle) = options.format {
-        write_rle(
-            alloc,
-            &cells,
-            text.comments(),
-            &rule,
-            summary.generation,
-            file,
-        )?;
+        pattern.write_rle(alloc, text.comments(), &rule, summary.generation, file)?;
     }
     Ok(summary)
 }

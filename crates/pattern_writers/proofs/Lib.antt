@@ -2,9 +2,10 @@ pub mod BodyReading
 pub mod BodyText
 pub mod Decimals
 pub mod ItemReading
+pub mod MaximalRuns
 pub mod OpeningReading
+pub mod RowsDown
 pub mod RunReading
-pub mod Runs
 pub mod ShortCounts
 pub mod TextReading
 pub mod WholeText

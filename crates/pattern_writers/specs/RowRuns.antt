@@ -1,7 +1,9 @@
 -- The runs of live cells in rows.
-use Rattle.std.specs.Prelude.{pos, ◌+ℤ◌, List, [], ◌∷◌, if◌then◌else◌}
+use Rattle.std.specs.Prelude.{◌≡◌, ℕ, ℤ, pos, ◌+ℤ◌, List, [], ◌∷◌, ◌++◌, map, if◌then◌else◌}
 use Rattle.plane.specs.declared.cell.Cell.{Cell}
 use Rattle.plane.specs.Listing.{is_at}
+use Rattle.plane.specs.Plane.{Plane}
+use Rattle.viewport.specs.RowRuns.{AreRowRuns, end_of}
 use Rattle.pattern_writers.specs.declared.rle_text.row_run.RowRun.{RowRun}
 
 -- the run of one cell
@@ -21,3 +23,13 @@ joined run (next ∷ runs) = if is_at run.end run.row (first_cell next) then (re
 abbrev pub runs_of : List Cell → List RowRun
 runs_of [] = []
 runs_of (cell ∷ cells) = joined (run_at cell) (runs_of cells)
+
+-- the run of a row, from its first column and its length
+abbrev pub run_in : ℤ → (ℤ × ℕ) → RowRun
+run_in y run = record { row = y; first = run.0; end = end_of run }
+
+-- the new runs are the old ones and those of a row of the plane
+pub record AddsRow (plane : Plane) (y : ℤ) (old new : List RowRun) : Type 0 where
+  pub runs : List (ℤ × ℕ)
+  pub of_row : AreRowRuns plane y runs
+  pub added : new ≡ old ++ map (run_in y) runs

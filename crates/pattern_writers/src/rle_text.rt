@@ -1,11 +1,11 @@
 //! The text of a pattern in RLE.
 
-ghost use Rattle.std.specs.Prelude.{◌≡◌, ◌⊎◌, OnOk, IfErr};
+ghost use Rattle.std.specs.Prelude.{◌≡◌, ◌⊎◌, ◌≤◌, OnOk, IfErr};
 ghost use Rattle.std.specs.Io.KnownBytes.{Appends};
-ghost use Rattle.plane.specs.Bounds.{bounds_of};
+ghost use Rattle.plane.specs.Centred.{centred};
 ghost use Rattle.plane.specs.Device.{IsWriteRefusal};
-ghost use Rattle.pattern_writers.specs.Frame.{FitsRle};
-ghost use Rattle.pattern_writers.specs.RleText.{comment_lines, rle_text};
+ghost use Rattle.squares.specs.Book.{IsKnown};
+ghost use Rattle.pattern_writers.specs.RleText.{IsTooLarge, WritesRle, comment_lines};
 
 mod frame;
 mod items;
@@ -17,35 +17,37 @@ use frame::Frame;
 use items::items;
 use layout::write_body;
 use opening::{header_line, position_line};
-use plane::{CellSet, Refusal, Sink, write_all};
+use plane::{Refusal, Sink, write_all};
 use rle_reader::Comments;
 use row_run::row_runs;
 use rule_text::Rule;
+use squares::{Look, Sq};
 use std::alloc::Global;
+use viewport::bounds;
 
-/// Writes the cells with the comments, the rule and the generation. It refuses `BoxTooLarge` where a
-/// side of their box is 2^31 or more, and `NoMemory`, both before the first byte, and `WriteFailed`
-/// where the sink failed.
-pub fn write_rle<V: Sink>(
+/// Writes the cells of a square of a level up to 63, whose centre corner is (0,0), with the comments, the rule and
+/// the generation. It refuses `NoMemory`, or `BoxTooLarge` where a side of the cells' box is 2^31 or more, both
+/// before the first byte, and `WriteFailed` where the sink failed.
+pub fn write_rle<L: Look, V: Sink>(
+    look: &L,
     alloc: Global,
-    cells: &CellSet,
+    sq: Sq,
     comments: Comments<'_>,
     rule: &Rule,
     generation: u64,
     file: &mut V,
 ) -> Result<(), Refusal>
-    ensures written { OnOk result (Appends (V.taken file.old) (V.taken file.new) (rle_text comments.entry rule.now generation cells.now)) }
-    ensures fits { OnOk result (FitsRle (bounds_of cells.now)) }
+    requires known { IsKnown (L.book look.now) sq.level sq }
+    requires level { sq.level ≤ 63 }
+    ensures written { OnOk result (WritesRle (centred sq.level ((L.book look.now).cells sq)) comments.entry rule.now generation (V.taken file.old) (V.taken file.new)) }
     ensures unfailed { OnOk result (V.failure_count file.new ≡ V.failure_count file.old) }
     ensures refused { IfErr result (λ refusal.
-        (refusal ≡ Refusal.BoxTooLarge × ¬ FitsRle (bounds_of cells.now) × file.new ≡ file.old)
+        (refusal ≡ Refusal.BoxTooLarge × IsTooLarge (centred sq.level ((L.book look.now).cells sq)) × file.new ≡ file.old)
         ⊎ (refusal ≡ Refusal.NoMemory × file.new ≡ file.old)
         ⊎ IsWriteRefusal (V.failure_count file.old) (V.failure_count file.new) refusal) }
 {
-    let frame = Frame::round(cells.bounds())?;
-    let Ok(runs) = row_runs(alloc, cells) else {
-        return Err(Refusal::NoMemory);
-    };
+    let frame = Frame::round(bounds(look, alloc, sq)?)?;
+    let runs = row_runs(look, alloc, sq)?;
     let Ok(items) = items(alloc, frame.corner, runs.as_slice()) else {
         return Err(Refusal::NoMemory);
     };

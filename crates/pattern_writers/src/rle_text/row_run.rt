@@ -1,10 +1,15 @@
-ghost use Rattle.std.specs.Prelude.{◌≡◌, ◌+ℤ◌, pos, IfOk};
-ghost use Rattle.plane.specs.Range.{IsInRange};
+ghost use Rattle.std.specs.Prelude.{◌≡◌, ◌≤◌, ◌+ℤ◌, pos, FitsSigned, IfOk, OnOk, IsOkUnless};
+ghost use Rattle.std.specs.Int.{w64};
+ghost use Rattle.plane.specs.Centred.{centred};
+ghost use Rattle.squares.specs.Book.{IsKnown};
 ghost use Rattle.pattern_writers.specs.Items.{next_cell};
-ghost use Rattle.pattern_writers.specs.RowRuns.{run_at, runs_of};
+ghost use Rattle.pattern_writers.specs.RleText.{HasRuns};
+ghost use Rattle.pattern_writers.specs.RowRuns.{AddsRow, run_in};
 
-use plane::{Cell, CellSet};
-use std::alloc::{AllocError, Global};
+use plane::{Cell, Refusal};
+use squares::{Look, Sq};
+use std::alloc::Global;
+use viewport::first_row;
 
 // Live cells side by side in a row.
 #[derive(Clone, Copy, Debug, PartialEq, Eq)]
@@ -17,26 +22,15 @@ pub(crate) struct RowRun {
 }
 
 impl RowRun {
-    // The run of one cell.
-    fn at(cell: Cell) -> Self
-        requires { IsInRange cell }
-        ensures { result ≡ run_at cell }
+    // The run of a row, from its first column and its length.
+    fn in_row(row: i64, first: i64, count: u64) -> Self
+        requires { FitsSigned w64 (first +ℤ pos count) }
+        ensures { result ≡ run_in row (first, count) }
     {
         RowRun {
-            row: cell.y,
-            first: cell.x,
-            end: cell.x + 1,
-        }
-    }
-
-    // The run that goes on up to a cell.
-    fn through(self, cell: Cell) -> Self
-        requires { IsInRange cell }
-        ensures { result ≡ record self { end = cell.x +ℤ pos 1 } }
-    {
-        RowRun {
-            end: cell.x + 1,
-            ..self
+            row,
+            first,
+            end: first.saturating_add_unsigned(count),
         }
     }
 
@@ -51,24 +45,41 @@ impl RowRun {
     }
 }
 
-// The longest runs of the cells, row by row and from left to right.
-pub(crate) fn row_runs(alloc: Global, cells: &CellSet) -> Result<Vec<RowRun>, AllocError>
-    ensures { IfOk result (λ runs. runs.items ≡ runs_of cells.now) }
+// The longest runs of a square's cells, row by row and from left to right. `NoMemory` if there is no room for
+// them.
+pub(crate) fn row_runs<L: Look>(look: &L, alloc: Global, sq: Sq) -> Result<Vec<RowRun>, Refusal>
+    requires known { IsKnown (L.book look.now) sq.level sq }
+    requires level { sq.level ≤ 63 }
+    ensures ok { IfOk result (λ runs. HasRuns (centred sq.level ((L.book look.now).cells sq)) runs.items) }
+    ensures memory { IsOkUnless result Refusal.NoMemory }
 {
     let mut runs = Vec::new(alloc);
-    let mut current: Option<RowRun> = None;
-    for cell in cells.iter() {
-        current = match current {
-            Some(run) if run.next_cell() == *cell => Some(run.through(*cell)),
-            Some(run) => {
-                runs.push(run)?;
-                Some(RowRun::at(*cell))
-            }
-            None => Some(RowRun::at(*cell)),
-        };
-    }
-    if let Some(run) = current {
-        runs.push(run)?;
+    let mut next = first_row(look, sq, i64::MIN);
+    'rows: while let Some(row) = next {
+        add_row(look, alloc, sq, row, &mut runs)?;
+        next = first_row(look, sq, row + 1);
     }
     Ok(runs)
+}
+
+// Adds the runs of a row.
+fn add_row<L: Look>(
+    look: &L,
+    alloc: Global,
+    sq: Sq,
+    row: i64,
+    runs: &mut Vec<RowRun>,
+) -> Result<(), Refusal>
+    requires known { IsKnown (L.book look.now) sq.level sq }
+    requires level { sq.level ≤ 63 }
+    ensures ok { OnOk result (AddsRow (centred sq.level ((L.book look.now).cells sq)) row runs.old.items runs.new.items) }
+    ensures memory { IsOkUnless result Refusal.NoMemory }
+{
+    let found = viewport::row_runs(look, alloc, sq, row)?;
+    'found: for run in &found {
+        if runs.push(RowRun::in_row(row, run.0, run.1)).is_err() {
+            return Err(Refusal::NoMemory);
+        }
+    }
+    Ok(())
 }

@@ -1,10 +1,10 @@
-use Rattle.std.proofs.Common.{ℕ, ◌+◌, ◌-◌}
-use Rattle.plane.specs.Bounds.{HasReach}
-use Rattle.plane.specs.Listing.{plane_of, IsListing}
+use Rattle.std.proofs.Common.{◌^◌, take}
+use Rattle.std.specs.Prelude.{sum_by}
 use Rattle.plane.specs.Plane.{after}
+use Rattle.plane.specs.Square.{IsSame}
+use Rattle.engine.specs.Pattern.{plane_of}
 use Rattle.engine.proofs.generations.after.Given as goal
 
-abbrev pub invariant-loop-done : goal.invariant-loop-done
-invariant-loop-done l =
-    IsListing l.cells (after l.rule (plane_of l.initial.cells) l._done)
-    × ((more : ℕ) → HasReach (more + l.generations) l.initial.cells → HasReach (more + (l.generations - l._done)) l.cells)
+-- the plane after the steps so far
+abbrev pub invariant-steps : goal.invariant-steps
+invariant-steps l = IsSame (plane_of l.pattern) (after l.rule (plane_of l.fn.start) (sum_by (λ exponent. 2 ^ exponent) (take l.exponent-index l.exponent-items)))
