@@ -1,19 +1,25 @@
 -- How runs end.
-use Rattle.std.proofs.Common.{◌≡◌, ◌⊎◌, ℕ, Bor, List, [], length, take, Option, None, Some, Ok, refl, sym, subst, ap, arith, inl, inr}
+use Rattle.std.proofs.Common.{◌≡◌, ◌⊎◌, ℕ, Bor, List, [], length, take, Option, None, Some, Ok, refl, sym, ◌∙◌, subst, ap, arith, inl, inr}
 use Rattle.std.specs.Io.KnownBytes.{Appends}
 use Rattle.std.specs.Option.{option_copied, unwrap_or}
 use Rattle.std.proofs.lemmas.List.{take_all}
 use Rattle.rule_text.specs.CountRule.{CountRule}
 use Rattle.plane.specs.Bounds.{bounds_of}
-use Rattle.plane.specs.Listing.{IsListing, plane_of}
-use Rattle.plane.specs.Plane.{after}
+use Rattle.plane.specs.Listing.{IsListing}
+use Rattle.plane.specs.Plane.{Plane, after}
+use Rattle.plane.specs.Square.{IsSame}
 use Rattle.plane.specs.Device.{HasFailed}
+use Rattle.plane.specs.Range.{StaysWithin}
+use Rattle.plane.specs.declared.cell.Bounds.{Bounds}
 use Rattle.plane.specs.declared.cell.Cell.{Cell}
 use Rattle.plane.specs.declared.refusal.Refusal.{Refusal}
 use Rattle.plane.specs.declared.refusal.Refusal.TheVariants.{BoxTooLarge, NoMemory, WriteFailed}
 use Rattle.rle_reader.specs.Meaning.{Meaning, judged, live_plane}
 use Rattle.plane.specs.Device.{IsWriteRefusal}
-use Rattle.pattern_writers.specs.Frame.{FitsRle}
+use Rattle.plane.proofs.Uniqueness.{one_listing_lem}
+use Rattle.pattern_writers.specs.RleText as writers
+use Rattle.viewport.specs.BoundingBox.{HasBounds}
+use Rattle.viewport.specs.Population.{HasPopulation}
 use Rattle.engine.specs.FileText.{HasText, file_text}
 use Rattle.engine.specs.Judgement.{Start, IsStart, StaysInRange, ReadsRule, placeless}
 use Rattle.engine.specs.Report.{Shows, shown}
@@ -40,79 +46,109 @@ begun_none bytes options meaning rule text read = record {
   report = shows_none rule (live_plane meaning) meaning.generation;
 }
 
-module _ (bytes : List ℕ) (options : Options) (start : Start) (accepted : IsStart bytes options start) where
+-- a listing of one plane is one of each other with the same cells
+pub listing_as : {cells : List Cell} {plane other : Plane} → IsSame plane other → IsListing cells plane → IsListing cells other
+listing_as same listing = record { rising = listing.rising; live = λ x y. listing.live x y ∙ same.same x y }
+
+-- what a file starts with, where its text and its rule are accepted
+pub started : (bytes : List ℕ) (options : Options) (meaning : Meaning) (rule : CountRule) (here : Plane) (cells : List Cell) → judged bytes ≡ Ok meaning → ReadsRule options.rule meaning (Ok rule) →
+    IsSame here (live_plane meaning) → IsListing cells here → IsStart bytes options (record { meaning = meaning; rule = rule; cells = cells })
+started bytes options meaning rule here cells text read same listing = record { text = text; rule = read; cells = listing_as same listing }
+
+-- what a box and a generation stay within
+pub stays_as : {box other : Option Bounds} {start generation generations : ℕ} → box ≡ other → start ≡ generation → StaysWithin box start generations → StaysWithin other generation generations
+stays_as {box} {other} {start} {generation} {generations} boxes starts stays =
+    subst (λ (b : Option Bounds). StaysWithin b generation generations) boxes (subst (λ (n : ℕ). StaysWithin box n generations) starts stays)
+
+-- a run from a pattern, `here`, that comes to `last`
+module _ (bytes : List ℕ) (options : Options) (start : Start) (accepted : IsStart bytes options start) (here : Plane) (same : IsSame here (live_plane start.meaning)) where
   -- a run that has said some lines
-  pub begun_some : (lines : ℕ) (said : List ℕ) → Shows start.rule (plane_of start.cells) start.meaning.generation (take lines (shown options)) said → IsBegun bytes options said
+  pub begun_some : (lines : ℕ) (said : List ℕ) → Shows start.rule here start.meaning.generation (take lines (shown options)) said → IsBegun bytes options said
   begun_some lines said shows = record {
     meaning = start.meaning;
     rule = start.rule;
     lines = lines;
     text = accepted.text;
     read = accepted.rule;
-    report = same_shows start.rule (plane_of start.cells) (live_plane start.meaning) accepted.cells.live start.meaning.generation (take lines (shown options)) said shows;
+    report = same_shows start.rule here (live_plane start.meaning) same.same start.meaning.generation (take lines (shown options)) said shows;
   }
 
   -- a run that has said all
-  pub begun_all : (said : List ℕ) → Shows start.rule (plane_of start.cells) start.meaning.generation (shown options) said → IsBegun bytes options said
+  pub begun_all : (said : List ℕ) → Shows start.rule here start.meaning.generation (shown options) said → IsBegun bytes options said
   begun_all said shows =
       let all : take (length (shown options)) (shown options) ≡ shown options = take_all (length (shown options)) (shown options) (omega arith) in
       begun_some (length (shown options)) said
-      (subst (λ ns. Shows start.rule (plane_of start.cells) start.meaning.generation ns said) (sym all) shows)
+      (subst (λ ns. Shows start.rule here start.meaning.generation ns said) (sym all) shows)
 
-  pub whole_report : (said : List ℕ) → Shows start.rule (plane_of start.cells) start.meaning.generation (shown options) said → IsReport start options said
+  pub whole_report : (said : List ℕ) → Shows start.rule here start.meaning.generation (shown options) said → IsReport start options said
   whole_report said shows =
-      same_shows start.rule (plane_of start.cells) (live_plane start.meaning) accepted.cells.live start.meaning.generation (shown options) said shows
+      same_shows start.rule here (live_plane start.meaning) same.same start.meaning.generation (shown options) said shows
 
-  pub last_cells : (cells : List Cell) → IsListing cells (after start.rule (plane_of start.cells) options.gens) → IsLast start options cells
-  last_cells cells listing = same_after start.rule (plane_of start.cells) (live_plane start.meaning) accepted.cells.live options.gens cells listing
+  pub last_cells : (last : Plane) (cells : List Cell) → IsSame last (after start.rule here options.gens) → IsListing cells last → IsLast start options cells
+  last_cells last cells is listing = same_after start.rule here (live_plane start.meaning) same.same options.gens cells (listing_as is listing)
 
   -- what an accepted run that ends well writes and answers
-  pub finishes : (said : List ℕ) (cells : List Cell) (drawn : List ℕ) (answer : Summary) → Shows start.rule (plane_of start.cells) start.meaning.generation (shown options) said →
-      IsListing cells (after start.rule (plane_of start.cells) options.gens) → HasText options.format cells →
+  pub finishes : (last : Plane) (said : List ℕ) (cells : List Cell) (drawn : List ℕ) (answer : Summary) → IsSame last (after start.rule here options.gens) →
+      Shows start.rule here start.meaning.generation (shown options) said → IsListing cells last → HasText options.format cells →
       drawn ≡ file_text options.format start.meaning.comments start.rule (last_generation start options) cells →
-      answer ≡ record { generation = last_generation start options; population = length cells; bounds = bounds_of cells } → Finishes start options answer said drawn
-  finishes said cells drawn answer shows listing fits file summary = record {
+      answer.generation ≡ last_generation start options → HasPopulation last answer.population → HasBounds last answer.bounds → Finishes start options answer said drawn
+  finishes last said cells drawn answer is shows listing fits file generation population bounds = record {
     cells = cells;
-    last = last_cells cells listing;
+    last = last_cells last cells is listing;
     report = whole_report said shows;
     fits = fits;
     file = file;
-    summary = summary;
+    summary =
+        ap (λ g. record { generation = g; population = answer.population; bounds = answer.bounds }) generation
+        ∙ ap (λ n. record { generation = last_generation start options; population = n; bounds = answer.bounds }) (population.count ∙ ap length (one_listing_lem last population.cells cells population.listing listing))
+        ∙ ap (λ b. record { generation = last_generation start options; population = length cells; bounds = b }) (bounds.bounds ∙ ap bounds_of (one_listing_lem last bounds.cells cells bounds.listing listing));
   }
 
   -- ---- how a run is refused once its report has begun
 
   -- in the middle of the report
   pub refused_reporting : (generation : ℕ) (refusal : Refusal) (failed_before failed_after : ℕ) (old new : Option (List ℕ)) (Unaccepted TooLarge FileSame FileFailed : Type 0) → FileSame → generation ≡ start.meaning.generation →
-      ((refusal ≡ NoMemory) × ((lines : ℕ) × (said : List ℕ) × Shows start.rule (plane_of start.cells) generation (take lines (shown options)) said × Appends old new said))
+      ((refusal ≡ NoMemory) × ((lines : ℕ) × (said : List ℕ) × Shows start.rule here generation (take lines (shown options)) said × Appends old new said))
       ⊎ IsWriteRefusal failed_before failed_after refusal →
       Unaccepted ⊎ TooLarge ⊎ ((placeless refusal ≡ placeless NoMemory) × FileSame × ((said : List ℕ) × IsBegun bytes options said × Appends old new said))
       ⊎ ((placeless refusal ≡ placeless WriteFailed) × (HasFailed failed_before failed_after ⊎ FileFailed))
   refused_reporting generation refusal failed_before failed_after old new Unaccepted TooLarge FileSame FileFailed same is_start (inl (memory, (lines, said, shows, appends))) =
-      inr (inr (inl (ap placeless memory, same, (said, begun_some lines said (subst (λ n. Shows start.rule (plane_of start.cells) n (take lines (shown options)) said) is_start shows), appends))))
+      inr (inr (inl (ap placeless memory, same, (said, begun_some lines said (subst (λ n. Shows start.rule here n (take lines (shown options)) said) is_start shows), appends))))
   refused_reporting generation refusal failed_before failed_after old new Unaccepted TooLarge FileSame FileFailed same is_start (inr (is, failed)) =
       inr (inr (inr (ap placeless is, inl failed)))
 
   -- after the report
-  pub refused_writing : (refusal : Refusal) (failed_before failed_after : ℕ) (old new : Option (List ℕ)) (said : List ℕ) (cells : List Cell) (Unaccepted FileSame ReportFailed : Type 0) →
-      StaysInRange options start → IsListing cells (after start.rule (plane_of start.cells) options.gens) →
-      Shows start.rule (plane_of start.cells) start.meaning.generation (shown options) said → Appends old new said → options.format ≡ Some Rle →
-      ((refusal ≡ BoxTooLarge) × (FitsRle (bounds_of cells) → ⊥) × FileSame) ⊎ ((refusal ≡ NoMemory) × FileSame) ⊎ IsWriteRefusal failed_before failed_after refusal →
+  pub refused_writing : (last : Plane) (refusal : Refusal) (failed_before failed_after : ℕ) (old new : Option (List ℕ)) (said : List ℕ) (Unaccepted FileSame ReportFailed : Type 0) →
+      StaysInRange options start → IsSame last (after start.rule here options.gens) →
+      Shows start.rule here start.meaning.generation (shown options) said → Appends old new said → options.format ≡ Some Rle →
+      ((refusal ≡ BoxTooLarge) × writers.IsTooLarge last × FileSame) ⊎ ((refusal ≡ NoMemory) × FileSame) ⊎ IsWriteRefusal failed_before failed_after refusal →
       Unaccepted
       ⊎ ((placeless refusal ≡ placeless BoxTooLarge) × FileSame × ((said : List ℕ) × IsTooLarge bytes options said × Appends old new said))
       ⊎ ((placeless refusal ≡ placeless NoMemory) × FileSame × ((said : List ℕ) × IsBegun bytes options said × Appends old new said))
       ⊎ ((placeless refusal ≡ placeless WriteFailed) × (ReportFailed ⊎ HasFailed failed_before failed_after))
-  refused_writing refusal failed_before failed_after old new said cells Unaccepted FileSame ReportFailed stays listing shows appends format (inl (large, unfit, same)) =
+  refused_writing last refusal failed_before failed_after old new said Unaccepted FileSame ReportFailed stays is shows appends format (inl (large, unfit, unchanged)) =
       inr (inl (
         ap placeless large,
-        same,
+        unchanged,
         (
           said,
-          record { start = start; cells = cells; accepted = (accepted, stays); last = last_cells cells listing; report = whole_report said shows; unfit = rw format unfit },
+          record {
+            start = start;
+            cells = unfit.cells;
+            accepted = (accepted, stays);
+            last = last_cells last unfit.cells is unfit.listing;
+            report = whole_report said shows;
+            unfit = rw format unfit.unfit;
+          },
           appends,
         ),
       ))
-  refused_writing refusal failed_before failed_after old new said cells Unaccepted FileSame ReportFailed stays listing shows appends format (inr (inl (memory, same))) =
-      inr (inr (inl (ap placeless memory, same, (said, begun_all said shows, appends))))
-  refused_writing refusal failed_before failed_after old new said cells Unaccepted FileSame ReportFailed stays listing shows appends format (inr (inr (is, failed))) =
-      inr (inr (inr (ap placeless is, inr failed)))
+  refused_writing last refusal failed_before failed_after old new said Unaccepted FileSame ReportFailed stays is shows appends format (inr (inl (memory, unchanged))) =
+      inr (inr (inl (ap placeless memory, unchanged, (said, begun_all said shows, appends))))
+  refused_writing last refusal failed_before failed_after old new said Unaccepted FileSame ReportFailed stays is shows appends format (inr (inr (failing, failed))) =
+      inr (inr (inr (ap placeless failing, inr failed)))
+
+  -- where memory ran out after the report
+  pub refused_viewing : (old new : Option (List ℕ)) (said : List ℕ) (Unaccepted TooLarge FileSame Failed : Type 0) → FileSame → Shows start.rule here start.meaning.generation (shown options) said → Appends old new said →
+      Unaccepted ⊎ TooLarge ⊎ ((placeless NoMemory ≡ placeless NoMemory) × FileSame × ((said : List ℕ) × IsBegun bytes options said × Appends old new said)) ⊎ Failed
+  refused_viewing old new said Unaccepted TooLarge FileSame Failed unchanged shows appends = inr (inr (inl (refl, unchanged, (said, begun_all said shows, appends))))

@@ -1,16 +1,16 @@
 -- A run that stays in the range is held by the square of level 63 round (0,0), generation by generation.
-use Rattle.std.proofs.Common.{◌≡◌, ◌≢◌, ℕ, ◌+◌, ◌^◌, ◌≤◌, ℤ, pos, ◌+ℤ◌, ◌-ℤ◌, ◌≤ℤ◌, Bool, true, false, ◌&&◌, Option, None, Some, List, [], ◌∷◌, IfSome, refl, sym, ◌∙◌, ap, arith}
+use Rattle.std.proofs.Common.{◌≡◌, ◌≢◌, ℕ, ◌^◌, ◌<◌, ◌≤◌, ℤ, pos, ◌+ℤ◌, ◌-ℤ◌, ◌≤ℤ◌, Bool, true, false, ◌&&◌, Option, None, Some, List, [], ◌∷◌, IfSome, refl, sym, ◌∙◌, arith}
 use Rattle.std.specs.List.{AllByRecursion}
 use Rattle.std.proofs.lemmas.Bool.{false≢true}
 use Rattle.std.proofs.lemmas.Int.{ints}
 use Rattle.rule_text.specs.CountRule.{CountRule, has}
 use Rattle.plane.specs.Bounds.{HasReach, IsWithin, bounds_of}
-use Rattle.plane.specs.Centred.{Holds, is_round}
+use Rattle.plane.specs.Centred.{Holds}
 use Rattle.plane.specs.Laws.{IsNear}
 use Rattle.plane.specs.Listing.{IsListing, plane_of}
 use Rattle.plane.specs.Plane.{Plane, after}
 use Rattle.plane.specs.Range.{IsBoxInRange, IsCoordinate, widened}
-use Rattle.plane.specs.Square.{spans}
+use Rattle.plane.specs.Square.{IsSame, empty, spans}
 use Rattle.plane.specs.declared.cell.Bounds.{Bounds}
 use Rattle.plane.specs.declared.cell.Cell.{Cell}
 use Rattle.plane.proofs.Around.{live_cell}
@@ -71,3 +71,10 @@ held rule none cells plane generations n listing reach less = record {
         | false ↦ λ _. refl
       ] refl);
 }
+
+-- where something is live, a run that stays in the range has fewer than 2^63 generations
+pub short_run : (cells : List Cell) (plane : Plane) (generations : ℕ) → IsListing cells plane → HasReach generations cells → (IsSame plane empty → ⊥) → generations < 2 ^ 63
+unfolding plane_of
+short_run [] plane generations listing reach some = absurd (some (record { same = λ x y. sym (listing.live x y) }))
+short_run (cell ∷ cells) plane generations listing reach some =
+    let room = (rooms generations (cell ∷ cells) reach).0 in omega (arith, ints, room.left.low, room.right.high)

@@ -1,13 +1,17 @@
 -- The lines of a report, one after the other.
-use Rattle.std.proofs.Common.{◌≡◌, ℕ, zero, suc, ◌+◌, ◌-◌, ◌<◌, ◌≤◌, ◌&&◌, not, true, false, List, [], ◌∷◌, ◌++◌, length, filter, take, refl, sym, ◌∙◌, ap, subst, append_assoc, append-nil, arith, ℤ, Bool}
+use Rattle.std.proofs.Common.{◌≡◌, ◌⊎◌, inl, inr, Option, ℕ, zero, suc, ◌+◌, ◌-◌, ◌<◌, ◌≤◌, ◌&&◌, not, true, false, List, [], ◌∷◌, ◌++◌, length, filter, take, refl, sym, ◌∙◌, ap, subst, append_assoc, append-nil, arith, ℤ, Bool}
 use Rattle.std.specs.List.{AllZip, concat, range_with_len}
 use Rattle.rule_text.specs.CountRule.{CountRule}
+use Rattle.std.specs.Io.KnownBytes.{Appends}
+use Rattle.plane.specs.Device.{IsWriteRefusal}
 use Rattle.plane.specs.Listing.{IsListing}
 use Rattle.plane.specs.Plane.{Plane, after}
 use Rattle.plane.specs.Square.{IsSame}
 use Rattle.plane.specs.declared.cell.Cell.{Cell}
+use Rattle.plane.specs.declared.refusal.Refusal.{Refusal}
+use Rattle.plane.specs.declared.refusal.Refusal.TheVariants.{NoMemory}
 use Rattle.plane.proofs.Cones.{light_cone_lem}
-use Rattle.engine.specs.Report.{report_line, is_shown, shown_until, IsLineAfter, IsSaid, Shows}
+use Rattle.engine.specs.Report.{report_line, is_shown, shown, shown_until, IsLineAfter, IsSaid, Shows}
 use Rattle.engine.specs.declared.options.Options.{Options}
 
 -- ---- numbers in a row that pass a test
@@ -131,6 +135,24 @@ module _ (rule : CountRule) (plane : Plane) (start : ℕ) where
           (sym (ap (λ l. ns ++ l) (filtered_in (is_shown options) n [] line)))
           (sym (ap (λ l. text ++ l) line_is))
           (shows_more ns n (length cells) cells (start + n) text shows (record { rising = listing.rising; live = λ x y. listing.live x y ∙ same.same x y }) refl refl)
+
+-- ---- a report that stops
+
+-- the lines up to one of them are the first of all
+pub first_lines : (rule : CountRule) (plane : Plane) (start : ℕ) (options : Options) (done : ℕ) (said : List ℕ) → done ≤ options.gens → Shows rule plane start (shown_until options done) said →
+    Shows rule plane start (take (length (shown_until options done)) (shown options)) said
+first_lines rule plane start options done said within = subst (λ ns. Shows rule plane start ns said) (sym (shown_first options done options.gens within))
+
+-- where a line could not be said, what was said before stands, or the sink has failed
+pub stopped : {S : Type 0} (taken : S → Option (List ℕ)) (failures : S → ℕ) (start old new : S) (rule : CountRule) (plane : Plane) (generation : ℕ) (options : Options) (refusal : Refusal) (lines : ℕ) (said : List ℕ) →
+    failures old ≡ failures start → Shows rule plane generation (take lines (shown options)) said → Appends (taken start) (taken old) said →
+    ((refusal ≡ NoMemory) × (new ≡ old)) ⊎ IsWriteRefusal (failures old) (failures new) refusal →
+    ((refusal ≡ NoMemory) × ((lines : ℕ) × (said : List ℕ) × Shows rule plane generation (take lines (shown options)) said × Appends (taken start) (taken new) said))
+    ⊎ IsWriteRefusal (failures start) (failures new) refusal
+stopped taken failures start old new rule plane generation options refusal lines said unfailed shows appends (inl (memory, same)) =
+    inl (memory, (lines, said, shows, subst (λ s. Appends (taken start) (taken s) said) (sym same) appends))
+stopped taken failures start old new rule plane generation options refusal lines said unfailed shows appends (inr refused) =
+    inr (subst (λ n. IsWriteRefusal n (failures new) refusal) unfailed refused)
 
 -- ---- planes with the same cells
 

@@ -8,7 +8,7 @@ ghost use Rattle.engine.specs.Books.{book_of};
 ghost use Rattle.viewport.specs.BoundingBox.{HasBounds};
 ghost use Rattle.viewport.specs.Population.{HasPopulation};
 
-use hashlife_step::{Tally, future, pad, trim};
+use hashlife_step::{Tally, step};
 use pattern_writers::write_rle;
 use plane::{Bounds, Cell, Refusal, Sink};
 use rle_reader::{Comments, RleFile};
@@ -36,11 +36,7 @@ impl Pattern {
     ghost use Rattle.engine.specs.Pattern.{plane_of};
 
     // The cells of runs.
-    pub(crate) fn of_runs(
-        alloc: Global,
-        rule: Rule,
-        runs: &[(Cell, u64)],
-    ) -> Result<Self, Refusal>
+    pub(crate) fn of_runs(alloc: Global, rule: Rule, runs: &[(Cell, u64)]) -> Result<Self, Refusal>
         requires { AreRuns runs.now }
         ensures ok { IfOk result (λ pattern. IsSame (plane_of pattern) (runs_plane runs.now)) }
         ensures memory { IsOkUnless result Refusal.NoMemory }
@@ -93,10 +89,8 @@ impl Pattern {
         ensures memory { IsOkUnless result Refusal.NoMemory }
     {
         let mut book = PlainBook::new(alloc, *rule, exponent);
-        let root = copy_square(alloc, &self.book, self.root, &mut book)?;
-        let root = pad(&mut book, root, exponent)?;
-        let root = future(&mut book, root, &mut Tally { expansions: 0 })?;
-        let root = trim(&mut book, root)?;
+        let start = copy_square(alloc, &self.book, self.root, &mut book)?;
+        let root = step(&mut book, start, &mut Tally { expansions: 0 })?;
         Ok(Pattern { book, root })
     }
 

@@ -1,0 +1,97 @@
+use Rattle.std.proofs.Common.{◌≡◌, ◌+◌, ◌-◌, ◌++◌, [], Err, length, rules, refl, sym, subst, arith, inl}
+use Rattle.std.proofs.KnownBytes.{Appends-nil, Appends-trans}
+use Rattle.plane.specs.Plane.{after}
+use Rattle.plane.specs.Square.{IsSame}
+use Rattle.plane.specs.declared.refusal.Refusal.TheVariants.{NoMemory}
+use Rattle.plane.proofs.Same.{same_refl}
+use Rattle.engine.specs.Pattern.{plane_of}
+use Rattle.engine.specs.Report.{IsSaid, Shows, shown_until}
+use Rattle.engine.proofs.Patterns.{after_step, held_later, empty_later}
+use Rattle.engine.proofs.Reports.{first_lines, shown_next, shows_next, shows_none, start_shown, stopped}
+use Rattle.engine.proofs.reported.run_reported.Goals as goal
+
+pub returns-in_err-report_generation-clause-refused : goal.returns-in_err-report_generation-clause-refused
+returns-in_err-report_generation-clause-refused g c =
+    let plane = plane_of c.args.start in
+    let is : c.from_residual.result ≡ Err c.in_err-report_generation.field-0.0 = search rules in
+    rw is (stopped g.W.Sink.taken g.W.Sink.failure_count c.args.report.now c.args.report.now c.report_generation.new.report c.args.rule.now plane c.args.generation c.args.options.now
+    c.in_err-report_generation.field-0.0 0 [] refl (shows_none c.args.rule.now plane c.args.generation) (Appends-nil _) c.in_err-report_generation.ensures.refused)
+
+pub loop-done-init : goal.loop-done-init
+loop-done-init g c =
+    let options = c.args.options.now in
+    let rule = c.args.rule.now in
+    let plane = plane_of c.args.start in
+    let said = c.in_ok-report_generation.ensures.written in
+    let start : c.args.generation ≡ c.args.generation + 0 = omega arith in
+    record {
+      within = omega arith;
+      cells = same_refl plane;
+      unfailed = search rules;
+      said = (
+        said.0,
+        shows_next rule plane c.args.generation options [] 0 plane [] said.0 (shows_none rule plane c.args.generation) (same_refl plane)
+            (subst (λ n. IsSaid options.quiet n plane said.0) start said.1) (start_shown options),
+        said.2,
+      );
+    }
+
+pub after-requires-clause-held : goal.after-requires-clause-held
+after-requires-clause-held g c = λ n less.
+    held_later c.args.rule.now (plane_of c.args.start) (plane_of c.loop-done.pattern) c.args.options.now.gens c.loop-done.done n c.requires.held c.loop-done.invariant.cells
+    (omega (arith, less, c.loop-done-test.true, c.next_shown-next.ensures.later, c.next_shown-next.ensures.within))
+
+pub after-requires-clause-short : goal.after-requires-clause-short
+after-requires-clause-short g c = λ some.
+    let short = c.requires.short (λ none. some (empty_later c.args.rule.now c.requires.rule.no_birth_on_zero (plane_of c.args.start) (plane_of c.loop-done.pattern) c.loop-done.done none c.loop-done.invariant.cells)) in
+    omega (arith, short, c.next_shown-next.ensures.within)
+
+pub returns-in_err-pattern-clause-refused : goal.returns-in_err-pattern-clause-refused
+returns-in_err-pattern-clause-refused g c =
+    let options = c.args.options.now in
+    let said = c.loop-done.invariant.said in
+    let is : c.from_residual-in_err-pattern.result ≡ Err NoMemory = search rules in
+    rw is (inl (
+      refl,
+      (
+        length (shown_until options c.loop-done.done),
+        said.0,
+        first_lines c.args.rule.now (plane_of c.args.start) c.args.generation options c.loop-done.done said.0 c.loop-done.invariant.within said.1,
+        said.2,
+      ),
+    ))
+
+pub returns-in_err-report_generation-2-clause-refused : goal.returns-in_err-report_generation-2-clause-refused
+returns-in_err-report_generation-2-clause-refused g c =
+    let options = c.args.options.now in
+    let plane = plane_of c.args.start in
+    let said = c.loop-done.invariant.said in
+    let is : c.from_residual-in_err-report_generation-2.result ≡ Err c.in_err-report_generation-2.field-0.0 = search rules in
+    rw is (stopped g.W.Sink.taken g.W.Sink.failure_count c.args.report.now c.loop-done.report c.report_generation-in-loop-done.new.report c.args.rule.now plane c.args.generation options
+    c.in_err-report_generation-2.field-0.0 (length (shown_until options c.loop-done.done)) said.0 c.loop-done.invariant.unfailed
+    (first_lines c.args.rule.now plane c.args.generation options c.loop-done.done said.0 c.loop-done.invariant.within said.1) said.2 c.in_err-report_generation-2.ensures.refused)
+
+pub loop-done-preserved : goal.loop-done-preserved
+loop-done-preserved g c =
+    let options = c.args.options.now in
+    let rule = c.args.rule.now in
+    let plane = plane_of c.args.start in
+    let done = c.loop-done.done in
+    let next = c.next_shown-next.result in
+    let said = c.loop-done.invariant.said in
+    let line = c.in_ok-report_generation-2.ensures.written in
+    let sum : done + (next - done) ≡ next = omega (arith, c.next_shown-next.ensures.later) in
+    let cells = subst (λ n. IsSame (plane_of c.in_ok-pattern.pattern) (after rule plane n)) sum
+    (after_step rule plane (plane_of c.loop-done.pattern) (plane_of c.in_ok-pattern.pattern) done (next - done) c.loop-done.invariant.cells c.in_ok-pattern.ensures.ok) in
+    let shows = shows_next rule plane c.args.generation options (shown_until options done) next (plane_of c.in_ok-pattern.pattern) said.0 line.0 said.1 cells line.1 c.next_shown-next.ensures.shown in
+    let numbers = shown_next options done next c.next_shown-next.ensures.later c.next_shown-next.ensures.between in
+    record {
+      within = c.next_shown-next.ensures.within;
+      cells = cells;
+      unfailed = search rules;
+      said = (
+        said.0 ++ line.0,
+        subst (λ ns. Shows rule plane c.args.generation ns (said.0 ++ line.0)) (sym numbers) shows,
+        Appends-trans _ _ _ said.0 line.0 said.2 line.2,
+      );
+    }

@@ -1,0 +1,146 @@
+use Rattle.std.proofs.Common.{◌≡◌, ℕ, List, [], ◌+◌, Ok, Err, None, Some, rules, refl, sym, ap, inl, inr}
+use Rattle.std.specs.Io.KnownBytes.{Appends}
+use Rattle.std.proofs.KnownBytes.{Appends-nil}
+use Rattle.plane.specs.declared.refusal.Refusal.TheVariants.{NoMemory, TooFar}
+use Rattle.plane.specs.declared.cell.Cell.{Cell}
+use Rattle.pattern_writers.specs.RleText.{rle_text}
+use Rattle.rle_reader.specs.Meaning.{judged}
+use Rattle.engine.specs.Judgement.{Start, StaysInRange, placeless}
+use Rattle.engine.specs.Pattern.{plane_of}
+use Rattle.engine.specs.Report.{Shows, shown}
+use Rattle.engine.specs.Run.{last_generation}
+use Rattle.engine.specs.declared.running.Summary.{Summary}
+use Rattle.engine.specs.declared.options.Format.TheVariants.{Rle}
+use Rattle.engine.proofs.Endings.{begun_none, finishes, refused_reporting, refused_viewing, refused_writing, started, stays_as}
+use Rattle.engine.proofs.Held.{held, short_run}
+use Rattle.engine.proofs.running.run.Goals as goal
+use Rattle.engine.proofs.running.run.Goals.{in-Some-Rle+in_ok-write_rle, in_default}
+
+pub returns-in_err-pattern-clause-refused : goal.returns-in_err-pattern-clause-refused
+returns-in_err-pattern-clause-refused g c =
+    let is : c.from_residual-in_err-pattern.result ≡ Err (placeless NoMemory) = search rules in
+    let text : judged c.args.bytes.now ≡ Ok c.in_ok-text.text = search rules in
+    rw is (inr (inr (inl (
+      refl,
+      refl,
+      ([], begun_none c.args.bytes.now c.args.options.now c.in_ok-text.text c.in_ok-rule.rule text c.in_ok-rule.ensures.ok.0, Appends-nil _),
+    ))))
+
+pub returns-in_err-bounds-clause-refused : goal.returns-in_err-bounds-clause-refused
+returns-in_err-bounds-clause-refused g c =
+    let is : c.from_residual-in_err-bounds.result ≡ Err (placeless NoMemory) = search rules in
+    let text : judged c.args.bytes.now ≡ Ok c.in_ok-text.text = search rules in
+    rw is (inr (inr (inl (
+      refl,
+      refl,
+      ([], begun_none c.args.bytes.now c.args.options.now c.in_ok-text.text c.in_ok-rule.rule text c.in_ok-rule.ensures.ok.0, Appends-nil _),
+    ))))
+
+pub returns-in_err-reach-clause-refused : goal.returns-in_err-reach-clause-refused
+returns-in_err-reach-clause-refused g c =
+    let text : judged c.args.bytes.now ≡ Ok c.in_ok-text.text = search rules in
+    let box = c.in_ok-bounds.ensures.ok in
+    let start : Start = record { meaning = c.in_ok-text.text; rule = c.in_ok-rule.rule; cells = box.cells } in
+    let accepted = started c.args.bytes.now c.args.options.now c.in_ok-text.text c.in_ok-rule.rule (plane_of c.in_ok-pattern.pattern) box.cells text c.in_ok-rule.ensures.ok.0 c.in_ok-pattern.ensures.ok box.listing in
+    let is : c.from_residual-in_err-reach.result ≡ Err (placeless TooFar) = search rules in
+    rw is (inl (
+      inr (inr (record { start = start; accepted = accepted; outside = λ stays. c.in_err-reach.ensures.too_far.1 (stays_as (sym box.bounds) (sym c.generation-start.ensures) stays); is = refl })),
+      refl,
+      refl,
+    ))
+
+pub run_reported-requires-clause-held : goal.run_reported-requires-clause-held
+run_reported-requires-clause-held g c =
+    let box = c.in_ok-bounds.ensures.ok in
+    λ n less. held c.in_ok-rule.rule c.in_ok-rule.ensures.ok.1.no_birth_on_zero box.cells (plane_of c.in_ok-pattern.pattern) c.args.options.now.gens n box.listing (stays_as box.bounds refl c.in_ok-reach.ensures.ok.0).coordinates less
+
+pub run_reported-requires-clause-short : goal.run_reported-requires-clause-short
+run_reported-requires-clause-short g c =
+    let box = c.in_ok-bounds.ensures.ok in
+    short_run box.cells (plane_of c.in_ok-pattern.pattern) c.args.options.now.gens box.listing (stays_as box.bounds refl c.in_ok-reach.ensures.ok.0).coordinates
+
+pub returns-in_err-pattern-2-clause-refused : goal.returns-in_err-pattern-2-clause-refused
+returns-in_err-pattern-2-clause-refused g c =
+    let text : judged c.args.bytes.now ≡ Ok c.in_ok-text.text = search rules in
+    let box = c.in_ok-bounds.ensures.ok in
+    let here = plane_of c.in_ok-pattern.pattern in
+    let start : Start = record { meaning = c.in_ok-text.text; rule = c.in_ok-rule.rule; cells = box.cells } in
+    let accepted = started c.args.bytes.now c.args.options.now c.in_ok-text.text c.in_ok-rule.rule here box.cells text c.in_ok-rule.ensures.ok.0 c.in_ok-pattern.ensures.ok box.listing in
+    let is : c.from_residual-in_err-pattern-2.result ≡ Err (placeless c.in_err-pattern-2.field-0.0) = search rules in
+    rw is (refused_reporting c.args.bytes.now c.args.options.now start accepted here c.in_ok-pattern.ensures.ok c.generation-start.result c.in_err-pattern-2.field-0.0 _ _ _ _ _ _ _ _ refl c.generation-start.ensures
+    c.in_err-pattern-2.ensures.refused)
+
+pub returns-in_err-population-clause-refused : goal.returns-in_err-population-clause-refused
+returns-in_err-population-clause-refused g c =
+    let text : judged c.args.bytes.now ≡ Ok c.in_ok-text.text = search rules in
+    let box = c.in_ok-bounds.ensures.ok in
+    let here = plane_of c.in_ok-pattern.pattern in
+    let start : Start = record { meaning = c.in_ok-text.text; rule = c.in_ok-rule.rule; cells = box.cells } in
+    let accepted = started c.args.bytes.now c.args.options.now c.in_ok-text.text c.in_ok-rule.rule here box.cells text c.in_ok-rule.ensures.ok.0 c.in_ok-pattern.ensures.ok box.listing in
+    let reported : (said : List ℕ) × Shows start.rule here start.meaning.generation (shown c.args.options.now) said
+    × Appends (g.W.Sink.taken c.args.report.now) (g.W.Sink.taken c.run_reported.new.report) said = search rules in
+    let is : c.from_residual-in_err-population.result ≡ Err (placeless NoMemory) = search rules in
+    rw is (refused_viewing c.args.bytes.now c.args.options.now start accepted here c.in_ok-pattern.ensures.ok _ _ reported.0 _ _ _ _ refl reported.1 reported.2)
+
+pub returns-in_err-bounds-2-clause-refused : goal.returns-in_err-bounds-2-clause-refused
+returns-in_err-bounds-2-clause-refused g c =
+    let text : judged c.args.bytes.now ≡ Ok c.in_ok-text.text = search rules in
+    let box = c.in_ok-bounds.ensures.ok in
+    let here = plane_of c.in_ok-pattern.pattern in
+    let start : Start = record { meaning = c.in_ok-text.text; rule = c.in_ok-rule.rule; cells = box.cells } in
+    let accepted = started c.args.bytes.now c.args.options.now c.in_ok-text.text c.in_ok-rule.rule here box.cells text c.in_ok-rule.ensures.ok.0 c.in_ok-pattern.ensures.ok box.listing in
+    let reported : (said : List ℕ) × Shows start.rule here start.meaning.generation (shown c.args.options.now) said
+    × Appends (g.W.Sink.taken c.args.report.now) (g.W.Sink.taken c.run_reported.new.report) said = search rules in
+    let is : c.from_residual-in_err-bounds-2.result ≡ Err (placeless NoMemory) = search rules in
+    rw is (refused_viewing c.args.bytes.now c.args.options.now start accepted here c.in_ok-pattern.ensures.ok _ _ reported.0 _ _ _ _ refl reported.1 reported.2)
+
+pub returns-in_err-write_rle-clause-refused : goal.returns-in_err-write_rle-clause-refused
+returns-in_err-write_rle-clause-refused g c =
+    let text : judged c.args.bytes.now ≡ Ok c.in_ok-text.text = search rules in
+    let box = c.in_ok-bounds.ensures.ok in
+    let here = plane_of c.in_ok-pattern.pattern in
+    let start : Start = record { meaning = c.in_ok-text.text; rule = c.in_ok-rule.rule; cells = box.cells } in
+    let accepted = started c.args.bytes.now c.args.options.now c.in_ok-text.text c.in_ok-rule.rule here box.cells text c.in_ok-rule.ensures.ok.0 c.in_ok-pattern.ensures.ok box.listing in
+    let reported : (said : List ℕ) × Shows start.rule here start.meaning.generation (shown c.args.options.now) said
+    × Appends (g.W.Sink.taken c.args.report.now) (g.W.Sink.taken c.run_reported.new.report) said = search rules in
+    let is : c.from_residual-in_err-write_rle.result ≡ Err (placeless c.in_err-write_rle.field-0.0) = search rules in
+    let stays : StaysInRange c.args.options.now start = stays_as box.bounds c.generation-start.ensures c.in_ok-reach.ensures.ok.0 in
+    rw is (refused_writing c.args.bytes.now c.args.options.now start accepted here c.in_ok-pattern.ensures.ok (plane_of c.in_ok-pattern-2.pattern) c.in_err-write_rle.field-0.0 _ _ _ _ reported.0 _ _ _ stays c.in_ok-pattern-2.ensures.cells reported.1 reported.2 (search rules) c.in_err-write_rle.ensures.refused)
+
+pub returns-clause-finished : goal.returns-clause-finished
+returns-clause-finished g c =
+    let text : judged c.args.bytes.now ≡ Ok c.in_ok-text.text = search rules in
+    let box = c.in_ok-bounds.ensures.ok in
+    let here = plane_of c.in_ok-pattern.pattern in
+    let start : Start = record { meaning = c.in_ok-text.text; rule = c.in_ok-rule.rule; cells = box.cells } in
+    let accepted = started c.args.bytes.now c.args.options.now c.in_ok-text.text c.in_ok-rule.rule here box.cells text c.in_ok-rule.ensures.ok.0 c.in_ok-pattern.ensures.ok box.listing in
+    let reported : (said : List ℕ) × Shows start.rule here start.meaning.generation (shown c.args.options.now) said
+    × Appends (g.W.Sink.taken c.args.report.now) (g.W.Sink.taken c.run_reported.new.report) said = search rules in
+    let stays : StaysInRange c.args.options.now start = stays_as box.bounds c.generation-start.ensures c.in_ok-reach.ensures.ok.0 in
+    let last = plane_of c.in_ok-pattern-2.pattern in
+    let answer : Summary = record { generation = c.generation-start.result + c.args.options.now.gens; population = c.in_ok-population.field-0; bounds = c.in_ok-bounds-2.field-0 } in
+    let generation : answer.generation ≡ last_generation start c.args.options.now = ap (λ n. n + c.args.options.now.gens) c.generation-start.ensures in
+    let finish = λ (cells : List Cell) (drawn : List ℕ). finishes c.args.bytes.now c.args.options.now start accepted here c.in_ok-pattern.ensures.ok last reported.0 cells drawn answer c.in_ok-pattern-2.ensures.cells reported.1 in
+    elim c.match-options.branch [
+      | in-Some-Rle+in_ok-write_rle w ↦
+          let format : c.args.options.now.format ≡ Some Rle = search rules in
+          let written = rw (w.comments.ensures, c.generation-start.ensures) at w.in_ok-write_rle.ensures.written in (
+            start,
+            reported.0,
+            rle_text start.meaning.comments start.rule (last_generation start c.args.options.now) written.cells,
+            (accepted, stays),
+            finish written.cells _ written.listing (rw format written.fits) (rw format refl) generation c.in_ok-population.ensures.ok c.in_ok-bounds-2.ensures.ok,
+            reported.2,
+            rw w.file-is written.appends,
+          )
+      | in_default w ↦
+          let format : c.args.options.now.format ≡ None = search rules in (
+            start,
+            reported.0,
+            [],
+            (accepted, stays),
+            finish c.in_ok-bounds-2.ensures.ok.cells _ c.in_ok-bounds-2.ensures.ok.listing (rw format tt) (rw format refl) generation c.in_ok-population.ensures.ok c.in_ok-bounds-2.ensures.ok,
+            reported.2,
+            rw w.file-is (Appends-nil _),
+          )
+    ]
