@@ -13,6 +13,16 @@ in_span x y span = y == span.row && (nat_le span.first x && nat_lt x span.end)
 unfoldable pub in_spans : List Span → ℕ → ℕ → Bool
 in_spans spans x y = list_any (in_span x y) spans
 
+-- the span has a cell
+abbrev pub HasCells : Span → Type 0
+HasCells span = span.first < span.end
+
+-- the span has a cell of the square of this side
+pub record HasCellOf (side : ℕ) (span : Span) : Type 0 where
+  pub some : HasCells span
+  pub row : span.row < side
+  pub first : span.first < side
+
 -- the plane of what is live to the right of and below (0,0)
 abbrev pub marked : (ℕ → ℕ → Bool) → Plane
 marked live x y = (int_le (pos 0) x && int_le (pos 0) y) && live (unsigned_abs x) (unsigned_abs y)

@@ -1,7 +1,7 @@
-ghost use Rattle.std.specs.Prelude.{◌≡◌, ℕ, ◌+◌, ◌-◌, ◌*◌, ◌^◌, ◌<◌, ◌≤◌, false, MatchOption, IfOk, IsOkUnless, pos, ◌+ℤ◌, ◌-ℤ◌, ◌≤ℤ◌, ◌<ℤ◌, unsigned_abs, map};
+ghost use Rattle.std.specs.Prelude.{◌≡◌, ℕ, ◌+◌, ◌-◌, ◌*◌, ◌^◌, ◌<◌, ◌≤◌, false, MatchOption, IfSome, IfOk, IsOkUnless, pos, ◌+ℤ◌, ◌-ℤ◌, ◌≤ℤ◌, ◌<ℤ◌, unsigned_abs, map};
 ghost use Rattle.std.specs.List.{AllByRecursion};
 ghost use Rattle.plane.specs.Square.{IsSame, bit, bits_plane, cut};
-ghost use Rattle.squares.specs.Spans.{FitsRound, in_span, in_spans, marked, span_of};
+ghost use Rattle.squares.specs.Spans.{FitsRound, HasCells, HasCellOf, in_span, in_spans, marked, span_of};
 
 use plane::{Cell, Refusal};
 use std::alloc::Global;
@@ -55,9 +55,10 @@ impl Span {
     fn clip(self, left: u64, top: u64, side: u64) -> Option<Span>
         requires wide { left + side < 2 ^ 64 }
         requires tall { top + side < 2 ^ 64 }
-        ensures { MatchOption result
+        ensures cells { MatchOption result
             ((x y : ℕ) → x < side → y < side → in_span (x + left) (y + top) self ≡ false)
             (λ part. (x y : ℕ) → x < side → y < side → in_span x y part ≡ in_span (x + left) (y + top) self) }
+        ensures some { HasCells self → IfSome result (HasCellOf side) }
     {
         if self.row < top
             || top + side <= self.row
@@ -98,6 +99,7 @@ pub fn clipped(
     requires tall { top + side < 2 ^ 64 }
     ensures ok { IfOk result (λ parts. (x y : ℕ) → x < side → y < side →
         in_spans parts.items x y ≡ in_spans spans.now (x + left) (y + top)) }
+    ensures some { AllByRecursion HasCells spans.now → IfOk result (λ parts. AllByRecursion (HasCellOf side) parts.items) }
     ensures memory { IsOkUnless result Refusal.NoMemory }
 {
     let mut parts = Vec::new(alloc);
