@@ -212,6 +212,36 @@ const STEPS: [Row; 7] = [
     },
 ];
 
+// Runs that no engine comes through cell by cell.
+const FAR: [Row; 3] = [
+    Row {
+        file: "x = 3, y = 3, rule = B3/S23\nbob$2bo$3o!",
+        generations: 1 << 40,
+        step: 0,
+        report: "0: 5\n1099511627776: 5\n",
+        rle: "#CXRLE Pos=274877906944,274877906944 Gen=1099511627776\n\
+         x = 3, y = 3, rule = B3/S23\nbo$2bo$3o!\n",
+    },
+    Row {
+        file: "x = 3, y = 3, rule = B3/S23\nbob$2bo$3o!",
+        generations: 3 << 39,
+        step: 1 << 39,
+        report: "0: 5\n549755813888: 5\n1099511627776: 5\n1649267441664: 5\n",
+        rle: "#CXRLE Pos=412316860416,412316860416 Gen=1649267441664\n\
+         x = 3, y = 3, rule = B3/S23\nbo$2bo$3o!\n",
+    },
+    // A replicator: three of its 2097153 rows have cells.
+    Row {
+        file: "x = 1, y = 1, rule = B1357/S1357\no!",
+        generations: 1 << 20,
+        step: 0,
+        report: "0: 1\n1048576: 8\n",
+        rle: "#CXRLE Pos=-1048576,-1048576 Gen=1048576\n\
+         x = 2097153, y = 2097153, rule = B1357/S1357\n\
+         o1048575bo1048575bo1048576$o2097151bo1048576$o1048575bo1048575bo!\n",
+    },
+];
+
 /// Runs rows, with their reports and without, and compares what is written with what they say.
 fn assert_written<R: Abort + AllocGlobal>(rt: &R, rows: &[Row]) -> Result<(), Fail> {
     for row in rows {
@@ -237,6 +267,11 @@ fn writes_patterns(rt: HostRuntime) -> Result<(), Fail> {
 #[test]
 fn runs_at_the_limits(rt: HostRuntime) -> Result<(), Fail> {
     assert_written(&rt, &LIMITS)
+}
+
+#[test]
+fn runs_far(rt: HostRuntime) -> Result<(), Fail> {
+    assert_written(&rt, &FAR)
 }
 
 #[test]
