@@ -4,3 +4,4 @@ pub mod OneRun
 pub mod Patterns
 pub mod Reports
 pub mod Steps
+pub mod NodeSquares

@@ -4,6 +4,7 @@
 mod generations;
 mod input;
 mod laws;
+mod nodes;
 mod options;
 mod pattern;
 mod report;
