@@ -222,10 +222,23 @@ last_shown book nodes squares root shown found =
 pub root_shown : (book : Book) (nodes : List Node) (root : Sq) → IsRoot book nodes root → centred root.level (book.cells root) ≡ root_plane nodes
 root_shown book nodes root is = ap (λ (l : ℕ). centred l (book.cells root)) is.level ∙ ap (centred (root_level nodes)) is.cells
 
-no_nodes : (book : Book) (nodes : List Node) (squares : List Sq) → ShowNodes book nodes squares → length squares ≡ 0 → nodes ≡ []
-no_nodes book [] squares shown none = refl
-no_nodes book (node ∷ nodes) squares shown none =
-    absurd (omega (arith, none, sym (length-map (λ (s : Sq). s.level) squares) ∙ ap length shown.levels ∙ length-map level_of (node ∷ nodes)))
+no_at : {A : Type 0} (x : A) (xs : List A) → slice_get (x ∷ xs) (length xs) ≡ None → ⊥
+no_at x [] none = cc
+no_at x (y ∷ ys) none = no_at y ys none
+
+none_found : {A : Type 0} (xs : List A) → slice_get xs (length xs - 1) ≡ None → xs ≡ []
+none_found [] none = refl
+none_found (x ∷ xs) none =
+    let one_less : suc (length xs) - 1 ≡ length xs = omega arith in
+    absurd (no_at x xs (subst (λ (n : ℕ). slice_get (x ∷ xs) n ≡ None) one_less none))
+
+no_levels : (nodes : List Node) → [] ≡ map level_of nodes → nodes ≡ []
+no_levels [] none = refl
+no_levels (node ∷ nodes) none = cc
+
+-- where the squares have no last one, there is no node
+pub no_nodes : (book : Book) (nodes : List Node) (squares : List Sq) → ShowNodes book nodes squares → slice_get squares (length squares - 1) ≡ None → nodes ≡ []
+no_nodes book nodes squares shown none = no_levels nodes (ap levels_of (sym (none_found squares none)) ∙ shown.levels)
 
 -- where there are no nodes, the empty square is the root
 pub empty_root : (book : Book) → IsBook book → (nodes : List Node) → nodes ≡ [] → IsRound book (root_plane nodes) (numbered 4 0)

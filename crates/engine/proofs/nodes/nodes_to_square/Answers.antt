@@ -5,9 +5,6 @@ use Rattle.macrocell_reader.specs.Nodes.{WrittenNode}
 use Rattle.engine.proofs.NodeSquares.{both_ok, empty_root, last_shown, no_nodes, root_shown, trimmed_root}
 use Rattle.engine.proofs.nodes.nodes_to_square.Goals as goal
 
-pub trim-requires-clause-low : goal.trim-requires-clause-low
-trim-requires-clause-low g c = ?
-
 pub returns-in-Some-clause-ok : goal.returns-in-Some-clause-ok
 returns-in-Some-clause-ok g c =
     let nodes = map (λ (line : WrittenNode). line.node) c.args.lines in
@@ -15,7 +12,7 @@ returns-in-Some-clause-ok g c =
     let found : slice_get squares (length squares - 1) ≡ Some c.in-Some.root.now = search rules in
     let root = last_shown _ nodes squares c.in-Some.root.now c.in_ok-squares.ensures.ok found in
     let is = root_shown _ nodes c.in-Some.root.now root in
-    both_ok c.trim.result _ _ _ (λ sq cells smallest. trimmed_root _ _ nodes c.in-Some.root.now sq is cells smallest) c.trim.ensures.cells c.trim.ensures.level
+    both_ok c.trim.result _ _ _ (λ sq cells smallest. trimmed_root (g.S.Squares.book c.squares_of.new.book) (g.S.Squares.book c.trim.new.book) nodes c.in-Some.root.now sq is cells smallest) c.trim.ensures.cells c.trim.ensures.level
 
 pub returns-clause-ok : goal.returns-clause-ok
 returns-clause-ok g c =
