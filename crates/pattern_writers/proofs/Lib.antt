@@ -1,3 +1,4 @@
+pub mod BlocksOut
 pub mod BodyReading
 pub mod BodyText
 pub mod Decimals
@@ -9,3 +10,10 @@ pub mod RunReading
 pub mod ShortCounts
 pub mod TextReading
 pub mod WholeText
+pub mod Repeats
+pub mod Subsquares
+pub mod ListedSquares
+pub mod ListedQuarters
+pub mod BitRows
+pub mod RootNodes
+pub mod RootParts

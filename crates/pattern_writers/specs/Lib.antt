@@ -1,6 +1,13 @@
+pub mod Bits
 pub mod Frame
 pub mod Items
 pub mod Layout
+pub mod LeafText
+pub mod ListedNodes
+pub mod McText
+pub mod NodeLines
 pub mod Opening
 pub mod RleText
+pub mod Roots
 pub mod RowRuns
+pub mod Subsquares

@@ -1,8 +1,14 @@
 //! The texts of patterns, and writing them.
 #![tactic(auto)]
 
+mod comments;
 mod laws;
+mod mc_text;
+mod output_block;
 mod rle_text;
+#[cfg(test)]
+mod tests;
 
 pub use laws::{distinct_texts, same_text};
+pub use mc_text::write_mc;
 pub use rle_text::write_rle;

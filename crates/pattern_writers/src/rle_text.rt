@@ -1,11 +1,10 @@
 //! The text of a pattern in RLE.
 
 ghost use Rattle.std.specs.Prelude.{◌≡◌, ◌⊎◌, ◌≤◌, OnOk, IfErr};
-ghost use Rattle.std.specs.Io.KnownBytes.{Appends};
 ghost use Rattle.plane.specs.Centred.{centred};
 ghost use Rattle.plane.specs.Device.{IsWriteRefusal};
 ghost use Rattle.squares.specs.Book.{IsKnown};
-ghost use Rattle.pattern_writers.specs.RleText.{IsTooLarge, WritesRle, comment_lines};
+ghost use Rattle.pattern_writers.specs.RleText.{IsTooLarge, WritesRle};
 
 mod frame;
 mod items;
@@ -13,6 +12,9 @@ mod layout;
 mod opening;
 mod row_run;
 
+use crate::comments::write_comments;
+use crate::output_block::{OutputBlock, put};
+use arrayvec::ArrayVec;
 use frame::Frame;
 use items::items;
 use layout::write_body;
@@ -51,23 +53,12 @@ pub fn write_rle<L: Look, V: Sink>(
     let Ok(items) = items(alloc, frame.corner, runs.as_slice()) else {
         return Err(Refusal::NoMemory);
     };
+    let mut block: OutputBlock = ArrayVec::new();
     let position = position_line(frame.corner, generation);
-    write_all(file, position.as_str().as_bytes())?;
-    write_comments(file, comments)?;
+    put(file, &mut block, position.as_str().as_bytes())?;
+    write_comments(file, &mut block, comments)?;
     let header = header_line(frame.width, frame.height, rule.text().as_str());
-    write_all(file, header.as_str().as_bytes())?;
-    write_body(file, items.as_slice())
-}
-
-// Writes each comment as a line.
-fn write_comments<V: Sink>(file: &mut V, comments: Comments<'_>) -> Result<(), Refusal>
-    ensures written { OnOk result (Appends (V.taken file.old) (V.taken file.new) (comment_lines comments.entry)) }
-    ensures unfailed { OnOk result (V.failure_count file.new ≡ V.failure_count file.old) }
-    ensures refused { IfErr result (IsWriteRefusal (V.failure_count file.old) (V.failure_count file.new)) }
-{
-    for comment in comments {
-        write_all(file, comment)?;
-        write_all(file, b"\n")?;
-    }
-    Ok(())
+    put(file, &mut block, header.as_str().as_bytes())?;
+    write_body(file, &mut block, items.as_slice())?;
+    write_all(file, block.as_slice())
 }

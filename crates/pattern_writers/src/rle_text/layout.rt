@@ -1,12 +1,13 @@
 ghost use Rattle.std.specs.Prelude.{◌≡◌, ℕ, ◌≤◌, List, [], ◌∷◌, length, OnOk, IfErr};
-ghost use Rattle.std.specs.Io.KnownBytes.{Appends};
+ghost use Rattle.std.specs.Io.KnownBytes.{Appends, append_known};
 ghost use Rattle.arrayvec.specs.ArrayString.{array_string_len};
 ghost use Rattle.plane.specs.Device.{IsWriteRefusal};
 ghost use Rattle.pattern_writers.specs.Layout.{body_text, LaysOut};
 
 use super::items::Item;
+use crate::output_block::{OutputBlock, put};
 use arrayvec::ArrayString;
-use plane::{Refusal, Sink, write_all};
+use plane::{Refusal, Sink};
 
 // The most bytes that a line of a body has.
 const LINE_LENGTH: usize = 70;
@@ -15,34 +16,43 @@ const LINE_LENGTH: usize = 70;
 const LINE_ROOM: usize = 71;
 
 // Writes the items and the `!`, in lines.
-pub(crate) fn write_body<V: Sink>(file: &mut V, items: &[Item]) -> Result<(), Refusal>
-    ensures written { OnOk result (Appends (V.taken file.old) (V.taken file.new) (body_text items.now)) }
+pub(crate) fn write_body<V: Sink>(
+    file: &mut V,
+    block: &mut OutputBlock,
+    items: &[Item],
+) -> Result<(), Refusal>
+    ensures written { OnOk result (Appends (append_known (V.taken file.old) block.old.items) (append_known (V.taken file.new) block.new.items) (body_text items.now)) }
     ensures unfailed { OnOk result (V.failure_count file.new ≡ V.failure_count file.old) }
     ensures refused { IfErr result (IsWriteRefusal (V.failure_count file.old) (V.failure_count file.new)) }
 {
     let mut line = ArrayString::new();
     for item in items {
-        put(file, &mut line, item.text().as_str())?;
+        lay(file, block, &mut line, item.text().as_str())?;
     }
-    put(file, &mut line, "!")?;
+    lay(file, block, &mut line, "!")?;
     line.push_str("\n");
-    write_all(file, line.as_str().as_bytes())
+    put(file, block, line.as_str().as_bytes())
 }
 
 // Puts a piece on the line, or writes the line out and begins a new one with the piece.
-fn put<V: Sink>(file: &mut V, line: &mut ArrayString<LINE_ROOM>, piece: &str) -> Result<(), Refusal>
+fn lay<V: Sink>(
+    file: &mut V,
+    block: &mut OutputBlock,
+    line: &mut ArrayString<LINE_ROOM>,
+    piece: &str,
+) -> Result<(), Refusal>
     requires line { array_string_len line.old ≤ 70 }
     requires piece { length piece.now ≤ 70 }
     ensures line { OnOk result (array_string_len line.new ≤ 70) }
-    ensures put { OnOk result ((out : List ℕ)
-        × Appends (V.taken file.old) (V.taken file.new) out
+    ensures laid { OnOk result ((out : List ℕ)
+        × Appends (append_known (V.taken file.old) block.old.items) (append_known (V.taken file.new) block.new.items) out
         × LaysOut line.old.bytes (piece.now ∷ []) line.new.bytes out) }
     ensures unfailed { OnOk result (V.failure_count file.new ≡ V.failure_count file.old) }
     ensures refused { IfErr result (IsWriteRefusal (V.failure_count file.old) (V.failure_count file.new)) }
 {
     if line.len() + piece.len() > LINE_LENGTH {
         line.push_str("\n");
-        write_all(file, line.as_str().as_bytes())?;
+        put(file, block, line.as_str().as_bytes())?;
         line.clear();
     }
     line.push_str(piece);

@@ -1,5 +1,5 @@
 use Rattle.std.proofs.Common.{◌≡◌, rules, subst, sym, ap, ◌∙◌}
-use Rattle.std.specs.Io.KnownBytes.{Appends}
+use Rattle.std.specs.Io.KnownBytes.{Appends, append_known}
 use Rattle.std.proofs.KnownBytes.{Appends-trans}
 use Rattle.std.proofs.lemmas.Result.{on_ok_weaker}
 use Rattle.plane.specs.Bounds.{bounds_of}
@@ -8,6 +8,7 @@ use Rattle.plane.proofs.Uniqueness.{one_listing_lem}
 use Rattle.pattern_writers.specs.Frame.{FitsRle, frame_of}
 use Rattle.pattern_writers.specs.Items.{items_of}
 use Rattle.pattern_writers.specs.RowRuns.{runs_of}
+use Rattle.pattern_writers.proofs.BlocksOut.{block_out}
 use Rattle.pattern_writers.proofs.WholeText.{whole_text}
 use Rattle.pattern_writers.proofs.rle_text.write_rle.Goals as goal
 
@@ -22,16 +23,19 @@ returns-clause-written g c =
     let whole = whole_text c.args.comments c.args.rule.now c.args.generation ran.cells c.in_ok-frame.frame c.as_bytes.result.now c.as_bytes-2.result.now c.in-Ok.items.items
     frame (search rules) (search rules) items in
     let boxed_fits : FitsRle c.in_ok-bounds.field-0 = search rules in
-    let body = c.write_body.ensures.written in
-    on_ok_weaker c.write_body.result
+    let body = rw c.as_slice-2.ensures.value at c.in_ok-write_body.ensures.written in
+    let written = rw c.as_slice-3.ensures.value at c.write_all.ensures.written in
+    on_ok_weaker c.write_all.result
     (λ wrote. record {
       cells = ran.cells;
       listing = ran.listing;
       fits = subst FitsRle (boxed.bounds ∙ ap bounds_of (sym same)) boxed_fits;
-      appends = subst (Appends (g.V.Sink.taken c.args.file.now) (g.V.Sink.taken c.write_body.new.file)) whole
+      appends = block_out _ (g.V.Sink.taken c.write_body.new.file) _ c.new-block.result.items c.write_body.new.block.items _ c.new-block.ensures
+          (subst (Appends (append_known (g.V.Sink.taken c.args.file.now) c.new-block.result.items) (append_known (g.V.Sink.taken c.write_body.new.file) c.write_body.new.block.items)) whole
           (Appends-trans _ _ _ _ _
           (Appends-trans _ _ _ _ _
-          (Appends-trans _ _ _ _ _ c.in_ok-write_all.ensures.written c.in_ok-write_comments.ensures.written)
-          c.in_ok-write_all-2.ensures.written) wrote);
+          (Appends-trans _ _ _ _ _ c.in_ok-put.ensures.written c.in_ok-write_comments.ensures.written)
+          c.in_ok-put-2.ensures.written) body))
+          wrote;
     })
-    (rw c.as_slice-2.ensures.value at body)
+    written

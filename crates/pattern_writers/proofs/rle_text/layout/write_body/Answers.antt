@@ -9,7 +9,7 @@ use Rattle.pattern_writers.proofs.rle_text.layout.write_body.Goals as goal
 pub loop-item-preserved : goal.loop-item-preserved
 loop-item-preserved g c =
     let before = c.loop-item.invariant.2 in
-    let put = c.in_ok-put.ensures.put in (
+    let put = c.in_ok-lay.ensures.laid in (
       search rules,
       search rules,
       (
@@ -23,10 +23,10 @@ pub returns-clause-written : goal.returns-clause-written
 returns-clause-written g c =
     let items = c.args.items.now in
     let before = rw (take_all c.loop-item.item-index items (omega arith)) at c.loop-item.invariant.2 in
-    let put = c.in_ok-put-2.ensures.put in
-    let last = c.put-2.new.line.bytes in
+    let put = c.in_ok-lay-2.ensures.laid in
+    let last = c.lay-2.new.line.bytes in
     let whole : body_text items ≡ (before.0 ++ put.0) ++ (last ++ codes "\n") = body_text-ends items _ last before.0 put.0 before.2 put.2 in
     let line : c.as_bytes.result.now ≡ last ++ codes "\n" = search rules in
-    on_ok_weaker c.write_all.result
+    on_ok_weaker c.put.result
     (λ wrote. rw (whole, ← line) (Appends-trans _ _ _ (before.0 ++ put.0) c.as_bytes.result.now (Appends-trans _ _ _ before.0 put.0 before.1 put.1) wrote))
-    c.write_all.ensures.written
+    c.put.ensures.written

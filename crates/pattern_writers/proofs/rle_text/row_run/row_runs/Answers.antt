@@ -1,4 +1,4 @@
-use Rattle.std.proofs.Common.{◌≡◌, ◌+ℤ◌, pos, negsuc, ◌<◌, ℤ, Option, Some, None, rules, flat_map, sym, subst, arith, SFits, w64}
+use Rattle.std.proofs.Common.{◌≡◌, ◌+ℤ◌, pos, negsuc, ◌<◌, ℤ, Option, None, rules, flat_map, sym, subst, arith, SFits, w64}
 use Rattle.std.proofs.lemmas.Int.{to_z-of_z, ints}
 use Rattle.plane.specs.Centred.{centred}
 use Rattle.pattern_writers.proofs.ItemReading.{run_cells}

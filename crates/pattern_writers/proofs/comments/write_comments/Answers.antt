@@ -1,7 +1,7 @@
 use Rattle.std.proofs.Common.{◌≡◌, ◌∷◌, ◌++◌, ◌∙◌, codes, rules, ap, sym, append_assoc}
 use Rattle.std.proofs.KnownBytes.{Appends-trans}
 use Rattle.pattern_writers.specs.RleText.{comment_lines}
-use Rattle.pattern_writers.proofs.rle_text.write_comments.Goals as goal
+use Rattle.pattern_writers.proofs.comments.write_comments.Goals as goal
 
 pub loop-comment-preserved : goal.loop-comment-preserved
 loop-comment-preserved g c =
@@ -11,7 +11,7 @@ loop-comment-preserved g c =
       search rules,
       (
         before.0 ++ (comment ++ codes "\n"),
-        Appends-trans _ _ _ before.0 (comment ++ codes "\n") before.1 (Appends-trans _ _ _ comment (codes "\n") c.in_ok-write_all.ensures.written c.in_ok-write_all-2.ensures.written),
+        Appends-trans _ _ _ before.0 (comment ++ codes "\n") before.1 (Appends-trans _ _ _ comment (codes "\n") c.in_ok-put.ensures.written c.in_ok-put-2.ensures.written),
         before.2 ∙ ap (λ l. before.0 ++ comment_lines l) step ∙ sym (append_assoc before.0 (comment ++ codes "\n") (comment_lines c.next.new.self)),
       ),
     )

@@ -1,0 +1,21 @@
+use Rattle.std.proofs.Common.{ap}
+use Rattle.std.proofs.lemmas.Result.{IfOk-weaker}
+use Rattle.plane.specs.Centred.{centred}
+use Rattle.squares.specs.declared.sq.Sq.{Sq}
+use Rattle.viewport.specs.Population.{is_same_key}
+use Rattle.std.specs.Map.{lookup}
+use Rattle.pattern_writers.proofs.RootNodes.{nodes_of_root}
+use Rattle.pattern_writers.proofs.mc_text.listing.listed_nodes.Goals as goal
+
+pub returns-clause-ok : goal.returns-clause-ok
+returns-clause-ok g c =
+    let book = g.L.Look.book c.args.look.now in
+    let plane = centred c.args.sq.level (book.cells c.args.sq) in
+    IfOk-weaker c.with_root.result _ _
+    (λ nodes grown.
+    nodes_of_root book (g.met.L.Look.is_book c.args.look.now) plane c.of-root.result c.of-root.ensures (record { nodes = c.new.result; numbers = c.new-2.result })
+    c.number.new.list c.number-2.new.list c.number-3.new.list c.number-4.new.list c.in_ok-nw.nw c.in_ok-ne.ne c.in_ok-sw.sw c.in_ok-se.se
+    c.new.ensures.items
+    (λ (sq : Sq). ap (λ entries. lookup (is_same_key (sq.level, sq.num.0)) entries) c.new-2.ensures.empty)
+    c.in_ok-nw.ensures.ok c.in_ok-ne.ensures.ok c.in_ok-sw.ensures.ok c.in_ok-se.ensures.ok nodes.items grown)
+    c.with_root.ensures.ok

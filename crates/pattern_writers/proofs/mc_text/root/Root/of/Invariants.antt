@@ -1,0 +1,9 @@
+use Rattle.plane.specs.Centred.{centred}
+use Rattle.pattern_writers.specs.Roots.{HasRoot}
+use Rattle.pattern_writers.proofs.mc_text.root.Root.of.Given as goal
+
+abbrev pub invariant-loop-root : goal.invariant-loop-root
+invariant-loop-root g l = HasRoot (g.L.Look.book l.look) (centred l.fn.sq.level ((g.L.Look.book l.look).cells l.fn.sq)) l.root
+
+abbrev pub decreases-loop-root : goal.decreases-loop-root
+decreases-loop-root g l = l.root.level

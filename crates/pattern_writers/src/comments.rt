@@ -1,0 +1,27 @@
+//! The lines of comments.
+
+ghost use Rattle.std.specs.Prelude.{◌≡◌, OnOk, IfErr};
+ghost use Rattle.std.specs.Io.KnownBytes.{Appends, append_known};
+ghost use Rattle.plane.specs.Device.{IsWriteRefusal};
+ghost use Rattle.pattern_writers.specs.RleText.{comment_lines};
+
+use crate::output_block::{OutputBlock, put};
+use plane::{Refusal, Sink};
+use rle_reader::Comments;
+
+/// Writes each comment as a line.
+pub(crate) fn write_comments<V: Sink>(
+    file: &mut V,
+    block: &mut OutputBlock,
+    comments: Comments<'_>,
+) -> Result<(), Refusal>
+    ensures written { OnOk result (Appends (append_known (V.taken file.old) block.old.items) (append_known (V.taken file.new) block.new.items) (comment_lines comments.entry)) }
+    ensures unfailed { OnOk result (V.failure_count file.new ≡ V.failure_count file.old) }
+    ensures refused { IfErr result (IsWriteRefusal (V.failure_count file.old) (V.failure_count file.new)) }
+{
+    for comment in comments {
+        put(file, block, comment)?;
+        put(file, block, b"\n")?;
+    }
+    Ok(())
+}

@@ -1,0 +1,103 @@
+ghost use Rattle.std.specs.Prelude.{◌≡◌, ◌+◌, ◌≤◌, [], ◌∷◌, ◌++◌, length, IfOk, OnOk, IsOkUnless, Some};
+ghost use Rattle.std.specs.HashMap.{Updates};
+ghost use Rattle.plane.specs.Centred.{centred};
+ghost use Rattle.squares.specs.Book.{IsKnown};
+ghost use Rattle.viewport.specs.Population.{is_same_key};
+ghost use Rattle.pattern_writers.specs.ListedNodes.{AreNodes, Lists, root_node};
+
+use super::node::Node;
+use super::root::Root;
+use plane::Refusal;
+use squares::{Look, Sq};
+use std::alloc::Global;
+use std::collections::HashMap;
+
+// The nodes that are written, in order, and the numbers of their squares by level and number in the book.
+#[derive(Drop)]
+struct NodeList {
+    nodes: Vec<Node>,
+    numbers: HashMap<(u8, u32), u64>,
+}
+
+impl NodeList {
+    // Adds the node of a square, and gives its number.
+    fn add(&mut self, sq: Sq, node: Node) -> Result<u64, Refusal>
+        ensures node { OnOk result (self.new.nodes.items ≡ self.old.nodes.items ++ node ∷ []) }
+        ensures number { IfOk result (λ number. number ≡ length self.old.nodes.items + 1) }
+        ensures noted { IfOk result (λ number. Updates is_same_key self.old.numbers self.new.numbers (sq.level, sq.num.0) (Some number)) }
+        ensures memory { IsOkUnless result Refusal.NoMemory }
+    {
+        if self.nodes.push(node).is_err() {
+            return Err(Refusal::NoMemory);
+        }
+        let number = self.nodes.len() as u64;
+        let Ok(_) = self.numbers.insert((sq.level, sq.num.0), number) else {
+            return Err(Refusal::NoMemory);
+        };
+        Ok(number)
+    }
+}
+
+// The nodes of the squares in a square of a level from 4 to 63, whose centre corner is (0,0), in the smallest square
+// that has its cells.
+pub(crate) fn listed_nodes<L: Look>(look: &L, alloc: Global, sq: Sq) -> Result<Vec<Node>, Refusal>
+    requires known { IsKnown (L.book look.now) sq.level sq }
+    requires low { 4 ≤ sq.level }
+    ensures ok { IfOk result (λ nodes. AreNodes (centred sq.level ((L.book look.now).cells sq)) nodes.items) }
+    ensures memory { IsOkUnless result Refusal.NoMemory }
+{
+    let mut list = NodeList {
+        nodes: Vec::new(alloc),
+        numbers: HashMap::new(alloc),
+    };
+    let root = Root::of(look, sq);
+    let [nw, ne, sw, se] = root.quarters;
+    let nw = number(look, nw, &mut list)?;
+    let ne = number(look, ne, &mut list)?;
+    let sw = number(look, sw, &mut list)?;
+    let se = number(look, se, &mut list)?;
+    with_root(list.nodes, root.level, [nw, ne, sw, se])
+}
+
+// The nodes with that of the root, unless it is empty.
+fn with_root(mut nodes: Vec<Node>, level: u8, quarters: [u64; 4]) -> Result<Vec<Node>, Refusal>
+    ensures ok { IfOk result (λ all. all.items ≡ nodes.items ++ root_node level quarters) }
+    ensures memory { IsOkUnless result Refusal.NoMemory }
+{
+    if quarters == [0; 4] {
+        return Ok(nodes);
+    }
+    if nodes.push(Node::Inner { level, quarters }).is_err() {
+        return Err(Refusal::NoMemory);
+    }
+    Ok(nodes)
+}
+
+// The number of a square among the nodes. It adds the nodes of its squares that are not among them.
+fn number<L: Look>(look: &L, sq: Sq, list: &mut NodeList) -> Result<u64, Refusal>
+    requires known { IsKnown (L.book look.now) sq.level sq }
+    ensures ok { IfOk result (Lists (L.book look.now) sq list.old list.new) }
+    ensures memory { IsOkUnless result Refusal.NoMemory }
+{
+    if sq.num.0 == 0 {
+        return Ok(0);
+    }
+    if let Some(number) = list.numbers.get(&(sq.level, sq.num.0)) {
+        return Ok(*number);
+    }
+    if sq.level == 3 {
+        return list.add(sq, Node::Leaf(look.bits(sq)));
+    }
+    let [nw, ne, sw, se] = look.parts(sq);
+    let nw = number(look, nw, list)?;
+    let ne = number(look, ne, list)?;
+    let sw = number(look, sw, list)?;
+    let se = number(look, se, list)?;
+    list.add(
+        sq,
+        Node::Inner {
+            level: sq.level,
+            quarters: [nw, ne, sw, se],
+        },
+    )
+}

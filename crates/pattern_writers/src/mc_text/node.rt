@@ -1,0 +1,81 @@
+ghost use Rattle.std.specs.Prelude.{◌≡◌, OnOk, IfErr};
+ghost use Rattle.std.specs.Io.KnownBytes.{Appends, append_known};
+ghost use Rattle.std.specs.List.{flat_map};
+ghost use Rattle.plane.specs.Device.{IsWriteRefusal};
+ghost use Rattle.pattern_writers.specs.NodeLines.{node_line};
+
+use super::leaf::leaf_text;
+use crate::output_block::{OutputBlock, put};
+use arrayvec::ArrayString;
+use itoa::Buffer;
+use plane::{Refusal, Sink};
+
+// Room for five numbers of 40 digits, each with the byte behind it.
+const LINE_ROOM: usize = 205;
+
+// A square that is listed.
+#[derive(Clone, Copy, Debug, PartialEq, Eq)]
+pub(crate) enum Node {
+    // Bit 8y + x is the cell (x, y).
+    Leaf(u64),
+    Inner {
+        level: u8,
+        // The numbers of its quarters: upper left, upper right, lower left, lower right.
+        quarters: [u64; 4],
+    },
+}
+
+impl Node {
+    // Its rows, or its level and the numbers of its quarters, and the end of the line.
+    fn line(self) -> ArrayString<LINE_ROOM>
+        ensures { result.bytes ≡ node_line self }
+    {
+        match self {
+            Node::Leaf(word) => leaf_line(word),
+            Node::Inner { level, quarters } => inner_line(level, quarters),
+        }
+    }
+}
+
+fn leaf_line(word: u64) -> ArrayString<LINE_ROOM>
+    ensures { result.bytes ≡ node_line (Node.Leaf word) }
+{
+    let mut line = ArrayString::new();
+    line.push_str(leaf_text(word).as_str());
+    line.push_str("\n");
+    line
+}
+
+fn inner_line(level: u8, quarters: [u64; 4]) -> ArrayString<LINE_ROOM>
+    ensures { result.bytes ≡ node_line (Node.Inner level quarters) }
+{
+    let [nw, ne, sw, se] = quarters;
+    let mut line = ArrayString::new();
+    line.push_str(Buffer::new().format(level));
+    line.push_str(" ");
+    line.push_str(Buffer::new().format(nw));
+    line.push_str(" ");
+    line.push_str(Buffer::new().format(ne));
+    line.push_str(" ");
+    line.push_str(Buffer::new().format(sw));
+    line.push_str(" ");
+    line.push_str(Buffer::new().format(se));
+    line.push_str("\n");
+    line
+}
+
+// Writes each node as a line.
+pub(crate) fn write_nodes<V: Sink>(
+    file: &mut V,
+    block: &mut OutputBlock,
+    nodes: &[Node],
+) -> Result<(), Refusal>
+    ensures written { OnOk result (Appends (append_known (V.taken file.old) block.old.items) (append_known (V.taken file.new) block.new.items) (flat_map node_line nodes.now)) }
+    ensures unfailed { OnOk result (V.failure_count file.new ≡ V.failure_count file.old) }
+    ensures refused { IfErr result (IsWriteRefusal (V.failure_count file.old) (V.failure_count file.new)) }
+{
+    for node in nodes {
+        put(file, block, node.line().as_str().as_bytes())?;
+    }
+    Ok(())
+}

@@ -1,0 +1,36 @@
+//! Output that is handed to a sink in blocks.
+
+ghost use Rattle.std.specs.Prelude.{◌≡◌, OnOk, IfErr};
+ghost use Rattle.std.specs.Io.KnownBytes.{Appends, append_known};
+ghost use Rattle.plane.specs.Device.{IsWriteRefusal};
+
+use arrayvec::ArrayVec;
+use plane::{Refusal, Sink, write_all};
+
+// The most bytes that wait.
+const BLOCK_LENGTH: usize = 4096;
+
+/// Bytes that a sink is to get, after those that it has taken.
+pub(crate) type OutputBlock = ArrayVec<u8, BLOCK_LENGTH>;
+
+/// Puts some bytes after those of the block. Where they find no room in it, the sink gets the block's bytes first,
+/// and a piece that is longer than a block itself.
+pub(crate) fn put<V: Sink>(
+    file: &mut V,
+    block: &mut OutputBlock,
+    piece: &[u8],
+) -> Result<(), Refusal>
+    ensures written { OnOk result (Appends (append_known (V.taken file.old) block.old.items) (append_known (V.taken file.new) block.new.items) piece.now) }
+    ensures unfailed { OnOk result (V.failure_count file.new ≡ V.failure_count file.old) }
+    ensures refused { IfErr result (IsWriteRefusal (V.failure_count file.old) (V.failure_count file.new)) }
+{
+    if block.try_extend_from_slice(piece).is_ok() {
+        return Ok(());
+    }
+    write_all(file, block.as_slice())?;
+    block.clear();
+    if block.try_extend_from_slice(piece).is_err() {
+        write_all(file, piece)?;
+    }
+    Ok(())
+}
