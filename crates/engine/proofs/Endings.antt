@@ -6,6 +6,7 @@ use Rattle.std.proofs.lemmas.List.{take_all}
 use Rattle.rule_text.specs.CountRule.{CountRule}
 use Rattle.plane.specs.Bounds.{bounds_of}
 use Rattle.plane.specs.Listing.{IsListing}
+use Rattle.plane.specs.Centred.{IsSmallestLevel}
 use Rattle.plane.specs.Plane.{Plane, after}
 use Rattle.plane.specs.Square.{IsSame}
 use Rattle.plane.specs.Device.{HasFailed}
@@ -14,18 +15,22 @@ use Rattle.plane.specs.declared.cell.Bounds.{Bounds}
 use Rattle.plane.specs.declared.cell.Cell.{Cell}
 use Rattle.plane.specs.declared.refusal.Refusal.{Refusal}
 use Rattle.plane.specs.declared.refusal.Refusal.TheVariants.{BoxTooLarge, NoMemory, WriteFailed}
-use Rattle.rle_reader.specs.Meaning.{Meaning, judged, live_plane}
+use Rattle.engine.specs.Meaning.{Meaning, judged}
 use Rattle.plane.specs.Device.{IsWriteRefusal}
 use Rattle.plane.proofs.Uniqueness.{one_listing_lem}
-use Rattle.pattern_writers.specs.RleText as writers
 use Rattle.viewport.specs.BoundingBox.{HasBounds}
 use Rattle.viewport.specs.Population.{HasPopulation}
-use Rattle.engine.specs.FileText.{HasText, file_text}
+use Rattle.engine.specs.FileText.{HasText, IsFileText, Exceeds, Writes}
 use Rattle.engine.specs.Judgement.{Start, IsStart, StaysInRange, ReadsRule, placeless}
 use Rattle.engine.specs.Report.{Shows, shown}
 use Rattle.engine.specs.Run.{IsLast, IsReport, Finishes, IsBegun, IsTooLarge, last_generation}
 use Rattle.engine.specs.declared.running.Summary.{Summary}
-use Rattle.engine.specs.declared.options.Format.TheVariants.{Rle}
+use Rattle.engine.specs.declared.options.Format.{Format}
+use Rattle.engine.specs.declared.options.Format.TheVariants.{Rle, Macrocell}
+use Rattle.pattern_writers.specs.McText.{mc_text}
+use Rattle.pattern_writers.specs.RleText.{rle_text}
+use Rattle.plane.specs.Listing.{plane_of}
+use Rattle.plane.proofs.Same.{plane_equal}
 use Rattle.engine.specs.declared.options.Options.{Options}
 use Rattle.engine.proofs.Reports.{same_after, same_shows, shows_none}
 
@@ -37,14 +42,14 @@ copied_or (Some slice) other = refl
 -- a run that has said nothing yet
 pub begun_none : (bytes : List ℕ) (options : Options) (meaning : Meaning) (rule : CountRule) → judged bytes ≡ Ok meaning → ReadsRule options.rule meaning (Ok rule) →
     IsBegun bytes options []
-begun_none bytes options meaning rule text read = record {
+begun_none bytes options meaning rule text read = inr (record {
   meaning = meaning;
   rule = rule;
   lines = 0;
   text = text;
   read = read;
-  report = shows_none rule (live_plane meaning) meaning.generation;
-}
+  report = shows_none rule meaning.live meaning.generation;
+})
 
 -- a listing of one plane is one of each other with the same cells
 pub listing_as : {cells : List Cell} {plane other : Plane} → IsSame plane other → IsListing cells plane → IsListing cells other
@@ -52,7 +57,7 @@ listing_as same listing = record { rising = listing.rising; live = λ x y. listi
 
 -- what a file starts with, where its text and its rule are accepted
 pub started : (bytes : List ℕ) (options : Options) (meaning : Meaning) (rule : CountRule) (here : Plane) (cells : List Cell) → judged bytes ≡ Ok meaning → ReadsRule options.rule meaning (Ok rule) →
-    IsSame here (live_plane meaning) → IsListing cells here → IsStart bytes options (record { meaning = meaning; rule = rule; cells = cells })
+    IsSame here meaning.live → IsListing cells here → IsStart bytes options (record { meaning = meaning; rule = rule; cells = cells })
 started bytes options meaning rule here cells text read same listing = record { text = text; rule = read; cells = listing_as same listing }
 
 -- what a box and a generation stay within
@@ -61,17 +66,17 @@ stays_as {box} {other} {start} {generation} {generations} boxes starts stays =
     subst (λ (b : Option Bounds). StaysWithin b generation generations) boxes (subst (λ (n : ℕ). StaysWithin box n generations) starts stays)
 
 -- a run from a pattern, `here`, that comes to `last`
-module _ (bytes : List ℕ) (options : Options) (start : Start) (accepted : IsStart bytes options start) (here : Plane) (same : IsSame here (live_plane start.meaning)) where
+module _ (bytes : List ℕ) (options : Options) (start : Start) (accepted : IsStart bytes options start) (here : Plane) (same : IsSame here start.meaning.live) where
   -- a run that has said some lines
   pub begun_some : (lines : ℕ) (said : List ℕ) → Shows start.rule here start.meaning.generation (take lines (shown options)) said → IsBegun bytes options said
-  begun_some lines said shows = record {
+  begun_some lines said shows = inr (record {
     meaning = start.meaning;
     rule = start.rule;
     lines = lines;
     text = accepted.text;
     read = accepted.rule;
-    report = same_shows start.rule here (live_plane start.meaning) same.same start.meaning.generation (take lines (shown options)) said shows;
-  }
+    report = same_shows start.rule here start.meaning.live same.same start.meaning.generation (take lines (shown options)) said shows;
+  })
 
   -- a run that has said all
   pub begun_all : (said : List ℕ) → Shows start.rule here start.meaning.generation (shown options) said → IsBegun bytes options said
@@ -82,15 +87,15 @@ module _ (bytes : List ℕ) (options : Options) (start : Start) (accepted : IsSt
 
   pub whole_report : (said : List ℕ) → Shows start.rule here start.meaning.generation (shown options) said → IsReport start options said
   whole_report said shows =
-      same_shows start.rule here (live_plane start.meaning) same.same start.meaning.generation (shown options) said shows
+      same_shows start.rule here start.meaning.live same.same start.meaning.generation (shown options) said shows
 
   pub last_cells : (last : Plane) (cells : List Cell) → IsSame last (after start.rule here options.gens) → IsListing cells last → IsLast start options cells
-  last_cells last cells is listing = same_after start.rule here (live_plane start.meaning) same.same options.gens cells (listing_as is listing)
+  last_cells last cells is listing = same_after start.rule here start.meaning.live same.same options.gens cells (listing_as is listing)
 
   -- what an accepted run that ends well writes and answers
   pub finishes : (last : Plane) (said : List ℕ) (cells : List Cell) (drawn : List ℕ) (answer : Summary) → IsSame last (after start.rule here options.gens) →
       Shows start.rule here start.meaning.generation (shown options) said → IsListing cells last → HasText options.format cells →
-      drawn ≡ file_text options.format start.meaning.comments start.rule (last_generation start options) cells →
+      IsFileText options.format start.meaning.comments start.rule (last_generation start options) cells drawn →
       answer.generation ≡ last_generation start options → HasPopulation last answer.population → HasBounds last answer.bounds → Finishes start options answer said drawn
   finishes last said cells drawn answer is shows listing fits file generation population bounds = record {
     cells = cells;
@@ -118,15 +123,16 @@ module _ (bytes : List ℕ) (options : Options) (start : Start) (accepted : IsSt
       inr (inr (inr (ap placeless is, inl failed)))
 
   -- after the report
-  pub refused_writing : (last : Plane) (refusal : Refusal) (failed_before failed_after : ℕ) (old new : Option (List ℕ)) (said : List ℕ) (Unaccepted FileSame ReportFailed : Type 0) →
+  pub refused_writing : (format : Format) (last : Plane) (refusal : Refusal) (failed_before failed_after : ℕ) (old new : Option (List ℕ)) (said : List ℕ) (Unaccepted FileSame ReportFailed : Type 0) →
       StaysInRange options start → IsSame last (after start.rule here options.gens) →
-      Shows start.rule here start.meaning.generation (shown options) said → Appends old new said → options.format ≡ Some Rle →
-      ((refusal ≡ BoxTooLarge) × writers.IsTooLarge last × FileSame) ⊎ ((refusal ≡ NoMemory) × FileSame) ⊎ IsWriteRefusal failed_before failed_after refusal →
+      Shows start.rule here start.meaning.generation (shown options) said → Appends old new said → options.format ≡ Some format →
+      ((refusal ≡ BoxTooLarge) × Exceeds format last × FileSame) ⊎ ((refusal ≡ NoMemory) × FileSame) ⊎ IsWriteRefusal failed_before failed_after refusal →
       Unaccepted
       ⊎ ((placeless refusal ≡ placeless BoxTooLarge) × FileSame × ((said : List ℕ) × IsTooLarge bytes options said × Appends old new said))
       ⊎ ((placeless refusal ≡ placeless NoMemory) × FileSame × ((said : List ℕ) × IsBegun bytes options said × Appends old new said))
       ⊎ ((placeless refusal ≡ placeless WriteFailed) × (ReportFailed ⊎ HasFailed failed_before failed_after))
-  refused_writing last refusal failed_before failed_after old new said Unaccepted FileSame ReportFailed stays is shows appends format (inl (large, unfit, unchanged)) =
+  refused_writing Macrocell last refusal failed_before failed_after old new said Unaccepted FileSame ReportFailed stays is shows appends asked (inl (large, unfit, unchanged)) = absurd unfit
+  refused_writing Rle last refusal failed_before failed_after old new said Unaccepted FileSame ReportFailed stays is shows appends asked (inl (large, unfit, unchanged)) =
       inr (inl (
         ap placeless large,
         unchanged,
@@ -138,17 +144,54 @@ module _ (bytes : List ℕ) (options : Options) (start : Start) (accepted : IsSt
             accepted = (accepted, stays);
             last = last_cells last unfit.cells is unfit.listing;
             report = whole_report said shows;
-            unfit = rw format unfit.unfit;
+            unfit = rw asked unfit.unfit;
           },
           appends,
         ),
       ))
-  refused_writing last refusal failed_before failed_after old new said Unaccepted FileSame ReportFailed stays is shows appends format (inr (inl (memory, unchanged))) =
+  refused_writing format last refusal failed_before failed_after old new said Unaccepted FileSame ReportFailed stays is shows appends asked (inr (inl (memory, unchanged))) =
       inr (inr (inl (ap placeless memory, unchanged, (said, begun_all said shows, appends))))
-  refused_writing last refusal failed_before failed_after old new said Unaccepted FileSame ReportFailed stays is shows appends format (inr (inr (failing, failed))) =
+  refused_writing format last refusal failed_before failed_after old new said Unaccepted FileSame ReportFailed stays is shows appends asked (inr (inr (failing, failed))) =
       inr (inr (inr (ap placeless failing, inr failed)))
 
   -- where memory ran out after the report
   pub refused_viewing : (old new : Option (List ℕ)) (said : List ℕ) (Unaccepted TooLarge FileSame Failed : Type 0) → FileSame → Shows start.rule here start.meaning.generation (shown options) said → Appends old new said →
       Unaccepted ⊎ TooLarge ⊎ ((placeless NoMemory ≡ placeless NoMemory) × FileSame × ((said : List ℕ) × IsBegun bytes options said × Appends old new said)) ⊎ Failed
   refused_viewing old new said Unaccepted TooLarge FileSame Failed unchanged shows appends = inr (inr (inl (refl, unchanged, (said, begun_all said shows, appends))))
+
+-- ---- what is written
+
+-- the cells and the text that a format writes
+pub record HasWritten (format : Format) (plane : Plane) (comments : List (List ℕ)) (rule : CountRule) (generation : ℕ) (old new : Option (List ℕ)) : Type 0 where
+  pub cells : List Cell
+  pub text : List ℕ
+  pub listing : IsListing cells plane
+  pub fits : HasText (Some format) cells
+  pub is : IsFileText (Some format) comments rule generation cells text
+  pub appends : Appends old new text
+
+-- where a plane has a listing, what is written of it is the text of its cells
+pub has_written : (format : Format) (plane : Plane) (cells : List Cell) (comments : List (List ℕ)) (rule : CountRule) (generation : ℕ) (old new : Option (List ℕ)) → IsListing cells plane →
+    Writes format plane comments rule generation old new → HasWritten format plane comments rule generation old new
+has_written Rle plane cells comments rule generation old new listing writes = record {
+  cells = writes.cells;
+  text = rle_text comments rule generation writes.cells;
+  listing = writes.listing;
+  fits = writes.fits;
+  is = refl;
+  appends = writes.appends;
+}
+has_written Macrocell plane cells comments rule generation old new listing writes =
+    let same : plane ≡ plane_of cells = sym (plane_equal (plane_of cells) plane (record { same = listing.live })) in
+    record {
+      cells = cells;
+      text = mc_text comments rule generation writes.level plane;
+      listing = listing;
+      fits = tt;
+      is = record {
+        level = writes.level;
+        smallest = subst (IsSmallestLevel writes.level) same writes.smallest;
+        is = ap (mc_text comments rule generation writes.level) same;
+      };
+      appends = writes.appends;
+    }

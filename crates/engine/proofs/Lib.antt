@@ -5,3 +5,4 @@ pub mod Patterns
 pub mod Reports
 pub mod Steps
 pub mod NodeSquares
+pub mod Judged

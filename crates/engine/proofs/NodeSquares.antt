@@ -1,15 +1,13 @@
 -- Squares of nodes, one after the other.
-use Rattle.std.proofs.Common.{◌≡◌, ℕ, zero, suc, ◌+◌, ◌-◌, ◌^◌, ◌<◌, ◌≤◌, ◌==◌, Bool, true, false, ◌&&◌, List, [], ◌∷◌, ◌++◌, length, map, slice_index, slice_index_or, slice_get, Option, None, Some, Result, Ok, Err, IfOk, refl, sym, ◌∙◌, ap, subst, append_assoc, append-nil, arith}
+use Rattle.std.proofs.Common.{◌≡◌, ℕ, zero, suc, ◌+◌, ◌-◌, ◌^◌, ◌<◌, ◌≤◌, Bool, true, false, ◌&&◌, List, [], ◌∷◌, ◌++◌, length, map, slice_index, slice_index_or, slice_get, None, Some, Result, Ok, Err, IfOk, refl, sym, ◌∙◌, ap, subst, append_assoc, append-nil, arith}
 use Rattle.std.specs.List.{AllByRecursion, list_all}
-use Rattle.std.specs.Option.{option_map_or}
-use Rattle.std.proofs.lemmas.Bool.{false≢true}
 use Rattle.std.proofs.lemmas.Bool.Decides.{nat_tests}
 use Rattle.macrocell_reader.specs.NodeFaults.{StandInOrder, fault_among, is_child}
 use Rattle.macrocell_reader.specs.Nodes.{level_of}
 use Rattle.macrocell_reader.specs.Planes.{node_plane, plane_at, planes_after, planes_of, root_level, root_plane}
 use Rattle.macrocell_reader.specs.declared.node.Node.{Node}
-use Rattle.macrocell_reader.specs.declared.node.Node.TheVariants.{Leaf, Inner}
-use Rattle.macrocell_reader.proofs.OrderLemmas.{IsInner, accepted_inner}
+use Rattle.macrocell_reader.specs.declared.node.Node.TheVariants.{Inner}
+use Rattle.macrocell_reader.proofs.OrderLemmas.{accepted_inner}
 use Rattle.plane.specs.Plane.{Plane}
 use Rattle.plane.specs.Square.{empty, joined}
 use Rattle.plane.proofs.Same.{plane_equal}

@@ -1,16 +1,20 @@
 -- A run has one judgement and one ending.
-use Rattle.std.proofs.Common.{◌≡◌, ℕ, ◌+◌, List, [], ◌∷◌, length, Option, None, Some, Result, Ok, Err, refl, sym, ◌∙◌, ap, subst, inl, inr}
+use Rattle.std.proofs.Common.{◌≡◌, ℕ, ◌+◌, List, [], ◌∷◌, length, Option, None, Some, Result, Ok, Err, refl, sym, ◌∙◌, ap, subst, arith, inl, inr}
 use Rattle.std.specs.List.{AllZip, concat}
 use Rattle.rule_text.specs.CountRule.{CountRule}
 use Rattle.rule_text.specs.declared.fault.RuleFault.{RuleFault}
 use Rattle.rule_text.proofs.Readings.{one_reading}
-use Rattle.plane.specs.Listing.{IsListing}
+use Rattle.plane.specs.Listing.{IsListing, plane_of}
 use Rattle.plane.specs.Plane.{Plane, after}
 use Rattle.plane.specs.declared.cell.Cell.{Cell}
 use Rattle.plane.specs.declared.fault.Fault.{Fault}
 use Rattle.plane.proofs.Uniqueness.{one_listing_lem}
-use Rattle.rle_reader.specs.Meaning.{Meaning, judged, live_plane}
-use Rattle.engine.specs.FileText.{file_text}
+use Rattle.engine.specs.Meaning.{Meaning, judged}
+use Rattle.engine.specs.FileText.{IsFileText}
+use Rattle.engine.specs.declared.options.Format.{Format}
+use Rattle.engine.specs.declared.options.Format.TheVariants.{Rle, Macrocell}
+use Rattle.pattern_writers.specs.McText.{mc_text}
+use Rattle.plane.specs.Centred.{IsSmallestLevel}
 use Rattle.engine.specs.Judgement.{Start, IsStart, Judges, StaysInRange, RefusesRange, RefusesRule, ReadsRule, rule_text_of}
 use Rattle.engine.specs.Report.{IsLineAfter, Shows, report_line}
 use Rattle.engine.specs.Run.{Finishes, last_generation}
@@ -43,7 +47,7 @@ module _ (bytes : List ℕ) (options : Options) where
   one_start a b is_a is_b =
       let meaning = one_meaning a.meaning b.meaning is_a.text is_b.text in
       let rule : a.rule ≡ b.rule = let same = one_rule_reading a.meaning b.meaning (Ok a.rule) (Ok b.rule) is_a.text is_b.text is_a.rule is_b.rule in cc in
-      let cells = one_listing_lem (live_plane b.meaning) a.cells b.cells (subst (λ m. IsListing a.cells (live_plane m)) meaning is_a.cells) is_b.cells in
+      let cells = one_listing_lem b.meaning.live a.cells b.cells (subst (λ m. IsListing a.cells m.live) meaning is_a.cells) is_b.cells in
       same_start a b meaning rule cells
 
   not_both : (start : Start) (fault : Fault) → Judges bytes options (Ok start) → Judges bytes options (Err fault) → ⊥
@@ -100,11 +104,23 @@ module _ (rule : CountRule) (plane : Plane) (start : ℕ) where
   one_text : (ns text other : List ℕ) → Shows rule plane start ns text → Shows rule plane start ns other → text ≡ other
   one_text ns text other shows also = shows.2 ∙ ap concat (one_lines ns shows.0 also.0 shows.1 also.1) ∙ sym also.2
 
+one_level : (plane : Plane) (a b : ℕ) → IsSmallestLevel a plane → IsSmallestLevel b plane → a ≡ b
+one_level plane a b is other = grind (arith, is.no_smaller b other.least, other.no_smaller a is.least, is.holds, other.holds)
+
+-- cells have one text in a format
+one_file_text : (format : Option Format) (comments : List (List ℕ)) (rule : CountRule) (generation : ℕ) (cells : List Cell) (a b : List ℕ) →
+    IsFileText format comments rule generation cells a → IsFileText format comments rule generation cells b → a ≡ b
+one_file_text None comments rule generation cells a b is other = is ∙ sym other
+one_file_text (Some Rle) comments rule generation cells a b is other = is ∙ sym other
+one_file_text (Some Macrocell) comments rule generation cells a b is other =
+    is.is ∙ ap (λ (level : ℕ). mc_text comments rule generation level (plane_of cells)) (one_level (plane_of cells) is.level other.level is.smallest other.smallest) ∙ sym other.is
+
 pub one_ending_lem : (start : Start) (options : Options) (a b : Summary) (said others drawn other : List ℕ) → Finishes start options a said drawn → Finishes start options b others other →
     (a ≡ b) × (said ≡ others) × (drawn ≡ other)
 one_ending_lem start options a b said others drawn other finishes also =
-    let cells = one_listing_lem (after start.rule (live_plane start.meaning) options.gens) finishes.cells also.cells finishes.last also.last in (
+    let cells = one_listing_lem (after start.rule start.meaning.live options.gens) finishes.cells also.cells finishes.last also.last in (
       finishes.summary ∙ rw cells refl ∙ sym also.summary,
-      one_text start.rule (live_plane start.meaning) start.meaning.generation _ said others finishes.report also.report,
-      finishes.file ∙ ap (λ (c : List Cell). file_text options.format start.meaning.comments start.rule (last_generation start options) c) cells ∙ sym also.file,
+      one_text start.rule start.meaning.live start.meaning.generation _ said others finishes.report also.report,
+      one_file_text options.format start.meaning.comments start.rule (last_generation start options) also.cells drawn other
+          (subst (λ (c : List Cell). IsFileText options.format start.meaning.comments start.rule (last_generation start options) c drawn) cells finishes.file) also.file,
     )

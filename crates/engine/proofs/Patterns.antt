@@ -10,7 +10,7 @@ use Rattle.std.specs.Prelude.{sum_by}
 use Rattle.rule_text.specs.CountRule.{CountRule, has}
 use Rattle.plane.specs.Centred.{Holds, IsSmallestLevel, centred, is_round}
 use Rattle.plane.specs.Plane.{Plane, after}
-use Rattle.plane.specs.Range.{IsCoordinate}
+use Rattle.plane.specs.Range.{IsCoordinate, IsInRange}
 use Rattle.plane.specs.Runs.{IsRun, is_in_run, runs_plane}
 use Rattle.plane.specs.Square.{IsSame, empty, spans}
 use Rattle.plane.specs.declared.cell.Cell.{Cell}
@@ -64,6 +64,17 @@ outside_all (run ∷ runs) x y all outside = ap (λ b. b || list_any (is_in_run 
 
 pub runs_held : (runs : List (Cell × ℕ)) → AllByRecursion IsRun runs → Holds 63 (runs_plane runs)
 runs_held runs all = record { dead = λ x y outside. outside_all runs x y all outside }
+
+-- ---- cells of the range
+
+-- a square of level 63 holds what lies in the range
+pub range_held : (plane : Plane) → ((x y : ℤ) → plane x y ≡ true → IsInRange (record { y = y; x = x })) → Holds 63 plane
+range_held plane range = record {
+  dead = λ x y outside. elim (plane x y) as (λ b. plane x y ≡ b → b ≡ false) [
+    | true ↦ λ live. let is = range x y live in absurd (false≢true (sym outside ∙ both _ _ (in_square x is.x) (in_square y is.y)))
+    | false ↦ λ _. refl
+  ] refl;
+}
 
 -- ---- a square round (0,0)
 

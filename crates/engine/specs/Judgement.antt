@@ -12,7 +12,7 @@ use Rattle.plane.specs.declared.cell.Cell.{Cell}
 use Rattle.plane.specs.declared.fault.Fault.{Fault}
 use Rattle.plane.specs.declared.refusal.Refusal.{Refusal}
 use Rattle.plane.specs.declared.refusal.Refusal.TheVariants.{BadRule, BirthOnZero, TooFar}
-use Rattle.rle_reader.specs.Meaning.{Meaning, judged, live_plane}
+use Rattle.engine.specs.Meaning.{Meaning, judged}
 use Rattle.engine.specs.declared.options.Options.{Options}
 
 -- a refusal that no line or item of a file is to blame for
@@ -43,7 +43,7 @@ pub record Start : Type 0 where
 pub record IsStart (bytes : List ℕ) (options : Options) (start : Start) : Type 0 where
   pub text : judged bytes ≡ Ok start.meaning
   pub rule : ReadsRule options.rule start.meaning (Ok start.rule)
-  pub cells : IsListing start.cells (live_plane start.meaning)
+  pub cells : IsListing start.cells start.meaning.live
 
 -- the run stays within the range and the last generation
 abbrev pub StaysInRange : Options → Start → Type 0

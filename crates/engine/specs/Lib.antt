@@ -2,7 +2,9 @@ pub mod Books
 pub mod Devices
 pub mod FileText
 pub mod Judgement
+pub mod Meaning
 pub mod NodeSquares
 pub mod Pattern
+pub mod PatternFile
 pub mod Report
 pub mod Run

@@ -7,6 +7,7 @@ mod laws;
 mod nodes;
 mod options;
 mod pattern;
+mod pattern_file;
 mod report;
 mod reported;
 mod running;

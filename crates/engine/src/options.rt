@@ -21,4 +21,6 @@ pub struct Options {
 pub enum Format {
     /// Run length encoded, with a `#CXRLE` line.
     Rle,
+    /// Macrocell, `[M2]`: a quadtree whose equal squares are written once.
+    Macrocell,
 }

@@ -1,6 +1,6 @@
 //! A pattern, as a square of a book.
 
-ghost use Rattle.std.specs.Prelude.{◌≡◌, ◌⊎◌, ◌^◌, ◌<◌, ◌≤◌, ◌↔◌, IfOk, IfErr, OnOk, IsOkUnless, IsTrue};
+ghost use Rattle.std.specs.Prelude.{◌≡◌, ◌⊎◌, ◌^◌, ◌<◌, ◌≤◌, ◌↔◌, [], map, IfOk, IfErr, OnOk, IsOkUnless, IsTrue};
 ghost use Rattle.squares.specs.Book.{IsKnown};
 ghost use Rattle.plane.specs.Square.{IsSame, empty};
 ghost use Rattle.plane.specs.Runs.{AreRuns, runs_plane};
@@ -8,13 +8,17 @@ ghost use Rattle.engine.specs.Books.{book_of};
 ghost use Rattle.viewport.specs.BoundingBox.{HasBounds};
 ghost use Rattle.viewport.specs.Population.{HasPopulation};
 
+use crate::nodes::nodes_to_square;
+use crate::options::Format;
+use crate::pattern_file::PatternFile;
 use hashlife_step::{Tally, step};
-use pattern_writers::write_rle;
+use macrocell_reader::NodeLines;
+use pattern_writers::{write_mc, write_rle};
 use plane::{Bounds, Cell, Refusal, Sink};
-use rle_reader::{Comments, RleFile};
 use rule_text::Rule;
 use squares::{PlainBook, Sq, copy_square, runs_to_square};
 use std::alloc::Global;
+use text_lines::Comments;
 use viewport::{bounds, population};
 
 // Live cells in the range, as a square whose centre corner is (0,0).
@@ -31,8 +35,10 @@ impl Pattern {
     ghost use Rattle.plane.specs.Centred.{Holds};
     ghost use Rattle.plane.specs.Plane.{after};
     ghost use Rattle.plane.specs.Device.{IsWriteRefusal};
-    ghost use Rattle.rle_reader.specs.Meaning.{live_plane};
-    ghost use Rattle.pattern_writers.specs.RleText.{IsTooLarge, WritesRle};
+    ghost use Rattle.macrocell_reader.specs.NodeFaults.{StandInOrder};
+    ghost use Rattle.macrocell_reader.specs.Planes.{root_plane};
+    ghost use Rattle.engine.specs.FileText.{Exceeds, Writes};
+    ghost use Rattle.engine.specs.PatternFile.{meaning_of};
     ghost use Rattle.engine.specs.Pattern.{plane_of};
 
     // The cells of runs.
@@ -46,15 +52,35 @@ impl Pattern {
         Ok(Pattern { book, root })
     }
 
-    // The cells that a file makes live. `NoMemory` if there is no room for them.
-    pub(crate) fn of_file(alloc: Global, rule: Rule, text: &RleFile<'_>) -> Result<Self, Refusal>
-        ensures ok { IfOk result (λ pattern. IsSame (plane_of pattern) (live_plane text.now)) }
+    // The cells of the nodes of a macrocell file.
+    fn of_nodes(alloc: Global, rule: Rule, lines: NodeLines<'_>) -> Result<Self, Refusal>
+        requires { StandInOrder [] (map (λ line. line.node) lines) }
+        ensures ok { IfOk result (λ pattern. IsSame (plane_of pattern) (root_plane (map (λ line. line.node) lines.entry))) }
         ensures memory { IsOkUnless result Refusal.NoMemory }
     {
-        let Ok(runs) = text.live_runs(alloc) else {
-            return Err(Refusal::NoMemory);
-        };
-        Pattern::of_runs(alloc, rule, runs.as_slice())
+        let mut book = PlainBook::new(alloc, rule, 0);
+        let root = nodes_to_square(alloc, &mut book, lines)?;
+        Ok(Pattern { book, root })
+    }
+
+    // The cells that a file makes live. `NoMemory` if there is no room for them.
+    pub(crate) fn of_file(
+        alloc: Global,
+        rule: Rule,
+        text: &PatternFile<'_>,
+    ) -> Result<Self, Refusal>
+        ensures ok { IfOk result (λ pattern. IsSame (plane_of pattern) (meaning_of text.now).live) }
+        ensures memory { IsOkUnless result Refusal.NoMemory }
+    {
+        match text {
+            PatternFile::Rle(file) => {
+                let Ok(runs) = file.live_runs(alloc) else {
+                    return Err(Refusal::NoMemory);
+                };
+                Pattern::of_runs(alloc, rule, runs.as_slice())
+            }
+            PatternFile::Macrocell(file) => Pattern::of_nodes(alloc, rule, file.lines()),
+        }
     }
 
     // Whether no cell is live.
@@ -94,25 +120,29 @@ impl Pattern {
         Ok(Pattern { book, root })
     }
 
-    // Writes the pattern as RLE, with the comments, the rule and the generation. It refuses `BoxTooLarge` where a
-    // side of its box is 2^31 or more, and `NoMemory`, both before the first byte, and `WriteFailed`.
-    pub(crate) fn write_rle<V: Sink>(
+    // Writes the pattern in a format, with the comments, the rule and the generation. It refuses `BoxTooLarge` where
+    // RLE is asked for and a side of its box is 2^31 or more, and `NoMemory`, both before the first byte, and
+    // `WriteFailed`.
+    pub(crate) fn write<V: Sink>(
         &self,
         alloc: Global,
+        format: Format,
         comments: Comments<'_>,
         rule: &Rule,
         generation: u64,
         file: &mut V,
     ) -> Result<(), Refusal>
-        ensures written { OnOk result (WritesRle (plane_of self.now) comments.entry rule.now generation (V.taken file.old) (V.taken file.new)) }
+        ensures written { OnOk result (Writes format (plane_of self.now) comments.entry rule.now generation (V.taken file.old) (V.taken file.new)) }
         ensures unfailed { OnOk result (V.failure_count file.new ≡ V.failure_count file.old) }
         ensures refused { IfErr result (λ refusal.
-            (refusal ≡ Refusal.BoxTooLarge × IsTooLarge (plane_of self.now) × file.new ≡ file.old)
+            (refusal ≡ Refusal.BoxTooLarge × Exceeds format (plane_of self.now) × file.new ≡ file.old)
             ⊎ (refusal ≡ Refusal.NoMemory × file.new ≡ file.old)
             ⊎ IsWriteRefusal (V.failure_count file.old) (V.failure_count file.new) refusal) }
     {
-        write_rle(
-            &self.book, alloc, self.root, comments, rule, generation, file,
-        )
+        let (book, root) = (&self.book, self.root);
+        match format {
+            Format::Rle => write_rle(book, alloc, root, comments, rule, generation, file),
+            Format::Macrocell => write_mc(book, alloc, root, comments, rule, generation, file),
+        }
     }
 }

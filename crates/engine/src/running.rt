@@ -4,13 +4,14 @@ ghost use Rattle.rule_text.specs.CountRule.{IsRule};
 ghost use Rattle.rule_text.specs.declared.fault.RuleFault.{RuleFault};
 ghost use Rattle.plane.specs.Device.{HasFailed};
 ghost use Rattle.engine.specs.Judgement.{Start, Judges, ReadsRule, placeless, rule_refusal};
+ghost use Rattle.engine.specs.PatternFile.{meaning_of};
 ghost use Rattle.engine.specs.Run.{Finishes, IsBegun, IsTooLarge};
 
-use crate::options::{Format, Options};
+use crate::options::Options;
 use crate::pattern::Pattern;
+use crate::pattern_file::PatternFile;
 use crate::reported::run_reported;
 use plane::{Bounds, Fault, Refusal, Sink, reach};
-use rle_reader::RleFile;
 use rule_text::{Rule, RuleFault};
 use std::alloc::Global;
 
@@ -66,7 +67,7 @@ pub fn run<R, W: Sink, V: Sink>(
         × (HasFailed (W.failure_count report.old) (W.failure_count report.new)
         ⊎ HasFailed (V.failure_count file.old) (V.failure_count file.new)))) }
 {
-    let text = RleFile::open(bytes)?;
+    let text = PatternFile::open(alloc, bytes)?;
     let rule = rule_of(&text, options.rule)?;
     let pattern = Pattern::of_file(alloc, rule, &text)?;
     let start = text.generation();
@@ -77,17 +78,18 @@ pub fn run<R, W: Sink, V: Sink>(
         population: pattern.population(alloc)?,
         bounds: pattern.bounds(alloc)?,
     };
-    if let Some(Format::Rle) = options.format {
-        pattern.write_rle(alloc, text.comments(), &rule, summary.generation, file)?;
+    if let Some(format) = options.format {
+        let generation = summary.generation;
+        pattern.write(alloc, format, text.comments(), &rule, generation, file)?;
     }
     Ok(summary)
 }
 
 // The rule that is given, or else the one that the file names, or that of a file that names none.
-fn rule_of(text: &RleFile<'_>, given: Option<Rule>) -> Result<Rule, Fault>
-    ensures ok { IfOk result (λ rule. ReadsRule given text.now (Ok rule) × IsRule rule) }
-    ensures err { IfErr result (λ fault. (rule_fault : RuleFault) × ReadsRule given text.now (Err rule_fault)
-        × (fault ≡ record { refusal = rule_refusal rule_fault; place = Some text.now.rule_place })) }
+fn rule_of(text: &PatternFile<'_>, given: Option<Rule>) -> Result<Rule, Fault>
+    ensures ok { IfOk result (λ rule. ReadsRule given (meaning_of text.now) (Ok rule) × IsRule rule) }
+    ensures err { IfErr result (λ fault. (rule_fault : RuleFault) × ReadsRule given (meaning_of text.now) (Err rule_fault)
+        × (fault ≡ record { refusal = rule_refusal rule_fault; place = Some (meaning_of text.now).rule_place })) }
 {
     if let Some(rule) = given {
         return Ok(rule);

@@ -1,4 +1,4 @@
-use Rattle.std.proofs.Common.{◌≡◌, ◌-◌, ◌+◌, None, Some, arith, rules, subst, sym}
+use Rattle.std.proofs.Common.{◌≡◌, ◌+◌, None, Some, arith, subst, sym}
 use Rattle.std.specs.List.{AllByRecursion}
 use Rattle.std.proofs.lemmas.Result.{IfOk-weaker}
 use Rattle.macrocell_reader.specs.NodeFaults.{fault_among}
@@ -6,7 +6,7 @@ use Rattle.macrocell_reader.specs.Nodes.{level_of}
 use Rattle.macrocell_reader.specs.Planes.{node_plane}
 use Rattle.macrocell_reader.specs.declared.node.Node.TheVariants.{Inner}
 use Rattle.squares.specs.Book.{IsKnown, Shows, joined_squares, nth}
-use Rattle.engine.specs.NodeSquares.{levels_of, quarters_of, shown_planes}
+use Rattle.engine.specs.NodeSquares.{levels_of, shown_planes}
 use Rattle.engine.proofs.NodeSquares.{inner_level, inner_quarter, inner_shown, quarters_known, quarters_level}
 use Rattle.engine.proofs.nodes.node_square.Goals as goal
 
@@ -49,7 +49,7 @@ returns-in-Inner-clause-ok g c =
     let squares = c.args.squares.now in
     let lawful : fault_among (levels_of squares) (Some (Inner c.in-Inner.level c.in-Inner.kids)) ≡ None = subst (λ n. fault_among (levels_of squares) (Some n) ≡ None) c.in-Inner.is c.requires.lawful in
     IfOk-weaker c.quad.result _ _ (λ sq shown.
-        subst (λ n. Shows new (level_of n) (node_plane (shown_planes book squares) n) sq) (sym c.in-Inner.is)
-        (inner_shown book (g.met.S.Squares.is_book c.args.book.now) squares c.in-Inner.level c.in-Inner.kids c.requires.known lawful new sq
-        (subst (λ qs. Shows new ((nth qs 0).level + 1) (joined_squares book (nth qs 0).level qs) sq) c.quarters.ensures shown)))
+    subst (λ n. Shows new (level_of n) (node_plane (shown_planes book squares) n) sq) (sym c.in-Inner.is)
+    (inner_shown book (g.met.S.Squares.is_book c.args.book.now) squares c.in-Inner.level c.in-Inner.kids c.requires.known lawful new sq
+    (subst (λ qs. Shows new ((nth qs 0).level + 1) (joined_squares book (nth qs 0).level qs) sq) c.quarters.ensures shown)))
     c.quad.ensures.ok

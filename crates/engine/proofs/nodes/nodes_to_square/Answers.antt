@@ -1,6 +1,5 @@
-use Rattle.std.proofs.Common.{◌≡◌, ◌-◌, None, Some, length, map, refl, rules, subst, sym}
+use Rattle.std.proofs.Common.{◌≡◌, ◌-◌, None, Some, length, map, rules}
 use Rattle.std.specs.Prelude.{slice_get}
-use Rattle.std.proofs.lemmas.Result.{IfOk-weaker}
 use Rattle.macrocell_reader.specs.Nodes.{WrittenNode}
 use Rattle.engine.proofs.NodeSquares.{both_ok, empty_root, last_shown, no_nodes, root_shown, trimmed_root}
 use Rattle.engine.proofs.nodes.nodes_to_square.Goals as goal

@@ -1,4 +1,4 @@
-use Rattle.std.proofs.Common.{◌≡◌, [], ◌∷◌, ◌++◌, List, map, ap, rules, subst, sym}
+use Rattle.std.proofs.Common.{◌≡◌, [], ◌∷◌, ◌++◌, List, map, rules, subst, sym}
 use Rattle.macrocell_reader.specs.Nodes.{WrittenNode}
 use Rattle.macrocell_reader.specs.Seen.{written_seen}
 use Rattle.macrocell_reader.specs.Nodes.{level_of}

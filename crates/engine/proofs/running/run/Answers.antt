@@ -3,45 +3,44 @@ use Rattle.std.specs.Io.KnownBytes.{Appends}
 use Rattle.std.proofs.KnownBytes.{Appends-nil}
 use Rattle.plane.specs.declared.refusal.Refusal.TheVariants.{NoMemory, TooFar}
 use Rattle.plane.specs.declared.cell.Cell.{Cell}
-use Rattle.pattern_writers.specs.RleText.{rle_text}
-use Rattle.rle_reader.specs.Meaning.{judged}
+use Rattle.engine.specs.Meaning.{judged}
 use Rattle.engine.specs.Judgement.{Start, StaysInRange, placeless}
 use Rattle.engine.specs.Pattern.{plane_of}
+use Rattle.engine.specs.PatternFile.{meaning_of}
 use Rattle.engine.specs.Report.{Shows, shown}
 use Rattle.engine.specs.Run.{last_generation}
 use Rattle.engine.specs.declared.running.Summary.{Summary}
-use Rattle.engine.specs.declared.options.Format.TheVariants.{Rle}
-use Rattle.engine.proofs.Endings.{begun_none, finishes, refused_reporting, refused_viewing, refused_writing, started, stays_as}
+use Rattle.engine.proofs.Endings.{begun_none, finishes, has_written, refused_reporting, refused_viewing, refused_writing, started, stays_as}
 use Rattle.engine.proofs.Held.{held, short_run}
 use Rattle.engine.proofs.running.run.Goals as goal
-use Rattle.engine.proofs.running.run.Goals.{in-Some-Rle+in_ok-write_rle, in_default}
+use Rattle.engine.proofs.running.run.Goals.{in-Some+in_ok-write, in_default}
 
 pub returns-in_err-pattern-clause-refused : goal.returns-in_err-pattern-clause-refused
 returns-in_err-pattern-clause-refused g c =
     let is : c.from_residual-in_err-pattern.result ≡ Err (placeless NoMemory) = search rules in
-    let text : judged c.args.bytes.now ≡ Ok c.in_ok-text.text = search rules in
+    let text : judged c.args.bytes.now ≡ Ok (meaning_of c.in_ok-text.text) = search rules in
     rw is (inr (inr (inl (
       refl,
       refl,
-      ([], begun_none c.args.bytes.now c.args.options.now c.in_ok-text.text c.in_ok-rule.rule text c.in_ok-rule.ensures.ok.0, Appends-nil _),
+      ([], begun_none c.args.bytes.now c.args.options.now (meaning_of c.in_ok-text.text) c.in_ok-rule.rule text c.in_ok-rule.ensures.ok.0, Appends-nil _),
     ))))
 
 pub returns-in_err-bounds-clause-refused : goal.returns-in_err-bounds-clause-refused
 returns-in_err-bounds-clause-refused g c =
     let is : c.from_residual-in_err-bounds.result ≡ Err (placeless NoMemory) = search rules in
-    let text : judged c.args.bytes.now ≡ Ok c.in_ok-text.text = search rules in
+    let text : judged c.args.bytes.now ≡ Ok (meaning_of c.in_ok-text.text) = search rules in
     rw is (inr (inr (inl (
       refl,
       refl,
-      ([], begun_none c.args.bytes.now c.args.options.now c.in_ok-text.text c.in_ok-rule.rule text c.in_ok-rule.ensures.ok.0, Appends-nil _),
+      ([], begun_none c.args.bytes.now c.args.options.now (meaning_of c.in_ok-text.text) c.in_ok-rule.rule text c.in_ok-rule.ensures.ok.0, Appends-nil _),
     ))))
 
 pub returns-in_err-reach-clause-refused : goal.returns-in_err-reach-clause-refused
 returns-in_err-reach-clause-refused g c =
-    let text : judged c.args.bytes.now ≡ Ok c.in_ok-text.text = search rules in
+    let text : judged c.args.bytes.now ≡ Ok (meaning_of c.in_ok-text.text) = search rules in
     let box = c.in_ok-bounds.ensures.ok in
-    let start : Start = record { meaning = c.in_ok-text.text; rule = c.in_ok-rule.rule; cells = box.cells } in
-    let accepted = started c.args.bytes.now c.args.options.now c.in_ok-text.text c.in_ok-rule.rule (plane_of c.in_ok-pattern.pattern) box.cells text c.in_ok-rule.ensures.ok.0 c.in_ok-pattern.ensures.ok box.listing in
+    let start : Start = record { meaning = meaning_of c.in_ok-text.text; rule = c.in_ok-rule.rule; cells = box.cells } in
+    let accepted = started c.args.bytes.now c.args.options.now (meaning_of c.in_ok-text.text) c.in_ok-rule.rule (plane_of c.in_ok-pattern.pattern) box.cells text c.in_ok-rule.ensures.ok.0 c.in_ok-pattern.ensures.ok box.listing in
     let is : c.from_residual-in_err-reach.result ≡ Err (placeless TooFar) = search rules in
     rw is (inl (
       inr (inr (record { start = start; accepted = accepted; outside = λ stays. c.in_err-reach.ensures.too_far.1 (stays_as (sym box.bounds) (sym c.generation-start.ensures) stays); is = refl })),
@@ -61,22 +60,22 @@ run_reported-requires-clause-short g c =
 
 pub returns-in_err-pattern-2-clause-refused : goal.returns-in_err-pattern-2-clause-refused
 returns-in_err-pattern-2-clause-refused g c =
-    let text : judged c.args.bytes.now ≡ Ok c.in_ok-text.text = search rules in
+    let text : judged c.args.bytes.now ≡ Ok (meaning_of c.in_ok-text.text) = search rules in
     let box = c.in_ok-bounds.ensures.ok in
     let here = plane_of c.in_ok-pattern.pattern in
-    let start : Start = record { meaning = c.in_ok-text.text; rule = c.in_ok-rule.rule; cells = box.cells } in
-    let accepted = started c.args.bytes.now c.args.options.now c.in_ok-text.text c.in_ok-rule.rule here box.cells text c.in_ok-rule.ensures.ok.0 c.in_ok-pattern.ensures.ok box.listing in
+    let start : Start = record { meaning = meaning_of c.in_ok-text.text; rule = c.in_ok-rule.rule; cells = box.cells } in
+    let accepted = started c.args.bytes.now c.args.options.now (meaning_of c.in_ok-text.text) c.in_ok-rule.rule here box.cells text c.in_ok-rule.ensures.ok.0 c.in_ok-pattern.ensures.ok box.listing in
     let is : c.from_residual-in_err-pattern-2.result ≡ Err (placeless c.in_err-pattern-2.field-0.0) = search rules in
     rw is (refused_reporting c.args.bytes.now c.args.options.now start accepted here c.in_ok-pattern.ensures.ok c.generation-start.result c.in_err-pattern-2.field-0.0 _ _ _ _ _ _ _ _ refl c.generation-start.ensures
     c.in_err-pattern-2.ensures.refused)
 
 pub returns-in_err-population-clause-refused : goal.returns-in_err-population-clause-refused
 returns-in_err-population-clause-refused g c =
-    let text : judged c.args.bytes.now ≡ Ok c.in_ok-text.text = search rules in
+    let text : judged c.args.bytes.now ≡ Ok (meaning_of c.in_ok-text.text) = search rules in
     let box = c.in_ok-bounds.ensures.ok in
     let here = plane_of c.in_ok-pattern.pattern in
-    let start : Start = record { meaning = c.in_ok-text.text; rule = c.in_ok-rule.rule; cells = box.cells } in
-    let accepted = started c.args.bytes.now c.args.options.now c.in_ok-text.text c.in_ok-rule.rule here box.cells text c.in_ok-rule.ensures.ok.0 c.in_ok-pattern.ensures.ok box.listing in
+    let start : Start = record { meaning = meaning_of c.in_ok-text.text; rule = c.in_ok-rule.rule; cells = box.cells } in
+    let accepted = started c.args.bytes.now c.args.options.now (meaning_of c.in_ok-text.text) c.in_ok-rule.rule here box.cells text c.in_ok-rule.ensures.ok.0 c.in_ok-pattern.ensures.ok box.listing in
     let reported : (said : List ℕ) × Shows start.rule here start.meaning.generation (shown c.args.options.now) said
     × Appends (g.W.Sink.taken c.args.report.now) (g.W.Sink.taken c.run_reported.new.report) said = search rules in
     let is : c.from_residual-in_err-population.result ≡ Err (placeless NoMemory) = search rules in
@@ -84,36 +83,36 @@ returns-in_err-population-clause-refused g c =
 
 pub returns-in_err-bounds-2-clause-refused : goal.returns-in_err-bounds-2-clause-refused
 returns-in_err-bounds-2-clause-refused g c =
-    let text : judged c.args.bytes.now ≡ Ok c.in_ok-text.text = search rules in
+    let text : judged c.args.bytes.now ≡ Ok (meaning_of c.in_ok-text.text) = search rules in
     let box = c.in_ok-bounds.ensures.ok in
     let here = plane_of c.in_ok-pattern.pattern in
-    let start : Start = record { meaning = c.in_ok-text.text; rule = c.in_ok-rule.rule; cells = box.cells } in
-    let accepted = started c.args.bytes.now c.args.options.now c.in_ok-text.text c.in_ok-rule.rule here box.cells text c.in_ok-rule.ensures.ok.0 c.in_ok-pattern.ensures.ok box.listing in
+    let start : Start = record { meaning = meaning_of c.in_ok-text.text; rule = c.in_ok-rule.rule; cells = box.cells } in
+    let accepted = started c.args.bytes.now c.args.options.now (meaning_of c.in_ok-text.text) c.in_ok-rule.rule here box.cells text c.in_ok-rule.ensures.ok.0 c.in_ok-pattern.ensures.ok box.listing in
     let reported : (said : List ℕ) × Shows start.rule here start.meaning.generation (shown c.args.options.now) said
     × Appends (g.W.Sink.taken c.args.report.now) (g.W.Sink.taken c.run_reported.new.report) said = search rules in
     let is : c.from_residual-in_err-bounds-2.result ≡ Err (placeless NoMemory) = search rules in
     rw is (refused_viewing c.args.bytes.now c.args.options.now start accepted here c.in_ok-pattern.ensures.ok _ _ reported.0 _ _ _ _ refl reported.1 reported.2)
 
-pub returns-in_err-write_rle-clause-refused : goal.returns-in_err-write_rle-clause-refused
-returns-in_err-write_rle-clause-refused g c =
-    let text : judged c.args.bytes.now ≡ Ok c.in_ok-text.text = search rules in
+pub returns-in_err-write-clause-refused : goal.returns-in_err-write-clause-refused
+returns-in_err-write-clause-refused g c =
+    let text : judged c.args.bytes.now ≡ Ok (meaning_of c.in_ok-text.text) = search rules in
     let box = c.in_ok-bounds.ensures.ok in
     let here = plane_of c.in_ok-pattern.pattern in
-    let start : Start = record { meaning = c.in_ok-text.text; rule = c.in_ok-rule.rule; cells = box.cells } in
-    let accepted = started c.args.bytes.now c.args.options.now c.in_ok-text.text c.in_ok-rule.rule here box.cells text c.in_ok-rule.ensures.ok.0 c.in_ok-pattern.ensures.ok box.listing in
+    let start : Start = record { meaning = meaning_of c.in_ok-text.text; rule = c.in_ok-rule.rule; cells = box.cells } in
+    let accepted = started c.args.bytes.now c.args.options.now (meaning_of c.in_ok-text.text) c.in_ok-rule.rule here box.cells text c.in_ok-rule.ensures.ok.0 c.in_ok-pattern.ensures.ok box.listing in
     let reported : (said : List ℕ) × Shows start.rule here start.meaning.generation (shown c.args.options.now) said
     × Appends (g.W.Sink.taken c.args.report.now) (g.W.Sink.taken c.run_reported.new.report) said = search rules in
-    let is : c.from_residual-in_err-write_rle.result ≡ Err (placeless c.in_err-write_rle.field-0.0) = search rules in
+    let is : c.from_residual-in_err-write.result ≡ Err (placeless c.in_err-write.field-0.0) = search rules in
     let stays : StaysInRange c.args.options.now start = stays_as box.bounds c.generation-start.ensures c.in_ok-reach.ensures.ok.0 in
-    rw is (refused_writing c.args.bytes.now c.args.options.now start accepted here c.in_ok-pattern.ensures.ok (plane_of c.in_ok-pattern-2.pattern) c.in_err-write_rle.field-0.0 _ _ _ _ reported.0 _ _ _ stays c.in_ok-pattern-2.ensures.cells reported.1 reported.2 (search rules) c.in_err-write_rle.ensures.refused)
+    rw is (refused_writing c.args.bytes.now c.args.options.now start accepted here c.in_ok-pattern.ensures.ok c.in-Some.format (plane_of c.in_ok-pattern-2.pattern) c.in_err-write.field-0.0 _ _ _ _ reported.0 _ _ _ stays c.in_ok-pattern-2.ensures.cells reported.1 reported.2 (search rules) c.in_err-write.ensures.refused)
 
 pub returns-clause-finished : goal.returns-clause-finished
 returns-clause-finished g c =
-    let text : judged c.args.bytes.now ≡ Ok c.in_ok-text.text = search rules in
+    let text : judged c.args.bytes.now ≡ Ok (meaning_of c.in_ok-text.text) = search rules in
     let box = c.in_ok-bounds.ensures.ok in
     let here = plane_of c.in_ok-pattern.pattern in
-    let start : Start = record { meaning = c.in_ok-text.text; rule = c.in_ok-rule.rule; cells = box.cells } in
-    let accepted = started c.args.bytes.now c.args.options.now c.in_ok-text.text c.in_ok-rule.rule here box.cells text c.in_ok-rule.ensures.ok.0 c.in_ok-pattern.ensures.ok box.listing in
+    let start : Start = record { meaning = meaning_of c.in_ok-text.text; rule = c.in_ok-rule.rule; cells = box.cells } in
+    let accepted = started c.args.bytes.now c.args.options.now (meaning_of c.in_ok-text.text) c.in_ok-rule.rule here box.cells text c.in_ok-rule.ensures.ok.0 c.in_ok-pattern.ensures.ok box.listing in
     let reported : (said : List ℕ) × Shows start.rule here start.meaning.generation (shown c.args.options.now) said
     × Appends (g.W.Sink.taken c.args.report.now) (g.W.Sink.taken c.run_reported.new.report) said = search rules in
     let stays : StaysInRange c.args.options.now start = stays_as box.bounds c.generation-start.ensures c.in_ok-reach.ensures.ok.0 in
@@ -122,14 +121,15 @@ returns-clause-finished g c =
     let generation : answer.generation ≡ last_generation start c.args.options.now = ap (λ n. n + c.args.options.now.gens) c.generation-start.ensures in
     let finish = λ (cells : List Cell) (drawn : List ℕ). finishes c.args.bytes.now c.args.options.now start accepted here c.in_ok-pattern.ensures.ok last reported.0 cells drawn answer c.in_ok-pattern-2.ensures.cells reported.1 in
     elim c.match-options.branch [
-      | in-Some-Rle+in_ok-write_rle w ↦
-          let format : c.args.options.now.format ≡ Some Rle = search rules in
-          let written = rw (w.comments.ensures, c.generation-start.ensures) at w.in_ok-write_rle.ensures.written in (
+      | in-Some+in_ok-write w ↦
+          let format : c.args.options.now.format ≡ Some w.in-Some.format = search rules in
+          let writes = rw (w.comments.ensures, c.generation-start.ensures) at w.in_ok-write.ensures.written in
+          let written = has_written w.in-Some.format last c.in_ok-bounds-2.ensures.ok.cells start.meaning.comments start.rule (last_generation start c.args.options.now) _ _ c.in_ok-bounds-2.ensures.ok.listing writes in (
             start,
             reported.0,
-            rle_text start.meaning.comments start.rule (last_generation start c.args.options.now) written.cells,
+            written.text,
             (accepted, stays),
-            finish written.cells _ written.listing (rw format written.fits) (rw format refl) generation c.in_ok-population.ensures.ok c.in_ok-bounds-2.ensures.ok,
+            finish written.cells written.text written.listing (rw format written.fits) (rw format written.is) generation c.in_ok-population.ensures.ok c.in_ok-bounds-2.ensures.ok,
             reported.2,
             rw w.file-is written.appends,
           )
