@@ -17,3 +17,11 @@ pub mod ListedQuarters
 pub mod BitRows
 pub mod RootNodes
 pub mod RootParts
+pub mod McLines
+pub mod McNumbers
+pub mod McLeaves
+pub mod McNodes
+pub mod McOrder
+pub mod McRoot
+pub mod McKinds
+pub mod McTextReading

@@ -42,7 +42,8 @@ text_of_leaf listed square word level same =
     (number_in listed (sw_of (square.level - 1) square.plane)) (number_in listed (se_of (square.level - 1) square.plane)))) ((Decides-eqb square.level 3).1 level)
     ∙ ap leaf_text (plane_equal square.plane (bits_plane word) same)
 
-not_three : (level : ℕ) → 3 < level → (level == 3) ≡ false
+-- a larger square is no leaf
+pub not_three : (level : ℕ) → 3 < level → (level == 3) ≡ false
 not_three level above = elim (level == 3) as (λ t. (t ≡ true → level ≡ 3) → t ≡ false) [
   | true ↦ λ is. let same = is refl in absurd (omega (arith, same))
   | false ↦ λ _. refl
@@ -61,13 +62,14 @@ text_of_inner listed square a b c d above e f g h =
     (number_in listed (sw_of (square.level - 1) square.plane)) (number_in listed (se_of (square.level - 1) square.plane)))) (not_three square.level above)
     ∙ five_equal square.level _ _ _ _ a b c d e f g h
 
-lower_levels : (square : Square) (more : ℕ) (plane : Plane) → more + 3 < square.level → AllByRecursion (λ other. is_same_square square other ≡ false) (squares_in more plane)
+-- none of the squares in a smaller square is the same
+pub lower_levels : (square : Square) (more : ℕ) (plane : Plane) → more + 3 < square.level → AllByRecursion (λ other. is_same_square square other ≡ false) (squares_in more plane)
 lower_levels square more plane above =
     AllByRecursion-weaker (λ (other : Square). other.level ≤ more + 3) (λ other. is_same_square square other ≡ false)
     (λ other low. other_level square other (omega (arith, low))) (squares_in more plane) (levels_in more plane)
 
 -- the squares of four quarters and the whole, added in turn
-added_in_turn : (listed a b c d e : List Square) → with_new listed (a ++ b ++ c ++ d ++ e) ≡ with_new (with_new (with_new (with_new (with_new listed a) b) c) d) e
+pub added_in_turn : (listed a b c d e : List Square) → with_new listed (a ++ b ++ c ++ d ++ e) ≡ with_new (with_new (with_new (with_new (with_new listed a) b) c) d) e
 added_in_turn listed a b c d e =
     with_new-append listed (a ++ b ++ c ++ d) e
     ∙ ap (λ l. with_new l e) (with_new-append listed (a ++ b ++ c) d)

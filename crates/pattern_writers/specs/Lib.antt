@@ -4,6 +4,7 @@ pub mod Items
 pub mod Layout
 pub mod LeafText
 pub mod ListedNodes
+pub mod McReading
 pub mod McText
 pub mod NodeLines
 pub mod Opening

@@ -1,0 +1,284 @@
+-- The kinds of lines of a macrocell text: the rule, the generation, comments and nodes.
+use Rattle.std.proofs.Common.{◌≡◌, ℕ, suc, ◌-◌, ◌^◌, ◌<◌, ◌≤◌, Bool, true, false, not, cond, List, [], ◌∷◌, ◌++◌, length, map, filter, take, codes, decimal, Some, None, refl, sym, ◌∙◌, ap, subst, arith, unwrap_or}
+use Rattle.std.specs.Prelude.{◌==◌, ◌&&◌, ◌||◌, nat_le, is_none}
+use Rattle.std.specs.List.{AllByRecursion, cons_option, filter_map, list_all}
+use Rattle.std.specs.Option.{option_map, option_to_list}
+use Rattle.std.proofs.lemmas.Bool.{false≢true}
+use Rattle.std.proofs.lemmas.Bool.Decides.{Decides-eqb, nat_tests}
+use Rattle.rule_text.specs.CountRule.{CountRule}
+use Rattle.rule_text.specs.RuleText.{canonical_text, digit_text, suffix}
+use Rattle.rule_text.specs.declared.neighbourhood.Neighbourhood.{Neighbourhood}
+use Rattle.rule_text.specs.declared.neighbourhood.Neighbourhood.TheVariants.{Moore, VonNeumann, Hexagonal}
+use Rattle.plane.proofs.Cuts.{and_left, and_right}
+use Rattle.plane.specs.declared.refusal.Refusal.TheVariants.{BadGen}
+use Rattle.plane.specs.declared.range.TheConstants.{GENERATION_LIMIT}
+use Rattle.text_lines.specs.Bytes.{begins_with, ends_with}
+use Rattle.text_lines.specs.Comments.{is_blank_line, is_kept, is_settings_line}
+use Rattle.text_lines.specs.Lines.{without_return}
+use Rattle.text_lines.specs.Numbers.{number_of}
+use Rattle.macrocell_reader.specs.Meaning.{is_node_line}
+use Rattle.macrocell_reader.specs.NodeFaults.{StandInOrder, fault_among}
+use Rattle.macrocell_reader.specs.Nodes.{level_of, node_of}
+use Rattle.macrocell_reader.specs.Settings.{Said, after_line, generation_of, said_fault, within_limit}
+use Rattle.macrocell_reader.specs.declared.node.Node.{Node}
+use Rattle.macrocell_reader.proofs.MeaningLemmas.{no_node_line}
+use Rattle.macrocell_reader.proofs.NodeLemmas.{node_of-other}
+use Rattle.viewport.proofs.Counts.{by_cases}
+use Rattle.pattern_writers.proofs.McLines.{AreFine, AreSilent, IsMark, IsPlain, all_both, all_weaker, blank_cut}
+use Rattle.pattern_writers.proofs.McNumbers.{decimal_is, decimal_read}
+use Rattle.pattern_writers.specs.McReading.{IsComment}
+
+-- ---- bytes
+
+low_test : (b : ℕ) → nat_le 32 b ≡ true → 32 ≤ b
+low_test b is = grind (arith, nat_tests)
+
+plain_from_test : (text : List ℕ) → list_all (λ b. nat_le 32 b) text ≡ true → AllByRecursion IsPlain text
+plain_from_test [] is = tt
+plain_from_test (b ∷ text) is =
+    (low_test b (and_left (nat_le 32 b) (list_all (λ c. nat_le 32 c) text) is), plain_from_test text (and_right (nat_le 32 b) (list_all (λ c. nat_le 32 c) text) is))
+
+pub head_plain : AllByRecursion IsPlain (codes "[M2] (lifebatch 1)")
+head_plain = plain_from_test (codes "[M2] (lifebatch 1)") refl
+
+digits_mark : (digits : List ℕ) → AllByRecursion IsMark (digit_text digits)
+digits_mark [] = tt
+digits_mark (digit ∷ digits) = (omega arith, digits_mark digits)
+
+suffix_marks : (neighbourhood : Neighbourhood) → AllByRecursion IsMark (suffix neighbourhood)
+suffix_marks Moore = tt
+suffix_marks VonNeumann = (omega arith, tt)
+suffix_marks Hexagonal = (omega arith, tt)
+
+pub rule_marks : (rule : CountRule) → AllByRecursion IsMark (canonical_text rule)
+rule_marks rule =
+    all_both IsMark (codes "B" ++ digit_text rule.birth ++ codes "/S" ++ digit_text rule.survival) (suffix rule.neighbourhood)
+    (all_both IsMark (codes "B" ++ digit_text rule.birth ++ codes "/S") (digit_text rule.survival)
+    (all_both IsMark (codes "B" ++ digit_text rule.birth) (codes "/S") (all_both IsMark (codes "B") (digit_text rule.birth) (omega arith, tt) (digits_mark rule.birth)) (omega arith, (omega arith, tt))) (digits_mark rule.survival))
+    (suffix_marks rule.neighbourhood)
+
+plain_marks : (text : List ℕ) → AllByRecursion IsMark text → AllByRecursion IsPlain text
+plain_marks text marks = all_weaker IsMark IsPlain (λ b mark. omega (arith, mark)) text marks
+
+-- ---- the rule and the generation
+
+abbrev pub rule_line : CountRule → List ℕ
+rule_line rule = codes "#R " ++ canonical_text rule
+
+abbrev pub generation_line : ℕ → List ℕ
+generation_line generation = codes "#G " ++ decimal generation
+
+pub rule_plain : (rule : CountRule) → AllByRecursion IsPlain (rule_line rule)
+rule_plain rule = all_both IsPlain (codes "#R ") (canonical_text rule) (plain_from_test (codes "#R ") refl) (plain_marks (canonical_text rule) (rule_marks rule))
+
+pub generation_plain : (generation : ℕ) → generation < 2 ^ 64 → AllByRecursion IsPlain (generation_line generation)
+generation_plain generation small = all_both IsPlain (codes "#G ") (decimal generation) (plain_from_test (codes "#G ") refl) (plain_marks (decimal generation) (decimal_is generation small).marks)
+
+pub rule_unfaulted : (rule : CountRule) → said_fault (rule_line rule) ≡ None
+unfolding said_fault
+rule_unfaulted rule = refl
+
+pub rule_no_node : (rule : CountRule) → is_node_line (rule_line rule) ≡ false
+rule_no_node rule = refl
+
+pub rule_not_kept : (rule : CountRule) → is_kept (rule_line rule) ≡ false
+unfolding is_kept
+rule_not_kept rule = refl
+
+pub rule_said : (rule : CountRule) (said : Said) (place : ℕ) → after_line said (record { place = place; text = rule_line rule }) ≡ record said { rule = Some (canonical_text rule); rule_place = place }
+unfolding after_line
+rule_said rule said place = ap (λ t. record said { rule = Some t; rule_place = place }) (blank_cut (canonical_text rule) (rule_marks rule))
+
+within : (number limit : ℕ) → number ≤ limit → nat_le number limit ≡ true
+within number limit low = grind (arith, nat_tests)
+
+generation_read : (generation : ℕ) → generation ≤ GENERATION_LIMIT → generation < 2 ^ 64 → generation_of (32 ∷ decimal generation) ≡ Some generation
+unfolding generation_of
+generation_read generation low small =
+    ap (λ t. within_limit (number_of t)) (blank_cut (decimal generation) (decimal_is generation small).marks)
+    ∙ ap within_limit (decimal_read generation small) ∙ ap (λ t. cond t (Some generation) None) (within generation GENERATION_LIMIT low)
+
+module _ (generation : ℕ) (low : generation ≤ GENERATION_LIMIT) (small : generation < 2 ^ 64) where
+  pub generation_unfaulted : said_fault (generation_line generation) ≡ None
+  unfolding said_fault
+  generation_unfaulted = ap (λ o. cond (is_none o) (Some BadGen) None) (generation_read generation low small)
+
+  pub generation_said : (said : Said) (place : ℕ) → after_line said (record { place = place; text = generation_line generation }) ≡ record said { generation = generation }
+  unfolding after_line
+  generation_said said place = ap (λ o. record said { generation = unwrap_or o 0 }) (generation_read generation low small)
+
+pub generation_no_node : (generation : ℕ) → is_node_line (generation_line generation) ≡ false
+generation_no_node generation = refl
+
+pub generation_not_kept : (generation : ℕ) → is_kept (generation_line generation) ≡ false
+unfolding is_kept
+generation_not_kept generation = refl
+
+-- ---- comments
+
+-- a line that says nothing
+pub record IsQuiet (line : List ℕ) : Type 0 where
+  pub unfaulted : said_fault line ≡ None
+  pub no_node : is_node_line line ≡ false
+  pub silent : (said : Said) (place : ℕ) → after_line said (record { place = place; text = line }) ≡ said
+
+and_first : (a b : Bool) → a ≡ false → (a && b) ≡ false
+and_first a b e = ap (λ t. t && b) e
+
+quiet_line : (letter : ℕ) (rest : List ℕ) → (letter == 70) ≡ false → (letter == 71) ≡ false → (letter == 82) ≡ false → IsQuiet (35 ∷ letter ∷ rest)
+unfolding said_fault after_line
+quiet_line letter rest no_frames no_generation no_rule =
+    let frames : begins_with (codes "#FRAMES") (35 ∷ letter ∷ rest) ≡ false = and_first (letter == 70) _ no_frames in
+    let generation : begins_with (codes "#G") (35 ∷ letter ∷ rest) ≡ false = and_first (letter == 71) _ no_generation in
+    let rule : begins_with (codes "#R") (35 ∷ letter ∷ rest) ≡ false = and_first (letter == 82) _ no_rule in
+    record { unfaulted = rw (frames, generation) refl; no_node = refl; silent = λ said place. rw (rule, generation) refl }
+
+letters : (a c d n o s : Bool) → (not s && ((((a && (c && true)) || (a && (d && true))) || (a && (n && true))) || (a && (o && true)))) ≡ true → (a ≡ true) × ((c || (d || (n || o))) ≡ true)
+letters false c d n o true is = absurd (false≢true is)
+letters false c d n o false is = absurd (false≢true is)
+letters true true d n o s is = (refl, refl)
+letters true false true n o s is = (refl, refl)
+letters true false false true o s is = (refl, refl)
+letters true false false false true s is = (refl, refl)
+letters true false false false false true is = absurd (false≢true is)
+letters true false false false false false is = absurd (false≢true is)
+
+at_letter : (P : ℕ → Type 0) → P 67 → P 68 → P 78 → P 79 → (b : ℕ) → ((b == 67) || ((b == 68) || ((b == 78) || (b == 79)))) ≡ true → P b
+at_letter P c d n o b is =
+    by_cases (b == 67) (λ e. subst P (sym ((Decides-eqb b 67).0 e)) c)
+    (λ no_c. by_cases (b == 68) (λ e. subst P (sym ((Decides-eqb b 68).0 e)) d)
+    (λ no_d. by_cases (b == 78) (λ e. subst P (sym ((Decides-eqb b 78).0 e)) n)
+    (λ no_n. by_cases (b == 79) (λ e. subst P (sym ((Decides-eqb b 79).0 e)) o)
+    (λ no_o. absurd (false≢true (sym (λ i. no_c i || (no_d i || (no_n i || no_o i))) ∙ is))))))
+
+abbrev IsOtherLetter : ℕ → Type 0
+IsOtherLetter b = ((b == 70) ≡ false) × ((b == 71) ≡ false) × ((b == 82) ≡ false) × ((b == 13) ≡ false)
+
+-- what a kept comment begins with
+record BeginsComment (line : List ℕ) : Type 0 where
+  letter : ℕ
+  rest : List ℕ
+  is : line ≡ 35 ∷ letter ∷ rest
+  other : IsOtherLetter letter
+
+kept_begins : (line : List ℕ) → is_kept line ≡ true → BeginsComment line
+unfolding is_kept
+kept_begins [] is = absurd (false≢true is)
+kept_begins (a ∷ []) is = absurd (false≢true (sym (none_of (a == 35) (is_settings_line (a ∷ []))) ∙ is))
+  where
+    none_of : (a s : Bool) → (not s && ((((a && false) || (a && false)) || (a && false)) || (a && false))) ≡ false
+    none_of true true = refl
+    none_of true false = refl
+    none_of false true = refl
+    none_of false false = refl
+kept_begins (a ∷ b ∷ rest) is =
+    let found = letters (a == 35) (b == 67) (b == 68) (b == 78) (b == 79) (is_settings_line (a ∷ b ∷ rest)) is in
+    let first : a ≡ 35 = (Decides-eqb a 35).0 found.0 in
+    record { letter = b; rest = rest; is = λ i. first i ∷ b ∷ rest; other = at_letter IsOtherLetter (refl, refl, refl, refl) (refl, refl, refl, refl) (refl, refl, refl, refl) (refl, refl, refl, refl) b found.1 }
+
+return_left : (letter : ℕ) (rest : List ℕ) → (letter == 13) ≡ false → (others : List ℕ) × (without_return (35 ∷ letter ∷ rest) ≡ 35 ∷ letter ∷ others)
+unfolding without_return
+return_left letter [] other = ([], ap (λ t. cond (t && true) (35 ∷ []) (35 ∷ letter ∷ [])) other)
+return_left letter (r ∷ rest) other =
+    by_cases (ends_with (codes "\r") (35 ∷ letter ∷ r ∷ rest))
+    (λ ends.
+    let e : suc (suc (suc (length rest))) - 1 ≡ suc (suc (length rest)) = omega arith in
+    (take (length rest) (r ∷ rest), ap (λ t. cond t (take (suc (suc (suc (length rest))) - 1) (35 ∷ letter ∷ r ∷ rest)) (35 ∷ letter ∷ r ∷ rest)) ends ∙ ap (λ n. take n (35 ∷ letter ∷ r ∷ rest)) e))
+    (λ no_end. (r ∷ rest, ap (λ t. cond t (take (suc (suc (suc (length rest))) - 1) (35 ∷ letter ∷ r ∷ rest)) (35 ∷ letter ∷ r ∷ rest)) no_end))
+
+-- a kept comment says nothing, also without a CR
+pub comment_quiet : (comment : List ℕ) → IsComment comment → IsQuiet (without_return comment)
+comment_quiet comment is =
+    let begins = kept_begins comment is.kept in
+    let left = return_left begins.letter begins.rest begins.other.3 in
+    subst IsQuiet (sym (ap without_return begins.is ∙ left.1)) (quiet_line begins.letter left.0 begins.other.0 begins.other.1 begins.other.2)
+
+pub fine_quiet : (levels : List ℕ) (lines more : List (List ℕ)) → AllByRecursion IsQuiet lines → AreFine levels more → AreFine levels (lines ++ more)
+fine_quiet levels [] more quiet fine = fine
+fine_quiet levels (line ∷ lines) more quiet fine =
+    let other = no_node_line levels line quiet.0.no_node in
+    (quiet.0.unfaulted, other.0, subst (λ l. AreFine l (lines ++ more)) other.1 (fine_quiet levels lines more quiet.1 fine))
+
+-- ---- nodes
+
+or_comment : (a : Bool) → not (a || true) ≡ false
+or_comment true = refl
+or_comment false = refl
+
+and_none : (a : Bool) → (a && false) ≡ false
+and_none true = refl
+and_none false = refl
+
+-- a line that writes a node is no comment
+record IsNodeLine (line : List ℕ) : Type 0 where
+  node_line : is_node_line line ≡ true
+  unfaulted : said_fault line ≡ None
+  silent : (said : Said) (place : ℕ) → after_line said (record { place = place; text = line }) ≡ said
+  not_kept : is_kept line ≡ false
+
+no_some : {A : Type 0} (x : A) → None ≡ Some x → ⊥
+no_some x is = cc
+
+other_first : (b : ℕ) (rest : List ℕ) → is_node_line (b ∷ rest) ≡ true → (b == 35) ≡ false → IsNodeLine (b ∷ rest)
+unfolding said_fault after_line is_kept
+other_first b rest line other =
+    let frames : begins_with (codes "#FRAMES") (b ∷ rest) ≡ false = and_first (b == 35) _ other in
+    let generation : begins_with (codes "#G") (b ∷ rest) ≡ false = and_first (b == 35) _ other in
+    let rule : begins_with (codes "#R") (b ∷ rest) ≡ false = and_first (b == 35) _ other in
+    let c : begins_with (codes "#C") (b ∷ rest) ≡ false = and_first (b == 35) _ other in
+    let d : begins_with (codes "#D") (b ∷ rest) ≡ false = and_first (b == 35) _ other in
+    let n : begins_with (codes "#N") (b ∷ rest) ≡ false = and_first (b == 35) _ other in
+    let o : begins_with (codes "#O") (b ∷ rest) ≡ false = and_first (b == 35) _ other in
+    record {
+      node_line = line;
+      unfaulted = rw (frames, generation) refl;
+      silent = λ said place. rw (rule, generation) refl;
+      not_kept = (λ i. not (is_settings_line (b ∷ rest)) && (((c i || d i) || n i) || o i)) ∙ and_none (not (is_settings_line (b ∷ rest)));
+    }
+
+node_line_is : (line : List ℕ) (node : Node) → node_of line ≡ Some node → IsNodeLine line
+unfolding node_of
+node_line_is [] node is = absurd (no_some node is)
+node_line_is (b ∷ rest) node is =
+    let line : is_node_line (b ∷ rest) ≡ true = by_cases (is_node_line (b ∷ rest)) (λ yes. yes) (λ no_line. absurd (no_some node (sym (node_of-other (b ∷ rest) no_line) ∙ is))) in
+    by_cases (b == 35)
+    (λ comment. absurd (false≢true (sym (ap (λ t. not (is_blank_line (b ∷ rest) || t)) comment ∙ or_comment (is_blank_line (b ∷ rest))) ∙ line)))
+    (λ other. other_first b rest line other)
+
+-- lines that write nodes in order are without fault, say nothing else, and are no comments
+pub fine_nodes : (levels : List ℕ) (lines : List (List ℕ)) (nodes : List Node) → map node_of lines ≡ map (λ node. Some node) nodes → StandInOrder levels nodes → AreFine levels lines
+fine_nodes levels [] nodes is order = tt
+fine_nodes levels (line ∷ lines) [] is order = absurd (cc)
+fine_nodes levels (line ∷ lines) (node ∷ nodes) is order =
+    let first : node_of line ≡ Some node = cc in
+    let rest : map node_of lines ≡ map (λ n. Some n) nodes = cc in
+    let kind = node_line_is line node first in (
+      kind.unfaulted,
+      ap (λ t. cond t (fault_among levels (node_of line)) None) kind.node_line ∙ ap (fault_among levels) first ∙ order.0,
+      subst (λ o. AreFine (levels ++ option_to_list (option_map level_of o)) lines) (sym first) (fine_nodes (levels ++ level_of node ∷ []) lines nodes rest order.1),
+    )
+
+pub silent_nodes : (lines : List (List ℕ)) (nodes : List Node) → map node_of lines ≡ map (λ node. Some node) nodes → AreSilent lines
+silent_nodes [] nodes is = tt
+silent_nodes (line ∷ lines) [] is = absurd (cc)
+silent_nodes (line ∷ lines) (node ∷ nodes) is =
+    let first : node_of line ≡ Some node = cc in
+    let rest : map node_of lines ≡ map (λ n. Some n) nodes = cc in
+    ((node_line_is line node first).silent, silent_nodes lines nodes rest)
+
+pub kept_nodes : (lines : List (List ℕ)) (nodes : List Node) → map node_of lines ≡ map (λ node. Some node) nodes → filter is_kept lines ≡ []
+kept_nodes [] nodes is = refl
+kept_nodes (line ∷ lines) [] is = absurd (cc)
+kept_nodes (line ∷ lines) (node ∷ nodes) is =
+    let first : node_of line ≡ Some node = cc in
+    let rest : map node_of lines ≡ map (λ n. Some n) nodes = cc in
+    ap (λ t. cond t (line ∷ filter is_kept lines) (filter is_kept lines)) (node_line_is line node first).not_kept ∙ kept_nodes lines nodes rest
+
+pub found_nodes : (lines : List (List ℕ)) (nodes : List Node) → map node_of lines ≡ map (λ node. Some node) nodes → filter_map node_of lines ≡ nodes
+found_nodes [] [] is = refl
+found_nodes [] (node ∷ nodes) is = absurd (cc)
+found_nodes (line ∷ lines) [] is = absurd (cc)
+found_nodes (line ∷ lines) (node ∷ nodes) is =
+    let first : node_of line ≡ Some node = cc in
+    let rest : map node_of lines ≡ map (λ n. Some n) nodes = cc in
+    ap (λ o. cons_option o (filter_map node_of lines)) first ∙ ap (λ l. node ∷ l) (found_nodes lines nodes rest)
