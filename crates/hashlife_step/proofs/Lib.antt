@@ -7,4 +7,5 @@ pub mod Planned
 pub mod Replaced
 pub mod RoundSquares
 pub mod Stepped
+pub mod Surrounded
 pub mod Trimmed

@@ -1,7 +1,9 @@
 ghost use Rattle.std.specs.Prelude.{◌≡◌, ◌-◌, IfOk, IfErr};
 ghost use Rattle.leaf_kernels.specs.Rows.{leaves_plane};
+ghost use Rattle.plane.specs.Centred.{centred};
 ghost use Rattle.plane.specs.Square.{IsSame, centre_of};
 ghost use Rattle.squares.specs.Book.{IsFuture, IsKnown, Keeps, KeepsResults, MayRefuse, Shows};
+ghost use Rattle.hashlife_step.specs.Round.{ShowsRound};
 
 use leaf_kernels::{centre16, result16};
 use plane::Refusal;
@@ -49,4 +51,23 @@ pub(crate) fn leaf_centre<S: Squares>(book: &mut S, sq: Sq) -> Result<Sq, Refusa
 {
     let leaves = read_leaves(book, sq);
     book.leaf(centre16(leaves))
+}
+
+/// The square of level 4 that has this one, of level 3, in its middle: each quarter is the middle of
+/// four leaves, of which this is one.
+pub(crate) fn surround_leaf<S: Squares>(book: &mut S, sq: Sq) -> Result<Sq, Refusal>
+    requires known { IsKnown (S.book book.old) sq.level sq }
+    requires level { sq.level ≡ 3 }
+    ensures level { IfOk result (λ whole. whole.level ≡ 4) }
+    ensures cells { IfOk result (ShowsRound (S.book book.new) (centred sq.level ((S.book book.old).cells sq))) }
+    ensures refusal { IfErr result (MayRefuse (S.book book.new)) }
+    ensures keeps { Keeps (S.book book.old) (S.book book.new) }
+    ensures results { KeepsResults (S.book book.old) (S.book book.new) }
+{
+    let word = book.read_bits(sq);
+    let upper_left = book.leaf(centre16([0, 0, 0, word]))?;
+    let upper_right = book.leaf(centre16([0, 0, word, 0]))?;
+    let lower_left = book.leaf(centre16([0, word, 0, 0]))?;
+    let lower_right = book.leaf(centre16([word, 0, 0, 0]))?;
+    book.quad([upper_left, upper_right, lower_left, lower_right])
 }

@@ -71,6 +71,50 @@ fn levels_of_worked_paddings(rt: HostRuntime) -> Result<(), Fail> {
     Ok(())
 }
 
+// A leaf, and the four leaves of the square of level 4 that has it in its middle: each corner of the
+// leaf, a glider, a row, and all cells.
+const SURROUNDED: [(u64, [u64; 4]); 7] = [
+    (1, [1 << 36, 0, 0, 0]),
+    (1 << 7, [0, 1 << 35, 0, 0]),
+    (1 << 56, [0, 0, 1 << 28, 0]),
+    (1 << 63, [0, 0, 0, 1 << 27]),
+    (0x70402, [0x70402000000000, 0, 0, 0]),
+    (0xff00000000, [0, 0, 0xf0, 0x0f]),
+    (
+        u64::MAX,
+        [
+            0xf0f0f0f000000000,
+            0x0f0f0f0f00000000,
+            0xf0f0f0f0,
+            0x0f0f0f0f,
+        ],
+    ),
+];
+
+// A leaf trimmed: its level, its number, and its four leaves if it has the level 4.
+fn trimmed_leaf(alloc: Global, word: u64) -> Result<(u8, u32, [u64; 4]), Fail> {
+    let mut book = PlainBook::new(alloc, Rule::read(b"B3/S23")?, 0);
+    let leaf = book.leaf(word)?;
+    let trimmed = trim(&mut book, leaf)?;
+    if trimmed.level != 4 {
+        return Ok((trimmed.level, trimmed.num.0, [0; 4]));
+    }
+    let [nw, ne, sw, se] = book.parts(trimmed);
+    let leaves = [book.bits(nw), book.bits(ne), book.bits(sw), book.bits(se)];
+    Ok((trimmed.level, trimmed.num.0, leaves))
+}
+
+// A leaf's corner (0,0) comes to (4,4), so that its centre stays the centre.
+#[test]
+fn leaves_in_the_middle(rt: HostRuntime) -> Result<(), Fail> {
+    for (word, leaves) in SURROUNDED {
+        let (level, _, parts) = trimmed_leaf(rt.alloc(), word)?;
+        assert_eq!(rt; (level, parts), (4, leaves));
+    }
+    assert_eq!(rt; trimmed_leaf(rt.alloc(), 0)?, (4, 0, [0; 4]));
+    Ok(())
+}
+
 // The cells of the future of a square of level 4, and the tally after it was asked for once and twice.
 fn future_twice(
     alloc: Global,

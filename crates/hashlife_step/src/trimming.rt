@@ -3,6 +3,7 @@ ghost use Rattle.plane.specs.Centred.{centred, Holds, IsSmallestLevel};
 ghost use Rattle.squares.specs.Book.{IsEmpty, IsKnown, Keeps, KeepsResults, MayRefuse};
 ghost use Rattle.hashlife_step.specs.Round.{ShowsRound};
 
+use crate::leaf_squares::surround_leaf;
 use plane::Refusal;
 use squares::{Sq, Squares, centre};
 
@@ -33,17 +34,21 @@ fn has_empty_border<S: Squares>(book: &mut S, sq: Sq) -> bool
     are_empty(&[a, b, c, d, e, f, g, h, i, j, k, l])
 }
 
-/// The square of the smallest level, but at least 4, that has the same cells round its centre.
+/// The square of the smallest level, but at least 4, that has the same cells round its centre. So a
+/// square of level 3 comes into the middle of one of level 4.
 pub fn trim<S: Squares>(book: &mut S, sq: Sq) -> Result<Sq, Refusal>
     requires known { IsKnown (S.book book.old) sq.level sq }
-    requires low { 3 < sq.level }
     ensures cells { IfOk result (ShowsRound (S.book book.new) (centred sq.level ((S.book book.old).cells sq))) }
     ensures level { IfOk result (λ trimmed. IsSmallestLevel trimmed.level (centred sq.level ((S.book book.old).cells sq))) }
     ensures refusal { IfErr result (MayRefuse (S.book book.new)) }
     ensures keeps { Keeps (S.book book.old) (S.book book.new) }
     ensures results { KeepsResults (S.book book.old) (S.book book.new) }
 {
-    let mut trimmed = sq;
+    let mut trimmed = if sq.level == 3 {
+        surround_leaf(book, sq)?
+    } else {
+        sq
+    };
     while trimmed.level > 4 && has_empty_border(book, trimmed) {
         trimmed = centre(book, trimmed)?;
     }

@@ -1,0 +1,15 @@
+use Rattle.std.proofs.lemmas.Result.{IfOk-weaker}
+use Rattle.hashlife_step.proofs.Surrounded.{leaf_surrounded}
+use Rattle.hashlife_step.proofs.leaf_squares.surround_leaf.Goals as goal
+
+pub returns-clause-cells : goal.returns-clause-cells
+returns-clause-cells g c =
+    let book = g.S.Squares.book in
+    IfOk-weaker c.quad.result _ _
+    (λ whole shown. leaf_surrounded c.args.sq.level c.read_bits-word.result c.centre16.result c.centre16-2.result c.centre16-3.result c.centre16-4.result ((book c.args.book.now).cells c.args.sq)
+    (book c.leaf.new.self) (book c.leaf-2.new.self) (book c.leaf-3.new.self) (book c.leaf-4.new.self) (book c.quad.new.self)
+    c.in_ok-upper_left.upper_left c.in_ok-upper_right.upper_right c.in_ok-lower_left.lower_left c.in_ok-lower_right.lower_right whole
+    c.requires.level c.read_bits-word.ensures.value.cells c.centre16.ensures c.centre16-2.ensures c.centre16-3.ensures c.centre16-4.ensures
+    c.leaf-2.ensures.keeps c.leaf-3.ensures.keeps c.leaf-4.ensures.keeps
+    c.in_ok-upper_left.ensures.ok c.in_ok-upper_right.ensures.ok c.in_ok-lower_left.ensures.ok c.in_ok-lower_right.ensures.ok shown)
+    c.quad.ensures.ok
