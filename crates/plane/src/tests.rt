@@ -1,8 +1,8 @@
 ghost use Rattle.plane.specs.Range.{IsInRange};
 
 use crate::{
-    Bounds, Cell, CellSet, Counted, FailAt, Failed, Fault, GENERATION_LIMIT, Memory, Refusal, Sink,
-    Source, reach,
+    Bounds, COORDINATE_LIMIT, Cell, CellSet, Counted, FailAt, Failed, Fault, GENERATION_LIMIT,
+    Memory, Refusal, Sink, Source, Window, reach,
 };
 use rule_text::Rule;
 use std::alloc::Global;
@@ -113,6 +113,40 @@ fn reaches(rt: HostRuntime) {
     assert_eq!(rt; reach(None, GENERATION_LIMIT, 0), Ok(None));
     assert_eq!(rt; reach(None, GENERATION_LIMIT, 1), Err(Refusal::TooFar));
     assert_eq!(rt; reach(None, u64::MAX, u64::MAX), Err(Refusal::TooFar));
+}
+
+// A corner, how many columns and rows, and whether there is such a window.
+const WINDOWS: [((i64, i64, u32, u32), bool); 13] = [
+    ((0, -1, 3, 3), true),
+    ((-COORDINATE_LIMIT, COORDINATE_LIMIT, 1, 1024), true),
+    ((COORDINATE_LIMIT, -COORDINATE_LIMIT, 1024, 1), true),
+    ((0, 0, 0, 5), false),
+    ((0, 0, 5, 0), false),
+    ((0, 0, 1025, 1), false),
+    ((0, 0, 1, 1025), false),
+    ((-COORDINATE_LIMIT - 1, 0, 1, 1), false),
+    ((COORDINATE_LIMIT + 1, 0, 1, 1), false),
+    ((0, -COORDINATE_LIMIT - 1, 1, 1), false),
+    ((0, COORDINATE_LIMIT + 1, 1, 1), false),
+    ((i64::MIN, i64::MIN, u32::MAX, u32::MAX), false),
+    ((i64::MAX, i64::MAX, 1, 1), false),
+];
+
+#[test]
+fn windows(rt: HostRuntime) {
+    for ((x, y, width, height), is_window) in WINDOWS {
+        match Window::new(x, y, width, height) {
+            Ok(window) => {
+                assert!(rt; is_window);
+                assert_eq!(rt; (window.x(), window.y()), (x, y));
+                assert_eq!(rt; (window.width(), window.height()), (width, height));
+            }
+            Err(refusal) => {
+                assert!(rt; !is_window);
+                assert_eq!(rt; refusal, Refusal::WindowTooLarge);
+            }
+        }
+    }
 }
 
 #[test]
