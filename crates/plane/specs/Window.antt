@@ -1,8 +1,34 @@
 -- The cells of a window: so many columns from its left on, so many rows from its top on.
-use Rattle.std.specs.Prelude.{◌≡◌, ℕ, zero, suc, ℤ, pos, ◌+ℤ◌, ◌-ℤ◌, false, ◌&&◌, List, [], ◌∷◌, ◌++◌, filter}
+use Rattle.std.specs.Prelude.{◌≡◌, ℕ, zero, suc, ◌≤◌, ℤ, pos, ◌+ℤ◌, ◌-ℤ◌, ◌≤ℤ◌, false, ◌&&◌, List, [], ◌∷◌, ◌++◌, filter}
 use Rattle.plane.specs.declared.cell.Cell.{Cell}
+use Rattle.plane.specs.declared.range.TheConstants.{COORDINATE_LIMIT}
+use Rattle.plane.specs.declared.window.TheConstants.{WINDOW_SIDE_LIMIT}
 use Rattle.plane.specs.Plane.{Plane}
 use Rattle.plane.specs.Square.{spans}
+
+-- so many columns from x on, and so many rows from y on
+pub record Rectangle : Type 0 where
+  pub x : ℤ
+  pub y : ℤ
+  pub width : ℕ
+  pub height : ℕ
+
+-- how many columns, or rows, a window may have
+pub record IsWindowSide (cells : ℕ) : Type 0 where
+  pub some : 1 ≤ cells
+  pub most : cells ≤ WINDOW_SIDE_LIMIT
+
+-- where a window may begin
+pub record IsWindowCorner (z : ℤ) : Type 0 where
+  pub low : (pos 0 -ℤ COORDINATE_LIMIT) ≤ℤ z
+  pub high : z ≤ℤ COORDINATE_LIMIT
+
+-- the rectangle is neither empty nor too large, and not too far away
+pub record IsWindow (rectangle : Rectangle) : Type 0 where
+  pub x : IsWindowCorner rectangle.x
+  pub y : IsWindowCorner rectangle.y
+  pub width : IsWindowSide rectangle.width
+  pub height : IsWindowSide rectangle.height
 
 -- so many places of a row, from this one on to the right
 unfoldable pub row_places : ℤ → ℤ → ℕ → List Cell

@@ -1,5 +1,5 @@
-//! A plane of cells: the cells that are alive, their generations, the range of coordinates, the
-//! refusals of the whole project and the devices that bytes are read from and written to.
+//! A plane of cells: the cells that are alive, their generations, the range of coordinates, windows
+//! of cells, the refusals of the whole project and the devices that bytes are read from and written to.
 #![tactic(auto)]
 
 mod cell;
@@ -12,6 +12,7 @@ mod range;
 mod refusal;
 #[cfg(test)]
 mod tests;
+mod window;
 
 pub use cell::{Bounds, Cell};
 pub use cell_set::CellSet;
@@ -20,3 +21,4 @@ pub use fault::Fault;
 pub use laws::{bounded_listing, light_cone, nine_parts, one_listing, smallest_box, translation};
 pub use range::{COORDINATE_LIMIT, GENERATION_LIMIT, LIVE_CELL_LIMIT, reach};
 pub use refusal::Refusal;
+pub use window::{WINDOW_SIDE_LIMIT, Window};

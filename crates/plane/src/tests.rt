@@ -1,8 +1,8 @@
 ghost use Rattle.plane.specs.Range.{IsInRange};
 
 use crate::{
-    Bounds, Cell, CellSet, Counted, FailAt, Failed, Fault, GENERATION_LIMIT, Memory, Refusal, Sink,
-    Source, reach,
+    Bounds, COORDINATE_LIMIT, Cell, CellSet, Counted, FailAt, Failed, Fault, GENERATION_LIMIT,
+    Memory, Refusal, Sink, Source, Window, reach,
 };
 use rule_text::Rule;
 use std::alloc::Global;
@@ -30,9 +30,17 @@ fn cells_at(alloc: Global, places: &[Place]) -> Result<CellSet, Refusal> {
     Ok(cells)
 }
 
-fn next(alloc: Global, cells: &CellSet, rule: &Rule) -> Result<CellSet, Refusal> {
+// The next generation, by the rule that the text says.
+fn next(alloc: Global, text: &str, places: &[Place]) -> Result<CellSet, Fail> {
+    let cells = cells_at(alloc, places)?;
     reach(cells.bounds(), 0, 1)?;
-    cells.next(alloc, rule)
+    Ok(cells.next(alloc, &Rule::read(text.as_bytes())?)?)
+}
+
+// Whether the cells are at these places, in this order.
+fn are_at(cells: &CellSet, places: &[Place]) -> bool {
+    let same = |pair: (&Cell, &Place)| *pair.0 == cell_at(*pair.1);
+    cells.len() == places.len() && cells.iter().zip(places).all(same)
 }
 
 // A rule's text, some cells, and the cells of the next generation, in the order of reading.
@@ -62,12 +70,8 @@ const NEXT: [(&str, &[Place], &[Place]); 6] = [
 #[test]
 fn next_generations(rt: HostRuntime) -> Result<(), Fail> {
     for (text, before, after) in NEXT {
-        let rule = Rule::read(text.as_bytes())?;
-        let cells = next(rt.alloc(), &cells_at(rt.alloc(), before)?, &rule)?;
-        assert_eq!(rt; cells.len(), after.len(), "by {text}");
-        for (cell, place) in cells.iter().zip(after) {
-            assert_eq!(rt; *cell, cell_at(*place), "by {text}");
-        }
+        let cells = next(rt.alloc(), text, before)?;
+        assert!(rt; are_at(&cells, after), "by {text}");
     }
     Ok(())
 }
@@ -75,7 +79,7 @@ fn next_generations(rt: HostRuntime) -> Result<(), Fail> {
 #[test]
 fn sets_of_cells(rt: HostRuntime) -> Result<(), Fail> {
     let cells = cells_at(rt.alloc(), &[(3, 1), (-2, 4), (3, 1)])?;
-    assert_eq!(rt; cells.len(), 2);
+    assert!(rt; are_at(&cells, &[(3, 1), (-2, 4)]));
     assert!(rt; cells.contains(cell_at((3, 1))));
     assert!(rt; !cells.contains(cell_at((1, 3))));
     let bounds = Bounds {
@@ -91,60 +95,99 @@ fn sets_of_cells(rt: HostRuntime) -> Result<(), Fail> {
     Ok(())
 }
 
+const LAST: Bounds = Bounds {
+    left: COORDINATE_LIMIT - 1,
+    top: 0,
+    right: COORDINATE_LIMIT - 1,
+    bottom: 0,
+};
+
+const FIRST: Bounds = Bounds {
+    left: -COORDINATE_LIMIT,
+    top: 0,
+    right: 0,
+    bottom: 0,
+};
+
+// A box, the generation that a run begins with, how many it takes, and where it stays.
+const REACHES: [(Option<Bounds>, u64, u64, Result<Option<Bounds>, Refusal>); 7] = [
+    (Some(LAST), 0, 0, Ok(Some(LAST))),
+    (Some(LAST), 0, 1, Err(Refusal::TooFar)),
+    (Some(FIRST), 0, 0, Ok(Some(FIRST))),
+    (Some(FIRST), 0, 1, Err(Refusal::TooFar)),
+    (None, GENERATION_LIMIT, 0, Ok(None)),
+    (None, GENERATION_LIMIT, 1, Err(Refusal::TooFar)),
+    (None, u64::MAX, u64::MAX, Err(Refusal::TooFar)),
+];
+
 #[test]
 fn reaches(rt: HostRuntime) {
-    let corner = (1 << 62) - 1;
-    let last = Bounds {
-        left: corner,
-        top: 0,
-        right: corner,
-        bottom: 0,
-    };
-    let first = Bounds {
-        left: -corner - 1,
-        top: 0,
-        right: 0,
-        bottom: 0,
-    };
-    assert_eq!(rt; reach(Some(last), 0, 0), Ok(Some(last)));
-    assert_eq!(rt; reach(Some(last), 0, 1), Err(Refusal::TooFar));
-    assert_eq!(rt; reach(Some(first), 0, 0), Ok(Some(first)));
-    assert_eq!(rt; reach(Some(first), 0, 1), Err(Refusal::TooFar));
-    assert_eq!(rt; reach(None, GENERATION_LIMIT, 0), Ok(None));
-    assert_eq!(rt; reach(None, GENERATION_LIMIT, 1), Err(Refusal::TooFar));
-    assert_eq!(rt; reach(None, u64::MAX, u64::MAX), Err(Refusal::TooFar));
+    for (bounds, start, generations, reached) in REACHES {
+        assert_eq!(rt; reach(bounds, start, generations), reached);
+    }
+}
+
+// A corner, how many columns and rows, and whether there is such a window.
+const WINDOWS: [((i64, i64, u32, u32), bool); 13] = [
+    ((0, -1, 3, 3), true),
+    ((-COORDINATE_LIMIT, COORDINATE_LIMIT, 1, 1024), true),
+    ((COORDINATE_LIMIT, -COORDINATE_LIMIT, 1024, 1), true),
+    ((0, 0, 0, 5), false),
+    ((0, 0, 5, 0), false),
+    ((0, 0, 1025, 1), false),
+    ((0, 0, 1, 1025), false),
+    ((-COORDINATE_LIMIT - 1, 0, 1, 1), false),
+    ((COORDINATE_LIMIT + 1, 0, 1, 1), false),
+    ((0, -COORDINATE_LIMIT - 1, 1, 1), false),
+    ((0, COORDINATE_LIMIT + 1, 1, 1), false),
+    ((i64::MIN, i64::MIN, u32::MAX, u32::MAX), false),
+    ((i64::MAX, i64::MAX, 1, 1), false),
+];
+
+#[test]
+fn windows(rt: HostRuntime) {
+    for (sides, is_window) in WINDOWS {
+        let (x, y, width, height) = sides;
+        let made = match Window::new(x, y, width, height) {
+            Ok(window) => Ok((window.x(), window.y(), window.width(), window.height())),
+            Err(refusal) => Err(refusal),
+        };
+        let wanted = if is_window {
+            Ok(sides)
+        } else {
+            Err(Refusal::WindowTooLarge)
+        };
+        assert_eq!(rt; made, wanted);
+    }
 }
 
 #[test]
 fn memory_takes_what_it_has_room_for(rt: HostRuntime) -> Result<(), Fail> {
     let mut memory = Memory::with_room(rt.alloc(), 4)?;
-    assert_eq!(rt; memory.write_some(b"abc"), Ok(3));
-    assert_eq!(rt; memory.write_some(b"de"), Err(Failed));
-    assert_eq!(rt; memory.write_some(b"d"), Ok(1));
-    assert_eq!(rt; memory.bytes(), b"abcd".as_slice());
+    let written = [memory.write_some(b"abc"), memory.write_some(b"de")];
+    assert_eq!(rt; written, [Ok(3), Err(Failed)]);
+    assert_eq!(rt; memory.bytes(), b"abc".as_slice());
     assert_eq!(rt; Sink::failures(&memory), 1);
-    let mut buffer = [0; 3];
-    assert_eq!(rt; memory.read_some(&mut buffer), Ok(3));
-    assert_eq!(rt; buffer, *b"abc");
-    assert_eq!(rt; memory.read_some(&mut buffer), Ok(1));
-    assert_eq!(rt; memory.read_some(&mut buffer), Ok(0));
     Ok(())
 }
 
 #[test]
-fn fails_at_one_call(rt: HostRuntime) -> Result<(), Fail> {
+fn source_that_fails_once(rt: HostRuntime) -> Result<(), Fail> {
     let mut source = FailAt::new(Memory::holding(rt.alloc(), b"abc")?, 2);
-    let mut buffer = [0; 1];
+    let mut buffer = [0; 2];
+    let read = [source.read_some(&mut buffer), source.read_some(&mut buffer)];
+    assert_eq!(rt; read, [Ok(2), Err(Failed)]);
     assert_eq!(rt; source.read_some(&mut buffer), Ok(1));
-    assert_eq!(rt; source.read_some(&mut buffer), Err(Failed));
-    assert_eq!(rt; source.read_some(&mut buffer), Ok(1));
-    assert_eq!(rt; buffer, *b"b");
-    assert_eq!(rt; Source::failures(&source), 1);
+    assert_eq!(rt; buffer, *b"cb");
+    Ok(())
+}
+
+#[test]
+fn sink_that_fails_once(rt: HostRuntime) -> Result<(), Fail> {
     let mut sink = FailAt::new(Memory::with_room(rt.alloc(), 2)?, 1);
-    assert_eq!(rt; sink.write_some(b"a"), Err(Failed));
-    assert_eq!(rt; sink.write_some(b"b"), Ok(1));
+    let written = [sink.write_some(b"a"), sink.write_some(b"b")];
+    assert_eq!(rt; written, [Err(Failed), Ok(1)]);
     assert_eq!(rt; sink.inner().bytes(), b"b".as_slice());
-    assert_eq!(rt; Sink::failures(&sink), 1);
     Ok(())
 }
 
@@ -188,42 +231,17 @@ impl Write for Halting {
 fn counts_failures(rt: HostRuntime) {
     let mut source = Counted::new(Halting { calls: 0 });
     let mut buffer = [0; 2];
-    assert_eq!(rt; source.read_some(&mut buffer), Err(Failed));
-    assert_eq!(rt; source.read_some(&mut buffer), Ok(1));
+    let read = [source.read_some(&mut buffer), source.read_some(&mut buffer)];
+    assert_eq!(rt; read, [Err(Failed), Ok(1)]);
     assert_eq!(rt; Source::failures(&source), 1);
     let mut sink = Counted::new(Halting { calls: 0 });
-    assert_eq!(rt; sink.write_some(b"ab"), Err(Failed));
-    assert_eq!(rt; sink.write_some(b"ab"), Ok(1));
+    let written = [sink.write_some(b"ab"), sink.write_some(b"ab")];
+    assert_eq!(rt; written, [Err(Failed), Ok(1)]);
     assert_eq!(rt; Sink::failures(&sink), 1);
 }
 
 #[test]
-fn refusals_have_numbers_and_names(rt: HostRuntime) -> Result<(), Fail> {
-    let refusals = [
-        Refusal::NotAPattern,
-        Refusal::BadHeader,
-        Refusal::BadRule,
-        Refusal::BirthOnZero,
-        Refusal::BadTag,
-        Refusal::MoreStates,
-        Refusal::BadCount,
-        Refusal::OutOfRange,
-        Refusal::TooManyCells,
-        Refusal::BadNodeLine,
-        Refusal::BadChild,
-        Refusal::FramesNotRead,
-        Refusal::BadGen,
-        Refusal::TooFar,
-        Refusal::BoxTooLarge,
-        Refusal::WindowTooLarge,
-        Refusal::NodesFull,
-        Refusal::NoMemory,
-        Refusal::ReadFailed,
-        Refusal::WriteFailed,
-    ];
-    for (refusal, number) in refusals.iter().zip(1..=20) {
-        assert_eq!(rt; refusal.number(), number);
-    }
+fn faults_have_numbers_and_names(rt: HostRuntime) -> Result<(), Fail> {
     let fault = Fault {
         refusal: Refusal::BadCount,
         place: Some(13),

@@ -1,10 +1,12 @@
 pub mod BoxesRound
+pub mod CellsOfSquares
 pub mod Counts
 pub mod FirstRows
 pub mod LeafBoxes
 pub mod LeafRows
 pub mod Leaves
 pub mod OneList
+pub mod PictureLines
 pub mod Quarters
 pub mod RowsOfSquares
 pub mod RunsBeside

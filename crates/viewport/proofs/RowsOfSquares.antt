@@ -129,10 +129,10 @@ outside level p is x y e = dead_row (2 ^ level) p is x y e
 pub not_above : (y : ℤ) (h : ℕ) → int_lt y (pos 0 -ℤ pos h) ≡ false → (pos 0 -ℤ pos h) ≤ℤ y
 not_above y h e = grind (arith, ints)
 
-is_less : (a b : ℤ) → int_lt a b ≡ true → a <ℤ b
+pub is_less : (a b : ℤ) → int_lt a b ≡ true → a <ℤ b
 is_less a b e = grind (arith, ints)
 
-is_most : (a b : ℤ) → int_le a b ≡ true → a ≤ℤ b
+pub is_most : (a b : ℤ) → int_le a b ≡ true → a ≤ℤ b
 is_most a b e = grind (arith, ints)
 
 -- the runs of a row of a square, counted from (0,0)
@@ -146,10 +146,10 @@ centred_runs level p y from runs low e h =
           ∙ ap (λ u. p u (pos from)) (from_centre x half) ∙ ap (p (x +ℤ pos half)) (up_there y half from low e);
     }
 
-low_out : (side half : ℕ) (y : ℤ) → y <ℤ (pos 0 -ℤ pos half) → spans side (y +ℤ pos half) ≡ false
+pub low_out : (side half : ℕ) (y : ℤ) → y <ℤ (pos 0 -ℤ pos half) → spans side (y +ℤ pos half) ≡ false
 low_out side half y e = outside_low side (y +ℤ pos half) (omega (arith, ints))
 
-high_out : (side half : ℕ) (y : ℤ) → side ≡ half + half → pos half ≤ℤ y → spans side (y +ℤ pos half) ≡ false
+pub high_out : (side half : ℕ) (y : ℤ) → side ≡ half + half → pos half ≤ℤ y → spans side (y +ℤ pos half) ≡ false
 high_out side half y e f = outside_high side (y +ℤ pos half) (omega (arith, ints))
 
 -- a row outside the square has no runs

@@ -1,4 +1,5 @@
 pub mod BoundingBox
+pub mod Picture
 pub mod Population
 pub mod RowRuns
 pub mod Rows

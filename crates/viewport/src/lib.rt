@@ -1,11 +1,12 @@
 //! What a square shows, over any book that can be looked at: how many live cells it has, the smallest
-//! box round them, the runs of a row, and the first row with a live cell. A square of level k covers
-//! -2^(k-1) to 2^(k-1)-1 in both directions, so (0,0) lies at its centre. Squares that share their
-//! quarters are no slower for it, however many cells they have.
+//! box round them, the runs of a row, the first row with a live cell, and the picture of a window. A
+//! square of level k covers -2^(k-1) to 2^(k-1)-1 in both directions, so (0,0) lies at its centre.
+//! Squares that share their quarters are no slower for it, however many cells they have.
 #![tactic(auto)]
 
 mod boxes;
 mod laws;
+mod pictures;
 mod populations;
 mod rows;
 mod runs;
@@ -15,6 +16,7 @@ mod tests;
 
 pub use boxes::bounds;
 pub use laws::one_list_of_runs;
+pub use pictures::picture;
 pub use populations::population;
 pub use rows::first_row;
 pub use runs::row_runs;

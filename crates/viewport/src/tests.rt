@@ -1,10 +1,11 @@
 ghost use Rattle.std.specs.Prelude.{◌≤◌, IfOk};
+ghost use Rattle.plane.specs.Range.{IsInRange};
 ghost use Rattle.squares.specs.Book.{IsKnown};
 
-use crate::{bounds, first_row, population, row_runs};
-use plane::{Bounds, Refusal};
+use crate::{bounds, first_row, picture, population, row_runs};
+use plane::{Bounds, Cell, CellSet, FailAt, Memory, Refusal, Sink, Window};
 use rule_text::Rule;
-use squares::{PlainBook, Sq, Squares};
+use squares::{PlainBook, Sq, Squares, cells_to_square};
 use std::alloc::Global;
 use std::test::Fail;
 
@@ -118,5 +119,101 @@ fn largest_square(rt: HostRuntime) -> Result<(), Fail> {
     assert_eq!(rt; first_row(&book, sq, i64::MIN), Some(low));
     assert_eq!(rt; first_row(&book, sq, high), Some(high));
     assert_eq!(rt; first_row(&book, sq, i64::MAX), None);
+    Ok(())
+}
+
+// A place as x and y, near the middle of the plane.
+type Place = (i8, i8);
+
+fn cell_at(place: Place) -> Cell
+    ensures { IsInRange result }
+{
+    Cell {
+        y: i64::from(place.1),
+        x: i64::from(place.0),
+    }
+}
+
+// The first row and column of a window, and how many columns and rows it has.
+type Sides = (i64, i64, u32, u32);
+
+fn window_of(sides: Sides) -> Result<Window, Refusal> {
+    Window::new(sides.0, sides.1, sides.2, sides.3)
+}
+
+// Draws the cells into the sink.
+fn draw<W: Sink>(
+    alloc: Global,
+    places: &[Place],
+    sides: Sides,
+    sink: &mut W,
+) -> Result<(), Refusal> {
+    let mut cells = CellSet::new(alloc);
+    for place in places {
+        cells.insert(cell_at(*place))?;
+    }
+    let mut book = empty_book(alloc)?;
+    let sq = cells_to_square(alloc, &mut book, &cells)?;
+    if sq.level > 63 {
+        return Err(Refusal::OutOfRange);
+    }
+    picture(&book, sq, &window_of(sides)?, sink)
+}
+
+// A blinker that stands, and five cells on both sides of (0,0), some at the corners of the square of
+// level 4.
+const BLINKER: [Place; 3] = [(1, -1), (1, 0), (1, 1)];
+
+const SPREAD: [Place; 5] = [(-8, -8), (-1, -1), (0, 0), (-2, 1), (7, 7)];
+
+const FAR: i64 = 1 << 62;
+
+// Some cells, a window, and its picture.
+const PICTURES: [(&[Place], Sides, &str); 11] = [
+    (&BLINKER, (0, -1, 3, 3), ".*.\n.*.\n.*.\n"),
+    (&BLINKER, (1, 0, 2, 3), "*.\n*.\n..\n"),
+    (&[], (-1, -1, 2, 2), "..\n..\n"),
+    (&[(3, 1)], (2, 0, 3, 2), "...\n.*.\n"),
+    (&SPREAD, (-2, -1, 3, 3), ".*.\n..*\n*..\n"),
+    (&SPREAD, (6, 6, 3, 3), "...\n.*.\n...\n"),
+    (&SPREAD, (-10, -9, 4, 2), "....\n..*.\n"),
+    (&SPREAD, (7, 7, 1, 1), "*\n"),
+    (&SPREAD, (8, 7, 2, 1), "..\n"),
+    (&SPREAD, (-100, 100, 2, 2), "..\n..\n"),
+    (&SPREAD, (FAR, -FAR, 1, 2), ".\n.\n"),
+];
+
+#[test]
+fn pictures(rt: HostRuntime) -> Result<(), Fail> {
+    for (places, sides, text) in PICTURES {
+        let mut drawn = Memory::with_room(rt.alloc(), 100)?;
+        draw(rt.alloc(), places, sides, &mut drawn)?;
+        assert_eq!(rt; drawn.bytes(), text.as_bytes());
+    }
+    Ok(())
+}
+
+#[test]
+fn picture_that_is_not_taken(rt: HostRuntime) -> Result<(), Fail> {
+    let mut drawn = FailAt::new(Memory::with_room(rt.alloc(), 100)?, 2);
+    let outcome = draw(rt.alloc(), &BLINKER, (0, -1, 3, 3), &mut drawn);
+    assert_eq!(rt; outcome, Err(Refusal::WriteFailed));
+    assert_eq!(rt; drawn.inner().bytes(), b".*.\n".as_slice());
+    Ok(())
+}
+
+// The corners of the largest square, which is full, and the widest window.
+#[test]
+fn pictures_of_the_largest_square(rt: HostRuntime) -> Result<(), Fail> {
+    let mut book = empty_book(rt.alloc())?;
+    let sq = shared(&mut book, FULL, 63)?;
+    let mut drawn = Memory::with_room(rt.alloc(), 3000)?;
+    picture(&book, sq, &window_of((-FAR, -FAR, 2, 1))?, &mut drawn)?;
+    picture(&book, sq, &window_of((FAR - 1, FAR - 2, 2, 3))?, &mut drawn)?;
+    assert_eq!(rt; drawn.bytes(), b"**\n*.\n*.\n..\n".as_slice());
+    picture(&book, sq, &window_of((-1000, -1, 1024, 2))?, &mut drawn)?;
+    assert_eq!(rt; drawn.bytes().len(), 12 + 2 * 1025);
+    let live = drawn.bytes().iter().filter(|byte| **byte == b'*');
+    assert_eq!(rt; live.count(), 4 + 2 * 1024);
     Ok(())
 }

@@ -1,0 +1,33 @@
+use Rattle.std.proofs.Common.{◌-◌, ◌^◌, pos, sym, ap, ◌∙◌, arith}
+use Rattle.squares.specs.Book.{nth}
+use Rattle.viewport.proofs.CellsOfSquares.{lower_left, lower_right, upper_right}
+use Rattle.viewport.proofs.Quarters.{quartered}
+use Rattle.viewport.proofs.pictures.+has_cell.Goals as goal
+
+pub returns-else-x-half : goal.returns-else-x-half
+returns-else-x-half g t c =
+    let book = g.L.Look.book c.args.look.now in
+    let quarters = quartered book c.args.sq c.parts.result (g.met.L.Look.is_book c.args.look.now) c.requires.known (omega arith) c.parts.ensures in
+    let side = c.side-half.ensures.side in
+    let column = ap (λ n. c.args.x - n) side in
+    c.has_cell-else-x-half.ensures ∙ ap (λ n. book.cells (nth c.parts.result 1) (pos n) (pos c.args.y)) column
+    ∙ sym (upper_right (2 ^ (c.args.sq.level - 1)) _ _ _ _ _ quarters c.args.x c.args.y (omega (arith, side)) (omega (arith, side)))
+
+pub returns-then-x-half-2 : goal.returns-then-x-half-2
+returns-then-x-half-2 g t c =
+    let book = g.L.Look.book c.args.look.now in
+    let quarters = quartered book c.args.sq c.parts.result (g.met.L.Look.is_book c.args.look.now) c.requires.known (omega arith) c.parts.ensures in
+    let side = c.side-half.ensures.side in
+    let row = ap (λ n. c.args.y - n) side in
+    c.has_cell-then-x-half-2.ensures ∙ ap (λ n. book.cells (nth c.parts.result 2) (pos c.args.x) (pos n)) row
+    ∙ sym (lower_left (2 ^ (c.args.sq.level - 1)) _ _ _ _ _ quarters c.args.x c.args.y (omega (arith, side)) (omega (arith, side)))
+
+pub returns-else-x-half-2 : goal.returns-else-x-half-2
+returns-else-x-half-2 g t c =
+    let book = g.L.Look.book c.args.look.now in
+    let quarters = quartered book c.args.sq c.parts.result (g.met.L.Look.is_book c.args.look.now) c.requires.known (omega arith) c.parts.ensures in
+    let side = c.side-half.ensures.side in
+    let column = ap (λ n. c.args.x - n) side in
+    let row = ap (λ n. c.args.y - n) side in
+    c.has_cell-else-x-half-2.ensures ∙ ap (λ n. book.cells (nth c.parts.result 3) (pos n) (pos (c.args.y - c.side-half.result))) column ∙ ap (λ n. book.cells (nth c.parts.result 3) (pos (c.args.x - 2 ^ (c.args.sq.level - 1))) (pos n)) row
+    ∙ sym (lower_right (2 ^ (c.args.sq.level - 1)) _ _ _ _ _ quarters c.args.x c.args.y (omega (arith, side)) (omega (arith, side)))

@@ -1,0 +1,103 @@
+ghost use Rattle.std.specs.Prelude.{◌≡◌, ◌≤◌, ◌<◌, ◌+◌, ◌^◌, [], ◌∷◌, pos, ◌+ℤ◌, length, OnOk, IfErr};
+ghost use Rattle.std.specs.Io.KnownBytes.{Appends};
+ghost use Rattle.plane.specs.Centred.{centred};
+ghost use Rattle.plane.specs.Device.{IsWriteRefusal};
+ghost use Rattle.squares.specs.Book.{IsKnown};
+ghost use Rattle.viewport.specs.Picture.{mark_of, picture_text, row_text};
+
+use crate::sides::{half_side, side};
+use plane::{Refusal, Sink, WINDOW_SIDE_LIMIT, Window, write_all};
+use squares::{Look, Sq};
+
+// Room for the widest row and its line end.
+const LINE_ROOM: usize = WINDOW_SIDE_LIMIT as usize + 1;
+
+/// Draws the cells of a window that looks at a square of a level up to 63: a line for each row, with
+/// `*` for each live cell and `.` for each dead one. What lies outside the square is dead. It takes no
+/// memory. `WriteFailed` where the sink failed in this call; it may have taken some of the text then.
+pub fn picture<L: Look, W: Sink>(
+    look: &L,
+    sq: Sq,
+    window: &Window,
+    sink: &mut W,
+) -> Result<(), Refusal>
+    requires known { IsKnown (L.book look.now) sq.level sq }
+    requires level { sq.level ≤ 63 }
+    ensures drawn { OnOk result (Appends (W.taken sink.old) (W.taken sink.new)
+        (picture_text (centred sq.level ((L.book look.now).cells sq)) window.now)) }
+    ensures unfailed { OnOk result (W.failure_count sink.new ≡ W.failure_count sink.old) }
+    ensures refused { IfErr result (IsWriteRefusal (W.failure_count sink.old) (W.failure_count sink.new)) }
+{
+    let mut room = [0; LINE_ROOM];
+    let line = &mut room[..window.width() as usize + 1];
+    for row in 0..window.height() {
+        draw_row(look, sq, window, row, line);
+        write_all(sink, line)?;
+    }
+    Ok(())
+}
+
+// Draws a row of the window, counted from its first one, and the line end behind it.
+fn draw_row<L: Look>(look: &L, sq: Sq, window: &Window, row: u32, line: &mut [u8])
+    requires known { IsKnown (L.book look.now) sq.level sq }
+    requires level { sq.level ≤ 63 }
+    requires row { row < window.now.height }
+    requires line { length line.old ≡ window.now.width + 1 }
+    ensures { line.new ≡ row_text (centred sq.level ((L.book look.now).cells sq)) (window.now.y +ℤ pos row) window.now.x window.now.width }
+{
+    let y = window.y() + i64::from(row);
+    for column in 0..window.width() {
+        let x = window.x() + i64::from(column);
+        line[column as usize] = mark(is_live(look, sq, x, y));
+    }
+    line[window.width() as usize] = b'\n';
+}
+
+// How a cell is drawn.
+fn mark(live: bool) -> u8
+    ensures { result ∷ [] ≡ mark_of live }
+{
+    if live { b'*' } else { b'.' }
+}
+
+// Whether the cell (x, y) is live; outside the square none is.
+fn is_live<L: Look>(look: &L, sq: Sq, x: i64, y: i64) -> bool
+    requires known { IsKnown (L.book look.now) sq.level sq }
+    requires level { sq.level ≤ 63 }
+    ensures { result ≡ centred sq.level ((L.book look.now).cells sq) x y }
+{
+    let half = half_side(sq.level);
+    if x < -half || x >= half || y < -half || y >= half {
+        return false;
+    }
+    has_cell(look, sq, (x + half) as u64, (y + half) as u64)
+}
+
+// Whether the cell is live that lies so far from the left side and from the top of the square.
+fn has_cell<L: Look>(look: &L, sq: Sq, x: u64, y: u64) -> bool
+    requires known { IsKnown (L.book look.now) sq.level sq }
+    requires level { sq.level ≤ 63 }
+    requires column { x < 2 ^ sq.level }
+    requires row { y < 2 ^ sq.level }
+    ensures { result ≡ (L.book look.now).cells sq (pos x) (pos y) }
+{
+    if sq.num.0 == 0 {
+        return false;
+    }
+    if sq.level == 3 {
+        return (look.bits(sq) >> (8 * y + x)) & 1 == 1;
+    }
+    let [nw, ne, sw, se] = look.parts(sq);
+    let half = side(sq.level - 1);
+    if y < half {
+        if x < half {
+            has_cell(look, nw, x, y)
+        } else {
+            has_cell(look, ne, x - half, y)
+        }
+    } else if x < half {
+        has_cell(look, sw, x, y - half)
+    } else {
+        has_cell(look, se, x - half, y - half)
+    }
+}
