@@ -1,5 +1,5 @@
 -- What the words of a command line ask for.
-use Rattle.std.specs.Prelude.{◌≡◌, ◌⊎◌, ℕ, nat_eq, Bool, true, false, List, [], ◌∷◌, fold, Option, None, Some, Ok, Err, codes, string_bytes, ◌<◌, ◌^◌}
+use Rattle.std.specs.Prelude.{◌≡◌, ◌⊎◌, ℕ, nat_eq, Bool, true, false, if◌then◌else◌, List, [], ◌∷◌, fold, Option, None, Some, IsSome, Ok, Err, codes, string_bytes, ◌<◌, ◌^◌}
 use Rattle.std.specs.List.{ends_with}
 use Rattle.std.specs.Option.{option_map}
 use Rattle.std.specs.Str.Parse.{IsNumeral, digits_value, without_leading_plus}
@@ -18,7 +18,7 @@ use Rattle.batch_program.specs.declared.command_line.WordsFault.{WordsFault}
 use Rattle.batch_program.specs.declared.command_line.WordsFault.TheVariants.{Clap, Unfit, Refused}
 use Rattle.batch_program.specs.declared.request.Asked.{Asked}
 use Rattle.engine.specs.declared.options.Format.{Format}
-use Rattle.engine.specs.declared.options.Format.TheVariants.{Rle}
+use Rattle.engine.specs.declared.options.Format.TheVariants.{Rle, Macrocell}
 
 -- `-m N`, `--generation N`: a number below 2^64, 0 if it is left out
 abbrev pub generation_option : Rule
@@ -80,14 +80,16 @@ abbrev pub IsFlag : Option Text → Bool → Type 0
 IsFlag text true = text ≡ Some (codes "true")
 IsFlag text false = text ≡ Some (codes "true") → ⊥
 
--- the name of an RLE file
-abbrev pub is_rle_name : Text → Bool
-is_rle_name name = ends_with nat_eq name (codes ".rle")
+-- the format whose files have names like this
+abbrev pub format_named : Text → Option Format
+format_named name =
+    if ends_with nat_eq name (codes ".rle") then Some Rle
+    else (if ends_with nat_eq name (codes ".mc") then Some Macrocell else None)
 
 -- the format of the output, by the ending of its name
 abbrev pub IsFormat : Option Text → Option Format → Type 0
 IsFormat None format = format ≡ None
-IsFormat (Some name) format = (is_rle_name name ≡ true) × (format ≡ Some Rle)
+IsFormat (Some name) format = (format_named name ≡ format) × IsSome format
 
 -- the rule that is given, if one is
 abbrev pub IsAskedRule : Option Text → Option CountRule → Type 0

@@ -4,7 +4,7 @@ ghost use Rattle.clap.specs.Words.{app_of, found_of, one_text, rule_of};
 ghost use Rattle.engine.specs.declared.options.Format.{Format};
 ghost use Rattle.plane.specs.declared.refusal.Refusal.TheVariants.{NoMemory};
 ghost use Rattle.batch_program.specs.declared.command_line.WordsFault.TheVariants.{Refused};
-ghost use Rattle.batch_program.specs.CommandLine.{AsksFor, IsAskedRule, IsFlag, IsFormat, IsNumber, IsRefusedRule, IsToldAs, IsWordsFault, command_form, file_argument, generation_option, is_rle_name, output_option, quiet_option, rule_option, step_option};
+ghost use Rattle.batch_program.specs.CommandLine.{AsksFor, IsAskedRule, IsFlag, IsFormat, IsNumber, IsRefusedRule, IsToldAs, IsWordsFault, command_form, file_argument, format_named, generation_option, output_option, quiet_option, rule_option, step_option};
 
 use crate::request::Asked;
 use clap::error::ErrorKind;
@@ -17,7 +17,7 @@ use std::{error, fmt};
 
 const ABOUT: &str = "Runs a pattern of a two-state cellular automaton for a number of generations.
 
-Reads an RLE pattern file, reports on standard output how many cells are live in the first and the \
+Reads a pattern file, RLE or macrocell, reports on standard output how many cells are live in the first and the \
 last generation, and on the way if asked, and writes the pattern if it is asked for.";
 
 const EXAMPLES: &str = "Examples:
@@ -25,6 +25,8 @@ const EXAMPLES: &str = "Examples:
       run 1103 generations and report the number of live cells
   lifebatch -m 4 -o later.rle glider.rle
       run 4 generations and write the pattern to later.rle
+  lifebatch -m 1073741824 -o later.mc breeder.mc
+      run 2^30 generations of a macrocell file and write another
   lifebatch -m 100 -i 10 glider.rle
       run 100 generations and report every tenth
   lifebatch -r B36/S23 -m 50 r-pentomino.rle
@@ -47,7 +49,9 @@ impl fmt::Display for WordsFault {
     fn fmt<W: fmt::Write>(&self, f: &mut fmt::Formatter<W>) -> fmt::Result {
         match self {
             WordsFault::Clap(error) => write!(f, "{error}"),
-            WordsFault::Unfit => f.write_str("the name of the output does not end with .rle"),
+            WordsFault::Unfit => f.write_str(
+                "the name of the output ends neither with .rle nor with .mc",
+            ),
             WordsFault::Refused(refusal) => write!(f, "{refusal}"),
         }
     }
@@ -84,8 +88,8 @@ impl From<clap::Error> for WordsFault {
 }
 
 /// Reads the words of a command line, the program's name first. It answers `Clap` for words that are
-/// not of its form and for a request for help, `Unfit` for an output whose name does not end with
-/// `.rle`, then `Refused` with `BadRule` or `BirthOnZero` for the rule that is given, and `Refused`
+/// not of its form and for a request for help, `Unfit` for an output whose name ends neither with
+/// `.rle` nor with `.mc`, then `Refused` with `BadRule` or `BirthOnZero` for the rule that is given, and `Refused`
 /// with `NoMemory`.
 pub fn asked<'a>(alloc: Global, words: &'a [&'a str]) -> Result<Asked, WordsFault>
     ensures asks { IfOk result (AsksFor (map (λ word. word.now) words.entry.now)) }
@@ -163,7 +167,7 @@ fn output_option<'a>(alloc: Global) -> Arg<'a>
         .short('o')
         .long("output")
         .value_name("NAME")
-        .help("Write the pattern to NAME, which ends with .rle")
+        .help("Write the pattern to NAME, which ends with .rle or .mc")
 }
 
 fn rule_option<'a>(alloc: Global) -> Arg<'a>
@@ -236,17 +240,25 @@ fn format_of(output: Option<&str>) -> Result<Option<Format>, WordsFault>
     ensures err { IfErr result (λ fault. (fault ≡ WordsFault.Unfit) × ((format : Option Format) → ¬ IsFormat (option_copied output.entry) format)) }
 {
     match output {
-        Some(name) if is_rle_name(name) => Ok(Some(Format::Rle)),
-        Some(_) => Err(WordsFault::Unfit),
+        Some(name) => match format_named(name) {
+            Some(format) => Ok(Some(format)),
+            None => Err(WordsFault::Unfit),
+        },
         None => Ok(None),
     }
 }
 
-// Whether the name is that of an RLE file.
-fn is_rle_name(name: &str) -> bool
-    ensures { result ≡ is_rle_name name.now }
+// The format whose files have names like this.
+fn format_named(name: &str) -> Option<Format>
+    ensures { result ≡ format_named name.now }
 {
-    name.as_bytes().ends_with(b".rle")
+    if name.as_bytes().ends_with(b".rle") {
+        return Some(Format::Rle);
+    }
+    if name.as_bytes().ends_with(b".mc") {
+        return Some(Format::Macrocell);
+    }
+    None
 }
 
 fn copied(alloc: Global, text: Option<&str>) -> Result<Option<String>, AllocError>
