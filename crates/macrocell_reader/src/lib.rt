@@ -2,7 +2,6 @@
 //! node lines are slices of that text.
 #![tactic(auto)]
 
-mod comments;
 mod inner;
 mod laws;
 mod leaf;
@@ -14,8 +13,8 @@ mod settings;
 #[cfg(test)]
 mod tests;
 
-pub use comments::Comments;
 pub use laws::{accepted_in_range, faults_have_places, leaf_cells, node_lines_are_slices};
 pub use mc_file::McFile;
 pub use node::{Node, NodeLine};
 pub use node_lines::NodeLines;
+pub use text_lines::Comments;

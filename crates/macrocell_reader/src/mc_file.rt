@@ -10,14 +10,13 @@ ghost use Rattle.macrocell_reader.specs.NodeFaults.{StandInOrder};
 ghost use Rattle.macrocell_reader.specs.Seen.{said_seen, out_of_memory};
 ghost use Rattle.macrocell_reader.specs.Settings.{after_lines, nothing_said};
 
-use crate::comments::Comments;
 use crate::node_faults::level_of_line;
 use crate::node_lines::NodeLines;
 use crate::settings::Settings;
 use plane::{Fault, Refusal};
 use std::alloc::Global;
 use std::marker::Model;
-use text_lines::{Line, Lines, begins_with, fault_at, is_blank_line, is_comment};
+use text_lines::{Comments, Line, Lines, begins_with, fault_at, is_blank_line, is_comment};
 
 /// A macrocell file whose whole text was checked. What it hands out are slices of that text, and they stay
 /// good after it is gone.

@@ -3,7 +3,7 @@ mod NumberLemmas
 mod HeaderLemmas
 mod SettingsLemmas
 mod OpeningLemmas
-mod CommentLemmas
+mod HeaderPlace
 mod BodyLemmas
 mod ItemLemmas
 mod FaultLemmas

@@ -14,11 +14,11 @@ use Rattle.rle_reader.specs.declared.preamble.Preamble.{Preamble}
 use Rattle.rle_reader.specs.declared.settings.Settings.{Settings}
 use Rattle.std.specs.Option.{option_copied}
 
-pub before_step : (b : Bool) (line : Line) (rest : List Line) (n : ℕ) → b ≡ true → (take (cond b (1 + n) 0) (line ∷ rest) ≡ line ∷ take n rest) × (drop (cond b (1 + n) 0) (line ∷ rest) ≡ drop n rest)
+before_step : (b : Bool) (line : Line) (rest : List Line) (n : ℕ) → b ≡ true → (take (cond b (1 + n) 0) (line ∷ rest) ≡ line ∷ take n rest) × (drop (cond b (1 + n) 0) (line ∷ rest) ≡ drop n rest)
 before_step true line rest n stands = (rw one-add refl, rw one-add refl)
 before_step false line rest n stands = cc
 
-pub before_stop : (b : Bool) (line : Line) (rest : List Line) (n : ℕ) → b ≡ false → (take (cond b (1 + n) 0) (line ∷ rest) ≡ []) × (drop (cond b (1 + n) 0) (line ∷ rest) ≡ line ∷ rest)
+before_stop : (b : Bool) (line : Line) (rest : List Line) (n : ℕ) → b ≡ false → (take (cond b (1 + n) 0) (line ∷ rest) ≡ []) × (drop (cond b (1 + n) 0) (line ∷ rest) ≡ line ∷ rest)
 before_stop true line rest n stops = cc
 before_stop false line rest n stops = (refl, refl)
 

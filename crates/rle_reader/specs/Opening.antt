@@ -5,7 +5,7 @@ use Rattle.std.specs.List.{take_while, prefix_len}
 use Rattle.plane.specs.declared.fault.Fault.{Fault}
 use Rattle.plane.specs.declared.refusal.Refusal.TheVariants.{NotAPattern}
 use Rattle.text_lines.specs.Faults.{fault_at, at_place, ◌>>=◌}
-use Rattle.text_lines.specs.Lines.{Line, lines_from}
+use Rattle.text_lines.specs.Lines.{Line}
 use Rattle.rle_reader.specs.Settings.{nothing_said, after_line}
 use Rattle.text_lines.specs.Comments.{is_comment, is_blank_line, comments_of}
 use Rattle.rle_reader.specs.Header.{header_rule}
@@ -44,10 +44,6 @@ may_stand line = stands_before_header line.text
 -- the lines before the header: up to the first line that can't stand there
 abbrev pub before_header : List Line → List Line
 before_header all = take_while may_stand all
-
--- the kept comments before the header, of the lines of a source from this place on
-unfoldable pub comments_from : List ℕ → ℕ → List (List ℕ)
-comments_from source place = comments_of (before_header (lines_from source place))
 
 -- the lines from the header on
 abbrev pub from_header : List Line → List Line

@@ -4,7 +4,6 @@
 
 mod body;
 mod bytes;
-mod comments;
 mod header;
 mod item;
 mod laws;
@@ -17,8 +16,8 @@ mod settings;
 #[cfg(test)]
 mod tests;
 
-pub use comments::Comments;
 pub use item::{Run, Tag};
 pub use laws::{accepted_in_range, one_cut};
 pub use rle_file::RleFile;
 pub use runs::Runs;
+pub use text_lines::Comments;

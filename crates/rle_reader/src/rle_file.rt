@@ -13,7 +13,6 @@ ghost use Rattle.plane.specs.Runs.{AreRuns, runs_plane};
 ghost use Rattle.plane.specs.Square.{IsSame};
 
 use crate::body::Body;
-use crate::comments::Comments;
 use crate::item::{Run, Tag, next_run};
 use crate::pen::Pen;
 use crate::preamble::Preamble;
@@ -21,6 +20,7 @@ use crate::runs::Runs;
 use plane::{Cell, Fault};
 use std::alloc::{AllocError, Global};
 use std::marker::Model;
+use text_lines::{Comments, Lines};
 
 /// An RLE file whose whole text was checked. What it hands out are slices of that text, and they stay
 /// good after it is gone.
@@ -31,10 +31,12 @@ pub struct RleFile<'a> {
 }
 
 impl<'a> Model for RleFile<'a> {
-    ghost use Rattle.std.specs.Prelude.{◌≡◌, ◌≤◌, None, true, length};
+    ghost use Rattle.std.specs.Prelude.{◌≡◌, ◌≤◌, None, Ok, true, length};
     ghost use Rattle.rle_reader.specs.Body.{struck_from};
     ghost use Rattle.rle_reader.specs.Items.{items_of};
     ghost use Rattle.rle_reader.specs.Meaning.{Meaning, meaning_of, body_fault};
+    ghost use Rattle.rle_reader.specs.Opening.{opening_of};
+    ghost use Rattle.text_lines.specs.Lines.{lines_from};
     ghost use Rattle.plane.specs.Range.{IsInRange};
     ghost use Rattle.rle_reader.specs.Seen.{opening_seen};
 
@@ -44,7 +46,8 @@ impl<'a> Model for RleFile<'a> {
 
     ghost invariant = { λ file. (file.preamble.body ≤ length file.source.now)
         × IsInRange file.preamble.settings.pos
-        × (body_fault file.preamble.settings.pos (items_of (struck_from file.source.now file.preamble.body true)) ≡ None) };
+        × (body_fault file.preamble.settings.pos (items_of (struck_from file.source.now file.preamble.body true)) ≡ None)
+        × (Ok (opening_seen file.source.now file.preamble) ≡ opening_of (length file.source.now) (lines_from file.source.now 0)) };
 }
 
 impl<'a> RleFile<'a> {
@@ -105,11 +108,11 @@ impl<'a> RleFile<'a> {
 
     /// The comments that are kept: the lines before the header that begin with `#C`, `#D`, `#N` or `#O`,
     /// and not with `#CXRLE`.
-    #[tactic(auto, unfolding(crate::specs::Meaning::meaning_of, crate::specs::Opening::comments_from))]
     pub fn comments(&self) -> Comments<'a>
         ensures { result ≡ self.now.comments }
     {
-        Comments::new(self.source)
+        let before_header = &self.source[..self.preamble.header];
+        Comments::new(Lines::new(before_header))
     }
 
     /// The items of the body. From the cell of the first one on they stay in the range of coordinates, and

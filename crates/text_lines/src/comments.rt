@@ -1,9 +1,13 @@
-//! Blank lines, and comments, which are lines whose first byte is `#`.
+//! Blank lines, comments, which are lines whose first byte is `#`, and the comments that are kept.
 
-ghost use Rattle.std.specs.Prelude.{◌≡◌};
-ghost use Rattle.text_lines.specs.Comments.{is_blank_line, is_comment, is_kept, is_settings_line};
+ghost use Rattle.std.specs.Prelude.{◌≡◌, [], ◌∷◌, MatchOption};
+ghost use Rattle.std.specs.Iterator.{YieldsFirstRef, item_count};
+ghost use Rattle.text_lines.specs.Comments.{comments_of, is_blank_line, is_comment, is_kept, is_settings_line};
+ghost use Rattle.text_lines.specs.Lines.{lines_from};
 
 use crate::bytes::{begins_with, is_blank};
+use crate::lines::Lines;
+use std::marker::Model;
 
 /// Whether the line is empty or has nothing but blanks.
 pub fn is_blank_line(line: &[u8]) -> bool
@@ -40,4 +44,58 @@ pub fn is_kept(line: &[u8]) -> bool
             || begins_with(line, b"#D")
             || begins_with(line, b"#N")
             || begins_with(line, b"#O"))
+}
+
+/// The kept comments among the lines of a text, in order, each without its line end. A contract sees the
+/// comments that are still to come.
+#[derive(Debug, Drop)]
+pub struct Comments<'a> {
+    rest: Lines<'a>,
+}
+
+impl<'a> Model for Comments<'a> {
+    ghost use Rattle.std.specs.Prelude.{List, ℕ};
+    ghost use Rattle.text_lines.specs.Comments.{comments_of};
+    ghost use Rattle.text_lines.specs.Lines.{lines_from};
+
+    ghost Value = { List (List ℕ) };
+
+    ghost view = { λ comments. comments_of (lines_from comments.rest.source.now comments.rest.at) };
+}
+
+impl<'a> Comments<'a> {
+    /// The kept comments among these lines.
+    pub fn new(lines: Lines<'a>) -> Self
+        ensures { result ≡ comments_of (lines_from lines.entry.source.now lines.entry.at) }
+    {
+        Comments { rest: lines }
+    }
+}
+
+impl<'a> Iterator for Comments<'a> {
+    type Item = &'a [u8];
+
+    ghost next_gives = { YieldsFirstRef (λ comments. comments) };
+
+    ghost remaining = { item_count (λ comments. comments) };
+
+    fn next(&mut self) -> Option<&'a [u8]> {
+        next_comment(&mut self.rest)
+    }
+}
+
+/// Takes lines up to the next kept comment, or all if there is none.
+fn next_comment<'a>(lines: &mut Lines<'a>) -> Option<&'a [u8]>
+    ensures { MatchOption result
+        ((comments_of (lines_from lines.old.source.now lines.old.at) ≡ [])
+        × (comments_of (lines_from lines.new.source.now lines.new.at) ≡ []))
+        (λ comment. comments_of (lines_from lines.old.source.now lines.old.at)
+        ≡ comment.now ∷ comments_of (lines_from lines.new.source.now lines.new.at)) }
+{
+    while let Some(line) = lines.next_line() {
+        if is_kept(line.text) {
+            return Some(line.text);
+        }
+    }
+    None
 }

@@ -10,7 +10,7 @@ mod lines;
 mod numbers;
 
 pub use bytes::{begins_with, is_blank, trimmed, trimmed_end, trimmed_start};
-pub use comments::{is_blank_line, is_comment, is_kept, is_settings_line};
+pub use comments::{Comments, is_blank_line, is_comment, is_kept, is_settings_line};
 pub use faults::fault_at;
 pub use laws::lines_are_slices;
 pub use lines::{Line, Lines, line_length};

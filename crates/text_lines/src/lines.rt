@@ -34,14 +34,6 @@ impl<'a> Lines<'a> {
         Lines { source, at: 0 }
     }
 
-    /// Drops the lines that are left.
-    pub fn close(&mut self)
-        ensures source { self.new.source.now ≡ self.old.source.now }
-        ensures closed { lines_from self.new.source.now self.new.at ≡ [] }
-    {
-        self.at = self.source.len();
-    }
-
     /// Where the next line begins.
     pub fn place(&self) -> usize
         ensures place { result ≡ self.now.at }

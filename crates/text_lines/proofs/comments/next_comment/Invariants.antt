@@ -1,7 +1,7 @@
 use Rattle.std.proofs.Common.{◌≡◌, ◌-◌, length}
 use Rattle.text_lines.specs.Comments.{comments_of}
 use Rattle.text_lines.specs.Lines.{lines_from}
-use Rattle.macrocell_reader.proofs.comments.next_comment.Given as goal
+use Rattle.text_lines.proofs.comments.next_comment.Given as goal
 
 abbrev pub invariant-loop-line : goal.invariant-loop-line
 invariant-loop-line l =
