@@ -1,0 +1,4 @@
+pub mod Books
+pub mod Desks
+pub mod GoodWords
+pub mod Rule

@@ -1,0 +1,14 @@
+//! The running table of squares: words that threads share, and the desks at which they work.
+#![tactic(auto)]
+
+mod desk;
+mod rules;
+mod still;
+mod table;
+mod view;
+
+pub use desk::Desk;
+pub use rules::{Asks, Claims, Looks, Tells, Words};
+pub use still::Still;
+pub use table::NodeTable;
+pub use view::View;
