@@ -2,6 +2,8 @@
 use Rattle.std.proofs.Common.{◌≡◌, ◌≢◌, ℕ, zero, suc, ◌+◌, ◌-◌, ◌*◌, ◌/◌, ◌^◌, ◌<◌, ◌≤◌, ◌⊎◌, ℤ, Bool, true, false, cond, eqb, List, [], ◌∷◌, map, length, sym, ◌∙◌, ap, subst, arith, refl, inl, inr, ⊎_elim}
 use Rattle.std.specs.Prelude.{IsTrue, ◌==◌, ◌&&◌, Contains, slice_get, slice_index_or, Some}
 use Rattle.std.specs.List.{AllByRecursion}
+use Rattle.std.proofs.Math.Logic.{∥∥₁_elim}
+use Rattle.std.proofs.Props.{props}
 use Rattle.std.proofs.lemmas.List.Elements.{Contains-append_right}
 use Rattle.plane.specs.Plane.{Plane}
 use Rattle.plane.specs.Square.{IsSame, IsSquare, empty, spans}
@@ -27,15 +29,25 @@ use Rattle.node_table.specs.Books.{knows_in, cells_in, square_of, book_of, IsCoh
 use Rattle.node_table.proofs.Entries.{known_level, block_of, square_known}
 
 -- two accounts of one number agree
-pub alike : (bits : ℕ) (known : Knowledge) (rank n : ℕ) (p q : Plane) → IsCoherent bits known → KnowsBlock known rank n p →
+agree : (bits : ℕ) (known : Knowledge) (rank n : ℕ) (p q : Plane) → IsCoherent bits known → KnowsBlock known rank n p →
     KnowsBlock known rank n q → IsSame p q
-alike bits known rank n p q h a b = ⊎_elim
+agree bits known rank n p q h a b = ⊎_elim
     (λ e. same_trans (same_sym (h.zero rank p (subst (λ m. KnowsBlock known rank m p) e a))) (h.zero rank q (subst (λ m. KnowsBlock known rank m q) e b)))
     (λ some. (h.consistent.one_block rank rank n p q some a b).1)
     (same_or_other n 0)
 
+same_prop : (p q : Plane) → IsProp (IsSame p q)
+same_prop p q = hlevel props
+
+pub alike : (bits : ℕ) (known : Knowledge) (rank n : ℕ) (p q : Plane) → ∥ IsCoherent bits known ∥₁ → KnowsBlock known rank n p →
+    KnowsBlock known rank n q → IsSame p q
+alike bits known rank n p q h a b = ∥∥₁_elim h (same_prop p q) (λ t. agree bits known rank n p q t a b)
+
+pub zero_is_empty : (bits : ℕ) (known : Knowledge) (rank : ℕ) (plane : Plane) → ∥ IsCoherent bits known ∥₁ → KnowsBlock known rank 0 plane → IsSame empty plane
+zero_is_empty bits known rank plane h a = ∥∥₁_elim h (same_prop empty plane) (λ t. t.zero rank plane a)
+
 -- a square is shown as the block that the desk knows
-pub shows_of : (key : Key) (known : Knowledge) (sq : Sq) (plane : Plane) → IsCoherent key.shape.bits known → 3 ≤ sq.level → sq.level ≤ 65 →
+pub shows_of : (key : Key) (known : Knowledge) (sq : Sq) (plane : Plane) → ∥ IsCoherent key.shape.bits known ∥₁ → 3 ≤ sq.level → sq.level ≤ 65 →
     KnowsBlock known (square_rank sq.level) sq.num.0 plane → Shows (book_of key known) sq.level plane sq
 shows_of key known sq plane h low high knows =
     let is = square_known known sq plane low high knows in
@@ -54,7 +66,7 @@ one_out : (a b : Bool) → (a && b) ≡ false → (a ≡ false) ⊎ (b ≡ false
 one_out true b h = inr h
 one_out false b h = inl refl
 
-inside_square : (level : ℕ) (plane : Plane) → 3 ≤ level → IsInside (width (square_rank level)) (height (square_rank level)) plane → IsSquare (2 ^ level) plane
+pub inside_square : (level : ℕ) (plane : Plane) → 3 ≤ level → IsInside (width (square_rank level)) (height (square_rank level)) plane → IsSquare (2 ^ level) plane
 inside_square level plane above h = record {
   dead = λ x y e. ⊎_elim
       (λ t. h.columns x y (ap (λ n. spans (2 ^ n) x) (side level above) ∙ t))
@@ -124,7 +136,7 @@ pub sound_for : (key : Key) (known : Knowledge) → IsRule key.rule → IsCohere
 sound_for key known rule h = record { book = is_book key known rule h; coherent = ∣ h ∣₁ }
 
 -- a book keeps all while its desk learns
-pub grows_keeps : (key : Key) (old new : Knowledge) → IsCoherent key.shape.bits new → Grows old new → Keeps (book_of key old) (book_of key new)
+pub grows_keeps : (key : Key) (old new : Knowledge) → ∥ IsCoherent key.shape.bits new ∥₁ → Grows old new → Keeps (book_of key old) (book_of key new)
 grows_keeps key old new h grows = record {
   rule = refl;
   exponent = refl;

@@ -1,3 +1,7 @@
 pub mod Books
 pub mod Entries
 pub mod Steps
+pub mod Searching
+pub mod Desks
+pub mod TwoBlocks
+pub mod Telling

@@ -1,4 +1,5 @@
 pub mod Books
 pub mod Desks
 pub mod GoodWords
+pub mod Numbers
 pub mod Rule

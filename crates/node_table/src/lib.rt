@@ -1,12 +1,16 @@
 //! The running table of squares: words that threads share, and the desks at which they work.
 #![tactic(auto)]
 
+mod at;
 mod desk;
+mod pairs;
 mod rules;
+mod search;
 mod still;
 mod table;
 mod view;
 
+pub use at::At;
 pub use desk::Desk;
 pub use rules::{Asks, Claims, Looks, Tells, Words};
 pub use still::Still;
