@@ -47,9 +47,9 @@ pub zero_is_empty : (bits : ℕ) (known : Knowledge) (rank : ℕ) (plane : Plane
 zero_is_empty bits known rank plane h a = ∥∥₁_elim h (same_prop empty plane) (λ t. t.zero rank plane a)
 
 -- a square is shown as the block that the desk knows
-pub shows_of : (key : Key) (known : Knowledge) (sq : Sq) (plane : Plane) → ∥ IsCoherent key.shape.bits known ∥₁ → 3 ≤ sq.level → sq.level ≤ 65 →
-    KnowsBlock known (square_rank sq.level) sq.num.0 plane → Shows (book_of key known) sq.level plane sq
-shows_of key known sq plane h low high knows =
+pub shows_of : (store : List ℕ) (key : Key) (known : Knowledge) (sq : Sq) (plane : Plane) → ∥ IsCoherent key.shape.bits known ∥₁ → 3 ≤ sq.level → sq.level ≤ 65 →
+    KnowsBlock known (square_rank sq.level) sq.num.0 plane → Shows (book_of store key known) sq.level plane sq
+shows_of store key known sq plane h low high knows =
     let is = square_known known sq plane low high knows in
     record {
       known = record { known = is; at_level = refl; low = low; high = high };
@@ -112,8 +112,8 @@ known_result key known result h t =
     (square_known known (square_of result) t.2.0 (omega arith) (low_level result.level above pair.1) t.2.1, above, t.1)
 
 -- what a desk knows is a book
-pub is_book : (key : Key) (known : Knowledge) → IsRule key.rule → IsCoherent key.shape.bits known → IsBook (book_of key known)
-is_book key known rule h = record {
+pub is_book : (store : List ℕ) (key : Key) (known : Knowledge) → IsRule key.rule → IsCoherent key.shape.bits known → IsBook (book_of store key known)
+is_book store key known rule h = record {
   rule = rule;
   levels = λ sq s. known_level known sq s;
   square = λ sq s. inside_square sq.level (cells_in known sq) (known_level known sq s).0 (h.consistent.inside (square_rank sq.level) sq.num.0 (cells_in known sq) (block_of known sq s));
@@ -133,11 +133,11 @@ is_book key known rule h = record {
 }
 
 pub sound_for : (key : Key) (known : Knowledge) → IsRule key.rule → IsCoherent key.shape.bits known → IsSoundFor key known
-sound_for key known rule h = record { book = is_book key known rule h; coherent = ∣ h ∣₁ }
+sound_for key known rule h = record { book = λ store. is_book store key known rule h; coherent = ∣ h ∣₁ }
 
 -- a book keeps all while its desk learns
-pub grows_keeps : (key : Key) (old new : Knowledge) → ∥ IsCoherent key.shape.bits new ∥₁ → Grows old new → Keeps (book_of key old) (book_of key new)
-grows_keeps key old new h grows = record {
+pub grows_keeps : (store : List ℕ) (key : Key) (old new : Knowledge) → ∥ IsCoherent key.shape.bits new ∥₁ → Grows old new → Keeps (book_of store key old) (book_of store key new)
+grows_keeps store key old new h grows = record {
   rule = refl;
   exponent = refl;
   known = λ sq s. let l = known_level old sq s in
@@ -153,4 +153,5 @@ grows_keeps key old new h grows = record {
       let now = full_shard_is_seen key.shape.bits new key.shape.range.0 in
       now.1 (full_later key.shape.bits old new grows.words (seen.0 s));
   memory = refl;
+  store = refl;
 }

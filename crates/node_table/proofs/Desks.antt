@@ -25,7 +25,7 @@ use Rattle.table_core.proofs.Ways.{slot_below, size_fits}
 use Rattle.node_table.specs.declared.desk.Desk.{Desk}
 use Rattle.node_table.specs.declared.table.NodeTable.{NodeTable}
 use Rattle.node_table.specs.Books.{book_of, knows_in, cells_in, IsCoherent}
-use Rattle.node_table.specs.Desks.{IsDeskOf, book_at}
+use Rattle.node_table.specs.Desks.{IsDeskOf, store_of, book_at}
 use Rattle.node_table.specs.Numbers.{KeepsTold, KnowsFullWay}
 use Rattle.node_table.proofs.Books.{alike, grows_keeps}
 use Rattle.node_table.proofs.Entries.{block_of}
@@ -35,10 +35,10 @@ coherent_at table desk d = (desk.sound table.key d.same_key).coherent
 
 -- a desk that learns keeps its book
 pub keeps_at : (table : NodeTable) (old new : Desk) → IsDeskOf table new → Grows old.seat.me.0.known new.seat.me.0.known → Keeps (book_at table old) (book_at table new)
-keeps_at table old new d grows = grows_keeps table.key old.seat.me.0.known new.seat.me.0.known (coherent_at table new d) grows
+keeps_at table old new d grows = grows_keeps (store_of table) table.key old.seat.me.0.known new.seat.me.0.known (coherent_at table new d) grows
 
-pub told_results : (key : Key) (old new : Knowledge) → KeepsTold old new → KeepsResults (book_of key old) (book_of key new)
-told_results key old new t = record { results = ap (λ (k : List _). Rattle.std.proofs.Common.map Rattle.node_table.specs.Books.square_of k) t.results; learned = t.learned }
+pub told_results : (store : List ℕ) (key : Key) (old new : Knowledge) → KeepsTold old new → KeepsResults (book_of store key old) (book_of store key new)
+told_results store key old new t = record { results = ap (λ (k : List _). Rattle.std.proofs.Common.map Rattle.node_table.specs.Books.square_of k) t.results; learned = t.learned }
 
 slot_prop : (bits : ℕ) (kind : Kind) (n : ℕ) → IsProp (IsSlot bits kind n)
 slot_prop bits kind n = hlevel props

@@ -91,4 +91,4 @@ same_key a b e = cc
 pub sound_after : {S : Type 0} (key : Key) (event : Event) (before after : Me S View) (word : ℕ) → before.0.key ≡ Some key → IsSound before.0 →
     Met key event before word after → IsSound after.0
 sound_after {S} key event before after word present sound met k e =
-    subst (λ (a : Key). IsSoundFor a after.0.known) (same_key key k (sym present ∙ sym met.same_key ∙ e)) (sound_for key after.0.known (sound key present).book.rule met.coherent)
+    subst (λ (a : Key). IsSoundFor a after.0.known) (same_key key k (sym present ∙ sym met.same_key ∙ e)) (sound_for key after.0.known ((sound key present).book []).rule met.coherent)

@@ -82,12 +82,12 @@ told_with old result live count had e = record {
 sq_equal : (a b : Sq) → a.level ≡ b.level → a.num.0 ≡ b.num.0 → a ≡ b
 sq_equal a b e n = λ i. record { level = e i; num = record { 0 = n i } }
 
-module _ (key : Key) (old new : Knowledge) (sq : Sq) (index word count : ℕ) (plane : Plane) (slot : IsSlot key.shape.bits Pair sq.num.0) (beside : index ≡ result_of key.shape.bits sq.num.0) (above : 3 < sq.level) (knows : KnowsBlock old (square_rank sq.level) sq.num.0 plane) where
+module _ (store : List ℕ) (key : Key) (old new : Knowledge) (sq : Sq) (index word count : ℕ) (plane : Plane) (slot : IsSlot key.shape.bits Pair sq.num.0) (beside : index ≡ result_of key.shape.bits sq.num.0) (above : 3 < sq.level) (knows : KnowsBlock old (square_rank sq.level) sq.num.0 plane) where
   abbrev pub may_ask : MayAsk key.shape.bits old index
   may_ask = record { square = sq.num.0; slot = slot; beside = beside; level = sq.level; above = above; plane = plane; shown = knows }
 
   -- no result stands there: the desk knew none
-  pub no_result : sq.num.0 ≢ 0 → word ≡ 0 → MeetsResult key old count index word new → ¬ HasResult (book_of key old) sq
+  pub no_result : sq.num.0 ≢ 0 → word ≡ 0 → MeetsResult key old count index word new → ¬ HasResult (book_of store key old) sq
   no_result some none met has = ⊎_elim some (λ t.
       let r = result_there old.results sq t in
       let there : word ≡ 2 ^ 32 + r.0.future = met.agrees r.0 r.1 (beside ∙ ap (λ (q : Sq). result_of key.shape.bits q.num.0) (sym r.2)) in
@@ -131,7 +131,7 @@ module _ (key : Key) (old new : Knowledge) (sq : Sq) (index word count : ℕ) (p
         subst (λ rs. Gains (map square_of old.results) (map square_of rs) sq) (sym t.results)
         (subst (λ q. Gains (map square_of old.results) (square_of l.result ∷ map square_of old.results) q) is_sq (gains_one (square_of l.result) (map square_of old.results)))
 
-    learns_case : count ≡ 1 → (had : Bool) → has_result old.results l.result.square ≡ had → Learns (book_of key old) (book_of key new) sq
+    learns_case : count ≡ 1 → (had : Bool) → has_result old.results l.result.square ≡ had → Learns (book_of store key old) (book_of store key new) sq
     learns_case one true e = let t = told true e in record {
       known = inr (has_now true e);
       told = inl (record { results = ap (map square_of) t.results; learned = let k = t.learned in omega arith });
@@ -142,10 +142,10 @@ module _ (key : Key) (old new : Knowledge) (sq : Sq) (index word count : ℕ) (p
     }
 
     -- a result that was asked for is learned
-    pub book_learns : count ≡ 1 → Learns (book_of key old) (book_of key new) sq
+    pub book_learns : count ≡ 1 → Learns (book_of store key old) (book_of store key new) sq
     book_learns one = learns_case one (has_result old.results l.result.square) refl
 
-    adds_case : count ≡ 0 → (had : Bool) → has_result old.results l.result.square ≡ had → AddsResult (book_of key old) (book_of key new) sq
+    adds_case : count ≡ 0 → (had : Bool) → has_result old.results l.result.square ≡ had → AddsResult (book_of store key old) (book_of store key new) sq
     adds_case none true e = let t = told true e in record {
       known = inr (has_now true e);
       learned = let k = t.learned in omega arith;
@@ -158,28 +158,28 @@ module _ (key : Key) (old new : Knowledge) (sq : Sq) (index word count : ℕ) (p
     }
 
     -- one that was told is added
-    pub book_adds : count ≡ 0 → AddsResult (book_of key old) (book_of key new) sq
+    pub book_adds : count ≡ 0 → AddsResult (book_of store key old) (book_of store key new) sq
     book_adds none = adds_case none (has_result old.results l.result.square) refl
 
     -- the number in the word shows the future
     pub is_future : sq.level ≤ 65 → (number : ℕ) → number ≡ second_part word → l.result.future < 2 ^ 32 → IsSame (cells_in new sq) plane →
-        IsFuture (book_of key new) sq (numbered (sq.level - 1) number)
+        IsFuture (book_of store key new) sq (numbered (sq.level - 1) number)
     is_future high number e fits same =
         let is : number ≡ l.result.future = let t = l.told in omega arith in
-        subst (λ n. IsFuture (book_of key new) sq (numbered (sq.level - 1) n)) (sym is)
-        (subst (λ p. Shows (book_of key new) (sq.level - 1) (future key.rule key.exponent sq.level p) (numbered (sq.level - 1) l.result.future)) (sym (plane_equal _ _ same))
-        (shows_of key new (numbered (sq.level - 1) l.result.future) (future key.rule key.exponent sq.level plane) h (omega arith) (omega arith) future_known))
+        subst (λ n. IsFuture (book_of store key new) sq (numbered (sq.level - 1) n)) (sym is)
+        (subst (λ p. Shows (book_of store key new) (sq.level - 1) (future key.rule key.exponent sq.level p) (numbered (sq.level - 1) l.result.future)) (sym (plane_equal _ _ same))
+        (shows_of store key new (numbered (sq.level - 1) l.result.future) (future key.rule key.exponent sq.level plane) h (omega arith) (omega arith) future_known))
 
   -- the desk knows the square and its future
   pub may_tell : (fut : Sq) → fut.num.0 < 2 ^ 32 → KnowsBlock old (square_rank (sq.level - 1)) fut.num.0 (future key.rule key.exponent sq.level plane) → MayTell key old index fut.num.0
   may_tell fut low shown = record { of = may_ask; low = low; shown = shown }
 
 -- the future of the empty square
-pub empty_future : (key : Key) (known : Knowledge) (sq : Sq) → IsRule key.rule → ∥ IsCoherent key.shape.bits known ∥₁ → 3 < sq.level → sq.level ≤ 65 → sq.num.0 ≡ 0 →
-    KnowsBlock known (square_rank sq.level) sq.num.0 (cells_in known sq) → IsFuture (book_of key known) sq (numbered (sq.level - 1) 0)
-empty_future key known sq rule h above high e knows =
+pub empty_future : (store : List ℕ) (key : Key) (known : Knowledge) (sq : Sq) → IsRule key.rule → ∥ IsCoherent key.shape.bits known ∥₁ → 3 < sq.level → sq.level ≤ 65 → sq.num.0 ≡ 0 →
+    KnowsBlock known (square_rank sq.level) sq.num.0 (cells_in known sq) → IsFuture (book_of store key known) sq (numbered (sq.level - 1) 0)
+empty_future store key known sq rule h above high e knows =
     let none : IsSame empty (cells_in known sq) = zero_is_empty key.shape.bits known (square_rank sq.level) (cells_in known sq) h (subst (λ n. KnowsBlock known (square_rank sq.level) n (cells_in known sq)) e knows) in
-    shows_of key known (numbered (sq.level - 1) 0) (future key.rule key.exponent sq.level (cells_in known sq)) h (omega arith) (omega arith)
+    shows_of store key known (numbered (sq.level - 1) 0) (future key.rule key.exponent sq.level (cells_in known sq)) h (omega arith) (omega arith)
     (inl (refl, same_sym (future_empty key.rule rule key.exponent sq.level (cells_in known sq) (same_sym none))))
 
 some_step : (b : Bool) (r n : ℕ) → (r == 0) ≡ b → cond b (2 ^ 32 + n) r ≢ 0

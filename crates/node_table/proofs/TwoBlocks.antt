@@ -1,6 +1,6 @@
 -- Two blocks as one.
 use Rattle.std.proofs.Common.{◌≡◌, ◌≢◌, ℕ, zero, suc, ◌+◌, ◌-◌, ◌*◌, ◌/◌, ◌%◌, ◌^◌, ◌<◌, ◌≤◌, ◌⊎◌, pos, Bool, true, false, cond, sym, ◌∙◌, ap, subst, arith, refl, inl, inr, ⊎_elim}
-use Rattle.std.specs.Prelude.{◌==◌, int_lt, [], ◌∷◌}
+use Rattle.std.specs.Prelude.{◌==◌, int_lt, List, [], ◌∷◌}
 use Rattle.plane.specs.Plane.{Plane}
 use Rattle.plane.specs.Square.{IsSame, IsSquare, empty, cut, joined}
 use Rattle.plane.specs.Block.{beside, below}
@@ -96,7 +96,7 @@ known_square bits known level n plane h above knows =
     ∥∥₁_elim h (is_square_prop (2 ^ level) plane) (λ t. inside_square level plane above (t.consistent.inside (square_rank level) n plane knows))
 
 -- the quarters of a square whose halves and their parts were read
-module _ (key : Key) (a b c d : Knowledge) (level number upper lower nw ne sw se : ℕ) (plane : Plane) (low : 3 < level) (high : level ≤ 65) (h : ∥ IsCoherent key.shape.bits d ∥₁) (whole : KnowsPairOf a b number upper lower) (top : KnowsPairOf b c upper nw ne) (bottom : KnowsPairOf c d lower sw se) (grows : Grows b c) (more : Grows c d) (knows : KnowsBlock a (square_rank level) number plane) where
+module _ (store : List ℕ) (key : Key) (a b c d : Knowledge) (level number upper lower nw ne sw se : ℕ) (plane : Plane) (low : 3 < level) (high : level ≤ 65) (h : ∥ IsCoherent key.shape.bits d ∥₁) (whole : KnowsPairOf a b number upper lower) (top : KnowsPairOf b c upper nw ne) (bottom : KnowsPairOf c d lower sw se) (grows : Grows b c) (more : Grows c d) (knows : KnowsBlock a (square_rank level) number plane) where
   halves : ArePartsOf b (suc (square_rank (level - 1))) plane upper lower
   halves = whole.parts (suc (square_rank (level - 1))) plane (subst (λ r. KnowsBlock a r number plane) (quarter_rank level low) knows)
 
@@ -125,8 +125,8 @@ module _ (key : Key) (a b c d : Knowledge) (level number upper lower nw ne sw se
   known_ne = knows_grown c d (square_rank (level - 1)) ne uppers.two more uppers.shows_two
 
   shown : (n left up : ℕ) (part : Plane) → KnowsBlock d (square_rank (level - 1)) n part → IsSame part (cut (2 ^ (level - 1)) left up all) →
-      Shows (book_of key d) (level - 1) (cut (2 ^ (level - 1)) left up plane) (numbered (level - 1) n)
-  shown n left up part k same = shows_of key d (numbered (level - 1) n) (cut (2 ^ (level - 1)) left up plane) h (omega arith) (omega arith)
+      Shows (book_of store key d) (level - 1) (cut (2 ^ (level - 1)) left up plane) (numbered (level - 1) n)
+  shown n left up part k same = shows_of store key d (numbered (level - 1) n) (cut (2 ^ (level - 1)) left up plane) h (omega arith) (omega arith)
       (knows_same d (square_rank (level - 1)) n part (cut (2 ^ (level - 1)) left up plane) (same_trans same (cut_same (2 ^ (level - 1)) left up all plane cells)) k)
 
   square_nw : IsSquare (2 ^ (level - 1)) uppers.one
@@ -141,7 +141,7 @@ module _ (key : Key) (a b c d : Knowledge) (level number upper lower nw ne sw se
   square_se : IsSquare (2 ^ (level - 1)) lowers.two
   square_se = is_square se lowers.two lowers.shows_two
 
-  pub quarters_shown : AreQuarters (book_of key d) level plane (numbered (level - 1) nw ∷ numbered (level - 1) ne ∷ numbered (level - 1) sw ∷ numbered (level - 1) se ∷ [])
+  pub quarters_shown : AreQuarters (book_of store key d) level plane (numbered (level - 1) nw ∷ numbered (level - 1) ne ∷ numbered (level - 1) sw ∷ numbered (level - 1) se ∷ [])
   unfolding all
   quarters_shown = record {
     nw = shown nw 0 0 uppers.one known_nw (joined_nw (2 ^ (level - 1)) _ _ _ _ square_nw square_ne square_sw square_se);

@@ -36,9 +36,9 @@ cells_in known sq = if sq.num.0 == 0 then empty else cells_there (entry_at known
 abbrev pub square_of : KnownResult → Sq
 square_of result = numbered result.level result.square
 
--- the squares and the results that are known; it is full where a shard without a zero slot is known, and takes no memory
-abbrev pub book_of : Key → Knowledge → Book
-book_of key known = record {
+-- the squares of a store and the results that are known; it is full where a shard without a zero slot is known, and takes no memory
+abbrev pub book_of : List ℕ → Key → Knowledge → Book
+book_of store key known = record {
   rule = key.rule;
   exponent = key.exponent;
   knows = knows_in known;
@@ -47,6 +47,7 @@ book_of key known = record {
   learned = known.learned;
   is_full = knows_full_shard key.shape.bits known;
   takes_memory = false;
+  store = store;
 }
 
 -- what a desk knows agrees with itself, and 0 shows nothing but the empty block
@@ -56,7 +57,7 @@ pub record IsCoherent (bits : ℕ) (known : Knowledge) : Type 0 where
 
 -- what a desk knows of a table with this key is a book, and agrees with itself
 pub record IsSoundFor (key : Key) (known : Knowledge) : Type 0 where
-  pub book : IsBook (book_of key known)
+  pub book : (store : List ℕ) → IsBook (book_of store key known)
   pub coherent : ∥ IsCoherent key.shape.bits known ∥₁
 
 abbrev pub IsSound : View → Type 0

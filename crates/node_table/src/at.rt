@@ -1,6 +1,6 @@
 ghost use Rattle.squares.specs.Book.{numbered};
 ghost use Rattle.std.specs.Prelude.{◌≡◌};
-ghost use Rattle.node_table.specs.Desks.{IsDeskOf, book_at};
+ghost use Rattle.node_table.specs.Desks.{IsDeskOf, store_of, book_at};
 
 use crate::desk::Desk;
 use crate::table::NodeTable;
@@ -98,5 +98,5 @@ impl Squares for At<'_> {
         Ok(())
     }
 
-    ghost is_book = { λ s. (s.desk.sound s.table.now.key s.of_table.same_key).book };
+    ghost is_book = { λ s. (s.desk.sound s.table.now.key s.of_table.same_key).book (store_of s.table.now) };
 }

@@ -6,7 +6,7 @@ use Rattle.squares.proofs.PlainQuads.{all_four}
 use Rattle.table_core.specs.Blocks.{paired, square_rank}
 use Rattle.table_core.proofs.Knowing.{grows_trans, knows_grown}
 use Rattle.node_table.specs.Books.{cells_in}
-use Rattle.node_table.specs.Desks.{book_at}
+use Rattle.node_table.specs.Desks.{book_at, store_of}
 use Rattle.node_table.proofs.Books.{shows_of}
 use Rattle.node_table.proofs.Desks.{coherent_at, keeps_at, knows_parts, known_block}
 use Rattle.node_table.proofs.TwoBlocks.{quad_shown}
@@ -90,7 +90,7 @@ returns-clause-ok c =
     let last = c.pair-3.new.self in
     let plane = joined (2 ^ level) (cells_in known (nth squares 0)) (cells_in known (nth squares 1)) (cells_in known (nth squares 2)) (cells_in known (nth squares 3)) in
     subst (λ (s : Sq). Shows (book_at at.table.now last) (level + 1) plane s) (sym c.square.ensures)
-    (shows_of key last.seat.me.0.known (numbered (level + 1) c.in_ok-number.number) plane (coherent_at at.table.now last c.pair-3.ensures.table) (omega arith) (omega arith)
+    (shows_of (store_of c.args.self.now.table.now) key last.seat.me.0.known (numbered (level + 1) c.in_ok-number.number) plane (coherent_at at.table.now last c.pair-3.ensures.table) (omega arith) (omega arith)
     (quad_shown known one two last.seat.me.0.known level (nth squares 0).num.0 (nth squares 1).num.0 (nth squares 2).num.0 (nth squares 3).num.0 c.in_ok-upper.upper c.in_ok-lower.lower c.in_ok-number.number
     (cells_in known (nth squares 0)) (cells_in known (nth squares 1)) (cells_in known (nth squares 2)) (cells_in known (nth squares 3)) low c.in_ok-upper.ensures.ok c.in_ok-lower.ensures.ok c.in_ok-number.ensures.ok
     c.pair.ensures.grows c.pair-2.ensures.grows nw ne sw se))

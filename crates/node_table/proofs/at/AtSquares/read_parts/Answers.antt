@@ -5,6 +5,7 @@ use Rattle.table_core.specs.Blocks.{square_rank}
 use Rattle.table_core.specs.Knowledge.{KnowsBlock}
 use Rattle.table_core.proofs.Knowing.{grows_trans, knows_grown}
 use Rattle.node_table.specs.Books.{book_of, cells_in}
+use Rattle.node_table.specs.Desks.{store_of}
 use Rattle.node_table.proofs.Entries.{block_of}
 use Rattle.node_table.proofs.Desks.{coherent_at, keeps_at}
 use Rattle.node_table.proofs.TwoBlocks.{quarter_rank, quarters_shown}
@@ -46,10 +47,10 @@ returns-clause-value c =
     let known = at.desk.seat.me.0.known in
     let sq = c.args.sq in
     let last = c.read_pair-sw.new.self in
-    let book = book_of at.table.now.key last.seat.me.0.known in
+    let book = book_of (store_of c.args.self.now.table.now) at.table.now.key last.seat.me.0.known in
     let plane = cells_in known sq in
     let level = sq.level - 1 in
-    let shown = quarters_shown at.table.now.key known c.read_pair-upper.new.self.seat.me.0.known c.read_pair-nw.new.self.seat.me.0.known last.seat.me.0.known sq.level sq.num.0
+    let shown = quarters_shown (store_of c.args.self.now.table.now) at.table.now.key known c.read_pair-upper.new.self.seat.me.0.known c.read_pair-nw.new.self.seat.me.0.known last.seat.me.0.known sq.level sq.num.0
     c.read_pair-upper.result.0 c.read_pair-upper.result.1 c.read_pair-nw.result.0 c.read_pair-nw.result.1 c.read_pair-sw.result.0 c.read_pair-sw.result.1 plane c.requires.level c.requires.known.high
     (coherent_at at.table.now last c.read_pair-sw.ensures.table) c.read_pair-upper.ensures.parts c.read_pair-nw.ensures.parts c.read_pair-sw.ensures.parts c.read_pair-nw.ensures.grows c.read_pair-sw.ensures.grows (block_of known sq c.requires.known.known) in
     subst (λ (s : Sq). AreQuarters book sq.level plane (s ∷ c.square-2.result ∷ c.square-3.result ∷ c.square-4.result ∷ [])) (sym c.square.ensures)
