@@ -13,6 +13,7 @@ use Rattle.rule_text.specs.CountRule.{IsRule}
 use Rattle.squares.specs.declared.sq.Sq.{Sq}
 use Rattle.squares.specs.Book.{Book, IsBook, IsEmpty, IsKnown, Shows, Keeps, numbered}
 use Rattle.table_core.specs.declared.key.Key.{Key}
+use Rattle.table_core.specs.declared.knowledge.KnownBlock.{KnownBlock}
 use Rattle.table_core.specs.declared.knowledge.KnownResult.{KnownResult}
 use Rattle.table_core.specs.declared.knowledge.Knowledge.{Knowledge}
 use Rattle.table_core.specs.declared.shape.Kind.TheVariants.{Pair}
@@ -22,7 +23,7 @@ use Rattle.table_core.specs.Knowledge.{KnowsBlock, KnowsSquareOf, IsConsistent, 
 use Rattle.table_core.specs.FullShards.{KnowsFullShard, knows_full_shard}
 use Rattle.table_core.proofs.Claims.{same_or_other}
 use Rattle.table_core.proofs.FullShards.{full_later, full_shard_is_seen}
-use Rattle.table_core.proofs.Knowing.{knows_same, knows_grown}
+use Rattle.table_core.proofs.Knowing.{knows_same, knows_more}
 use Rattle.table_core.proofs.Lists.{all_contains, contains_here}
 use Rattle.table_core.proofs.Results.{one_place}
 use Rattle.node_table.specs.Books.{knows_in, cells_in, square_of, book_of, IsCoherent, IsSoundFor}
@@ -135,23 +136,29 @@ is_book store key known rule h = record {
 pub sound_for : (key : Key) (known : Knowledge) → IsRule key.rule → IsCoherent key.shape.bits known → IsSoundFor key known
 sound_for key known rule h = record { book = λ store. is_book store key known rule h; coherent = ∣ h ∣₁ }
 
--- a book keeps all while its desk learns
-pub grows_keeps : (store : List ℕ) (key : Key) (old new : Knowledge) → ∥ IsCoherent key.shape.bits new ∥₁ → Grows old new → Keeps (book_of store key old) (book_of store key new)
-grows_keeps store key old new h grows = record {
+-- a book keeps all that another desk, or the same one before, knew: the words, the blocks and the squares whose results are known
+pub covers_keeps : (store : List ℕ) (key : Key) (old new : Knowledge) → ∥ IsCoherent key.shape.bits new ∥₁ →
+    ((entry : ℕ × ℕ) → Contains old.words entry → Contains new.words entry) → ((entry : KnownBlock) → Contains old.blocks entry → Contains new.blocks entry) →
+    ((sq : Sq) → Contains (map square_of old.results) sq → Contains (map square_of new.results) sq) → Keeps (book_of store key old) (book_of store key new)
+covers_keeps store key old new h words blocks results = record {
   rule = refl;
   exponent = refl;
   known = λ sq s. let l = known_level old sq s in
-      square_known new sq (cells_in old sq) l.0 l.1 (knows_grown old new (square_rank sq.level) sq.num.0 (cells_in old sq) grows (block_of old sq s));
+      square_known new sq (cells_in old sq) l.0 l.1 (knows_more old new (square_rank sq.level) sq.num.0 (cells_in old sq) blocks (block_of old sq s));
   cells = λ sq s. let l = known_level old sq s in
-      let knows = knows_grown old new (square_rank sq.level) sq.num.0 (cells_in old sq) grows (block_of old sq s) in
+      let knows = knows_more old new (square_rank sq.level) sq.num.0 (cells_in old sq) blocks (block_of old sq s) in
       alike key.shape.bits new (square_rank sq.level) sq.num.0 (cells_in new sq) (cells_in old sq) h (block_of new sq (square_known new sq (cells_in old sq) l.0 l.1 knows)) knows;
-  results = λ sq s.
-      let t = result_there old.results sq s in
-      subst (Contains (map square_of new.results)) t.2 (there_result new.results t.0 (grows.results t.0 t.1));
+  results = results;
   full = λ s.
       let seen = full_shard_is_seen key.shape.bits old key.shape.range.0 in
       let now = full_shard_is_seen key.shape.bits new key.shape.range.0 in
-      now.1 (full_later key.shape.bits old new grows.words (seen.0 s));
+      now.1 (full_later key.shape.bits old new words (seen.0 s));
   memory = refl;
   store = refl;
 }
+
+-- a book keeps all while its desk learns
+pub grows_keeps : (store : List ℕ) (key : Key) (old new : Knowledge) → ∥ IsCoherent key.shape.bits new ∥₁ → Grows old new → Keeps (book_of store key old) (book_of store key new)
+grows_keeps store key old new h grows = covers_keeps store key old new h grows.words grows.blocks (λ sq s.
+    let t = result_there old.results sq s in
+    subst (Contains (map square_of new.results)) t.2 (there_result new.results t.0 (grows.results t.0 t.1)))

@@ -5,3 +5,5 @@ pub mod Searching
 pub mod Desks
 pub mod TwoBlocks
 pub mod Telling
+pub mod Joining
+pub mod Leaving

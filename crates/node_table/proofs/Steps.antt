@@ -13,6 +13,8 @@ use Rattle.table_core.specs.declared.key.Key.{Key}
 use Rattle.table_core.specs.declared.knowledge.Knowledge.{Knowledge}
 use Rattle.table_core.specs.declared.machine.Event.{Event}
 use Rattle.table_core.specs.Blocks.{Words, IsBlock, cells_of}
+use Rattle.rule_text.specs.CountRule.{IsRule}
+use Rattle.table_core.specs.Layout.{size}
 use Rattle.table_core.specs.Good.{IsGood, AreGoodWords, KeepsWords}
 use Rattle.table_core.specs.Knowledge.{IsTrueOf, KnowsBlock, nothing, united}
 use Rattle.table_core.specs.Events.{index_of, word_after, words_after}
@@ -92,3 +94,27 @@ pub sound_after : {S : Type 0} (key : Key) (event : Event) (before after : Me S 
     Met key event before word after → IsSound after.0
 sound_after {S} key event before after word present sound met k e =
     subst (λ (a : Key). IsSoundFor a after.0.known) (same_key key k (sym present ∙ sym met.same_key ∙ e)) (sound_for key after.0.known ((sound key present).book []).rule met.coherent)
+
+pub splits : {S : Type 0} (still : Still) (id : ℕ) (v : View) → Splits (Holds {S = S} still) id v v v
+splits still id v s h at =
+    let one = all_at _ s.views id v h.views at in
+    record { words = h.words; views = all_append _ (slice_set s.views id v) (v ∷ []) (all_set _ s.views id v h.views one) (one, tt) }
+
+pub joins : {S : Type 0} (still : Still) (id other : ℕ) (v w : View) → Joins (Holds {S = S} still) id v other w (merged v w) spent
+joins still id other v w s h at apart at_other =
+    let first : IsTrueView still.key s.words v = all_at _ s.views id v h.views at in
+    let whose = ⊎_elim {C = get_elem? s.views other ≡ core.some w} (λ t. absurd (apart t.0)) (λ t. t.1) (at_set s.views id other (merged v w) w at_other) in
+    let second : IsTrueView still.key s.words w = all_at _ s.views other w h.views whose in
+    let both : IsTrueView still.key s.words (merged v w) = record { tied = first.tied; known = united_true still.key.shape.bits (slice_index s.words) v.known w.known first.known second.known } in
+    record {
+      words = h.words;
+      views = all_set _ (slice_set s.views id (merged v w)) other spent (all_set _ s.views id (merged v w) h.views both)
+          (record { tied = tt; known = nothing_true still.key.shape.bits (slice_index s.words) });
+    }
+
+pub sound_by : (key : Key) (view : View) → IsRule key.rule → IsCoherent key.shape.bits view.known → view.key ≡ Some key → IsSound view
+sound_by key view rule coherent present k e =
+    subst (λ (a : Key). IsSoundFor a view.known) (same_key key k (sym present ∙ e)) (sound_for key view.known rule coherent)
+
+pub some_words : (bits words : ℕ) → words ≡ size bits → 0 < words
+some_words bits words e = omega arith

@@ -37,7 +37,7 @@ found_step x xs square true e f h = (x, contains_here x xs, eqb-true x.square sq
 found_step x xs square false e f h = let t = f h in (t.0, Contains-append_right (x ∷ []) xs t.0 t.1, t.2)
 
 -- a square that has a result has an entry
-found_result : (results : List KnownResult) (square : ℕ) → has_result results square ≡ true →
+pub found_result : (results : List KnownResult) (square : ℕ) → has_result results square ≡ true →
     (r : KnownResult) × Contains results r × (r.square ≡ square)
 found_result [] square h = absurd (false≢true h)
 found_result (x ∷ xs) square h = found_step x xs square (x.square == square) refl (found_result xs square) h
@@ -63,7 +63,7 @@ level_prop : (a b : ℕ) → IsProp (a ≡ b)
 level_prop a b = hlevel props
 
 -- results of one square are of one level
-same_level : (bits : ℕ) (known : Knowledge) (result : KnownResult) (level : ℕ) (plane : Plane) → ∥ IsCoherent bits known ∥₁ → 3 < level → Contains known.results result →
+pub same_level : (bits : ℕ) (known : Knowledge) (result : KnownResult) (level : ℕ) (plane : Plane) → ∥ IsCoherent bits known ∥₁ → 3 < level → Contains known.results result →
     KnowsBlock known (square_rank level) result.square plane → result.level ≡ level
 same_level bits known result level plane h above has knows = ∥∥₁_elim h (level_prop result.level level) (λ t.
     let r = all_contains (λ (q : KnownResult). (3 < q.level) × (q.square ≢ 0) × KnowsSquareOf known q) known.results result t.consistent.results has in
@@ -79,7 +79,7 @@ told_with old result live count had e = record {
   learned = ap (λ b. old.learned + cond b 0 count) e;
 }
 
-sq_equal : (a b : Sq) → a.level ≡ b.level → a.num.0 ≡ b.num.0 → a ≡ b
+pub sq_equal : (a b : Sq) → a.level ≡ b.level → a.num.0 ≡ b.num.0 → a ≡ b
 sq_equal a b e n = λ i. record { level = e i; num = record { 0 = n i } }
 
 module _ (store : List ℕ) (key : Key) (old new : Knowledge) (sq : Sq) (index word count : ℕ) (plane : Plane) (slot : IsSlot key.shape.bits Pair sq.num.0) (beside : index ≡ result_of key.shape.bits sq.num.0) (above : 3 < sq.level) (knows : KnowsBlock old (square_rank sq.level) sq.num.0 plane) where

@@ -26,3 +26,11 @@ book_at table desk = book_of (store_of table) table.key desk.seat.me.0.known
 pub record Returns (book : Book) (desk : Desk) : Type 0 where
   pub returns : (table : NodeTable) (first : Desk) → Keeps (book_at table first) book →
       IsDeskOf table desk × (book_at table desk ≡ book)
+
+-- what a desk knows is the same, of whichever table it is
+pub record IsSameDesk (old new : Desk) : Type 0 where
+  pub same_table : (table : NodeTable) → IsDeskOf table old → IsDeskOf table new
+  pub same_book : (table : NodeTable) → book_at table new ≡ book_at table old
+
+abbrev pub expansions_of : Desk → ℕ
+expansions_of desk = desk.expansions

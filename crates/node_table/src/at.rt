@@ -27,6 +27,18 @@ fn square(level: u8, number: u32) -> Sq
     }
 }
 
+impl At<'_> {
+    ghost use Rattle.node_table.specs.Desks.{Returns};
+
+    /// The desk again, with all that it knows.
+    pub fn leave(self) -> Desk
+        ensures { Returns (⟦<At<'static> as Squares>⟧.book self.entry) result }
+    {
+        let At { table: _, desk } = self;
+        desk
+    }
+}
+
 impl Squares for At<'_> {
     ghost book = { λ s. book_at s.table.now s.desk };
 

@@ -1,4 +1,4 @@
-ghost use Rattle.std.specs.Prelude.{◌≡◌, ◌<◌, ◌==◌, if◌then◌else◌, ◌+◌, ◌^◌, []};
+ghost use Rattle.std.specs.Prelude.{◌≡◌, ◌<◌, ◌==◌, if◌then◌else◌, ◌+◌, ◌^◌, [], min};
 ghost use Rattle.table_core.specs.declared.machine.Event.TheVariants.{Look, Claim, Ask, Tell};
 ghost use Rattle.table_core.specs.Lawful.{IsLawful};
 ghost use Rattle.node_table.specs.Books.{IsSound};
@@ -7,19 +7,36 @@ use crate::rules::{Asks, Claims, Looks, Tells};
 use crate::table::NodeTable;
 use crate::view::View;
 use atomic_table::Seat;
+use hashlife_step::Tally;
 use table_core::result_word;
 
 /// What a thread has seen of a table.
 #[derive(Drop)]
 pub struct Desk {
     pub(crate) seat: Seat<(), View>,
+    pub(crate) expansions: u64,
     ghost free: { seat.me.1 ≡ [] },
     ghost sound: { IsSound seat.me.0 },
 }
 
 impl Desk {
     ghost use Rattle.node_table.specs.Rule.{Met};
-    ghost use Rattle.node_table.specs.Desks.{IsDeskOf};
+    ghost use Rattle.node_table.specs.Desks.{IsDeskOf, IsSameDesk, expansions_of};
+
+    /// Adds a tally to the desk's number of expansions. A number that is full stays.
+    pub fn count(&mut self, tally: &Tally)
+        ensures expansions { expansions_of self.new ≡ min u64.MAX (expansions_of self.old + tally.now.expansions) }
+        ensures desk { IsSameDesk self.old self.new }
+    {
+        self.expansions = self.expansions.saturating_add(tally.expansions);
+    }
+
+    /// How many expansions were counted for this desk.
+    pub fn expansions(&self) -> u64
+        ensures { result ≡ expansions_of self.now }
+    {
+        self.expansions
+    }
 
     // Loads the word of a leaf or a pair.
     pub(crate) fn look(&mut self, table: &NodeTable, index: u32) -> u64

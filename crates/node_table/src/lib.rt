@@ -12,7 +12,7 @@ mod view;
 
 pub use at::At;
 pub use desk::Desk;
-pub use rules::{Asks, Claims, Looks, Tells, Words};
+pub use rules::{Asks, Claims, Looks, Tells, Twins, Union, Words};
 pub use still::Still;
 pub use table::NodeTable;
 pub use view::View;

@@ -1,8 +1,8 @@
-ghost use Rattle.node_table.specs.Rule.{Holds, opened, LooksThere, ClaimsThere, AsksThere, TellsThere};
+ghost use Rattle.node_table.specs.Rule.{Holds, opened, LooksThere, ClaimsThere, AsksThere, TellsThere, merged, spent};
 
 use crate::still::Still;
 use crate::view::View;
-use atomic_table::{Play, TableRule};
+use atomic_table::{Join, Play, Split, TableRule};
 
 /// The rule of the words, between any two steps: they are good, and what each desk knows is true.
 pub struct Words;
@@ -39,4 +39,22 @@ pub struct Tells;
 
 impl Play<(), View> for Tells {
     ghost then = { TellsThere };
+}
+
+/// Both desks know what the one knew.
+pub struct Twins;
+
+impl Split<View> for Twins {
+    ghost left = { λ view. view };
+
+    ghost right = { λ view. view };
+}
+
+/// The one desk knows what either knew.
+pub struct Union;
+
+impl Join<View> for Union {
+    ghost both = { merged };
+
+    ghost spent = { spent };
 }
