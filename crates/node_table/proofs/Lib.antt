@@ -7,3 +7,7 @@ pub mod TwoBlocks
 pub mod Telling
 pub mod Joining
 pub mod Leaving
+pub mod Vacant
+pub mod Ranks
+pub mod Reopening
+pub mod Openings

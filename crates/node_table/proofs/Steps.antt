@@ -30,7 +30,7 @@ use Rattle.node_table.specs.Books.{IsCoherent, IsSound, IsSoundFor}
 use Rattle.node_table.specs.Rule.{IsTrueView, Holds, with_known, Met, HasMet, merged, spent}
 use Rattle.node_table.proofs.Books.{sound_for}
 
-all_at : {X : Type 0} (P : X → Type 0) (xs : List X) (i : ℕ) (a : X) → AllByRecursion P xs → get_elem? xs i ≡ core.some a → P a
+pub all_at : {X : Type 0} (P : X → Type 0) (xs : List X) (i : ℕ) (a : X) → AllByRecursion P xs → get_elem? xs i ≡ core.some a → P a
 all_at P [] i a all e = let no : ⊥ = cc in absurd no
 all_at P (x ∷ xs) zero a all e = let same : x ≡ a = cc in subst P same all.0
 all_at P (x ∷ xs) (suc i) a all e = all_at P xs i a all.1 e

@@ -3,3 +3,5 @@ pub mod Desks
 pub mod GoodWords
 pub mod Numbers
 pub mod Rule
+pub mod Stills
+pub mod Openings
