@@ -8,6 +8,8 @@ mod rules;
 mod search;
 mod still;
 mod table;
+#[cfg(test)]
+mod tests;
 mod view;
 
 pub use at::At;
