@@ -11,3 +11,4 @@ pub mod Vacant
 pub mod Ranks
 pub mod Reopening
 pub mod Openings
+pub mod Everything

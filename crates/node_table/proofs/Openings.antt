@@ -5,14 +5,14 @@ use Rattle.std.proofs.lemmas.List.{same_lists, get_or-set_same, get_or-set_other
 use Rattle.table_core.proofs.Claims.{same_or_other}
 use mathlib.Core.Option as core
 use lib.ListN.{get_elem?}
-use Rattle.atomic_table.specs.Table.{State, Final, Seen}
+use Rattle.atomic_table.specs.Table.{State, Final, Seen, opening}
 use Rattle.rule_text.specs.CountRule.{IsRule}
 use Rattle.table_core.specs.declared.key.Key.{Key}
 use Rattle.table_core.specs.declared.knowledge.Knowledge.{Knowledge}
 use Rattle.table_core.specs.Good.{AreGoodWords}
 use Rattle.table_core.specs.Knowledge.{IsTrueOf}
 use Rattle.table_core.specs.Laws.{KnowsAll}
-use Rattle.table_core.proofs.Everything.{good_words_can_be_known}
+use Rattle.node_table.specs.GoodWords.{all_known}
 use Rattle.node_table.specs.declared.still.Still.{Still}
 use Rattle.node_table.specs.declared.view.View.{View}
 use Rattle.node_table.specs.Books.{IsSound, IsCoherent}
@@ -21,7 +21,7 @@ use Rattle.node_table.specs.Stills.{words_of}
 use Rattle.node_table.proofs.Steps.{all_at, is_coherent, sound_by}
 
 pub everything_known : (still : Still) → KnowsAll still.key.shape.bits (words_of still) (everything still)
-everything_known still = (good_words_can_be_known still.key (slice_index still.words.items) still.good.good).1
+everything_known still = all_known still.key still.words.items still.good
 
 pub everything_coherent : (still : Still) → IsCoherent still.key.shape.bits (everything still)
 everything_coherent still = is_coherent still.key (words_of still) (everything still) still.good.good (everything_known still).true_of
@@ -59,3 +59,8 @@ copied_on xs ys n v inside each is i less = ⊎_elim
     (λ e. ap (slice_index (slice_set xs n v)) e ∙ get_or-set_same xs n v 0 inside ∙ sym is ∙ ap (slice_index ys) (sym e))
     (λ other. get_or-set_other xs n i v 0 other ∙ each i (omega arith))
     (same_or_other i n)
+
+-- the rule holds of the words of a table that is opened
+pub opening_holds : {S : Type 0} (still : Still) (words : List ℕ) → words ≡ still.words.items → Holds {S = S} still (opening words [] (opened still))
+opening_holds {S} still words e = subst (λ (ws : List ℕ). Holds {S = S} still (opening ws [] (opened still))) (sym e)
+    (record { words = still.good; views = (record { tied = refl; known = (everything_known still).true_of }, tt) })

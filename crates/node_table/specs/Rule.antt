@@ -12,7 +12,7 @@ use Rattle.table_core.specs.Good.{AreGoodWords}
 use Rattle.table_core.specs.Knowledge.{IsTrueOf, KnowsBlock, Grows, united, nothing}
 use Rattle.table_core.specs.Learning.{Learns}
 use Rattle.table_core.specs.Events.{index_of, word_after}
-use Rattle.table_core.proofs.Everything.{good_words_can_be_known}
+use Rattle.node_table.specs.GoodWords.{all_of}
 use Rattle.node_table.specs.declared.still.Still.{Still}
 use Rattle.node_table.specs.declared.view.View.{View}
 use Rattle.node_table.specs.Books.{IsCoherent}
@@ -29,7 +29,7 @@ pub record Holds {S : Type 0} (still : Still) (state : State S View) : Type 0 wh
 
 -- all that the words say
 abbrev pub everything : Still → Knowledge
-everything still = (good_words_can_be_known still.key (slice_index still.words.items) still.good.good).0
+everything still = all_of still.key still.words.items still.good
 
 abbrev pub opened : Still → View
 opened still = record { key = Some still.key; known = everything still }

@@ -1,5 +1,5 @@
 -- Words in one owner's hands.
-use Rattle.std.specs.Prelude.{◌≡◌, ◌≢◌, ℕ, ◌^◌, ◌<◌, ◌≤◌, ◌↔◌, Bool, IsTrue, slice_index}
+use Rattle.std.specs.Prelude.{◌≡◌, ◌≢◌, ℕ, ◌^◌, ◌<◌, ◌≤◌, ◌↔◌, Bool, IsTrue, [], slice_index}
 use Rattle.table_core.specs.declared.key.Key.{Key}
 use Rattle.table_core.specs.declared.shape.Kind.TheVariants.{Pair}
 use Rattle.table_core.specs.Blocks.{Words, IsBlock, square_rank, largest_rank}
@@ -7,10 +7,17 @@ use Rattle.table_core.specs.Knowledge.{IsTrueOf}
 use Rattle.table_core.specs.Laws.{KnowsAll}
 use Rattle.table_core.specs.Opening.{IsFresh, KeepsResult, Reopens, AreOpening}
 use Rattle.rule_text.specs.CountRule.{CountRule}
+use Rattle.squares.specs.Book.{Book}
+use Rattle.node_table.specs.Books.{book_of}
+use Rattle.node_table.specs.GoodWords.{all_of}
 use Rattle.node_table.specs.declared.still.Still.{Still}
 
 abbrev pub words_of : Still → Words
 words_of still = slice_index still.words.items
+
+-- what the words show, as a book
+abbrev pub book_in : Still → Book
+book_in still = book_of [] still.key (all_of still.key still.words.items still.good)
 
 -- a table of so many pair slots without a square
 pub record IsVacant (still : Still) (pairs : ℕ) : Type 0 where

@@ -18,7 +18,7 @@ pub struct At<'t> {
     ghost of_table: { IsDeskOf table.now desk },
 }
 
-fn square(level: u8, number: u32) -> Sq
+pub(crate) fn square(level: u8, number: u32) -> Sq
     ensures { result ≡ numbered level number }
 {
     Sq {

@@ -3,6 +3,7 @@
 
 mod at;
 mod desk;
+mod look;
 mod pairs;
 mod rules;
 mod search;

@@ -1,7 +1,9 @@
-ghost use Rattle.std.specs.Prelude.{◌≡◌, ◌<◌, IfOk, IsOkUnless};
+ghost use Rattle.std.specs.Prelude.{◌≡◌, ◌<◌, [], IfOk, IsOkUnless};
 ghost use Rattle.table_core.specs.Good.{AreGoodWords};
 ghost use Rattle.table_core.specs.Sizes.{IsPairCount};
-ghost use Rattle.node_table.specs.GoodWords.{good_prop};
+ghost use Rattle.squares.specs.Book.{IsBook};
+ghost use Rattle.node_table.specs.Books.{book_of};
+ghost use Rattle.node_table.specs.GoodWords.{all_of, good_prop};
 
 use plane::Refusal;
 use rule_text::Rule;
@@ -14,6 +16,7 @@ pub struct Still {
     pub(crate) key: Key,
     pub(crate) words: Vec<u64>,
     ghost good: { AreGoodWords key words.items } by { good_prop key words.items },
+    ghost is_book: { IsBook (book_of [] key (all_of key words.items good)) },
 }
 
 // More than the ranks of all squares and halves that a number may show.

@@ -1,4 +1,4 @@
-use Rattle.std.proofs.Common.{◌≡◌, ◌+◌, ◌^◌, ◌<◌, ◌≤◌, ◌∙◌, false, true, ap, sym, subst, arith, refl, length, List, ℕ, Vec, Global}
+use Rattle.std.proofs.Common.{◌≡◌, ◌+◌, ◌^◌, ◌<◌, ◌≤◌, ◌∙◌, false, true, ap, sym, subst, arith, refl, rules, length, List, ℕ, Vec, Global}
 use Rattle.std.specs.Prelude.{slice_set}
 use Rattle.table_core.specs.declared.key.Key.{Key}
 use Rattle.table_core.specs.declared.shape.Shape.{Shape}
@@ -7,6 +7,8 @@ use Rattle.table_core.specs.declared.shape.Kind.TheVariants.{Pair}
 use Rattle.table_core.specs.Good.{AreGoodWords}
 use Rattle.table_core.proofs.Lists.{length_set}
 use Rattle.table_core.proofs.Reopenings.{every_reopening}
+use Rattle.rule_text.specs.CountRule.{IsRule}
+use Rattle.node_table.proofs.Everything.{all_book}
 use Rattle.node_table.specs.Stills.{KeepsAtRank, words_of}
 use Rattle.node_table.proofs.Reopening.{IsThrough, through_kept, through_gone, through_all}
 use Rattle.node_table.proofs.still.Still.reopened.Goals.{then-not-keeps_result, else-not-keeps_result}
@@ -34,12 +36,12 @@ pub invariant_of-result : goal.invariant_of-result
 invariant_of-result c =
     let was = c.args.self.now in
     let reopens = through_all was c.args.key c.loop-slot.words.items c.loop-slot.slot (let far = c.loop-slot-test.false in let count = c.slot_count-slot-end.ensures in omega arith) c.requires c.loop-slot.invariant in
-    record {
-      good = record {
-        long = c.loop-slot.invariant.long ∙ ap (λ (s : Shape). size s.bits) (sym c.requires);
-        good = (every_reopening was.key c.args.key (words_of was) _ was.good.good reopens).good;
-      };
-    }
+    let good : AreGoodWords c.args.key c.loop-slot.words.items = record {
+      long = c.loop-slot.invariant.long ∙ ap (λ (s : Shape). size s.bits) (sym c.requires);
+      good = (every_reopening was.key c.args.key (words_of was) _ was.good.good reopens).good;
+    } in
+    let rule : IsRule c.args.key.rule = search rules in
+    record { good = good; is_book = all_book c.args.key c.loop-slot.words.items good rule }
 
 pub returns : goal.returns
 returns c = record {

@@ -6,6 +6,8 @@ use Rattle.table_core.specs.Good.{AreGoodWords}
 use Rattle.table_core.specs.Knowledge.{IsTrueOf}
 use Rattle.table_core.specs.Layout.{size}
 use Rattle.table_core.proofs.Lists.{length_set}
+use Rattle.node_table.specs.Desks.{store_of}
+use Rattle.node_table.proofs.Everything.{all_book}
 use Rattle.node_table.proofs.Openings.{copied, copied_on, get_is, closed_good, closed_true}
 use Rattle.node_table.proofs.table.NodeTable.close.Goals as goal
 
@@ -33,9 +35,8 @@ invariant_of-result c =
     let end : size t.key.shape.bits ≤ c.loop-index.index = let far = c.loop-index-test.false in let count = c.len-index-end.ensures in let room = t.room_for_all in omega arith in
     let same : words ≡ slots_items closed = copied words (slots_items closed) (size t.key.shape.bits) c.loop-index.invariant.long whole (λ i less. c.loop-index.invariant.copied i (omega arith)) in
     let good = closed_good t.table.shared.key c.args.desk.seat.id c.args.desk.seat.me.0 (slots_items closed) _ c.close_with-closed.ensures.values.2 in
-    record {
-      good = subst (λ (ws : List ℕ). AreGoodWords t.key ws) (sym same) (subst (λ (k : Key). AreGoodWords k (slots_items closed)) t.same_key good);
-    }
+    let now : AreGoodWords t.key words = subst (λ (ws : List ℕ). AreGoodWords t.key ws) (sym same) (subst (λ (k : Key). AreGoodWords k (slots_items closed)) t.same_key good) in
+    record { good = now; is_book = all_book t.key words now ((c.args.desk.sound t.key c.requires.same_key).book (store_of t)).rule }
 
 pub returns : goal.returns
 returns c =

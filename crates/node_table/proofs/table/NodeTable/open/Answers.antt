@@ -9,7 +9,7 @@ use Rattle.table_core.proofs.Reopenings.{every_reopening}
 use Rattle.node_table.specs.declared.view.View.{View}
 use Rattle.node_table.specs.Books.{IsSound}
 use Rattle.node_table.specs.Stills.{words_of}
-use Rattle.node_table.proofs.Openings.{everything_known, opened_sound}
+use Rattle.node_table.proofs.Openings.{everything_known, opened_sound, opening_holds}
 use Rattle.node_table.proofs.table.NodeTable.open.Goals as goal
 
 pub invariant_of-result-2 : goal.invariant_of-result-2
@@ -37,3 +37,6 @@ returns-clause-ok c =
       known = subst (λ (k : Knowledge). KnowsAll still.key.shape.bits (words_of still) k) (sym (ap (λ me. me.0.known) told.4)) (everything_known still);
       no_expansions = refl;
     }
+
+pub of_words-requires : goal.of_words-requires
+of_words-requires c = opening_holds c.in-Ok.reopened c.as_slice.result.now c.as_slice.ensures.value
