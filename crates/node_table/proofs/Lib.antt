@@ -12,3 +12,4 @@ pub mod Ranks
 pub mod Reopening
 pub mod Openings
 pub mod Everything
+pub mod Closing

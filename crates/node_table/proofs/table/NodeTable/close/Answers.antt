@@ -7,6 +7,7 @@ use Rattle.table_core.specs.Knowledge.{IsTrueOf}
 use Rattle.table_core.specs.Layout.{size}
 use Rattle.table_core.proofs.Lists.{length_set}
 use Rattle.node_table.specs.Desks.{store_of}
+use Rattle.node_table.proofs.Closing.{says_all}
 use Rattle.node_table.proofs.Everything.{all_book}
 use Rattle.node_table.proofs.Openings.{copied, copied_on, get_is, closed_good, closed_true}
 use Rattle.node_table.proofs.table.NodeTable.close.Goals as goal
@@ -49,7 +50,5 @@ returns c =
     let end : size t.key.shape.bits ≤ c.loop-index.index = let far = c.loop-index-test.false in let count = c.len-index-end.ensures in let room = t.room_for_all in omega arith in
     let same : words ≡ slots_items closed = copied words (slots_items closed) (size t.key.shape.bits) c.loop-index.invariant.long whole (λ i less. c.loop-index.invariant.copied i (omega arith)) in
     let is_true = closed_true t.table.shared.key c.args.desk.seat.id c.args.desk.seat.me.0 (slots_items closed) _ c.close_with-closed.ensures.values.2 in
-    record {
-      same_key = refl;
-      known = subst (λ (ws : List ℕ). IsTrueOf t.key.shape.bits (slice_index ws) known) (sym same) (subst (λ (k : Key). IsTrueOf k.shape.bits (slice_index (slots_items closed)) known) t.same_key is_true);
-    }
+    let now = subst (λ (ws : List ℕ). IsTrueOf t.key.shape.bits (slice_index ws) known) (sym same) (subst (λ (k : Key). IsTrueOf k.shape.bits (slice_index (slots_items closed)) known) t.same_key is_true) in
+    record { same_key = refl; known = now; says = says_all (store_of t) t.key words _ known now }
