@@ -1,7 +1,6 @@
 -- What a desk knows is a book, which keeps what it knows while the desk learns.
-use Rattle.std.proofs.Common.{◌≡◌, ◌≢◌, ℕ, zero, suc, ◌+◌, ◌-◌, ◌*◌, ◌/◌, ◌^◌, ◌<◌, ◌≤◌, ◌⊎◌, ℤ, Bool, true, false, cond, eqb, List, [], ◌∷◌, map, length, sym, ◌∙◌, ap, subst, arith, refl, inl, inr, ⊎_elim}
-use Rattle.std.specs.Prelude.{IsTrue, ◌==◌, ◌&&◌, Contains, slice_get, slice_index_or, Some}
-use Rattle.std.specs.List.{AllByRecursion}
+use Rattle.std.proofs.Common.{◌≡◌, ◌≢◌, ℕ, zero, suc, ◌+◌, ◌-◌, ◌/◌, ◌^◌, ◌<◌, ◌≤◌, ◌⊎◌, Bool, true, false, List, [], ◌∷◌, map, length, sym, ◌∙◌, ap, subst, arith, refl, inl, inr, ⊎_elim}
+use Rattle.std.specs.Prelude.{IsTrue, ◌&&◌, Contains, slice_get, slice_index_or, Some}
 use Rattle.std.proofs.Math.Logic.{∥∥₁_elim}
 use Rattle.std.proofs.Props.{props}
 use Rattle.std.proofs.lemmas.List.Elements.{Contains-append_right}
@@ -11,16 +10,13 @@ use Rattle.plane.specs.Block.{IsInside}
 use Rattle.plane.proofs.Same.{same_refl, same_sym, same_trans}
 use Rattle.rule_text.specs.CountRule.{IsRule}
 use Rattle.squares.specs.declared.sq.Sq.{Sq}
-use Rattle.squares.specs.Book.{Book, IsBook, IsEmpty, IsKnown, Shows, Keeps, numbered}
+use Rattle.squares.specs.Book.{IsBook, IsEmpty, Shows, Keeps, numbered}
 use Rattle.table_core.specs.declared.key.Key.{Key}
 use Rattle.table_core.specs.declared.knowledge.KnownBlock.{KnownBlock}
 use Rattle.table_core.specs.declared.knowledge.KnownResult.{KnownResult}
 use Rattle.table_core.specs.declared.knowledge.Knowledge.{Knowledge}
-use Rattle.table_core.specs.declared.shape.Kind.TheVariants.{Pair}
-use Rattle.table_core.specs.Layout.{IsSlot}
 use Rattle.table_core.specs.Blocks.{square_rank, largest_rank, width, height}
-use Rattle.table_core.specs.Knowledge.{KnowsBlock, KnowsSquareOf, IsConsistent, Grows}
-use Rattle.table_core.specs.FullShards.{KnowsFullShard, knows_full_shard}
+use Rattle.table_core.specs.Knowledge.{KnowsBlock, KnowsSquareOf, Grows}
 use Rattle.table_core.proofs.Claims.{same_or_other}
 use Rattle.table_core.proofs.FullShards.{full_later, full_shard_is_seen}
 use Rattle.table_core.proofs.Knowing.{knows_same, knows_more}

@@ -1,8 +1,6 @@
 -- Words say, as a book, all that is true of them.
-use Rattle.std.proofs.Common.{◌≡◌, ℕ, List, [], map, sym, subst, refl}
+use Rattle.std.proofs.Common.{ℕ, List, [], map, subst, refl}
 use Rattle.std.specs.Prelude.{IsTrue, Contains, slice_index}
-use Rattle.plane.specs.Plane.{Plane}
-use Rattle.plane.specs.Square.{IsSame}
 use Rattle.plane.proofs.Same.{same_trans}
 use Rattle.squares.specs.declared.sq.Sq.{Sq}
 use Rattle.table_core.specs.declared.key.Key.{Key}

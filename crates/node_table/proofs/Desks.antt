@@ -4,18 +4,17 @@ use Rattle.std.specs.Prelude.{IsTrue}
 use Rattle.std.proofs.Math.Logic.{∥∥₁_elim}
 use Rattle.std.proofs.Props.{props}
 use Rattle.plane.specs.Plane.{Plane}
-use Rattle.plane.specs.Square.{IsSame, empty, bits_plane}
-use Rattle.plane.proofs.Same.{same_refl, same_sym, same_trans, same_of, plane_equal}
+use Rattle.plane.specs.Square.{IsSame, bits_plane}
 use Rattle.squares.specs.declared.sq.Sq.{Sq}
-use Rattle.squares.specs.Book.{Keeps, KeepsResults, Shows}
+use Rattle.squares.specs.Book.{Keeps, KeepsResults}
 use Rattle.table_core.specs.declared.key.Key.{Key}
 use Rattle.table_core.specs.declared.knowledge.Knowledge.{Knowledge}
 use Rattle.table_core.specs.declared.shape.Kind.{Kind}
 use Rattle.table_core.specs.declared.shape.Kind.TheVariants.{Leaf, Pair}
 use Rattle.table_core.specs.Layout.{IsSlot, size, first_part, second_part, pair_of}
-use Rattle.table_core.specs.Blocks.{paired, square_rank, largest_rank}
+use Rattle.table_core.specs.Blocks.{square_rank, largest_rank}
 use Rattle.table_core.specs.Knowledge.{KnowsBlock, Grows}
-use Rattle.table_core.specs.Lawful.{KnowsBoth, KnowsParts}
+use Rattle.table_core.specs.Lawful.{KnowsParts}
 use Rattle.table_core.specs.Learning.{MeetsWord}
 use Rattle.table_core.specs.FullShards.{KnowsFullShard, knows_full_shard}
 use Rattle.table_core.proofs.Claims.{same_or_other}

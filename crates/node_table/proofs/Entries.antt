@@ -1,10 +1,10 @@
 -- Entries of what a desk knows, as squares of its book.
-use Rattle.std.proofs.Common.{◌≡◌, ◌≢◌, ℕ, zero, suc, ◌+◌, ◌-◌, ◌*◌, ◌^◌, ◌<◌, ◌≤◌, ◌⊎◌, Bool, true, false, cond, eqb, List, [], ◌∷◌, length, sym, ◌∙◌, ap, subst, arith, refl, inl, inr, ⊎_elim}
-use Rattle.std.specs.Prelude.{IsTrue, ◌==◌, ◌&&◌, nat_le, Contains, slice_index_or, Option, Some, None, is_some}
+use Rattle.std.proofs.Common.{◌≡◌, ℕ, zero, suc, ◌<◌, ◌≤◌, Bool, true, false, cond, List, [], ◌∷◌, length, ◌∙◌, ap, arith, refl, inl, inr, ⊎_elim}
+use Rattle.std.specs.Prelude.{IsTrue, ◌==◌, ◌&&◌, nat_le, slice_index_or, Option, Some, is_some}
 use Rattle.std.proofs.lemmas.Bool.{eqb-true, leb-true, le-leb, eq-eqb, false≢true}
 use Rattle.std.proofs.lemmas.List.Elements.{Contains-append_right}
 use Rattle.plane.specs.Plane.{Plane}
-use Rattle.plane.specs.Square.{IsSame, empty}
+use Rattle.plane.specs.Square.{empty}
 use Rattle.plane.specs.Listing.{plane_of}
 use Rattle.plane.proofs.Same.{same_refl}
 use Rattle.plane.proofs.Cuts.{and_left, and_right}

@@ -1,5 +1,5 @@
 -- A desk that kept its book is one of the table where it began.
-use Rattle.std.proofs.Common.{◌≡◌, ℕ, ◌≤◌, List, [], ◌∷◌, drop, sym, ◌∙◌, ap, Some}
+use Rattle.std.proofs.Common.{◌≡◌, ℕ, ◌≤◌, drop, sym, ◌∙◌, ap, Some}
 use Rattle.std.specs.Prelude.{slice_index}
 use Rattle.std.proofs.Props.{props}
 use mathlib.Core.HLevel.{Σ_prop_path}

@@ -5,10 +5,8 @@ use Rattle.std.proofs.lemmas.List.{same_lists, get_or-set_same, get_or-set_other
 use Rattle.table_core.proofs.Claims.{same_or_other}
 use mathlib.Core.Option as core
 use lib.ListN.{get_elem?}
-use Rattle.atomic_table.specs.Table.{State, Final, Seen, opening}
+use Rattle.atomic_table.specs.Table.{Final, Seen, opening}
 use Rattle.rule_text.specs.CountRule.{IsRule}
-use Rattle.table_core.specs.declared.key.Key.{Key}
-use Rattle.table_core.specs.declared.knowledge.Knowledge.{Knowledge}
 use Rattle.table_core.specs.Good.{AreGoodWords}
 use Rattle.table_core.specs.Knowledge.{IsTrueOf}
 use Rattle.table_core.specs.Laws.{KnowsAll}

@@ -1,9 +1,9 @@
 -- The rank of what a number shows, by the numbers of its parts.
-use Rattle.std.proofs.Common.{◌≡◌, ◌≢◌, ℕ, zero, suc, ◌+◌, ◌-◌, ◌*◌, ◌/◌, ◌^◌, ◌<◌, ◌≤◌, ◌⊎◌, Bool, true, false, cond, eqb, sym, ◌∙◌, ap, subst, arith, refl, inl, inr, ⊎_elim}
+use Rattle.std.proofs.Common.{◌≡◌, ◌≢◌, ℕ, zero, suc, ◌+◌, ◌-◌, ◌<◌, ◌≤◌, ◌⊎◌, cond, sym, ◌∙◌, ap, subst, arith, refl, ⊎_elim}
 use Rattle.std.specs.Prelude.{◌==◌}
 use Rattle.std.proofs.lemmas.Bool.{eq-eqb, ne_eqb}
 use Rattle.table_core.specs.declared.shape.Kind.TheVariants.{Leaf, Pair}
-use Rattle.table_core.specs.Layout.{IsSlot, start, size, first_part, second_part}
+use Rattle.table_core.specs.Layout.{start, size, first_part, second_part}
 use Rattle.table_core.specs.Blocks.{Words, IsBlock, largest_rank}
 use Rattle.table_core.proofs.Blocks.{parts_equal}
 use Rattle.table_core.proofs.Claims.{same_or_other}

@@ -1,14 +1,14 @@
 -- Words that are opened under another head, while their results are gone through.
-use Rattle.std.proofs.Common.{◌≡◌, ◌≢◌, ℕ, zero, suc, ◌+◌, ◌-◌, ◌^◌, ◌<◌, ◌≤◌, ◌⊎◌, Bool, true, false, List, length, sym, ◌∙◌, ap, subst, arith, refl, inl, inr, ⊎_elim}
+use Rattle.std.proofs.Common.{◌≡◌, ◌≢◌, ℕ, zero, suc, ◌+◌, ◌^◌, ◌<◌, ◌≤◌, Bool, true, false, List, length, sym, ◌∙◌, ap, subst, arith, refl, inl, inr, ⊎_elim}
 use Rattle.std.specs.Prelude.{IsTrue, slice_index, slice_set}
 use Rattle.std.proofs.lemmas.Bool.{false≢true}
 use Rattle.std.proofs.lemmas.List.{get_or-set_same, get_or-set_other}
 use Rattle.table_core.specs.declared.key.Key.{Key}
 use Rattle.table_core.specs.declared.shape.Kind.{Kind}
-use Rattle.table_core.specs.declared.shape.Kind.TheVariants.{Leaf, Pair}
+use Rattle.table_core.specs.declared.shape.Kind.TheVariants.{Pair}
 use Rattle.table_core.specs.Layout.{IsSlot, start, size, result_of}
-use Rattle.table_core.specs.Blocks.{Words, IsBlock, square_rank, largest_rank}
-use Rattle.table_core.specs.Good.{head, IsGood}
+use Rattle.table_core.specs.Blocks.{IsBlock, square_rank}
+use Rattle.table_core.specs.Good.{head}
 use Rattle.table_core.specs.Opening.{KeepsResult, StaysOrGoes, Reopens}
 use Rattle.table_core.proofs.Blocks.{one_rank}
 use Rattle.table_core.proofs.Claims.{same_or_other}

@@ -1,17 +1,14 @@
 -- A search along a word's way.
-use Rattle.std.proofs.Common.{◌≡◌, ◌≢◌, ℕ, zero, suc, ◌+◌, ◌-◌, ◌*◌, ◌^◌, ◌<◌, ◌≤◌, ◌⊎◌, Bool, true, false, cond, eqb, List, [], ◌∷◌, ◌++◌, length, sym, ◌∙◌, ap, subst, arith, refl, inl, inr, ⊎_elim}
-use Rattle.std.specs.Prelude.{◌==◌, Contains}
+use Rattle.std.proofs.Common.{◌≡◌, ◌≢◌, ℕ, ◌+◌, ◌^◌, ◌<◌, ◌≤◌, ◌⊎◌, cond, sym, ◌∙◌, ap, subst, arith, refl, ⊎_elim}
+use Rattle.std.specs.Prelude.{◌==◌}
 use Rattle.std.proofs.lemmas.Bool.{eq-eqb, ne_eqb}
-use Rattle.atomic_table.specs.Table.{Me}
 use Rattle.plane.specs.Plane.{Plane}
-use Rattle.plane.specs.Square.{bits_plane}
 use Rattle.table_core.specs.declared.key.Key.{Key}
 use Rattle.table_core.specs.declared.knowledge.Knowledge.{Knowledge}
 use Rattle.table_core.specs.declared.shape.Kind.{Kind}
 use Rattle.table_core.specs.declared.shape.Kind.TheVariants.{Leaf, Pair}
-use Rattle.table_core.specs.Layout.{IsSlot, way, size, first_part, second_part}
-use Rattle.table_core.specs.Blocks.{paired}
-use Rattle.table_core.specs.Knowledge.{HasSeen, KnowsBlock, Grows}
+use Rattle.table_core.specs.Layout.{IsSlot, way, first_part, second_part}
+use Rattle.table_core.specs.Knowledge.{HasSeen, Grows}
 use Rattle.table_core.specs.Lawful.{KnowsBoth, KnowsPartsFor, MayClaim}
 use Rattle.table_core.specs.Learning.{LearnsWord, MeetsWord}
 use Rattle.table_core.proofs.Claims.{same_or_other}

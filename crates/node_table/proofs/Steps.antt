@@ -1,22 +1,21 @@
 -- Each lawful event of a desk keeps the rule, and tells the desk what it learned.
-use Rattle.std.proofs.Common.{◌≡◌, ◌≢◌, ℕ, zero, suc, ◌+◌, ◌^◌, ◌<◌, List, [], ◌∷◌, length, sym, ◌∙◌, ap, subst, arith, refl, ⊎_elim}
-use Rattle.std.specs.Prelude.{IfSome, Option, Some, None, slice_index, slice_set}
+use Rattle.std.proofs.Common.{◌≡◌, ◌≢◌, ℕ, zero, suc, ◌<◌, List, [], ◌∷◌, sym, ◌∙◌, subst, arith, refl, ⊎_elim}
+use Rattle.std.specs.Prelude.{Some, slice_index, slice_set}
 use Rattle.std.specs.List.{AllByRecursion}
 use mathlib.Core.Option as core
 use lib.ListN.{get_elem?}
-use Rattle.atomic_table.specs.Table.{State, Me, Step, step, Allows, Splits, Joins, Act, keeps}
+use Rattle.atomic_table.specs.Table.{Me, Allows, Splits, Joins, keeps}
 use Rattle.atomic_table.proofs.Lists.{at_set}
-use Rattle.plane.specs.Plane.{Plane}
-use Rattle.plane.specs.Square.{IsSame, empty}
-use Rattle.plane.proofs.Same.{same_sym, same_trans, same_of}
+use Rattle.plane.specs.Square.{empty}
+use Rattle.plane.proofs.Same.{same_trans, same_of}
 use Rattle.table_core.specs.declared.key.Key.{Key}
 use Rattle.table_core.specs.declared.knowledge.Knowledge.{Knowledge}
 use Rattle.table_core.specs.declared.machine.Event.{Event}
 use Rattle.table_core.specs.Blocks.{Words, IsBlock, cells_of}
 use Rattle.rule_text.specs.CountRule.{IsRule}
 use Rattle.table_core.specs.Layout.{size}
-use Rattle.table_core.specs.Good.{IsGood, AreGoodWords, KeepsWords}
-use Rattle.table_core.specs.Knowledge.{IsTrueOf, KnowsBlock, nothing, united}
+use Rattle.table_core.specs.Good.{IsGood, KeepsWords}
+use Rattle.table_core.specs.Knowledge.{IsTrueOf}
 use Rattle.table_core.specs.Events.{index_of, word_after, words_after}
 use Rattle.table_core.specs.Lawful.{IsLawful}
 use Rattle.table_core.proofs.Blocks.{empty_cells}

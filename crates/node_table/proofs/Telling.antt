@@ -1,17 +1,16 @@
 -- What a result word tells a desk, as results of its book.
-use Rattle.std.proofs.Common.{◌≡◌, ◌≢◌, ℕ, zero, suc, ◌+◌, ◌-◌, ◌*◌, ◌%◌, ◌^◌, ◌<◌, ◌≤◌, ◌⊎◌, Bool, true, false, cond, List, [], ◌∷◌, ◌++◌, map, length, sym, ◌∙◌, ap, subst, arith, refl, inl, inr, ⊎_elim}
-use Rattle.std.specs.Prelude.{◌==◌, ◌||◌, ◌↔◌, Contains, slice_index_or}
+use Rattle.std.proofs.Common.{◌≡◌, ◌≢◌, ℕ, zero, suc, ◌+◌, ◌-◌, ◌^◌, ◌<◌, ◌≤◌, ◌⊎◌, Bool, true, false, cond, List, [], ◌∷◌, map, length, sym, ◌∙◌, ap, subst, arith, refl, inl, inr, ⊎_elim}
+use Rattle.std.specs.Prelude.{◌==◌, ◌||◌, Contains, slice_index_or}
 use Rattle.std.proofs.Math.Logic.{∥∥₁_elim}
 use Rattle.std.proofs.Props.{props}
 use Rattle.std.proofs.lemmas.Bool.{eqb-true, eq-eqb, false≢true}
 use Rattle.std.proofs.lemmas.List.Elements.{Contains-append_right}
 use Rattle.plane.specs.Plane.{Plane}
 use Rattle.plane.specs.Square.{IsSame, empty, future}
-use Rattle.plane.specs.Listing.{plane_of}
-use Rattle.plane.proofs.Same.{same_sym, same_trans, same_of, plane_equal}
+use Rattle.plane.proofs.Same.{same_sym, plane_equal}
 use Rattle.rule_text.specs.CountRule.{IsRule}
 use Rattle.squares.specs.declared.sq.Sq.{Sq}
-use Rattle.squares.specs.Book.{IsEmpty, IsFuture, Shows, HasResult, Keeps, KeepsResults, Gains, Learns, AddsResult, numbered}
+use Rattle.squares.specs.Book.{IsFuture, Shows, HasResult, Gains, Learns, AddsResult, numbered}
 use Rattle.squares.proofs.EmptyFutures.{future_empty}
 use Rattle.table_core.specs.declared.key.Key.{Key}
 use Rattle.table_core.specs.declared.knowledge.KnownBlock.{KnownBlock}
@@ -20,15 +19,13 @@ use Rattle.table_core.specs.declared.knowledge.Knowledge.{Knowledge}
 use Rattle.table_core.specs.declared.shape.Kind.TheVariants.{Pair}
 use Rattle.table_core.specs.Layout.{IsSlot, result_of, second_part}
 use Rattle.table_core.specs.Blocks.{square_rank}
-use Rattle.table_core.specs.Knowledge.{KnowsBlock, KnowsSquareOf, Grows, has_result, with_result}
+use Rattle.table_core.specs.Knowledge.{KnowsBlock, KnowsSquareOf, has_result}
 use Rattle.table_core.specs.Lawful.{MayAsk, MayTell}
 use Rattle.table_core.specs.Learning.{LearnsFuture, MeetsResult, with_future}
-use Rattle.table_core.proofs.Knowing.{knows_same}
 use Rattle.table_core.proofs.Lists.{all_contains, contains_here}
 use Rattle.table_core.proofs.Results.{one_level}
 use Rattle.node_table.specs.Books.{book_of, square_of, cells_in, IsCoherent}
-use Rattle.node_table.proofs.Books.{alike, shows_of, result_there, there_result, zero_is_empty}
-use Rattle.node_table.proofs.Entries.{block_of}
+use Rattle.node_table.proofs.Books.{shows_of, result_there, there_result, zero_is_empty}
 
 found_step : (x : KnownResult) (xs : List KnownResult) (square : ℕ) (b : Bool) → (x.square == square) ≡ b →
     (has_result xs square ≡ true → (r : KnownResult) × Contains xs r × (r.square ≡ square)) →

@@ -1,29 +1,27 @@
 -- Two blocks as one.
-use Rattle.std.proofs.Common.{◌≡◌, ◌≢◌, ℕ, zero, suc, ◌+◌, ◌-◌, ◌*◌, ◌/◌, ◌%◌, ◌^◌, ◌<◌, ◌≤◌, ◌⊎◌, pos, Bool, true, false, cond, sym, ◌∙◌, ap, subst, arith, refl, inl, inr, ⊎_elim}
+use Rattle.std.proofs.Common.{◌≡◌, ◌≢◌, ℕ, suc, ◌+◌, ◌-◌, ◌%◌, ◌^◌, ◌<◌, ◌≤◌, pos, Bool, true, false, cond, sym, subst, arith, refl, inl}
 use Rattle.std.specs.Prelude.{◌==◌, int_lt, List, [], ◌∷◌}
 use Rattle.plane.specs.Plane.{Plane}
 use Rattle.plane.specs.Square.{IsSame, IsSquare, empty, cut, joined}
 use Rattle.plane.specs.Block.{beside, below}
 use Rattle.plane.proofs.Cuts.{cut_same, joined_nw, joined_ne, joined_sw, joined_se}
-use Rattle.plane.proofs.Same.{same_refl, same_sym, same_trans, same_of, plane_equal}
+use Rattle.plane.proofs.Same.{same_refl, same_sym, same_trans, same_of}
 use Rattle.table_core.specs.declared.key.Key.{Key}
 use Rattle.table_core.specs.declared.knowledge.Knowledge.{Knowledge}
-use Rattle.table_core.specs.Layout.{first_part, second_part, pair_of}
-use Rattle.table_core.specs.Blocks.{paired, width, height, square_rank, largest_rank}
+use Rattle.table_core.specs.Layout.{first_part, second_part}
+use Rattle.table_core.specs.Blocks.{paired, width, height, square_rank}
 use Rattle.table_core.specs.Knowledge.{KnowsBlock, Grows}
-use Rattle.table_core.specs.Lawful.{KnowsBoth, KnowsParts}
 use Rattle.table_core.specs.Learning.{KnowsPartsOf, LearnsWord, MeetsWord}
 use Rattle.table_core.proofs.Blocks.{paired_same}
 use Rattle.table_core.proofs.Knowing.{knows_same, knows_grown}
 use Rattle.table_core.proofs.Quads.{next_rank, quarters_joined}
 use Rattle.node_table.specs.Books.{IsCoherent}
-use Rattle.node_table.specs.Numbers.{IsPair, ArePartsOf, KnowsPairOf, KnowsSomePair}
+use Rattle.node_table.specs.Numbers.{IsPair, ArePartsOf, KnowsPairOf}
 use Rattle.std.proofs.Math.Logic.{∥∥₁_elim}
 use Rattle.std.proofs.Props.{props}
-use Rattle.squares.specs.declared.sq.Sq.{Sq}
 use Rattle.squares.specs.Book.{AreQuarters, Shows, numbered}
 use Rattle.node_table.specs.Books.{book_of}
-use Rattle.node_table.proofs.Books.{alike, zero_is_empty, inside_square, shows_of}
+use Rattle.node_table.proofs.Books.{zero_is_empty, inside_square, shows_of}
 
 both_cases : {A : Type 0} (b : Bool) (u v w : A) → u ≡ w → v ≡ w → cond b u v ≡ w
 both_cases true u v w h k = h

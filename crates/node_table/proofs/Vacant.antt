@@ -1,5 +1,5 @@
 -- The words of a table without a square.
-use Rattle.std.proofs.Common.{◌≡◌, ℕ, zero, suc, ◌+◌, ◌*◌, ◌^◌, ◌<◌, ◌≤◌, List, [], ◌∷◌, length, sym, ◌∙◌, ap, subst, arith, refl, Ok}
+use Rattle.std.proofs.Common.{◌≡◌, ℕ, zero, suc, ◌+◌, ◌*◌, ◌^◌, ◌<◌, List, [], ◌∷◌, length, sym, ◌∙◌, ap, subst, arith, refl, Ok}
 use Rattle.std.specs.Prelude.{Result, replicate, slice_index}
 use Rattle.rule_text.specs.CountRule.{CountRule, IsRule, rising, counts}
 use Rattle.rule_text.specs.RuleCode.{code_of}

@@ -1,19 +1,19 @@
 -- Good words are good in one way only.
-use Rattle.std.specs.Prelude.{◌≡◌, ◌≢◌, ℕ, zero, suc, ◌+◌, ◌-◌, ◌^◌, ◌<◌, ◌≤◌, List, slice_index, length}
-use Rattle.std.proofs.Common.{sym, ◌∙◌, ap, subst, arith}
+use Rattle.std.specs.Prelude.{◌≡◌, ◌≢◌, ℕ, zero, suc, ◌+◌, ◌-◌, ◌^◌, ◌<◌, ◌≤◌, List, slice_index}
+use Rattle.std.proofs.Common.{sym, ◌∙◌, ap, arith}
 use Rattle.std.proofs.Props.{props}
 use mathlib.Core.HLevel.{Σ_prop_path, Π_prop}
 use Rattle.plane.specs.Plane.{Plane}
-use Rattle.plane.specs.Square.{IsSame, future}
+use Rattle.plane.specs.Square.{future}
 use Rattle.table_core.specs.declared.key.Key.{Key}
 use Rattle.table_core.specs.declared.knowledge.Knowledge.{Knowledge}
 use Rattle.table_core.specs.Laws.{KnowsAll}
 use Rattle.table_core.proofs.Everything.{good_words_can_be_known}
 use Rattle.table_core.specs.declared.shape.Kind.{Kind}
-use Rattle.table_core.specs.declared.shape.Kind.TheVariants.{Leaf, Pair}
-use Rattle.table_core.specs.Layout.{IsSlot, way, result_of, size, first_part, second_part}
+use Rattle.table_core.specs.declared.shape.Kind.TheVariants.{Pair}
+use Rattle.table_core.specs.Layout.{IsSlot, way, result_of, first_part, second_part}
 use Rattle.table_core.specs.Blocks.{Words, IsBlock, Shows, cells_of, square_rank, largest_rank}
-use Rattle.table_core.specs.Good.{IsOnWay, IsFutureOf, IsPairBlock, HasFuture, IsGood, AreGoodWords}
+use Rattle.table_core.specs.Good.{IsOnWay, IsFutureOf, IsPairBlock, HasFuture, AreGoodWords}
 use Rattle.table_core.proofs.Ways.{every_way, not_head}
 use Rattle.table_core.proofs.Blocks.{one_rank}
 use Rattle.table_core.proofs.Results.{one_level}

@@ -4,7 +4,6 @@ use Rattle.plane.specs.Square.{IsSame}
 use Rattle.squares.specs.declared.sq.Sq.{Sq}
 use Rattle.squares.specs.Book.{Book}
 use Rattle.rule_text.specs.CountRule.{CountRule}
-use Rattle.table_core.specs.declared.key.Key.{Key}
 use Rattle.table_core.specs.Knowledge.{IsTrueOf}
 use Rattle.table_core.specs.Laws.{KnowsAll}
 use Rattle.table_core.specs.Opening.{Reopens, AreOpening}

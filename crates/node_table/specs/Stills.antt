@@ -1,12 +1,8 @@
 -- Words in one owner's hands.
 use Rattle.std.specs.Prelude.{◌≡◌, ◌≢◌, ℕ, ◌^◌, ◌<◌, ◌≤◌, ◌↔◌, Bool, IsTrue, [], slice_index}
 use Rattle.table_core.specs.declared.key.Key.{Key}
-use Rattle.table_core.specs.declared.shape.Kind.TheVariants.{Pair}
 use Rattle.table_core.specs.Blocks.{Words, IsBlock, square_rank, largest_rank}
-use Rattle.table_core.specs.Knowledge.{IsTrueOf}
-use Rattle.table_core.specs.Laws.{KnowsAll}
-use Rattle.table_core.specs.Opening.{IsFresh, KeepsResult, Reopens, AreOpening}
-use Rattle.rule_text.specs.CountRule.{CountRule}
+use Rattle.table_core.specs.Opening.{IsFresh, KeepsResult, Reopens}
 use Rattle.squares.specs.Book.{Book}
 use Rattle.node_table.specs.Books.{book_of}
 use Rattle.node_table.specs.GoodWords.{all_of}

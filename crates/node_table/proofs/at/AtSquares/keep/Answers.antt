@@ -1,7 +1,6 @@
-use Rattle.std.proofs.Common.{◌≡◌, ◌+◌, ◌-◌, ◌^◌, cond, eqb, refl, sym, subst, ⊎_elim}
+use Rattle.std.proofs.Common.{◌-◌, refl}
 use Rattle.plane.specs.Square.{future}
 use Rattle.table_core.specs.Blocks.{square_rank}
-use Rattle.table_core.specs.Knowledge.{KnowsBlock}
 use Rattle.table_core.proofs.Knowing.{knows_grown, knows_same}
 use Rattle.node_table.specs.Books.{cells_in}
 use Rattle.node_table.specs.Desks.{store_of}

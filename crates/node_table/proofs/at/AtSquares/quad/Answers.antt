@@ -1,7 +1,7 @@
-use Rattle.std.proofs.Common.{◌≡◌, ◌+◌, ◌<◌, ◌≤◌, ◌^◌, suc, sym, subst, rules, arith}
+use Rattle.std.proofs.Common.{◌+◌, ◌^◌, suc, sym, subst, rules, arith}
 use Rattle.plane.specs.Square.{joined}
 use Rattle.squares.specs.declared.sq.Sq.{Sq}
-use Rattle.squares.specs.Book.{IsKnown, Shows, joined_squares, nth, numbered}
+use Rattle.squares.specs.Book.{IsKnown, Shows, nth, numbered}
 use Rattle.squares.proofs.PlainQuads.{all_four}
 use Rattle.table_core.specs.Blocks.{paired, square_rank}
 use Rattle.table_core.proofs.Knowing.{grows_trans, knows_grown}

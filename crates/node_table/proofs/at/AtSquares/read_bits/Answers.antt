@@ -1,5 +1,4 @@
-use Rattle.std.proofs.Common.{◌≡◌, ◌∙◌, subst, sym}
-use Rattle.plane.specs.Square.{IsSame, bits_plane}
+use Rattle.std.proofs.Common.{subst}
 use Rattle.table_core.specs.Blocks.{square_rank}
 use Rattle.table_core.specs.Knowledge.{KnowsBlock}
 use Rattle.node_table.specs.Books.{cells_in}

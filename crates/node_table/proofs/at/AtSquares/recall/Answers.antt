@@ -1,9 +1,8 @@
-use Rattle.std.proofs.Common.{[], ◌≡◌, ◌-◌, suc, inr, refl, sym, subst, ◌∙◌}
+use Rattle.std.proofs.Common.{[], ◌-◌, refl, sym, subst}
 use Rattle.plane.specs.Square.{future}
 use Rattle.squares.specs.declared.sq.Sq.{Sq}
-use Rattle.squares.specs.Book.{IsFuture, numbered}
+use Rattle.squares.specs.Book.{IsFuture}
 use Rattle.table_core.specs.Blocks.{square_rank}
-use Rattle.table_core.specs.Knowledge.{KnowsBlock}
 use Rattle.table_core.proofs.Knowing.{knows_grown}
 use Rattle.node_table.specs.Books.{book_of, cells_in}
 use Rattle.node_table.specs.Desks.{store_of}

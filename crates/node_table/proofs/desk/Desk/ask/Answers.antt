@@ -2,7 +2,6 @@ use Rattle.std.proofs.Common.{◌∙◌, ap, sym, subst, Some}
 use Rattle.table_core.specs.declared.key.Key.{Key}
 use Rattle.table_core.specs.declared.machine.Event.TheVariants.{Ask}
 use Rattle.table_core.specs.Lawful.{IsLawful}
-use Rattle.node_table.specs.Rule.{HasMet}
 use Rattle.node_table.proofs.Steps.{meets, sound_after}
 use Rattle.node_table.proofs.desk.Desk.ask.Goals as goal
 

@@ -1,5 +1,4 @@
-use Rattle.std.proofs.Common.{◌≡◌, ◌+◌, ◌∙◌, ap, sym, subst}
-use Rattle.table_core.specs.declared.machine.Event.TheVariants.{Look, Claim}
+use Rattle.std.proofs.Common.{◌+◌, ◌∙◌, sym, subst}
 use Rattle.node_table.specs.Desks.{IsDeskOf}
 use Rattle.node_table.specs.declared.desk.Desk.{Desk}
 use Rattle.node_table.proofs.Searching.{Sought, still_sought, is_number, goes_on, may_claim, left_word, left_other}

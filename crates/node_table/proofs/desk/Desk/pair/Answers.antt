@@ -1,6 +1,5 @@
-use Rattle.std.proofs.Common.{inr, refl, sym, subst}
+use Rattle.std.proofs.Common.{inr, refl}
 use Rattle.table_core.specs.declared.shape.Kind.TheVariants.{Pair}
-use Rattle.node_table.specs.Numbers.{KnowsFullWay}
 use Rattle.node_table.proofs.Desks.{coherent_at, way_full, shard_full}
 use Rattle.node_table.proofs.TwoBlocks.{empty_pair}
 use Rattle.node_table.proofs.desk.Desk.pair.Goals as goal

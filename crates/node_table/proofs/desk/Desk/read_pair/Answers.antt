@@ -1,5 +1,5 @@
-use Rattle.std.proofs.Common.{ℕ, suc, refl, sym, subst}
-use Rattle.table_core.specs.Layout.{first_part, second_part}
+use Rattle.std.proofs.Common.{ℕ, suc, sym, subst}
+use Rattle.table_core.specs.Layout.{first_part}
 use Rattle.node_table.specs.Numbers.{KnowsPairOf}
 use Rattle.node_table.proofs.Desks.{coherent_at, in_table}
 use Rattle.node_table.proofs.TwoBlocks.{empty_parts, pair_read}

@@ -1,8 +1,6 @@
-use Rattle.std.proofs.Common.{◌≡◌, ℕ, ◌<◌, subst, arith, length}
+use Rattle.std.proofs.Common.{◌≡◌, ◌<◌, arith, length}
 use Rattle.std.specs.Prelude.{slice_index}
 use Rattle.std.proofs.lemmas.List.{get_or_read}
-use Rattle.table_core.specs.Blocks.{square_rank}
-use Rattle.table_core.specs.Knowledge.{KnowsBlock}
 use Rattle.table_core.specs.Layout.{size}
 use Rattle.node_table.specs.Books.{cells_in}
 use Rattle.node_table.specs.GoodWords.{all_known}

@@ -1,4 +1,4 @@
-use Rattle.std.proofs.Common.{◌≡◌, ℕ, ◌-◌, ◌∷◌, [], suc, sym, subst}
+use Rattle.std.proofs.Common.{◌-◌, ◌∷◌, [], suc, sym, subst}
 use Rattle.squares.specs.declared.sq.Sq.{Sq}
 use Rattle.squares.specs.Book.{AreQuarters, numbered}
 use Rattle.table_core.specs.Blocks.{square_rank}

@@ -1,6 +1,5 @@
-use Rattle.std.proofs.Common.{◌∙◌, sym}
 use Rattle.node_table.proofs.Everything.{all_book}
-use Rattle.node_table.proofs.Vacant.{dead, read_dead, rule_dead, vacant_good, vacant_fresh}
+use Rattle.node_table.proofs.Vacant.{dead, read_dead, rule_dead, vacant_good}
 use Rattle.node_table.proofs.still.Still.empty.Goals as goal
 
 pub unreachable-requires : goal.unreachable-requires

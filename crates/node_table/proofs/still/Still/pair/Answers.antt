@@ -1,7 +1,7 @@
-use Rattle.std.proofs.Common.{◌≡◌, ℕ, suc, ◌<◌, ◌∙◌, sym, subst, arith, length}
+use Rattle.std.proofs.Common.{◌≡◌, ℕ, suc, ◌<◌, sym, subst, arith, length}
 use Rattle.std.specs.Prelude.{slice_index}
 use Rattle.std.proofs.lemmas.List.{get_or_read}
-use Rattle.table_core.specs.Layout.{first_part, second_part, size}
+use Rattle.table_core.specs.Layout.{first_part, size}
 use Rattle.node_table.specs.GoodWords.{all_known}
 use Rattle.node_table.specs.Numbers.{KnowsPairOf}
 use Rattle.node_table.specs.Rule.{everything}

@@ -1,9 +1,9 @@
-use Rattle.std.proofs.Common.{◌≡◌, ◌+◌, ◌<◌, ◌≤◌, ◌∙◌, ap, sym, subst, arith, inl, inr, length}
+use Rattle.std.proofs.Common.{◌≡◌, ◌+◌, ◌<◌, ◌∙◌, ap, arith, inl, inr, length}
 use Rattle.std.specs.Prelude.{slice_index}
 use Rattle.std.proofs.lemmas.List.{get_or_read}
 use Rattle.table_core.specs.Layout.{start, size}
 use Rattle.table_core.specs.declared.shape.Kind.TheVariants.{Pair}
-use Rattle.node_table.proofs.Ranks.{Descends, descends_on, leaf_reached, part_taken, taken_first, taken_second}
+use Rattle.node_table.proofs.Ranks.{descends_on, leaf_reached, part_taken, taken_first, taken_second}
 use Rattle.node_table.proofs.still.Still.rank.Goals.{then-number-first_pair-via-then-number-first_pair, then-number-first_pair-via-else-number-first_pair+then-number-len, then-first-eq0, else-first-eq0}
 use Rattle.node_table.proofs.still.Still.rank.Goals as goal
 

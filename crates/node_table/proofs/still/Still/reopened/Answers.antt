@@ -1,15 +1,13 @@
-use Rattle.std.proofs.Common.{◌≡◌, ◌+◌, ◌^◌, ◌<◌, ◌≤◌, ◌∙◌, false, true, ap, sym, subst, arith, refl, rules, length, List, ℕ, Vec, Global}
+use Rattle.std.proofs.Common.{◌≡◌, ◌+◌, ◌∙◌, ap, sym, subst, arith, refl, rules, length, List, ℕ, Vec, Global}
 use Rattle.std.specs.Prelude.{slice_set}
-use Rattle.table_core.specs.declared.key.Key.{Key}
 use Rattle.table_core.specs.declared.shape.Shape.{Shape}
-use Rattle.table_core.specs.Layout.{size, start, result_of}
-use Rattle.table_core.specs.declared.shape.Kind.TheVariants.{Pair}
+use Rattle.table_core.specs.Layout.{size, result_of}
 use Rattle.table_core.specs.Good.{AreGoodWords}
 use Rattle.table_core.proofs.Lists.{length_set}
 use Rattle.table_core.proofs.Reopenings.{every_reopening}
 use Rattle.rule_text.specs.CountRule.{IsRule}
 use Rattle.node_table.proofs.Everything.{all_book}
-use Rattle.node_table.specs.Stills.{KeepsAtRank, words_of}
+use Rattle.node_table.specs.Stills.{words_of}
 use Rattle.node_table.proofs.Reopening.{IsThrough, through_kept, through_gone, through_all}
 use Rattle.node_table.proofs.still.Still.reopened.Goals.{then-not-keeps_result, else-not-keeps_result}
 use Rattle.node_table.proofs.still.Still.reopened.Goals as goal

@@ -1,6 +1,6 @@
-use Rattle.std.proofs.Common.{◌≡◌, ℕ, ◌<◌, ◌≤◌, ◌∙◌, ap, sym, subst, arith, refl, length, List}
+use Rattle.std.proofs.Common.{◌≡◌, ℕ, ◌<◌, ◌≤◌, ◌∙◌, sym, subst, arith, refl, length, List}
 use Rattle.std.specs.Prelude.{slice_index}
-use Rattle.std.specs.Slots.{slots_items, slots_len, slots_counts}
+use Rattle.std.specs.Slots.{slots_items, slots_counts}
 use Rattle.table_core.specs.declared.key.Key.{Key}
 use Rattle.table_core.specs.Good.{AreGoodWords}
 use Rattle.table_core.specs.Knowledge.{IsTrueOf}

@@ -1,5 +1,4 @@
-use Rattle.std.proofs.Common.{◌≡◌, ℕ, ◌∙◌, ap, sym, subst, refl, rules}
-use Rattle.std.specs.Prelude.{slice_index}
+use Rattle.std.proofs.Common.{ap, sym, subst, refl, rules}
 use Rattle.rule_text.specs.CountRule.{CountRule, IsRule}
 use Rattle.table_core.specs.declared.key.Key.{Key}
 use Rattle.table_core.specs.declared.knowledge.Knowledge.{Knowledge}

@@ -1,4 +1,4 @@
-use Rattle.std.proofs.Common.{◌∙◌, ap, sym, subst, refl}
+use Rattle.std.proofs.Common.{◌∙◌, ap, sym, subst}
 use Rattle.node_table.specs.declared.view.View.{View}
 use Rattle.node_table.specs.Books.{IsSound}
 use Rattle.node_table.proofs.Steps.{splits, some_words}
