@@ -15,6 +15,7 @@ keeps_trans h k = record {
   results = λ sq s. k.results sq (h.results sq s);
   full = λ s. k.full (h.full s);
   memory = k.memory ∙ h.memory;
+  store = k.store ∙ h.store;
 }
 
 pub known_kept : {a b : Book} {level : ℕ} {sq : Sq} → Keeps a b → IsKnown a level sq → IsKnown b level sq
@@ -36,6 +37,7 @@ keeps_none a = record {
   results = λ sq s. s;
   full = λ s. s;
   memory = refl;
+  store = refl;
 }
 
 pub results_trans : {a b c : Book} → KeepsResults a b → KeepsResults b c → KeepsResults a c

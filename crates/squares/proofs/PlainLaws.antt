@@ -89,6 +89,7 @@ keeps_more rule exponent old new more good e results = record {
   results = results;
   full = λ s. s;
   memory = refl;
+  store = refl;
 }
 
 -- the futures of some records are those of more

@@ -7,7 +7,7 @@ use Rattle.plane.specs.declared.refusal.Refusal.{Refusal}
 use Rattle.plane.specs.declared.refusal.Refusal.TheVariants.{NodesFull, NoMemory}
 use Rattle.squares.specs.declared.sq.Sq.{Sq}
 
--- the rule and the exponent of its results, which squares it knows and what their cells are, the nonempty squares whose result it knows and how many of these somebody else told it, whether it has no room for some square, and whether it takes memory
+-- the rule and the exponent of its results, which squares it knows and what their cells are, the nonempty squares whose result it knows and how many of these somebody else told it, whether it has no room for some square, whether it takes memory, and in which store its squares lie: numbers that two books share only if they lie in one store, and none for a book of its own
 pub record Book : Type 0 where
   pub rule : CountRule
   pub exponent : ℕ
@@ -17,6 +17,7 @@ pub record Book : Type 0 where
   pub learned : ℕ
   pub is_full : Bool
   pub takes_memory : Bool
+  pub store : List ℕ
 
 -- a known square of this level, which is from 3 to 65
 pub record IsKnown (book : Book) (level : ℕ) (sq : Sq) : Type 0 where
@@ -65,7 +66,7 @@ pub record IsFresh (rule : CountRule) (exponent : ℕ) (book : Book) : Type 0 wh
   pub results : book.results ≡ []
   pub learned : book.learned ≡ 0
 
--- all that was known stays known, with the same cells, and a full book stays full
+-- all that was known stays known, with the same cells, a full book stays full, and the store is the same
 pub record Keeps (old new : Book) : Type 0 where
   pub rule : new.rule ≡ old.rule
   pub exponent : new.exponent ≡ old.exponent
@@ -74,6 +75,7 @@ pub record Keeps (old new : Book) : Type 0 where
   pub results : (sq : Sq) → Contains old.results sq → Contains new.results sq
   pub full : IsTrue old.is_full → IsTrue new.is_full
   pub memory : new.takes_memory ≡ old.takes_memory
+  pub store : new.store ≡ old.store
 
 -- no result is new
 pub record KeepsResults (old new : Book) : Type 0 where

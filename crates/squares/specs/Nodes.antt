@@ -62,6 +62,7 @@ plain_book rule exponent records = record {
   learned = 0;
   is_full = false;
   takes_memory = true;
+  store = [];
 }
 
 -- the quarters are known, and not all empty

@@ -1,0 +1,160 @@
+-- What a desk knows is a book, which keeps what it knows while the desk learns.
+use Rattle.std.proofs.Common.{◌≡◌, ◌≢◌, ℕ, zero, suc, ◌+◌, ◌-◌, ◌/◌, ◌^◌, ◌<◌, ◌≤◌, ◌⊎◌, Bool, true, false, List, [], ◌∷◌, map, length, sym, ◌∙◌, ap, subst, arith, refl, inl, inr, ⊎_elim}
+use Rattle.std.specs.Prelude.{IsTrue, ◌&&◌, Contains, slice_get, slice_index_or, Some}
+use Rattle.std.proofs.Math.Logic.{∥∥₁_elim}
+use Rattle.std.proofs.Props.{props}
+use Rattle.std.proofs.lemmas.List.Elements.{Contains-append_right}
+use Rattle.plane.specs.Plane.{Plane}
+use Rattle.plane.specs.Square.{IsSame, IsSquare, empty, spans}
+use Rattle.plane.specs.Block.{IsInside}
+use Rattle.plane.proofs.Same.{same_refl, same_sym, same_trans}
+use Rattle.rule_text.specs.CountRule.{IsRule}
+use Rattle.squares.specs.declared.sq.Sq.{Sq}
+use Rattle.squares.specs.Book.{IsBook, IsEmpty, Shows, Keeps, numbered}
+use Rattle.table_core.specs.declared.key.Key.{Key}
+use Rattle.table_core.specs.declared.knowledge.KnownBlock.{KnownBlock}
+use Rattle.table_core.specs.declared.knowledge.KnownResult.{KnownResult}
+use Rattle.table_core.specs.declared.knowledge.Knowledge.{Knowledge}
+use Rattle.table_core.specs.Blocks.{square_rank, largest_rank, width, height}
+use Rattle.table_core.specs.Knowledge.{KnowsBlock, KnowsSquareOf, Grows}
+use Rattle.table_core.proofs.Claims.{same_or_other}
+use Rattle.table_core.proofs.FullShards.{full_later, full_shard_is_seen}
+use Rattle.table_core.proofs.Knowing.{knows_same, knows_more}
+use Rattle.table_core.proofs.Lists.{all_contains, contains_here}
+use Rattle.table_core.proofs.Results.{one_place}
+use Rattle.node_table.specs.Books.{knows_in, cells_in, square_of, book_of, IsCoherent, IsSoundFor}
+use Rattle.node_table.proofs.Entries.{known_level, block_of, square_known}
+
+-- two accounts of one number agree
+agree : (bits : ℕ) (known : Knowledge) (rank n : ℕ) (p q : Plane) → IsCoherent bits known → KnowsBlock known rank n p →
+    KnowsBlock known rank n q → IsSame p q
+agree bits known rank n p q h a b = ⊎_elim
+    (λ e. same_trans (same_sym (h.zero rank p (subst (λ m. KnowsBlock known rank m p) e a))) (h.zero rank q (subst (λ m. KnowsBlock known rank m q) e b)))
+    (λ some. (h.consistent.one_block rank rank n p q some a b).1)
+    (same_or_other n 0)
+
+same_prop : (p q : Plane) → IsProp (IsSame p q)
+same_prop p q = hlevel props
+
+pub alike : (bits : ℕ) (known : Knowledge) (rank n : ℕ) (p q : Plane) → ∥ IsCoherent bits known ∥₁ → KnowsBlock known rank n p →
+    KnowsBlock known rank n q → IsSame p q
+alike bits known rank n p q h a b = ∥∥₁_elim h (same_prop p q) (λ t. agree bits known rank n p q t a b)
+
+pub zero_is_empty : (bits : ℕ) (known : Knowledge) (rank : ℕ) (plane : Plane) → ∥ IsCoherent bits known ∥₁ → KnowsBlock known rank 0 plane → IsSame empty plane
+zero_is_empty bits known rank plane h a = ∥∥₁_elim h (same_prop empty plane) (λ t. t.zero rank plane a)
+
+-- a square is shown as the block that the desk knows
+pub shows_of : (store : List ℕ) (key : Key) (known : Knowledge) (sq : Sq) (plane : Plane) → ∥ IsCoherent key.shape.bits known ∥₁ → 3 ≤ sq.level → sq.level ≤ 65 →
+    KnowsBlock known (square_rank sq.level) sq.num.0 plane → Shows (book_of store key known) sq.level plane sq
+shows_of store key known sq plane h low high knows =
+    let is = square_known known sq plane low high knows in
+    record {
+      known = record { known = is; at_level = refl; low = low; high = high };
+      cells = alike key.shape.bits known (square_rank sq.level) sq.num.0 (cells_in known sq) plane h (block_of known sq is) knows;
+    }
+
+side : (level : ℕ) → 3 ≤ level → (square_rank level + 1) / 2 + 3 ≡ level
+side level h = omega arith
+
+side_down : (level : ℕ) → 3 ≤ level → square_rank level / 2 + 3 ≡ level
+side_down level h = omega arith
+
+one_out : (a b : Bool) → (a && b) ≡ false → (a ≡ false) ⊎ (b ≡ false)
+one_out true b h = inr h
+one_out false b h = inl refl
+
+pub inside_square : (level : ℕ) (plane : Plane) → 3 ≤ level → IsInside (width (square_rank level)) (height (square_rank level)) plane → IsSquare (2 ^ level) plane
+inside_square level plane above h = record {
+  dead = λ x y e. ⊎_elim
+      (λ t. h.columns x y (ap (λ n. spans (2 ^ n) x) (side level above) ∙ t))
+      (λ t. h.rows x y (ap (λ n. spans (2 ^ n) y) (side_down level above) ∙ t)) (one_out (spans (2 ^ level) x) (spans (2 ^ level) y) e);
+}
+
+same_sq : (a b : Sq) → a.level ≡ b.level → a.num.0 ≡ b.num.0 → a ≡ b
+same_sq a b e n = λ i. record { level = e i; num = record { 0 = n i } }
+
+mapped_at : (xs : List KnownResult) (sq : Sq) (k : ℕ) → k < length (map square_of xs) → slice_index_or (map square_of xs) k sq ≡ sq →
+    (result : KnownResult) × Contains xs result × (square_of result ≡ sq)
+mapped_at [] sq k less e = absurd (omega arith)
+mapped_at (x ∷ xs) sq zero less e = (x, contains_here x xs, e)
+mapped_at (x ∷ xs) sq (suc k) less e =
+    let t = mapped_at xs sq k (omega arith) e in (t.0, Contains-append_right (x ∷ []) xs t.0 t.1, t.2)
+
+-- a square whose result the book has is that of a result
+pub result_there : (xs : List KnownResult) (sq : Sq) → Contains (map square_of xs) sq → (result : KnownResult) × Contains xs result × (square_of result ≡ sq)
+result_there xs sq h = mapped_at xs sq h.0 h.1 h.2
+
+has_mapped : (xs : List KnownResult) (result : KnownResult) (k : ℕ) → k < length xs → slice_index_or xs k result ≡ result → Contains (map square_of xs) (square_of result)
+has_mapped [] result k less e = absurd (omega arith)
+has_mapped (x ∷ xs) result zero less e = subst (λ sq. Contains (square_of x ∷ map square_of xs) sq) (ap square_of e) (contains_here (square_of x) (map square_of xs))
+has_mapped (x ∷ xs) result (suc k) less e = Contains-append_right (square_of x ∷ []) (map square_of xs) (square_of result) (has_mapped xs result k (omega arith) e)
+
+pub there_result : (xs : List KnownResult) (result : KnownResult) → Contains xs result → Contains (map square_of xs) (square_of result)
+there_result xs result h = has_mapped xs result h.0 h.1 h.2
+
+got_mapped : (xs : List KnownResult) (i : ℕ) (sq : Sq) → slice_get (map square_of xs) i ≡ Some sq → (result : KnownResult) × (slice_get xs i ≡ Some result) × (square_of result ≡ sq)
+got_mapped [] i sq e = let no : ⊥ = cc in absurd no
+got_mapped (x ∷ xs) zero sq e = (x, refl, (let same : square_of x ≡ sq = cc in same))
+got_mapped (x ∷ xs) (suc i) sq e = got_mapped xs i sq e
+
+low_level : (level : ℕ) → 3 < level → square_rank level - 1 < largest_rank → level ≤ 65
+low_level level above h = omega arith
+
+known_result : (key : Key) (known : Knowledge) (result : KnownResult) → IsCoherent key.shape.bits known →
+    (3 < result.level) × (result.square ≢ 0) × KnowsSquareOf known result → IsTrue (knows_in known (square_of result)) × (3 < result.level) × (¬ IsEmpty (square_of result))
+known_result key known result h t =
+    let above = t.0 in
+    let e : square_rank result.level ≡ suc (square_rank result.level - 1) = omega arith in
+    let pair = h.consistent.pair (square_rank result.level - 1) result.square t.2.0 t.1 (subst (λ r. KnowsBlock known r result.square t.2.0) e t.2.1) in
+    (square_known known (square_of result) t.2.0 (omega arith) (low_level result.level above pair.1) t.2.1, above, t.1)
+
+-- what a desk knows is a book
+pub is_book : (store : List ℕ) (key : Key) (known : Knowledge) → IsRule key.rule → IsCoherent key.shape.bits known → IsBook (book_of store key known)
+is_book store key known rule h = record {
+  rule = rule;
+  levels = λ sq s. known_level known sq s;
+  square = λ sq s. inside_square sq.level (cells_in known sq) (known_level known sq s).0 (h.consistent.inside (square_rank sq.level) sq.num.0 (cells_in known sq) (block_of known sq s));
+  one_number = λ a b s t level same. same_sq a b level
+      (h.consistent.one_number (square_rank b.level) a.num.0 b.num.0 (cells_in known b)
+      (knows_same known (square_rank b.level) a.num.0 (cells_in known a) (cells_in known b) same (subst (λ l. KnowsBlock known (square_rank l) a.num.0 (cells_in known a)) level (block_of known a s)))
+      (block_of known b t));
+  zero_known = λ level low high. square_known known (numbered level 0) empty low high (inl (refl, same_refl empty));
+  zero_empty = λ level. same_refl empty;
+  results = λ sq s.
+      let t = result_there known.results sq s in
+      subst (λ q. IsTrue (knows_in known q) × (3 < q.level) × (¬ IsEmpty q)) t.2
+      (known_result key known t.0 h (all_contains (λ (result : KnownResult). (3 < result.level) × (result.square ≢ 0) × KnowsSquareOf known result) known.results t.0 h.consistent.results t.1));
+  results_once = λ i j sq s t.
+      let a = got_mapped known.results i sq s in let b = got_mapped known.results j sq t in
+      one_place known.results i j a.0 b.0 h.consistent.once a.1 b.1 (ap (λ (q : Sq). q.num.0) (a.2 ∙ sym b.2));
+}
+
+pub sound_for : (key : Key) (known : Knowledge) → IsRule key.rule → IsCoherent key.shape.bits known → IsSoundFor key known
+sound_for key known rule h = record { book = λ store. is_book store key known rule h; coherent = ∣ h ∣₁ }
+
+-- a book keeps all that another desk, or the same one before, knew: the words, the blocks and the squares whose results are known
+pub covers_keeps : (store : List ℕ) (key : Key) (old new : Knowledge) → ∥ IsCoherent key.shape.bits new ∥₁ →
+    ((entry : ℕ × ℕ) → Contains old.words entry → Contains new.words entry) → ((entry : KnownBlock) → Contains old.blocks entry → Contains new.blocks entry) →
+    ((sq : Sq) → Contains (map square_of old.results) sq → Contains (map square_of new.results) sq) → Keeps (book_of store key old) (book_of store key new)
+covers_keeps store key old new h words blocks results = record {
+  rule = refl;
+  exponent = refl;
+  known = λ sq s. let l = known_level old sq s in
+      square_known new sq (cells_in old sq) l.0 l.1 (knows_more old new (square_rank sq.level) sq.num.0 (cells_in old sq) blocks (block_of old sq s));
+  cells = λ sq s. let l = known_level old sq s in
+      let knows = knows_more old new (square_rank sq.level) sq.num.0 (cells_in old sq) blocks (block_of old sq s) in
+      alike key.shape.bits new (square_rank sq.level) sq.num.0 (cells_in new sq) (cells_in old sq) h (block_of new sq (square_known new sq (cells_in old sq) l.0 l.1 knows)) knows;
+  results = results;
+  full = λ s.
+      let seen = full_shard_is_seen key.shape.bits old key.shape.range.0 in
+      let now = full_shard_is_seen key.shape.bits new key.shape.range.0 in
+      now.1 (full_later key.shape.bits old new words (seen.0 s));
+  memory = refl;
+  store = refl;
+}
+
+-- a book keeps all while its desk learns
+pub grows_keeps : (store : List ℕ) (key : Key) (old new : Knowledge) → ∥ IsCoherent key.shape.bits new ∥₁ → Grows old new → Keeps (book_of store key old) (book_of store key new)
+grows_keeps store key old new h grows = covers_keeps store key old new h grows.words grows.blocks (λ sq s.
+    let t = result_there old.results sq s in
+    subst (Contains (map square_of new.results)) t.2 (there_result new.results t.0 (grows.results t.0 t.1)))

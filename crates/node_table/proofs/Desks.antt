@@ -1,0 +1,117 @@
+-- What desks of one table know, from one call to the next.
+use Rattle.std.proofs.Common.{◌≡◌, ◌≢◌, ℕ, zero, suc, ◌+◌, ◌-◌, ◌*◌, ◌/◌, ◌%◌, ◌^◌, ◌<◌, ◌≤◌, ◌⊎◌, Bool, true, false, cond, eqb, List, [], ◌∷◌, length, sym, ◌∙◌, ap, subst, arith, refl, inl, inr, ⊎_elim}
+use Rattle.std.specs.Prelude.{IsTrue}
+use Rattle.std.proofs.Math.Logic.{∥∥₁_elim}
+use Rattle.std.proofs.Props.{props}
+use Rattle.plane.specs.Plane.{Plane}
+use Rattle.plane.specs.Square.{IsSame, bits_plane}
+use Rattle.squares.specs.declared.sq.Sq.{Sq}
+use Rattle.squares.specs.Book.{Keeps, KeepsResults}
+use Rattle.table_core.specs.declared.key.Key.{Key}
+use Rattle.table_core.specs.declared.knowledge.Knowledge.{Knowledge}
+use Rattle.table_core.specs.declared.shape.Kind.{Kind}
+use Rattle.table_core.specs.declared.shape.Kind.TheVariants.{Leaf, Pair}
+use Rattle.table_core.specs.Layout.{IsSlot, size, first_part, second_part, pair_of}
+use Rattle.table_core.specs.Blocks.{square_rank, largest_rank}
+use Rattle.table_core.specs.Knowledge.{KnowsBlock, Grows}
+use Rattle.table_core.specs.Lawful.{KnowsParts}
+use Rattle.table_core.specs.Learning.{MeetsWord}
+use Rattle.table_core.specs.FullShards.{KnowsFullShard, knows_full_shard}
+use Rattle.table_core.proofs.Claims.{same_or_other}
+use Rattle.table_core.proofs.FullShards.{full_shard, full_shard_is_seen}
+use Rattle.table_core.proofs.Knowing.{knows_grown}
+use Rattle.table_core.proofs.Ways.{slot_below, size_fits}
+use Rattle.node_table.specs.declared.desk.Desk.{Desk}
+use Rattle.node_table.specs.declared.table.NodeTable.{NodeTable}
+use Rattle.node_table.specs.Books.{book_of, knows_in, cells_in, IsCoherent}
+use Rattle.node_table.specs.Desks.{IsDeskOf, store_of, book_at}
+use Rattle.node_table.specs.Numbers.{KeepsTold, KnowsFullWay}
+use Rattle.node_table.proofs.Books.{alike, grows_keeps}
+use Rattle.node_table.proofs.Entries.{block_of}
+
+pub coherent_at : (table : NodeTable) (desk : Desk) → IsDeskOf table desk → ∥ IsCoherent table.key.shape.bits desk.seat.me.0.known ∥₁
+coherent_at table desk d = (desk.sound table.key d.same_key).coherent
+
+-- a desk that learns keeps its book
+pub keeps_at : (table : NodeTable) (old new : Desk) → IsDeskOf table new → Grows old.seat.me.0.known new.seat.me.0.known → Keeps (book_at table old) (book_at table new)
+keeps_at table old new d grows = grows_keeps (store_of table) table.key old.seat.me.0.known new.seat.me.0.known (coherent_at table new d) grows
+
+pub told_results : (store : List ℕ) (key : Key) (old new : Knowledge) → KeepsTold old new → KeepsResults (book_of store key old) (book_of store key new)
+told_results store key old new t = record { results = ap (λ (k : List _). Rattle.std.proofs.Common.map Rattle.node_table.specs.Books.square_of k) t.results; learned = t.learned }
+
+slot_prop : (bits : ℕ) (kind : Kind) (n : ℕ) → IsProp (IsSlot bits kind n)
+slot_prop bits kind n = hlevel props
+
+pub leaf_slot : (bits : ℕ) (known : Knowledge) (n : ℕ) (plane : Plane) → ∥ IsCoherent bits known ∥₁ → n ≢ 0 → KnowsBlock known 0 n plane → IsSlot bits Leaf n
+leaf_slot bits known n plane h some knows = ∥∥₁_elim h (slot_prop bits Leaf n) (λ t. t.consistent.leaf n plane some knows)
+
+pub pair_slot : (bits : ℕ) (known : Knowledge) (rank n : ℕ) (plane : Plane) → ∥ IsCoherent bits known ∥₁ → n ≢ 0 → KnowsBlock known (suc rank) n plane → IsSlot bits Pair n
+pair_slot bits known rank n plane h some knows = ∥∥₁_elim h (slot_prop bits Pair n) (λ t. (t.consistent.pair rank n plane some knows).0)
+
+below_size : (bits : ℕ) (known : Knowledge) (rank n : ℕ) (plane : Plane) → ∥ IsCoherent bits known ∥₁ → n ≢ 0 → KnowsBlock known rank n plane → n < size bits
+below_size bits known zero n plane h some knows = slot_below bits Leaf n (leaf_slot bits known n plane h some knows)
+below_size bits known (suc rank) n plane h some knows = slot_below bits Pair n (pair_slot bits known rank n plane h some knows)
+
+-- the number of a known block is the index of a word
+pub in_table : (table : NodeTable) (desk : Desk) (rank n : ℕ) (plane : Plane) → IsDeskOf table desk → n ≢ 0 → KnowsBlock desk.seat.me.0.known rank n plane →
+    n < table.table.shared.table_id.words
+in_table table desk rank n plane d some knows =
+    let less : n < size table.key.shape.bits = below_size table.key.shape.bits desk.seat.me.0.known rank n plane (coherent_at table desk d) some knows in
+    let long = table.long in
+    subst (λ m. n < m) (sym long) less
+
+pub below_limit : (key : Key) (known : Knowledge) (rank n : ℕ) (plane : Plane) → ∥ IsCoherent key.shape.bits known ∥₁ → KnowsBlock known rank n plane → n < 2 ^ 32
+below_limit key known rank n plane h knows = ⊎_elim
+    (λ e. omega arith)
+    (λ some.
+    let less : n < size key.shape.bits = below_size key.shape.bits known rank n plane h some knows in
+    let fits = size_fits key.shape.bits key.shape.range.1 in omega arith)
+    (same_or_other n 0)
+
+first_is : (a b : ℕ) → b < 2 ^ 32 → first_part (pair_of a b) ≡ a
+first_is a b h = omega arith
+
+second_is : (a b : ℕ) → b < 2 ^ 32 → second_part (pair_of a b) ≡ b
+second_is a b h = omega arith
+
+-- two known blocks of one rank are the parts of their pair's word
+pub knows_parts : (key : Key) (known : Knowledge) (rank a b : ℕ) (one two : Plane) → ∥ IsCoherent key.shape.bits known ∥₁ → rank < largest_rank →
+    KnowsBlock known rank a one → KnowsBlock known rank b two → KnowsParts known (pair_of a b)
+knows_parts key known rank a b one two c low h k =
+    let fits = below_limit key known rank b two c k in
+    record {
+      rank = rank;
+      low = low;
+      one = one;
+      two = two;
+      both = record {
+        first = subst (λ n. KnowsBlock known rank n one) (sym (first_is a b fits)) h;
+        second = subst (λ n. KnowsBlock known rank n two) (sym (second_is a b fits)) k;
+      };
+    }
+
+-- what a full way tells
+pub way_full : (key : Key) (known : Knowledge) (kind : Kind) (word : ℕ) → KnowsFullWay key.shape.bits known kind word → KnowsFullShard key.shape.bits known
+way_full key known kind word w = full_shard key.shape.bits known kind word key.shape.range.0 (let r = key.shape.range.1 in omega arith) (λ place less. let t = w.full place less in (t.0, t.1))
+
+pub shard_full : (key : Key) (known : Knowledge) → KnowsFullShard key.shape.bits known → IsTrue (knows_full_shard key.shape.bits known)
+shard_full key known full = (full_shard_is_seen key.shape.bits known key.shape.range.0).1 full
+
+-- a look at a known leaf
+pub leaf_read : (key : Key) (old new : Knowledge) (n word : ℕ) (plane : Plane) → ∥ IsCoherent key.shape.bits new ∥₁ → n ≢ 0 → IsSlot key.shape.bits Leaf n → KnowsBlock old 0 n plane → word ≢ 0 →
+    Grows old new → MeetsWord key old n word new → IsSame plane (bits_plane word)
+leaf_read key old new n word plane h some slot knows nonzero grows met =
+    alike key.shape.bits new 0 n plane (bits_plane word) h (knows_grown old new 0 n plane grows knows) ((met.some nonzero).leaf slot)
+
+-- a square that the book knows, at its level
+pub known_block : (known : Knowledge) (level : ℕ) (sq : Sq) → sq.level ≡ level → IsTrue (knows_in known sq) → KnowsBlock known (square_rank level) sq.num.0 (cells_in known sq)
+known_block known level sq e h = subst (λ l. KnowsBlock known (square_rank l) sq.num.0 (cells_in known sq)) e (block_of known sq h)
+
+-- a known square above level 3 stands in a pair slot
+pub square_slot : (table : NodeTable) (desk : Desk) (sq : Sq) → IsDeskOf table desk → 3 < sq.level → sq.num.0 ≢ 0 → IsTrue (knows_in desk.seat.me.0.known sq) →
+    IsSlot table.key.shape.bits Pair sq.num.0
+square_slot table desk sq d above some h =
+    let known = desk.seat.me.0.known in
+    let e : square_rank sq.level ≡ suc (suc (square_rank (sq.level - 1))) = omega arith in
+    pair_slot table.key.shape.bits known (suc (square_rank (sq.level - 1))) sq.num.0 (cells_in known sq) (coherent_at table desk d) some
+    (subst (λ r. KnowsBlock known r sq.num.0 (cells_in known sq)) e (block_of known sq h))

@@ -1,0 +1,44 @@
+-- A desk that kept its book is one of the table where it began.
+use Rattle.std.proofs.Common.{◌≡◌, ℕ, ◌≤◌, drop, sym, ◌∙◌, ap, Some}
+use Rattle.std.specs.Prelude.{slice_index}
+use Rattle.std.proofs.Props.{props}
+use mathlib.Core.HLevel.{Σ_prop_path}
+use Rattle.atomic_table.specs.Seated.{TableId}
+use Rattle.squares.specs.Book.{Keeps}
+use Rattle.table_core.specs.declared.key.Key.{Key}
+use Rattle.table_core.specs.declared.shape.Shape.{Shape}
+use Rattle.node_table.specs.declared.desk.Desk.{Desk}
+use Rattle.node_table.specs.declared.table.NodeTable.{NodeTable}
+use Rattle.node_table.specs.Books.{book_of}
+use Rattle.node_table.specs.Desks.{IsDeskOf, numbers_of, store_of, book_at}
+
+in_range_prop : (bits : ℕ) → IsProp ((10 ≤ bits) × (bits ≤ 28))
+in_range_prop bits = hlevel props
+
+same_shape : (a b : Shape) → a.bits ≡ b.bits → a ≡ b
+same_shape a b e = ap (λ (t : (bits : ℕ) × ((10 ≤ bits) × (bits ≤ 28))). record { bits = t.0; range = t.1 }) (Σ_prop_path in_range_prop {u = (a.bits, a.range)} {v = (b.bits, b.range)} e)
+
+same_key : (a b : Key) → a.shape.bits ≡ b.shape.bits → a.rule ≡ b.rule → a.exponent ≡ b.exponent → a ≡ b
+same_key a b bits rule exponent = λ i. record { shape = same_shape a.shape b.shape bits i; rule = rule i; exponent = exponent i }
+
+same_id : (m n : ℕ) (a b : TableId) → numbers_of m a ≡ numbers_of n b → a ≡ b
+same_id m n a b e = λ i. record {
+  words = slice_index (e i) 1;
+  slots = slice_index (e i) 2;
+  views_name = slice_index (e i) 3;
+  atom = slice_index (e i) 4;
+  block = slice_index (e i) 5;
+  offset = slice_index (e i) 6;
+  slot_names = drop 7 (e i);
+}
+
+pub returned : (here table : NodeTable) (first desk : Desk) → IsDeskOf here desk → Keeps (book_at table first) (book_at here desk) →
+    IsDeskOf table desk × (book_at table desk ≡ book_at here desk)
+returned here table first desk d keeps =
+    let bits : here.key.shape.bits ≡ table.key.shape.bits = ap (λ xs. slice_index xs 0) keeps.store in
+    let key : here.key ≡ table.key = same_key here.key table.key bits keeps.rule keeps.exponent in
+    let id : here.table.shared.table_id ≡ table.table.shared.table_id = same_id here.key.shape.bits table.key.shape.bits here.table.shared.table_id table.table.shared.table_id keeps.store in
+    let store : store_of here ≡ store_of table = keeps.store in (
+      record { same_table = d.same_table ∙ id; same_key = d.same_key ∙ ap (λ (k : Key). Some k) key },
+      λ i. book_of (sym store i) (sym key i) desk.seat.me.0.known,
+    )

@@ -1,0 +1,15 @@
+pub mod Books
+pub mod Entries
+pub mod Steps
+pub mod Searching
+pub mod Desks
+pub mod TwoBlocks
+pub mod Telling
+pub mod Joining
+pub mod Leaving
+pub mod Vacant
+pub mod Ranks
+pub mod Reopening
+pub mod Openings
+pub mod Everything
+pub mod Closing

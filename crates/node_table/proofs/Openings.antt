@@ -1,0 +1,64 @@
+-- Opening a table, and closing it.
+use Rattle.std.proofs.Common.{◌≡◌, ℕ, zero, suc, ◌+◌, ◌<◌, List, [], ◌∷◌, length, sym, ◌∙◌, ap, subst, arith, refl, ⊎_elim}
+use Rattle.std.specs.Prelude.{slice_index, slice_index_or, slice_set}
+use Rattle.std.proofs.lemmas.List.{same_lists, get_or-set_same, get_or-set_other}
+use Rattle.table_core.proofs.Claims.{same_or_other}
+use mathlib.Core.Option as core
+use lib.ListN.{get_elem?}
+use Rattle.atomic_table.specs.Table.{Final, Seen, opening}
+use Rattle.rule_text.specs.CountRule.{IsRule}
+use Rattle.table_core.specs.Good.{AreGoodWords}
+use Rattle.table_core.specs.Knowledge.{IsTrueOf}
+use Rattle.table_core.specs.Laws.{KnowsAll}
+use Rattle.node_table.specs.GoodWords.{all_known}
+use Rattle.node_table.specs.declared.still.Still.{Still}
+use Rattle.node_table.specs.declared.view.View.{View}
+use Rattle.node_table.specs.Books.{IsSound, IsCoherent}
+use Rattle.node_table.specs.Rule.{Holds, IsTrueView, everything, opened}
+use Rattle.node_table.specs.Stills.{words_of}
+use Rattle.node_table.proofs.Steps.{all_at, is_coherent, sound_by}
+
+pub everything_known : (still : Still) → KnowsAll still.key.shape.bits (words_of still) (everything still)
+everything_known still = all_known still.key still.words.items still.good
+
+pub everything_coherent : (still : Still) → IsCoherent still.key.shape.bits (everything still)
+everything_coherent still = is_coherent still.key (words_of still) (everything still) still.good.good (everything_known still).true_of
+
+pub opened_sound : (still : Still) → IsRule still.key.rule → IsSound (opened still)
+opened_sound still rule = sound_by still.key (opened still) rule (everything_coherent still) refl
+
+any_default : {X : Type 0} (xs : List X) (k : ℕ) (d e : X) → k < length xs → slice_index_or xs k d ≡ slice_index_or xs k e
+any_default [] k d e less = absurd (omega arith)
+any_default (x ∷ xs) zero d e less = refl
+any_default (x ∷ xs) (suc k) d e less = any_default xs k d e (omega arith)
+
+-- words that were copied one by one
+pub copied : (xs ys : List ℕ) (n : ℕ) → length xs ≡ n → length ys ≡ n → ((i : ℕ) → i < n → slice_index xs i ≡ slice_index ys i) → xs ≡ ys
+copied xs ys n long also each = same_lists xs ys (long ∙ sym also)
+    (λ k d less. any_default xs k d 0 less ∙ each k (omega arith) ∙ any_default ys k 0 d (omega arith))
+
+pub get_is : (xs : List ℕ) (i n : ℕ) → get_elem? xs i ≡ core.some n → slice_index xs i ≡ n
+get_is [] i n e = let no : ⊥ = cc in absurd no
+get_is (x ∷ xs) zero n e = let same : x ≡ n = cc in same
+get_is (x ∷ xs) (suc i) n e = get_is xs i n e
+
+-- the words at the end are good, and what the closing desk knew is true of them
+module _ {S : Type 0} (still : Still) (id : ℕ) (view : View) (words : List ℕ) (slots : List S) (final : Final (Seen (Holds {S = S} still) id view) words slots) where
+  pub closed_good : AreGoodWords still.key words
+  closed_good = subst (AreGoodWords still.key) final.2 final.1.0.words
+
+  pub closed_true : IsTrueOf still.key.shape.bits (slice_index words) view.known
+  closed_true = subst (λ (ws : List ℕ). IsTrueOf still.key.shape.bits (slice_index ws) view.known) final.2
+      (all_at (IsTrueView still.key final.0.words) final.0.views id view final.1.0.views final.1.1).known
+
+pub copied_on : (xs ys : List ℕ) (n v : ℕ) → n < length xs → ((i : ℕ) → i < n → slice_index xs i ≡ slice_index ys i) → slice_index ys n ≡ v →
+    (i : ℕ) → i < n + 1 → slice_index (slice_set xs n v) i ≡ slice_index ys i
+copied_on xs ys n v inside each is i less = ⊎_elim
+    (λ e. ap (slice_index (slice_set xs n v)) e ∙ get_or-set_same xs n v 0 inside ∙ sym is ∙ ap (slice_index ys) (sym e))
+    (λ other. get_or-set_other xs n i v 0 other ∙ each i (omega arith))
+    (same_or_other i n)
+
+-- the rule holds of the words of a table that is opened
+pub opening_holds : {S : Type 0} (still : Still) (words : List ℕ) → words ≡ still.words.items → Holds {S = S} still (opening words [] (opened still))
+opening_holds {S} still words e = subst (λ (ws : List ℕ). Holds {S = S} still (opening ws [] (opened still))) (sym e)
+    (record { words = still.good; views = (record { tied = refl; known = (everything_known still).true_of }, tt) })

@@ -1,0 +1,119 @@
+-- Each lawful event of a desk keeps the rule, and tells the desk what it learned.
+use Rattle.std.proofs.Common.{◌≡◌, ◌≢◌, ℕ, zero, suc, ◌<◌, List, [], ◌∷◌, sym, ◌∙◌, subst, arith, refl, ⊎_elim}
+use Rattle.std.specs.Prelude.{Some, slice_index, slice_set}
+use Rattle.std.specs.List.{AllByRecursion}
+use mathlib.Core.Option as core
+use lib.ListN.{get_elem?}
+use Rattle.atomic_table.specs.Table.{Me, Allows, Splits, Joins, keeps}
+use Rattle.atomic_table.proofs.Lists.{at_set}
+use Rattle.plane.specs.Square.{empty}
+use Rattle.plane.proofs.Same.{same_trans, same_of}
+use Rattle.table_core.specs.declared.key.Key.{Key}
+use Rattle.table_core.specs.declared.knowledge.Knowledge.{Knowledge}
+use Rattle.table_core.specs.declared.machine.Event.{Event}
+use Rattle.table_core.specs.Blocks.{Words, IsBlock, cells_of}
+use Rattle.rule_text.specs.CountRule.{IsRule}
+use Rattle.table_core.specs.Layout.{size}
+use Rattle.table_core.specs.Good.{IsGood, KeepsWords}
+use Rattle.table_core.specs.Knowledge.{IsTrueOf}
+use Rattle.table_core.specs.Events.{index_of, word_after, words_after}
+use Rattle.table_core.specs.Lawful.{IsLawful}
+use Rattle.table_core.proofs.Blocks.{empty_cells}
+use Rattle.table_core.proofs.Consistency.{every_truth_is_consistent}
+use Rattle.table_core.proofs.Knowing.{true_later, block_true, united_true, nothing_true}
+use Rattle.table_core.proofs.Lists.{all_set, all_append, all_weaker}
+use Rattle.table_core.proofs.Stepping.{DeskStep, desk_steps, word_there}
+use Rattle.node_table.specs.declared.still.Still.{Still}
+use Rattle.node_table.specs.declared.view.View.{View}
+use Rattle.node_table.specs.Books.{IsCoherent, IsSound, IsSoundFor}
+use Rattle.node_table.specs.Rule.{IsTrueView, Holds, with_known, Met, HasMet, merged, spent}
+use Rattle.node_table.proofs.Books.{sound_for}
+
+pub all_at : {X : Type 0} (P : X → Type 0) (xs : List X) (i : ℕ) (a : X) → AllByRecursion P xs → get_elem? xs i ≡ core.some a → P a
+all_at P [] i a all e = let no : ⊥ = cc in absurd no
+all_at P (x ∷ xs) zero a all e = let same : x ≡ a = cc in subst P same all.0
+all_at P (x ∷ xs) (suc i) a all e = all_at P xs i a all.1 e
+
+view_later : (key : Key) (old new : List ℕ) (view : View) → KeepsWords (slice_index old) (slice_index new) → IsTrueView key old view → IsTrueView key new view
+view_later key old new view keeps_all h = record { tied = h.tied; known = true_later key.shape.bits (slice_index old) (slice_index new) view.known keeps_all h.known }
+
+-- what is true of good words is coherent
+pub is_coherent : (key : Key) (words : Words) (known : Knowledge) → IsGood key words → IsTrueOf key.shape.bits words known → IsCoherent key.shape.bits known
+is_coherent key words known good h = record {
+  consistent = every_truth_is_consistent key words known good h;
+  zero = λ rank plane knows. same_trans (same_of empty (cells_of words rank 0) (sym (empty_cells words rank))) (block_true key.shape.bits words known rank 0 plane h knows).cells;
+}
+
+block_some : (bits : ℕ) (words : Words) (rank n : ℕ) → n ≢ 0 → IsBlock bits words rank n → words n ≢ 0
+block_some bits words zero zero some b = absurd (some refl)
+block_some bits words zero (suc i) some b = b.1
+block_some bits words (suc rank) zero some b = absurd (some refl)
+block_some bits words (suc rank) (suc i) some b = b.1
+
+-- each lawful event of a seat keeps the rule, and the seat has met it
+pub meets : {S : Type 0} (still : Still) (slots id : ℕ) (me : Me S View) (event : Event) → me.0.key ≡ Some still.key → IsLawful still.key me.0.known event →
+    Allows (Holds {S = S} still) slots id me (index_of event) (word_after event) (HasMet event me)
+meets {S} still slots id me event present lawful s h n at fits =
+    let key = still.key in
+    let was : IsTrueView still.key s.words me.0 = all_at _ s.views id me.0 h.views at in
+    let d : DeskStep still.key s.words me.0.known event = desk_steps still.key s.words me.0.known event h.words was.known lawful in
+    let later : IsTrueOf still.key.shape.bits (slice_index (words_after event s.words)) me.0.known =
+    true_later still.key.shape.bits (slice_index s.words) (slice_index (words_after event s.words)) me.0.known d.stays.keeps was.known in
+    let there : slice_index (words_after event s.words) (index_of event) ≡ word_after event (slice_index s.words (index_of event)) =
+    word_there still.key s.words me.0.known h.words was.known event lawful in
+    let met : Met {S = S} still.key event me (word_after event (slice_index s.words (index_of event))) (with_known me.0 d.after, me.1) = record {
+      same_key = refl;
+      slots = refl;
+      learns = d.learns;
+      grows = d.grows;
+      coherent = is_coherent still.key (slice_index (words_after event s.words)) d.after d.stays.words.good d.true_of;
+      stands = λ rank plane some knows z. block_some still.key.shape.bits (slice_index (words_after event s.words)) rank (index_of event) some
+          (block_true still.key.shape.bits (slice_index (words_after event s.words)) me.0.known rank (index_of event) plane later knows).stands (there ∙ z);
+    } in (
+      with_known me.0 d.after,
+      keeps,
+      tt,
+      record {
+        words = d.stays.words;
+        views = all_set _ s.views id (with_known me.0 d.after)
+            (all_weaker _ _ (λ view t. view_later still.key s.words (words_after event s.words) view d.stays.keeps t) s.views h.views)
+            (record { tied = was.tied; known = d.true_of });
+      },
+      λ k e. subst (λ (a : Key). Met {S = S} a event me (word_after event (slice_index s.words (index_of event))) (with_known me.0 d.after, me.1)) (some_key still.key k (sym present ∙ e)) met,
+    )
+  where
+    some_key : (a b : Key) → Some a ≡ Some b → a ≡ b
+    some_key a b e = cc
+
+same_key : (a b : Key) → Some a ≡ Some b → a ≡ b
+same_key a b e = cc
+
+-- what a desk knows after an event is sound again
+pub sound_after : {S : Type 0} (key : Key) (event : Event) (before after : Me S View) (word : ℕ) → before.0.key ≡ Some key → IsSound before.0 →
+    Met key event before word after → IsSound after.0
+sound_after {S} key event before after word present sound met k e =
+    subst (λ (a : Key). IsSoundFor a after.0.known) (same_key key k (sym present ∙ sym met.same_key ∙ e)) (sound_for key after.0.known ((sound key present).book []).rule met.coherent)
+
+pub splits : {S : Type 0} (still : Still) (id : ℕ) (v : View) → Splits (Holds {S = S} still) id v v v
+splits still id v s h at =
+    let one = all_at _ s.views id v h.views at in
+    record { words = h.words; views = all_append _ (slice_set s.views id v) (v ∷ []) (all_set _ s.views id v h.views one) (one, tt) }
+
+pub joins : {S : Type 0} (still : Still) (id other : ℕ) (v w : View) → Joins (Holds {S = S} still) id v other w (merged v w) spent
+joins still id other v w s h at apart at_other =
+    let first : IsTrueView still.key s.words v = all_at _ s.views id v h.views at in
+    let whose = ⊎_elim {C = get_elem? s.views other ≡ core.some w} (λ t. absurd (apart t.0)) (λ t. t.1) (at_set s.views id other (merged v w) w at_other) in
+    let second : IsTrueView still.key s.words w = all_at _ s.views other w h.views whose in
+    let both : IsTrueView still.key s.words (merged v w) = record { tied = first.tied; known = united_true still.key.shape.bits (slice_index s.words) v.known w.known first.known second.known } in
+    record {
+      words = h.words;
+      views = all_set _ (slice_set s.views id (merged v w)) other spent (all_set _ s.views id (merged v w) h.views both)
+          (record { tied = tt; known = nothing_true still.key.shape.bits (slice_index s.words) });
+    }
+
+pub sound_by : (key : Key) (view : View) → IsRule key.rule → IsCoherent key.shape.bits view.known → view.key ≡ Some key → IsSound view
+sound_by key view rule coherent present k e =
+    subst (λ (a : Key). IsSoundFor a view.known) (same_key key k (sym present ∙ e)) (sound_for key view.known rule coherent)
+
+pub some_words : (bits words : ℕ) → words ≡ size bits → 0 < words
+some_words bits words e = omega arith

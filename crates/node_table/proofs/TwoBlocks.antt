@@ -1,0 +1,149 @@
+-- Two blocks as one.
+use Rattle.std.proofs.Common.{◌≡◌, ◌≢◌, ℕ, suc, ◌+◌, ◌-◌, ◌%◌, ◌^◌, ◌<◌, ◌≤◌, pos, Bool, true, false, cond, sym, subst, arith, refl, inl}
+use Rattle.std.specs.Prelude.{◌==◌, int_lt, List, [], ◌∷◌}
+use Rattle.plane.specs.Plane.{Plane}
+use Rattle.plane.specs.Square.{IsSame, IsSquare, empty, cut, joined}
+use Rattle.plane.specs.Block.{beside, below}
+use Rattle.plane.proofs.Cuts.{cut_same, joined_nw, joined_ne, joined_sw, joined_se}
+use Rattle.plane.proofs.Same.{same_refl, same_sym, same_trans, same_of}
+use Rattle.table_core.specs.declared.key.Key.{Key}
+use Rattle.table_core.specs.declared.knowledge.Knowledge.{Knowledge}
+use Rattle.table_core.specs.Layout.{first_part, second_part}
+use Rattle.table_core.specs.Blocks.{paired, width, height, square_rank}
+use Rattle.table_core.specs.Knowledge.{KnowsBlock, Grows}
+use Rattle.table_core.specs.Learning.{KnowsPartsOf, LearnsWord, MeetsWord}
+use Rattle.table_core.proofs.Blocks.{paired_same}
+use Rattle.table_core.proofs.Knowing.{knows_same, knows_grown}
+use Rattle.table_core.proofs.Quads.{next_rank, quarters_joined}
+use Rattle.node_table.specs.Books.{IsCoherent}
+use Rattle.node_table.specs.Numbers.{IsPair, ArePartsOf, KnowsPairOf}
+use Rattle.std.proofs.Math.Logic.{∥∥₁_elim}
+use Rattle.std.proofs.Props.{props}
+use Rattle.squares.specs.Book.{AreQuarters, Shows, numbered}
+use Rattle.node_table.specs.Books.{book_of}
+use Rattle.node_table.proofs.Books.{zero_is_empty, inside_square, shows_of}
+
+both_cases : {A : Type 0} (b : Bool) (u v w : A) → u ≡ w → v ≡ w → cond b u v ≡ w
+both_cases true u v w h k = h
+both_cases false u v w h k = k
+
+-- two empty blocks are an empty one
+empty_paired : (rank : ℕ) → paired rank empty empty ≡ empty
+empty_paired rank = both_cases (rank % 2 == 0) (beside (width rank) empty empty) (below (height rank) empty empty) empty
+    (λ i x y. both_cases (int_lt x (pos (width rank))) false false false refl refl i)
+    (λ i x y. both_cases (int_lt y (pos (height rank))) false false false refl refl i)
+
+zero_empty : (bits : ℕ) (known : Knowledge) (rank n : ℕ) (plane : Plane) → ∥ IsCoherent bits known ∥₁ → n ≡ 0 → KnowsBlock known rank n plane → IsSame empty plane
+zero_empty bits known rank n plane h e knows = zero_is_empty bits known rank plane h (subst (λ m. KnowsBlock known rank m plane) e knows)
+
+pub empty_pair : (bits : ℕ) (known : Knowledge) (first second : ℕ) → ∥ IsCoherent bits known ∥₁ → first ≡ 0 → second ≡ 0 → IsPair known known first second 0
+empty_pair bits known first second h e f = record {
+  shown = λ rank one two a b. inl (
+    refl,
+    same_trans (same_of empty (paired rank empty empty) (sym (empty_paired rank))) (paired_same rank empty empty one two (zero_empty bits known rank first one h e a) (zero_empty bits known rank second two h f b)),
+  );
+}
+
+-- the two parts of an empty block
+pub empty_parts : (bits : ℕ) (known : Knowledge) (number : ℕ) → ∥ IsCoherent bits known ∥₁ → number ≡ 0 → KnowsPairOf known known number 0 0
+empty_parts bits known number h e = record {
+  parts = λ rank plane knows. record {
+    one = empty;
+    two = empty;
+    cells = same_trans (same_sym (zero_empty bits known (suc rank) number plane h e knows)) (same_of empty (paired rank empty empty) (sym (empty_paired rank)));
+    shows_one = inl (refl, same_refl empty);
+    shows_two = inl (refl, same_refl empty);
+  };
+}
+
+-- a look at a known block shows its parts
+pub pair_read : (key : Key) (old new : Knowledge) (number word : ℕ) → number ≢ 0 →
+    ((rank : ℕ) (plane : Plane) → KnowsBlock old rank number plane → word ≢ 0) → MeetsWord key old number word new →
+    KnowsPairOf old new number (first_part word) (second_part word)
+pair_read key old new number word some stands met = record {
+  parts = λ rank plane knows.
+      let learns : LearnsWord key old number word new = met.some (stands (suc rank) plane knows) in
+      let p : KnowsPartsOf new rank word plane = learns.parts rank plane some knows in
+      record { one = p.one; two = p.two; cells = p.cells; shows_one = p.both.first; shows_two = p.both.second };
+}
+
+-- four squares as one
+pub quad_shown : (a b c d : Knowledge) (level nw ne sw se upper lower number : ℕ) (p q r s : Plane) → 3 ≤ level →
+    IsPair a b nw ne upper → IsPair b c sw se lower → IsPair c d upper lower number → Grows a b → Grows b c →
+    KnowsBlock a (square_rank level) nw p → KnowsBlock a (square_rank level) ne q → KnowsBlock a (square_rank level) sw r → KnowsBlock a (square_rank level) se s →
+    KnowsBlock d (square_rank (level + 1)) number (joined (2 ^ level) p q r s)
+quad_shown a b c d level nw ne sw se upper lower number p q r s above one two whole grows more hp hq hr hs =
+    let k = square_rank level in
+    let top : KnowsBlock b (suc (square_rank level)) upper (paired (square_rank level) p q) = one.shown (square_rank level) p q hp hq in
+    let bottom : KnowsBlock c (suc (square_rank level)) lower (paired (square_rank level) r s) =
+    two.shown (square_rank level) r s (knows_grown a b (square_rank level) sw r grows hr) (knows_grown a b (square_rank level) se s grows hs) in
+    let all : KnowsBlock d (suc (suc (square_rank level))) number (paired (suc (square_rank level)) (paired (square_rank level) p q) (paired (square_rank level) r s)) =
+    whole.shown (suc (square_rank level)) (paired (square_rank level) p q) (paired (square_rank level) r s) (knows_grown b c (suc (square_rank level)) upper (paired (square_rank level) p q) more top) bottom in
+    subst (λ n. KnowsBlock d n number (joined (2 ^ level) p q r s)) (sym (next_rank level above))
+    (subst (λ plane. KnowsBlock d (suc (suc (square_rank level))) number plane) (quarters_joined level p q r s above) all)
+
+-- a square's rank is two above that of its quarters
+pub quarter_rank : (level : ℕ) → 3 < level → square_rank level ≡ suc (suc (square_rank (level - 1)))
+quarter_rank level above = omega arith
+
+is_square_prop : (side : ℕ) (plane : Plane) → IsProp (IsSquare side plane)
+is_square_prop side plane = hlevel props
+
+known_square : (bits : ℕ) (known : Knowledge) (level n : ℕ) (plane : Plane) → ∥ IsCoherent bits known ∥₁ → 3 ≤ level → KnowsBlock known (square_rank level) n plane → IsSquare (2 ^ level) plane
+known_square bits known level n plane h above knows =
+    ∥∥₁_elim h (is_square_prop (2 ^ level) plane) (λ t. inside_square level plane above (t.consistent.inside (square_rank level) n plane knows))
+
+-- the quarters of a square whose halves and their parts were read
+module _ (store : List ℕ) (key : Key) (a b c d : Knowledge) (level number upper lower nw ne sw se : ℕ) (plane : Plane) (low : 3 < level) (high : level ≤ 65) (h : ∥ IsCoherent key.shape.bits d ∥₁) (whole : KnowsPairOf a b number upper lower) (top : KnowsPairOf b c upper nw ne) (bottom : KnowsPairOf c d lower sw se) (grows : Grows b c) (more : Grows c d) (knows : KnowsBlock a (square_rank level) number plane) where
+  halves : ArePartsOf b (suc (square_rank (level - 1))) plane upper lower
+  halves = whole.parts (suc (square_rank (level - 1))) plane (subst (λ r. KnowsBlock a r number plane) (quarter_rank level low) knows)
+
+  uppers : ArePartsOf c (square_rank (level - 1)) halves.one nw ne
+  uppers = top.parts (square_rank (level - 1)) halves.one halves.shows_one
+
+  lowers : ArePartsOf d (square_rank (level - 1)) halves.two sw se
+  lowers = bottom.parts (square_rank (level - 1)) halves.two (knows_grown b c (suc (square_rank (level - 1))) lower halves.two grows halves.shows_two)
+
+  all : Plane
+  all = joined (2 ^ (level - 1)) uppers.one uppers.two lowers.one lowers.two
+
+  cells : IsSame all plane
+  unfolding all
+  cells = same_sym (same_trans halves.cells
+      (same_trans (paired_same (suc (square_rank (level - 1))) halves.one halves.two _ _ uppers.cells lowers.cells)
+      (same_of _ _ (quarters_joined (level - 1) uppers.one uppers.two lowers.one lowers.two (omega arith)))))
+
+  is_square : (n : ℕ) (part : Plane) → KnowsBlock d (square_rank (level - 1)) n part → IsSquare (2 ^ (level - 1)) part
+  is_square n part k = known_square key.shape.bits d (level - 1) n part h (omega arith) k
+
+  known_nw : KnowsBlock d (square_rank (level - 1)) nw uppers.one
+  known_nw = knows_grown c d (square_rank (level - 1)) nw uppers.one more uppers.shows_one
+
+  known_ne : KnowsBlock d (square_rank (level - 1)) ne uppers.two
+  known_ne = knows_grown c d (square_rank (level - 1)) ne uppers.two more uppers.shows_two
+
+  shown : (n left up : ℕ) (part : Plane) → KnowsBlock d (square_rank (level - 1)) n part → IsSame part (cut (2 ^ (level - 1)) left up all) →
+      Shows (book_of store key d) (level - 1) (cut (2 ^ (level - 1)) left up plane) (numbered (level - 1) n)
+  shown n left up part k same = shows_of store key d (numbered (level - 1) n) (cut (2 ^ (level - 1)) left up plane) h (omega arith) (omega arith)
+      (knows_same d (square_rank (level - 1)) n part (cut (2 ^ (level - 1)) left up plane) (same_trans same (cut_same (2 ^ (level - 1)) left up all plane cells)) k)
+
+  square_nw : IsSquare (2 ^ (level - 1)) uppers.one
+  square_nw = is_square nw uppers.one known_nw
+
+  square_ne : IsSquare (2 ^ (level - 1)) uppers.two
+  square_ne = is_square ne uppers.two known_ne
+
+  square_sw : IsSquare (2 ^ (level - 1)) lowers.one
+  square_sw = is_square sw lowers.one lowers.shows_one
+
+  square_se : IsSquare (2 ^ (level - 1)) lowers.two
+  square_se = is_square se lowers.two lowers.shows_two
+
+  pub quarters_shown : AreQuarters (book_of store key d) level plane (numbered (level - 1) nw ∷ numbered (level - 1) ne ∷ numbered (level - 1) sw ∷ numbered (level - 1) se ∷ [])
+  unfolding all
+  quarters_shown = record {
+    nw = shown nw 0 0 uppers.one known_nw (joined_nw (2 ^ (level - 1)) _ _ _ _ square_nw square_ne square_sw square_se);
+    ne = shown ne (2 ^ (level - 1)) 0 uppers.two known_ne (joined_ne (2 ^ (level - 1)) _ _ _ _ square_nw square_ne square_sw square_se);
+    sw = shown sw 0 (2 ^ (level - 1)) lowers.one lowers.shows_one (joined_sw (2 ^ (level - 1)) _ _ _ _ square_nw square_ne square_sw square_se);
+    se = shown se (2 ^ (level - 1)) (2 ^ (level - 1)) lowers.two lowers.shows_two (joined_se (2 ^ (level - 1)) _ _ _ _ square_nw square_ne square_sw square_se);
+  }

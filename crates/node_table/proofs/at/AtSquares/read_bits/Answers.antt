@@ -1,0 +1,29 @@
+use Rattle.std.proofs.Common.{subst}
+use Rattle.table_core.specs.Blocks.{square_rank}
+use Rattle.table_core.specs.Knowledge.{KnowsBlock}
+use Rattle.node_table.specs.Books.{cells_in}
+use Rattle.node_table.proofs.Entries.{block_of}
+use Rattle.node_table.proofs.Desks.{coherent_at, keeps_at, in_table, leaf_slot, leaf_read}
+use Rattle.node_table.proofs.at.AtSquares.read_bits.Goals as goal
+
+pub look-requires-clause-range : goal.look-requires-clause-range
+look-requires-clause-range c =
+    let at = c.args.self.now in
+    in_table at.table.now at.desk (square_rank c.args.sq.level) c.args.sq.num.0 (cells_in at.desk.seat.me.0.known c.args.sq) at.of_table c.if-sq-eq0.false (block_of at.desk.seat.me.0.known c.args.sq c.requires.known)
+
+pub returns-clause-value : goal.returns-clause-value
+returns-clause-value c =
+    let at = c.args.self.now in
+    let known = at.desk.seat.me.0.known in
+    let n = c.args.sq.num.0 in
+    let plane = cells_in known c.args.sq in
+    let knows = subst (λ level. KnowsBlock known (square_rank level) n plane) c.requires.at_level (block_of known c.args.sq c.requires.known) in
+    let met = c.look.ensures.met in
+    record {
+      known = c.requires;
+      cells = leaf_read at.table.now.key known c.look.new.self.seat.me.0.known n c.look.result plane (coherent_at at.table.now c.look.new.self c.look.ensures.table)
+          c.if-sq-eq0.false (leaf_slot at.table.now.key.shape.bits known n plane (coherent_at at.table.now at.desk at.of_table) c.if-sq-eq0.false knows) knows (met.stands 0 plane c.if-sq-eq0.false knows) met.grows met.learns;
+    }
+
+pub returns-clause-keeps : goal.returns-clause-keeps
+returns-clause-keeps c = keeps_at c.args.self.now.table.now c.args.self.now.desk c.look.new.self c.look.ensures.table c.look.ensures.met.grows

@@ -1,0 +1,31 @@
+use Rattle.std.proofs.Common.{◌∙◌, ap, sym, subst, Some}
+use Rattle.table_core.specs.declared.key.Key.{Key}
+use Rattle.table_core.specs.declared.machine.Event.TheVariants.{Claim}
+use Rattle.table_core.specs.Lawful.{IsLawful}
+use Rattle.node_table.proofs.Steps.{meets, sound_after}
+use Rattle.node_table.proofs.desk.Desk.claim.Goals as goal
+
+pub compare_exchange-requires : goal.compare_exchange-requires
+compare_exchange-requires c =
+    let t = c.args.table.now in
+    let seat = c.args.self.now.seat in (
+      c.requires.table.same_table,
+      c.requires.range,
+      meets t.table.shared.key t.table.shared.table_id.slots seat.id seat.me (Claim 0 c.args.index c.args.word) (c.requires.table.same_key ∙ ap (λ (k : Key). Some k) (sym t.same_key)) (subst (λ (k : Key). IsLawful k seat.me.0.known (Claim 0 c.args.index c.args.word)) (sym t.same_key) c.requires.lawful),
+    )
+
+pub invariant_of-self : goal.invariant_of-self
+invariant_of-self c =
+    let met = c.compare_exchange.ensures.2 c.args.table.now.key c.requires.table.same_key in
+    record {
+      free = met.slots ∙ c.args.self.now.free;
+      sound = sound_after c.args.table.now.key (Claim 0 c.args.index c.args.word) c.args.self.now.seat.me c.compare_exchange.new.seat.me _ c.requires.table.same_key c.args.self.now.sound met;
+    }
+
+pub returns-clause-table : goal.returns-clause-table
+returns-clause-table c =
+    let met = c.compare_exchange.ensures.2 c.args.table.now.key c.requires.table.same_key in
+    record { same_table = c.compare_exchange.ensures.0 ∙ c.requires.table.same_table; same_key = met.same_key ∙ c.requires.table.same_key }
+
+pub returns-clause-met : goal.returns-clause-met
+returns-clause-met c = c.compare_exchange.ensures.2 c.args.table.now.key c.requires.table.same_key

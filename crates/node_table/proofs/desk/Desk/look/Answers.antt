@@ -1,0 +1,30 @@
+use Rattle.std.proofs.Common.{◌∙◌, ap, sym, Some}
+use Rattle.table_core.specs.declared.key.Key.{Key}
+use Rattle.table_core.specs.declared.machine.Event.TheVariants.{Look}
+use Rattle.node_table.proofs.Steps.{meets, sound_after}
+use Rattle.node_table.proofs.desk.Desk.look.Goals as goal
+
+pub load-requires : goal.load-requires
+load-requires c =
+    let t = c.args.table.now in
+    let seat = c.args.self.now.seat in (
+      c.requires.table.same_table,
+      c.requires.range,
+      meets t.table.shared.key t.table.shared.table_id.slots seat.id seat.me (Look 0 c.args.index) (c.requires.table.same_key ∙ ap (λ (k : Key). Some k) (sym t.same_key)) tt,
+    )
+
+pub invariant_of-self : goal.invariant_of-self
+invariant_of-self c =
+    let met = c.load.ensures.2 c.args.table.now.key c.requires.table.same_key in
+    record {
+      free = met.slots ∙ c.args.self.now.free;
+      sound = sound_after c.args.table.now.key (Look 0 c.args.index) c.args.self.now.seat.me c.load.new.seat.me _ c.requires.table.same_key c.args.self.now.sound met;
+    }
+
+pub returns-clause-table : goal.returns-clause-table
+returns-clause-table c =
+    let met = c.load.ensures.2 c.args.table.now.key c.requires.table.same_key in
+    record { same_table = c.load.ensures.0 ∙ c.requires.table.same_table; same_key = met.same_key ∙ c.requires.table.same_key }
+
+pub returns-clause-met : goal.returns-clause-met
+returns-clause-met c = c.load.ensures.2 c.args.table.now.key c.requires.table.same_key

@@ -1,0 +1,42 @@
+use Rattle.std.proofs.Common.{◌+◌, ◌∙◌, sym, subst}
+use Rattle.node_table.specs.Desks.{IsDeskOf}
+use Rattle.node_table.specs.declared.desk.Desk.{Desk}
+use Rattle.node_table.proofs.Searching.{Sought, still_sought, is_number, goes_on, may_claim, left_word, left_other}
+use Rattle.node_table.proofs.desk.Desk.number.Goals.{then-found-eq0+else-found-eq0-2+else-found-word-2, else-found-eq0}
+use Rattle.node_table.proofs.desk.Desk.number.Goals as goal
+
+pub claim-found-requires-clause-lawful : goal.claim-found-requires-clause-lawful
+claim-found-requires-clause-lawful c =
+    may_claim c.args.table.now.key c.args.self.now.seat.me.0.known c.loop-place.self.seat.me.0.known c.look-found.new.self.seat.me.0.known c.args.kind c.args.word c.loop-place.place c.way_index-index.result c.look-found.result
+    c.loop-place.invariant.sought c.way_index-index.ensures.index c.look-found.ensures.met.grows c.look-found.ensures.met.learns c.requires.some c.ranges.word.fits c.loop-place-test.true c.requires.parts
+
+pub returns-then-found-eq0-2-clause-some : goal.returns-then-found-eq0-2-clause-some
+returns-then-found-eq0-2-clause-some c =
+    let sought = still_sought c.args.table.now.key c.args.self.now.seat.me.0.known c.loop-place.self.seat.me.0.known c.look-found.new.self.seat.me.0.known c.args.kind c.args.word c.loop-place.place c.way_index-index.result c.look-found.result
+    c.loop-place.invariant.sought c.way_index-index.ensures.index c.look-found.ensures.met.grows c.look-found.ensures.met.learns in
+    is_number c.args.table.now.key c.args.self.now.seat.me.0.known c.look-found.new.self.seat.me.0.known c.claim-found.new.self.seat.me.0.known c.args.kind c.args.word c.loop-place.place c.way_index-index.result _
+    sought c.way_index-index.ensures.index c.claim-found.ensures.met.grows c.claim-found.ensures.met.learns c.requires.some (left_word c.claim-found.result c.args.word c.then-found-eq0-2.either)
+
+pub loop-place-preserved : goal.loop-place-preserved
+loop-place-preserved c =
+    let key = c.args.table.now.key in
+    let old = c.args.self.now.seat.me.0.known in
+    let looked = c.look-found.new.self.seat.me.0.known in
+    elim c.if-found-eq0.branch [
+      | then-found-eq0+else-found-eq0-2+else-found-word-2 w ↦ record {
+        at = subst (λ (d : Desk). IsDeskOf c.args.table.now d) (sym w.self-is) w.claim-found.ensures.table;
+        sought = subst (λ (d : Desk). Sought key.shape.bits old d.seat.me.0.known c.args.kind c.args.word (c.loop-place.place + 1)) (sym w.self-is)
+            (goes_on key old looked w.claim-found.new.self.seat.me.0.known c.args.kind c.args.word c.loop-place.place c.way_index-index.result _
+            (still_sought key old c.loop-place.self.seat.me.0.known looked c.args.kind c.args.word c.loop-place.place c.way_index-index.result c.look-found.result
+            c.loop-place.invariant.sought c.way_index-index.ensures.index c.look-found.ensures.met.grows c.look-found.ensures.met.learns)
+            c.way_index-index.ensures.index w.claim-found.ensures.met.grows w.claim-found.ensures.met.learns
+            (λ e. w.if-found-eq0-2.false (sym (left_other w.claim-found.result c.args.word w.if-found-eq0-2.false) ∙ e))
+            (λ e. w.if-found-word-2.false (sym (left_other w.claim-found.result c.args.word w.if-found-eq0-2.false) ∙ e)));
+      }
+      | else-found-eq0 w ↦ record {
+        at = subst (λ (d : Desk). IsDeskOf c.args.table.now d) (sym w.self-is) c.look-found.ensures.table;
+        sought = subst (λ (d : Desk). Sought key.shape.bits old d.seat.me.0.known c.args.kind c.args.word (c.loop-place.place + 1)) (sym w.self-is)
+            (goes_on key old c.loop-place.self.seat.me.0.known looked c.args.kind c.args.word c.loop-place.place c.way_index-index.result c.look-found.result
+            c.loop-place.invariant.sought c.way_index-index.ensures.index c.look-found.ensures.met.grows c.look-found.ensures.met.learns w.if-found-eq0.false c.if-found-word.false);
+      }
+    ]

@@ -1,0 +1,64 @@
+-- What a desk knows, as a book of squares.
+use Rattle.std.specs.Prelude.{◌≡◌, ℕ, ◌==◌, nat_le, Bool, true, false, ◌&&◌, if◌then◌else◌, List, [], ◌∷◌, map, Option, Some, None, is_some}
+use Rattle.plane.specs.Plane.{Plane}
+use Rattle.plane.specs.Square.{IsSame, empty}
+use Rattle.plane.specs.Listing.{plane_of}
+use Rattle.squares.specs.declared.sq.Sq.{Sq}
+use Rattle.squares.specs.Book.{Book, IsBook, numbered}
+use Rattle.table_core.specs.declared.key.Key.{Key}
+use Rattle.table_core.specs.declared.knowledge.KnownBlock.{KnownBlock}
+use Rattle.table_core.specs.declared.knowledge.KnownResult.{KnownResult}
+use Rattle.table_core.specs.declared.knowledge.Knowledge.{Knowledge}
+use Rattle.table_core.specs.Blocks.{square_rank}
+use Rattle.table_core.specs.FullShards.{knows_full_shard}
+use Rattle.table_core.specs.Knowledge.{IsConsistent, KnowsBlock}
+use Rattle.node_table.specs.declared.view.View.{View}
+
+-- the first entry of a number as a block of this rank
+abbrev pub entry_at : List KnownBlock → ℕ → ℕ → Option KnownBlock
+entry_at [] rank number = None
+entry_at (entry ∷ entries) rank number =
+    if (entry.number == number) && (entry.rank == rank) then Some entry else entry_at entries rank number
+
+abbrev pub cells_there : Option KnownBlock → Plane
+cells_there None = empty
+cells_there (Some entry) = plane_of entry.live
+
+abbrev pub knows_in : Knowledge → Sq → Bool
+knows_in known sq =
+    (nat_le 3 sq.level && nat_le sq.level 65)
+    && (if sq.num.0 == 0 then true else is_some (entry_at known.blocks (square_rank sq.level) sq.num.0))
+
+abbrev pub cells_in : Knowledge → Sq → Plane
+cells_in known sq = if sq.num.0 == 0 then empty else cells_there (entry_at known.blocks (square_rank sq.level) sq.num.0)
+
+-- the square whose result it is
+abbrev pub square_of : KnownResult → Sq
+square_of result = numbered result.level result.square
+
+-- the squares of a store and the results that are known; it is full where a shard without a zero slot is known, and takes no memory
+abbrev pub book_of : List ℕ → Key → Knowledge → Book
+book_of store key known = record {
+  rule = key.rule;
+  exponent = key.exponent;
+  knows = knows_in known;
+  cells = cells_in known;
+  results = map square_of known.results;
+  learned = known.learned;
+  is_full = knows_full_shard key.shape.bits known;
+  takes_memory = false;
+  store = store;
+}
+
+-- what a desk knows agrees with itself, and 0 shows nothing but the empty block
+pub record IsCoherent (bits : ℕ) (known : Knowledge) : Type 0 where
+  pub consistent : IsConsistent bits known
+  pub zero : (rank : ℕ) (plane : Plane) → KnowsBlock known rank 0 plane → IsSame empty plane
+
+-- what a desk knows of a table with this key is a book, and agrees with itself
+pub record IsSoundFor (key : Key) (known : Knowledge) : Type 0 where
+  pub book : (store : List ℕ) → IsBook (book_of store key known)
+  pub coherent : ∥ IsCoherent key.shape.bits known ∥₁
+
+abbrev pub IsSound : View → Type 0
+IsSound view = (key : Key) → view.key ≡ Some key → IsSoundFor key view.known

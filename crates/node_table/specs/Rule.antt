@@ -1,0 +1,69 @@
+-- The rule of the words of a running table, and what each step tells its desk.
+use Rattle.std.specs.Prelude.{◌≡◌, ◌≢◌, ℕ, List, slice_index, Some, None, IfSome}
+use Rattle.std.specs.List.{AllByRecursion}
+use Rattle.atomic_table.specs.Table.{State, Me, Step}
+use Rattle.plane.specs.Plane.{Plane}
+use Rattle.table_core.specs.declared.key.Key.{Key}
+use Rattle.table_core.specs.declared.knowledge.Knowledge.{Knowledge}
+use Rattle.table_core.specs.declared.machine.Event.{Event}
+use Rattle.table_core.specs.declared.machine.Event.TheVariants.{Look, Claim, Ask, Tell}
+use Rattle.table_core.specs.Layout.{second_part}
+use Rattle.table_core.specs.Good.{AreGoodWords}
+use Rattle.table_core.specs.Knowledge.{IsTrueOf, KnowsBlock, Grows, united, nothing}
+use Rattle.table_core.specs.Learning.{Learns}
+use Rattle.table_core.specs.Events.{index_of, word_after}
+use Rattle.node_table.specs.GoodWords.{all_of}
+use Rattle.node_table.specs.declared.still.Still.{Still}
+use Rattle.node_table.specs.declared.view.View.{View}
+use Rattle.node_table.specs.Books.{IsCoherent}
+
+-- what a desk knows is true of the words; one that was joined into another has no key
+pub record IsTrueView (key : Key) (words : List ℕ) (view : View) : Type 0 where
+  pub tied : IfSome view.key (λ k. k ≡ key)
+  pub known : IsTrueOf key.shape.bits (slice_index words) view.known
+
+-- the words are good, and what each desk knows is true of them
+pub record Holds {S : Type 0} (still : Still) (state : State S View) : Type 0 where
+  pub words : AreGoodWords still.key state.words
+  pub views : AllByRecursion (IsTrueView still.key state.words) state.views
+
+-- all that the words say
+abbrev pub everything : Still → Knowledge
+everything still = all_of still.key still.words.items still.good
+
+abbrev pub opened : Still → View
+opened still = record { key = Some still.key; known = everything still }
+
+abbrev pub with_known : View → Knowledge → View
+with_known view known = record { key = view.key; known = known }
+
+-- an event of the desk happened, by the word that stands there afterwards
+pub record Met {S : Type 0} (key : Key) (event : Event) (before : Me S View) (word : ℕ) (after : Me S View) : Type 0 where
+  pub same_key : after.0.key ≡ before.0.key
+  pub slots : after.1 ≡ before.1
+  pub learns : Learns key event before.0.known word after.0.known
+  pub grows : Grows before.0.known after.0.known
+  pub coherent : IsCoherent key.shape.bits after.0.known
+  pub stands : (rank : ℕ) (plane : Plane) → index_of event ≢ 0 → KnowsBlock before.0.known rank (index_of event) plane → word ≢ 0
+
+abbrev pub HasMet : Event → {S : Type 0} → Me S View → ℕ → Me S View → Type 0
+HasMet event before found after = (key : Key) → before.0.key ≡ Some key → Met key event before (word_after event found) after
+
+abbrev pub LooksThere : {S : Type 0} → Step S → Me S View → ℕ → Me S View → Type 0
+LooksThere step = HasMet (Look 0 step.word)
+
+abbrev pub ClaimsThere : {S : Type 0} → Step S → Me S View → ℕ → Me S View → Type 0
+ClaimsThere step = HasMet (Claim 0 step.word step.second)
+
+abbrev pub AsksThere : {S : Type 0} → Step S → Me S View → ℕ → Me S View → Type 0
+AsksThere step = HasMet (Ask 0 step.word)
+
+abbrev pub TellsThere : {S : Type 0} → Step S → Me S View → ℕ → Me S View → Type 0
+TellsThere step = HasMet (Tell 0 step.word (second_part step.second))
+
+-- one desk knows what either knew, and the other nothing more
+abbrev pub merged : View → View → View
+merged one two = with_known one (united one.known two.known)
+
+abbrev pub spent : View
+spent = record { key = None; known = nothing }

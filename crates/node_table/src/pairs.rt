@@ -1,0 +1,57 @@
+ghost use Rattle.std.specs.Prelude.{◌≡◌, IfOk, IfErr, OnErr};
+ghost use Rattle.squares.specs.Book.{MayRefuse};
+ghost use Rattle.table_core.specs.declared.shape.Kind.TheVariants.{Pair};
+ghost use Rattle.table_core.specs.Knowledge.{Grows};
+ghost use Rattle.table_core.specs.Lawful.{KnowsParts};
+ghost use Rattle.table_core.specs.Layout.{pair_of};
+ghost use Rattle.node_table.specs.Numbers.{KeepsTold, IsPair, KnowsSomePair, KnowsPairOf, KnowsFullWay};
+ghost use Rattle.node_table.specs.Desks.{IsDeskOf, book_at};
+
+use crate::desk::Desk;
+use crate::table::NodeTable;
+use plane::Refusal;
+use table_core::{Kind, pair_word, parts};
+
+impl Desk {
+    // The number of two blocks of one rank, beside or below one another. Two empty ones are an
+    // empty one.
+    pub(crate) fn pair(
+        &mut self,
+        table: &NodeTable,
+        first: u32,
+        second: u32,
+    ) -> Result<u32, Refusal>
+        requires table { IsDeskOf table.now self.old }
+        requires parts { KnowsParts self.old.seat.me.0.known (pair_of first second) }
+        ensures table { IsDeskOf table.now self.new }
+        ensures grows { Grows self.old.seat.me.0.known self.new.seat.me.0.known }
+        ensures told { KeepsTold self.old.seat.me.0.known self.new.seat.me.0.known }
+        ensures ok { IfOk result (IsPair self.old.seat.me.0.known self.new.seat.me.0.known first second) }
+        ensures empty { first ≡ 0 → second ≡ 0 → result ≡ Ok 0 }
+        ensures refusal { IfErr result (MayRefuse (book_at table.now self.new)) }
+        ensures full { OnErr result (KnowsFullWay table.now.key.shape.bits self.new.seat.me.0.known Pair (pair_of first second)) }
+    {
+        if first == 0 && second == 0 {
+            return Ok(0);
+        }
+        match self.number(table, Kind::Pair, pair_word(first, second)) {
+            Some(number) => Ok(number),
+            None => Err(Refusal::NodesFull),
+        }
+    }
+
+    // The two blocks of a block that is no square of level 3.
+    pub(crate) fn read_pair(&mut self, table: &NodeTable, number: u32) -> (u32, u32)
+        requires table { IsDeskOf table.now self.old }
+        requires known { KnowsSomePair self.old.seat.me.0.known number }
+        ensures table { IsDeskOf table.now self.new }
+        ensures grows { Grows self.old.seat.me.0.known self.new.seat.me.0.known }
+        ensures told { KeepsTold self.old.seat.me.0.known self.new.seat.me.0.known }
+        ensures parts { KnowsPairOf self.old.seat.me.0.known self.new.seat.me.0.known number result.0 result.1 }
+    {
+        if number == 0 {
+            return (0, 0);
+        }
+        parts(self.look(table, number))
+    }
+}

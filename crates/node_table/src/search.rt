@@ -1,0 +1,39 @@
+ghost use Rattle.std.specs.Prelude.{◌≢◌, IfSome, IfNone};
+ghost use Rattle.table_core.specs.Knowledge.{Grows};
+ghost use Rattle.table_core.specs.Lawful.{KnowsPartsFor};
+ghost use Rattle.node_table.specs.Numbers.{KeepsTold, IsNumber, KnowsFullWay};
+ghost use Rattle.node_table.specs.Desks.{IsDeskOf};
+
+use crate::desk::Desk;
+use crate::table::NodeTable;
+use table_core::{Kind, SHARD_LEN};
+
+impl Desk {
+    // The number of a word: where it stands on its way, or comes to stand there now. There is none
+    // where another word stands at each place.
+    pub(crate) fn number(&mut self, table: &NodeTable, kind: Kind, word: u64) -> Option<u32>
+        requires table { IsDeskOf table.now self.old }
+        requires some { word ≢ 0 }
+        requires parts { KnowsPartsFor self.old.seat.me.0.known kind word }
+        ensures table { IsDeskOf table.now self.new }
+        ensures grows { Grows self.old.seat.me.0.known self.new.seat.me.0.known }
+        ensures told { KeepsTold self.old.seat.me.0.known self.new.seat.me.0.known }
+        ensures some { IfSome result (IsNumber table.now.key.shape.bits self.old.seat.me.0.known self.new.seat.me.0.known kind word) }
+        ensures none { IfNone result (KnowsFullWay table.now.key.shape.bits self.new.seat.me.0.known kind word) }
+    {
+        for place in 0..SHARD_LEN {
+            let index = table.key.shape.way_index(kind, word, place);
+            let found = self.look(table, index);
+            if found == word {
+                return Some(index);
+            }
+            if found == 0 {
+                let found = self.claim(table, index, word);
+                if found == 0 || found == word {
+                    return Some(index);
+                }
+            }
+        }
+        None
+    }
+}

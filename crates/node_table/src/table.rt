@@ -1,0 +1,146 @@
+ghost use Rattle.std.specs.Prelude.{◌≡◌, ◌+◌, min, vec_len, IfOk, IfErr};
+ghost use Rattle.table_core.specs.Layout.{size};
+
+use crate::at::At;
+use crate::desk::Desk;
+use crate::rules::{Looks, Twins, Union, Words};
+use crate::still::Still;
+use crate::view::View;
+use atomic_table::Table;
+use plane::Refusal;
+use rule_text::Rule;
+use squares::Squares;
+use std::alloc::Global;
+use table_core::Key;
+
+/// A running table: words that threads share. Each thread has a desk of its own at it.
+///
+/// It also has the room into which the words go when the table is closed, so closing takes no memory.
+#[derive(Drop)]
+pub struct NodeTable {
+    pub(crate) table: Table<(), View, Still, Words, Global>,
+    pub(crate) key: Key,
+    room: Vec<u64>,
+    ghost same_key: { table.shared.key.key ≡ key },
+    ghost long: { table.shared.table_id.words ≡ size key.shape.bits },
+    ghost no_slots: { table.shared.table_id.slots ≡ 0 },
+    ghost room_for_all: { vec_len room ≡ size key.shape.bits },
+}
+
+impl NodeTable {
+    ghost use Rattle.squares.specs.Book.{Keeps};
+    ghost use Rattle.node_table.specs.Desks.{IsDeskOf, book_at, expansions_of};
+    ghost use Rattle.node_table.specs.Openings.{Opens, Closes};
+
+    /// A running table of these words under a rule and an exponent, and its first desk, which knows
+    /// all that the words then say. The results that are the same under both heads stay, and no
+    /// other. Where memory is wanting, the words come back as they were.
+    pub fn open(
+        alloc: Global,
+        still: Still,
+        rule: Rule,
+        exponent: u8,
+    ) -> Result<(NodeTable, Desk), (Still, Refusal)>
+        ensures ok { IfOk result (λ opened. Opens still rule exponent opened.0 opened.1) }
+        ensures err { IfErr result (λ refused. (refused.0 ≡ still) × (refused.1 ≡ Refusal.NoMemory)) }
+    {
+        let key = Key {
+            shape: still.key.shape,
+            rule,
+            exponent,
+        };
+        let Ok(reopened) = still.reopened(alloc, key) else {
+            return Err((still, Refusal::NoMemory));
+        };
+        let Ok((table, seat)) = Table::of_words(alloc, reopened.words.as_slice(), &reopened) else {
+            return Err((still, Refusal::NoMemory));
+        };
+        let Still { key, words } = reopened;
+        Ok((
+            NodeTable {
+                table,
+                key,
+                room: words,
+            },
+            Desk {
+                seat,
+                expansions: 0,
+            },
+        ))
+    }
+
+    /// The words in one owner's hands. They say all that the desk knew.
+    pub fn close(self, desk: Desk) -> Still
+        requires { IsDeskOf self desk }
+        ensures { Closes self desk result }
+    {
+        let NodeTable { table, key, room } = self;
+        let Desk {
+            seat,
+            expansions: _,
+        } = desk;
+        let mut words = room;
+        let closed = table.close_with(seat);
+        for index in 0..words.len() {
+            words[index] = closed.word(index);
+        }
+        closed.free();
+        Still { key, words }
+    }
+
+    /// The desk, at work at its table.
+    pub fn at(&self, desk: Desk) -> At<'_>
+        requires { IsDeskOf self.now desk }
+        ensures { ⟦<At<'static> as Squares>⟧.book result ≡ book_at self.now desk }
+    {
+        At { table: self, desk }
+    }
+
+    /// Two desks that know what the one knew. The first goes on with its number of expansions, the
+    /// second begins with 0.
+    pub fn split(&self, desk: Desk) -> (Desk, Desk)
+        requires { IsDeskOf self.now desk }
+        ensures tables { IsDeskOf self.now result.0 × IsDeskOf self.now result.1 }
+        ensures books { (book_at self.now result.0 ≡ book_at self.now desk) × (book_at self.now result.1 ≡ book_at self.now desk) }
+        ensures expansions { (expansions_of result.0 ≡ expansions_of desk) × (expansions_of result.1 ≡ 0) }
+    {
+        let Desk {
+            mut seat,
+            expansions,
+        } = desk;
+        let other = self.table.shared.split_seat::<Twins>(&mut seat);
+        (
+            Desk { seat, expansions },
+            Desk {
+                seat: other,
+                expansions: 0,
+            },
+        )
+    }
+
+    /// One desk that knows what either knew: a square has one number then. Their numbers of
+    /// expansions are added, and a number that is full stays.
+    pub fn join(&self, first: Desk, second: Desk) -> Desk
+        requires first { IsDeskOf self.now first }
+        requires second { IsDeskOf self.now second }
+        ensures table { IsDeskOf self.now result }
+        ensures first { Keeps (book_at self.now first) (book_at self.now result) }
+        ensures second { Keeps (book_at self.now second) (book_at self.now result) }
+        ensures expansions { expansions_of result ≡ min u64.MAX (expansions_of first + expansions_of second) }
+    {
+        let Desk {
+            mut seat,
+            expansions,
+        } = first;
+        let Desk {
+            seat: other,
+            expansions: others,
+        } = second;
+        self.table.shared.join_seat::<Union>(&mut seat, other);
+        self.table.shared.load::<Looks>(&mut seat, 0);
+        Desk {
+            seat,
+            expansions: expansions.saturating_add(others),
+        }
+    }
+}
