@@ -1,6 +1,7 @@
 mod accepted;
 mod devices;
 mod ended;
+mod macrocell;
 mod refused;
 mod rows;
 mod want_of_memory;
