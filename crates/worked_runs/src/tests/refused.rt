@@ -16,7 +16,7 @@ struct Row {
     report: &'static str,
 }
 
-const ROWS: [Row; 19] = [
+const ROWS: [Row; 18] = [
     Row {
         file: "x = 1, y = 1\n0o!",
         generations: 0,
@@ -64,15 +64,6 @@ const ROWS: [Row; 19] = [
     },
     Row {
         file: "",
-        generations: 0,
-        fault: Fault {
-            refusal: Refusal::NotAPattern,
-            place: Some(0),
-        },
-        report: "",
-    },
-    Row {
-        file: "[M2] (golly 2.0)\n*$\n4 0 0 0 1\n",
         generations: 0,
         fault: Fault {
             refusal: Refusal::NotAPattern,
