@@ -4,6 +4,7 @@
 Run it from anywhere, once `./lifebatch --help` has built the program. Golly's patterns are sought where the package
 `golly` installs them; rows whose pattern or peer is missing say so.
 """
+import gzip
 import os
 import pathlib
 import shutil
@@ -27,9 +28,10 @@ ROWS = [
     ("glider", "x = 3, y = 3, rule = B3/S23\nbob$2bo$3o!\n", 2**40, True),
     ("replicator", "x = 1, y = 1, rule = B1357/S1357\no!\n", 2**20, True),
     ("one run of 2^28 cells", "x = 268435456, y = 1\n268435456o!\n", 0, False),
-    ("breeder", "Life/Breeders/switch-engine-breeder.rle", 2**13, False),
-    ("spacefiller", "Life/Breeders/spacefiller.rle", 2**11, False),
+    ("breeder", "Life/Breeders/switch-engine-breeder.rle", 2**16, False),
+    ("spacefiller", "Life/Breeders/spacefiller.rle", 2**14, False),
     ("Turing machine", "Life/Signal-Circuitry/Turing-Machine-3-state.rle", 2**14, False),
+    ("metapixel galaxy", "HashLife/metapixel-galaxy.mc.gz", 2**10, False),
 ]
 
 
@@ -41,8 +43,18 @@ def pattern_file(source, folder):
         return path
     for patterns in GOLLY_PATTERNS:
         if (patterns / source).is_file():
-            return patterns / source
+            return unpacked(patterns / source, folder)
     return None
+
+
+def unpacked(path, folder):
+    """The path of a pattern file that is not compressed."""
+    packed = path.read_bytes()
+    if packed[:2] != b"\x1f\x8b":
+        return path
+    plain = folder / path.stem
+    plain.write_bytes(gzip.decompress(packed))
+    return plain
 
 
 def run_once(words):
