@@ -1,1 +1,2 @@
 pub mod AskedWords
+pub mod WindowTexts

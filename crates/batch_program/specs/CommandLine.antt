@@ -1,8 +1,7 @@
 -- What the words of a command line ask for.
-use Rattle.std.specs.Prelude.{◌≡◌, ◌⊎◌, ℕ, nat_eq, Bool, true, false, if◌then◌else◌, List, [], ◌∷◌, fold, Option, None, Some, IsSome, Ok, Err, codes, string_bytes, ◌<◌, ◌^◌}
+use Rattle.std.specs.Prelude.{◌≡◌, ◌⊎◌, ⊤, ℕ, nat_eq, Bool, true, false, if◌then◌else◌, List, [], ◌∷◌, fold, Option, None, Some, IsSome, Ok, Err, codes, string_bytes}
 use Rattle.std.specs.List.{ends_with}
 use Rattle.std.specs.Option.{option_map}
-use Rattle.std.specs.Str.Parse.{IsNumeral, digits_value, without_leading_plus}
 use Rattle.clap.specs.Words.{App, Rule, Text, IsAmong, fault_of, first_of, kind_of, matches_of, new_app, new_rule, one_of, with_rule}
 use Rattle.clap.specs.declared.builder.action.ArgAction.TheVariants.{SetTrue}
 use Rattle.clap.specs.declared.builder.value_parser.ValueParser.TheVariants as parser
@@ -12,10 +11,12 @@ use Rattle.rule_text.specs.CountRule.{CountRule}
 use Rattle.rule_text.specs.RuleText.{Reads}
 use Rattle.rule_text.specs.declared.fault.RuleFault.{RuleFault}
 use Rattle.plane.specs.declared.refusal.Refusal.{Refusal}
-use Rattle.plane.specs.declared.refusal.Refusal.TheVariants.{NoMemory}
+use Rattle.plane.specs.Window.{IsWindow, Rectangle}
+use Rattle.plane.specs.declared.refusal.Refusal.TheVariants.{NoMemory, WindowTooLarge}
 use Rattle.engine.specs.Judgement.{rule_refusal}
 use Rattle.batch_program.specs.declared.command_line.WordsFault.{WordsFault}
 use Rattle.batch_program.specs.declared.command_line.WordsFault.TheVariants.{Clap, Unfit, Refused}
+use Rattle.batch_program.specs.WindowText.{IsUnsigned, WritesWindow}
 use Rattle.batch_program.specs.declared.request.Asked.{Asked}
 use Rattle.engine.specs.declared.options.Format.{Format}
 use Rattle.engine.specs.declared.options.Format.TheVariants.{Rle, Macrocell}
@@ -52,6 +53,10 @@ rule_option = record (new_rule (codes "rule")) { short = Some 114; long = Some (
 abbrev pub quiet_option : Rule
 quiet_option = record (new_rule (codes "quiet")) { short = Some 113; long = Some (codes "quiet"); action = Some SetTrue }
 
+-- `--window=X,Y,W,H`
+abbrev pub window_option : Rule
+window_option = record (new_rule (codes "window")) { long = Some (codes "window"); value_names = 1 }
+
 -- FILE, which has to be there
 abbrev pub file_argument : Rule
 file_argument = record (new_rule (codes "file")) { value_names = 1; required = true }
@@ -59,7 +64,7 @@ file_argument = record (new_rule (codes "file")) { value_names = 1; required = t
 -- the form of the words: the options in this order, and FILE
 abbrev pub command_form : App
 command_form = fold with_rule (new_app (codes "lifebatch"))
-    (generation_option ∷ step_option ∷ output_option ∷ rule_option ∷ quiet_option ∷ file_argument ∷ [])
+    (generation_option ∷ step_option ∷ output_option ∷ rule_option ∷ quiet_option ∷ window_option ∷ file_argument ∷ [])
 
 -- the text that clap finds for an option or an argument
 abbrev pub text_for : List ℕ → List Text → Option Text
@@ -69,11 +74,10 @@ text_for name words = first_of name (matches_of command_form words)
 abbrev pub value_for : List ℕ → List Text → Option Text
 value_for name words = one_of name (matches_of command_form words)
 
--- the text is a numeral, with or without a plus, of this number, which is below 2^64
+-- the text is a numeral of this number, which is below 2^64
 abbrev pub IsNumber : Option Text → ℕ → Type 0
 IsNumber None number = ⊥
-IsNumber (Some text) number =
-    IsNumeral 10 (without_leading_plus text) × (number ≡ digits_value 10 (without_leading_plus text)) × (number < 2 ^ 64)
+IsNumber (Some text) number = IsUnsigned 64 text number
 
 -- the flag is up where its text is "true", and nowhere else
 abbrev pub IsFlag : Option Text → Bool → Type 0
@@ -96,6 +100,11 @@ abbrev pub IsAskedRule : Option Text → Option CountRule → Type 0
 IsAskedRule None rule = rule ≡ None
 IsAskedRule (Some text) rule = (read : CountRule) × Reads text (Ok read) × (rule ≡ Some read)
 
+-- the window that is asked for, if one is
+abbrev pub IsAskedWindow : Option Text → Option Rectangle → Type 0
+IsAskedWindow None window = window ≡ None
+IsAskedWindow (Some text) window = (given : Rectangle) × WritesWindow text given × IsWindow given × (window ≡ Some given)
+
 -- the words are of the form, and ask for this
 pub record AsksFor (words : List Text) (asked : Asked) : Type 0 where
   pub form : fault_of command_form words ≡ []
@@ -106,6 +115,7 @@ pub record AsksFor (words : List Text) (asked : Asked) : Type 0 where
   pub format : IsFormat (text_for (codes "output") words) asked.options.format
   pub rule : IsAskedRule (text_for (codes "rule") words) asked.options.rule
   pub quiet : IsFlag (value_for (codes "quiet") words) asked.options.quiet
+  pub window : IsAskedWindow (text_for (codes "window") words) asked.options.window
 
 -- ---- faults of the words
 
@@ -115,12 +125,19 @@ IsToldAs error (Clap told) = (told ≡ error) × (kind_of error ≡ kind.OutOfMe
 IsToldAs error Unfit = ⊥
 IsToldAs error (Refused refusal) = (refusal ≡ NoMemory) × (kind_of error ≡ kind.OutOfMemory)
 
--- the words have values that are fit: numbers, a FILE, and a NAME that says its format, if there is one
+-- the text of a window, if there is one, is four numbers
+abbrev pub IsFitWindow : Option Text → Type 0
+IsFitWindow None = ⊤
+IsFitWindow (Some text) = (window : Rectangle) × WritesWindow text window
+
+-- the words have values that are fit: numbers, a FILE, a NAME that says its format, if there is one, and a window of
+-- four numbers, if there is one
 pub record IsFit (words : List Text) : Type 0 where
   pub gens : (number : ℕ) × IsNumber (value_for (codes "generation") words) number
   pub step : (number : ℕ) × IsNumber (value_for (codes "stepsize") words) number
   pub file : (name : Text) × (text_for (codes "file") words ≡ Some name)
   pub format : (format : Option Format) × IsFormat (text_for (codes "output") words) format
+  pub window : IsFitWindow (text_for (codes "window") words)
 
 -- the text that is given is refused as a rule, by this name
 abbrev pub IsRefusedRule : Option Text → Refusal → Type 0
@@ -133,9 +150,22 @@ pub record RefusesRuleOption (words : List Text) (refusal : Refusal) : Type 0 wh
   pub fit : IsFit words
   pub rule : IsRefusedRule (text_for (codes "rule") words) refusal
 
--- memory ran out while the words were read, or the rule that they give is refused
+-- the text that is given has the numbers of no window
+abbrev pub IsRefusedWindow : Option Text → Type 0
+IsRefusedWindow None = ⊥
+IsRefusedWindow (Some text) = (given : Rectangle) × WritesWindow text given × (IsWindow given → ⊥)
+
+-- the words are of the form, their values are fit, the rule that they give is one, and the window is none
+pub record RefusesWindowOption (words : List Text) (refusal : Refusal) : Type 0 where
+  pub form : fault_of command_form words ≡ []
+  pub fit : IsFit words
+  pub rule : (rule : Option CountRule) × IsAskedRule (text_for (codes "rule") words) rule
+  pub window : IsRefusedWindow (text_for (codes "window") words)
+  pub is : refusal ≡ WindowTooLarge
+
+-- memory ran out while the words were read, or the rule or the window that they give is refused
 abbrev pub RefusesWords : List Text → Refusal → Type 0
-RefusesWords words refusal = (refusal ≡ NoMemory) ⊎ RefusesRuleOption words refusal
+RefusesWords words refusal = (refusal ≡ NoMemory) ⊎ RefusesRuleOption words refusal ⊎ RefusesWindowOption words refusal
 
 -- why words ask for no run: they are not of the form, or ask for the help; they are of the form, with a value that
 -- is not fit; or they are refused

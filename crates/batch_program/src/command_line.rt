@@ -4,9 +4,10 @@ ghost use Rattle.clap.specs.Words.{app_of, found_of, one_text, rule_of};
 ghost use Rattle.engine.specs.declared.options.Format.{Format};
 ghost use Rattle.plane.specs.declared.refusal.Refusal.TheVariants.{NoMemory};
 ghost use Rattle.batch_program.specs.declared.command_line.WordsFault.TheVariants.{Refused};
-ghost use Rattle.batch_program.specs.CommandLine.{AsksFor, IsAskedRule, IsFlag, IsFormat, IsNumber, IsRefusedRule, IsToldAs, IsWordsFault, command_form, file_argument, format_named, generation_option, output_option, quiet_option, rule_option, step_option};
+ghost use Rattle.batch_program.specs.CommandLine.{AsksFor, IsAskedRule, IsFlag, IsFormat, IsNumber, IsRefusedRule, IsToldAs, IsWordsFault, command_form, file_argument, format_named, generation_option, output_option, quiet_option, rule_option, step_option, window_option};
 
 use crate::request::Asked;
+use crate::window_option::{window_asked, window_numbers};
 use clap::error::ErrorKind;
 use clap::{Arg, ArgAction, ArgMatches, Command, value_parser};
 use engine::{Format, Options, rule_refusal};
@@ -18,7 +19,8 @@ use std::{error, fmt};
 const ABOUT: &str = "Runs a pattern of a two-state cellular automaton for a number of generations.
 
 Reads a pattern file, RLE or macrocell, reports on standard output how many cells are live in the first and the \
-last generation, and on the way if asked, and writes the pattern if it is asked for.";
+last generation, and on the way if asked, draws a window of the last one and writes the pattern if it is asked \
+to.";
 
 const EXAMPLES: &str = "Examples:
   lifebatch -m 1103 r-pentomino.rle
@@ -32,16 +34,19 @@ const EXAMPLES: &str = "Examples:
   lifebatch -r B36/S23 -m 50 r-pentomino.rle
       run 50 generations by the rule B36/S23
   lifebatch -q -m 1103 -o later.rle r-pentomino.rle
-      run 1103 generations, write the pattern and report nothing";
+      run 1103 generations, write the pattern and report nothing
+  lifebatch -m 100 --window=-20,-15,40,30 r-pentomino.rle
+      run 100 generations and draw 40 by 30 cells, of which (-20,-15) is the upper left one";
 
 /// Why the words of a command line ask for no run.
 #[derive(Debug, Drop)]
 pub enum WordsFault {
     /// The words are not of the command line's form, or ask for its help.
     Clap(clap::Error),
-    /// A value is not fit: the name of the output has no ending that says its format.
+    /// A value is not fit: the name of the output has no ending that says its format, or the window is not four
+    /// numbers.
     Unfit,
-    /// Memory ran out while the words were read, or the rule that they give is refused.
+    /// Memory ran out while the words were read, or the rule or the window that they give is refused.
     Refused(Refusal),
 }
 
@@ -50,7 +55,7 @@ impl fmt::Display for WordsFault {
         match self {
             WordsFault::Clap(error) => write!(f, "{error}"),
             WordsFault::Unfit => f.write_str(
-                "the name of the output ends neither with .rle nor with .mc",
+                "NAME ends with .rle or with .mc, and a window is four whole numbers X,Y,W,H",
             ),
             WordsFault::Refused(refusal) => write!(f, "{refusal}"),
         }
@@ -89,8 +94,8 @@ impl From<clap::Error> for WordsFault {
 
 /// Reads the words of a command line, the program's name first. It answers `Clap` for words that are
 /// not of its form and for a request for help, `Unfit` for an output whose name ends neither with
-/// `.rle` nor with `.mc`, then `Refused` with `BadRule` or `BirthOnZero` for the rule that is given, and `Refused`
-/// with `NoMemory`.
+/// `.rle` nor with `.mc` and for a window that is not four numbers, then `Refused` with `BadRule` or `BirthOnZero` for
+/// the rule that is given, then `Refused` with `WindowTooLarge`, and `Refused` with `NoMemory`.
 pub fn asked<'a>(alloc: Global, words: &'a [&'a str]) -> Result<Asked, WordsFault>
     ensures asks { IfOk result (AsksFor (map (λ word. word.now) words.entry.now)) }
     ensures faults { IfErr result (IsWordsFault (map (λ word. word.now) words.entry.now)) }
@@ -103,13 +108,16 @@ pub fn asked<'a>(alloc: Global, words: &'a [&'a str]) -> Result<Asked, WordsFaul
     };
     let output = matches.get_str("output");
     let format = format_of(output)?;
+    let numbers = window_numbers(matches.get_str("window"))?;
     let rule = rule_asked(matches.get_str("rule"))?;
+    let window = window_asked(numbers)?;
     let quiet = is_set(&matches, "quiet");
     Ok(Asked {
         options: Options {
             gens,
             step,
             rule,
+            window,
             format,
             quiet,
         },
@@ -130,6 +138,7 @@ fn command<'a>(alloc: Global) -> Result<Command<'a>, AllocError>
         .arg(output_option(alloc))?
         .arg(rule_option(alloc))?
         .arg(quiet_option(alloc))?
+        .arg(window_option(alloc))?
         .arg(file_argument(alloc))
 }
 
@@ -190,6 +199,16 @@ fn quiet_option<'a>(alloc: Global) -> Arg<'a>
         .long("quiet")
         .action(ArgAction::SetTrue)
         .help("Report no generation")
+}
+
+fn window_option<'a>(alloc: Global) -> Arg<'a>
+    ensures rule { rule_of result ≡ window_option }
+    ensures local { result.global ≡ false }
+{
+    Arg::new(alloc, "window")
+        .long("window")
+        .value_name("X,Y,W,H")
+        .help("Draw W by H cells from (X,Y) behind the report: * live, . dead")
 }
 
 fn file_argument<'a>(alloc: Global) -> Arg<'a>

@@ -7,6 +7,7 @@ mod entry;
 mod messages;
 mod output_file;
 mod request;
+mod window_option;
 
 pub use command_line::{WordsFault, asked};
 pub use engine::{Format, Options, Summary, load, one_ending, one_judgement, run};

@@ -1,5 +1,5 @@
 -- How runs end.
-use Rattle.std.proofs.Common.{◌≡◌, ◌⊎◌, ℕ, Bor, List, [], length, take, Option, None, Some, Ok, refl, sym, ◌∙◌, subst, ap, arith, inl, inr}
+use Rattle.std.proofs.Common.{◌≡◌, ◌⊎◌, ℕ, Bor, List, [], ◌++◌, length, take, Option, None, Some, Ok, refl, sym, ◌∙◌, subst, ap, arith, inl, inr}
 use Rattle.std.specs.Io.KnownBytes.{Appends}
 use Rattle.std.specs.Option.{option_copied, unwrap_or}
 use Rattle.std.proofs.lemmas.List.{take_all}
@@ -22,7 +22,7 @@ use Rattle.viewport.specs.BoundingBox.{HasBounds}
 use Rattle.viewport.specs.Population.{HasPopulation}
 use Rattle.engine.specs.FileText.{HasText, IsFileText, Exceeds, Writes}
 use Rattle.engine.specs.Judgement.{Start, IsStart, StaysInRange, ReadsRule, placeless}
-use Rattle.engine.specs.Report.{Shows, shown}
+use Rattle.engine.specs.Report.{Shows, picture_of, shown}
 use Rattle.engine.specs.Run.{IsLast, IsReport, Finishes, IsBegun, IsTooLarge, last_generation}
 use Rattle.engine.specs.declared.running.Summary.{Summary}
 use Rattle.engine.specs.declared.options.Format.{Format}
@@ -32,7 +32,7 @@ use Rattle.pattern_writers.specs.RleText.{rle_text}
 use Rattle.plane.specs.Listing.{plane_of}
 use Rattle.plane.proofs.Same.{plane_equal}
 use Rattle.engine.specs.declared.options.Options.{Options}
-use Rattle.engine.proofs.Reports.{same_after, same_shows, shows_none}
+use Rattle.engine.proofs.Reports.{same_after, same_generation, same_shows, shows_none}
 
 -- the bytes of the slice, or else of another
 pub copied_or : (slice : Option (Bor (List ℕ))) (other : Bor (List ℕ)) → (unwrap_or slice other).now ≡ unwrap_or (option_copied slice) other.now
@@ -45,10 +45,9 @@ pub begun_none : (bytes : List ℕ) (options : Options) (meaning : Meaning) (rul
 begun_none bytes options meaning rule text read = inr (record {
   meaning = meaning;
   rule = rule;
-  lines = 0;
   text = text;
   read = read;
-  report = shows_none rule meaning.live meaning.generation;
+  report = inl (0, shows_none rule meaning.live meaning.generation);
 })
 
 -- a listing of one plane is one of each other with the same cells
@@ -72,35 +71,53 @@ module _ (bytes : List ℕ) (options : Options) (start : Start) (accepted : IsSt
   begun_some lines said shows = inr (record {
     meaning = start.meaning;
     rule = start.rule;
-    lines = lines;
     text = accepted.text;
     read = accepted.rule;
-    report = same_shows start.rule here start.meaning.live same.same start.meaning.generation (take lines (shown options)) said shows;
+    report = inl (lines, same_shows start.rule here start.meaning.live same.same start.meaning.generation (take lines (shown options)) said shows);
   })
 
-  -- a run that has said all
+  -- a run that has said all lines
   pub begun_all : (said : List ℕ) → Shows start.rule here start.meaning.generation (shown options) said → IsBegun bytes options said
   begun_all said shows =
       let all : take (length (shown options)) (shown options) ≡ shown options = take_all (length (shown options)) (shown options) (omega arith) in
       begun_some (length (shown options)) said
       (subst (λ ns. Shows start.rule here start.meaning.generation ns said) (sym all) shows)
 
-  pub whole_report : (said : List ℕ) → Shows start.rule here start.meaning.generation (shown options) said → IsReport start options said
-  whole_report said shows =
-      same_shows start.rule here start.meaning.live same.same start.meaning.generation (shown options) said shows
+  -- the lines and the picture of the last cells
+  pub whole_report : (last : Plane) (lines : List ℕ) → IsSame last (after start.rule here options.gens) → Shows start.rule here start.meaning.generation (shown options) lines →
+      IsReport start.meaning start.rule options (lines ++ picture_of options.window last)
+  whole_report last lines is shows =
+      let last_is = plane_equal last (after start.rule start.meaning.live options.gens) (same_generation start.rule here start.meaning.live same.same options.gens last is) in
+      record {
+        lines = lines;
+        shows = same_shows start.rule here start.meaning.live same.same start.meaning.generation (shown options) lines shows;
+        is = ap (λ plane. lines ++ picture_of options.window plane) last_is;
+      }
+
+  -- a run that has said all
+  begun_whole : (last : Plane) (lines : List ℕ) → IsSame last (after start.rule here options.gens) → Shows start.rule here start.meaning.generation (shown options) lines →
+      IsBegun bytes options (lines ++ picture_of options.window last)
+  begun_whole last lines is shows = inr (record {
+    meaning = start.meaning;
+    rule = start.rule;
+    text = accepted.text;
+    read = accepted.rule;
+    report = inr (whole_report last lines is shows);
+  })
 
   pub last_cells : (last : Plane) (cells : List Cell) → IsSame last (after start.rule here options.gens) → IsListing cells last → IsLast start options cells
   last_cells last cells is listing = same_after start.rule here start.meaning.live same.same options.gens cells (listing_as is listing)
 
   -- what an accepted run that ends well writes and answers
-  pub finishes : (last : Plane) (said : List ℕ) (cells : List Cell) (drawn : List ℕ) (answer : Summary) → IsSame last (after start.rule here options.gens) →
-      Shows start.rule here start.meaning.generation (shown options) said → IsListing cells last → HasText options.format cells →
+  pub finishes : (last : Plane) (lines : List ℕ) (cells : List Cell) (drawn : List ℕ) (answer : Summary) → IsSame last (after start.rule here options.gens) →
+      Shows start.rule here start.meaning.generation (shown options) lines → IsListing cells last → HasText options.format cells →
       IsFileText options.format start.meaning.comments start.rule (last_generation start options) cells drawn →
-      answer.generation ≡ last_generation start options → HasPopulation last answer.population → HasBounds last answer.bounds → Finishes start options answer said drawn
-  finishes last said cells drawn answer is shows listing fits file generation population bounds = record {
+      answer.generation ≡ last_generation start options → HasPopulation last answer.population → HasBounds last answer.bounds →
+      Finishes start options answer (lines ++ picture_of options.window last) drawn
+  finishes last lines cells drawn answer is shows listing fits file generation population bounds = record {
     cells = cells;
     last = last_cells last cells is listing;
-    report = whole_report said shows;
+    report = whole_report last lines is shows;
     fits = fits;
     file = file;
     summary =
@@ -123,38 +140,38 @@ module _ (bytes : List ℕ) (options : Options) (start : Start) (accepted : IsSt
       inr (inr (inr (ap placeless is, inl failed)))
 
   -- after the report
-  pub refused_writing : (format : Format) (last : Plane) (refusal : Refusal) (failed_before failed_after : ℕ) (old new : Option (List ℕ)) (said : List ℕ) (Unaccepted FileSame ReportFailed : Type 0) →
+  pub refused_writing : (format : Format) (last : Plane) (refusal : Refusal) (failed_before failed_after : ℕ) (old new : Option (List ℕ)) (lines : List ℕ) (Unaccepted FileSame ReportFailed : Type 0) →
       StaysInRange options start → IsSame last (after start.rule here options.gens) →
-      Shows start.rule here start.meaning.generation (shown options) said → Appends old new said → options.format ≡ Some format →
+      Shows start.rule here start.meaning.generation (shown options) lines → Appends old new (lines ++ picture_of options.window last) → options.format ≡ Some format →
       ((refusal ≡ BoxTooLarge) × Exceeds format last × FileSame) ⊎ ((refusal ≡ NoMemory) × FileSame) ⊎ IsWriteRefusal failed_before failed_after refusal →
       Unaccepted
       ⊎ ((placeless refusal ≡ placeless BoxTooLarge) × FileSame × ((said : List ℕ) × IsTooLarge bytes options said × Appends old new said))
       ⊎ ((placeless refusal ≡ placeless NoMemory) × FileSame × ((said : List ℕ) × IsBegun bytes options said × Appends old new said))
       ⊎ ((placeless refusal ≡ placeless WriteFailed) × (ReportFailed ⊎ HasFailed failed_before failed_after))
-  refused_writing Macrocell last refusal failed_before failed_after old new said Unaccepted FileSame ReportFailed stays is shows appends asked (inl (large, unfit, unchanged)) = absurd unfit
-  refused_writing Rle last refusal failed_before failed_after old new said Unaccepted FileSame ReportFailed stays is shows appends asked (inl (large, unfit, unchanged)) =
+  refused_writing Macrocell last refusal failed_before failed_after old new lines Unaccepted FileSame ReportFailed stays is shows appends asked (inl (large, unfit, unchanged)) = absurd unfit
+  refused_writing Rle last refusal failed_before failed_after old new lines Unaccepted FileSame ReportFailed stays is shows appends asked (inl (large, unfit, unchanged)) =
       inr (inl (
         ap placeless large,
         unchanged,
         (
-          said,
+          lines ++ picture_of options.window last,
           record {
             start = start;
             cells = unfit.cells;
             accepted = (accepted, stays);
             last = last_cells last unfit.cells is unfit.listing;
-            report = whole_report said shows;
+            report = whole_report last lines is shows;
             unfit = rw asked unfit.unfit;
           },
           appends,
         ),
       ))
-  refused_writing format last refusal failed_before failed_after old new said Unaccepted FileSame ReportFailed stays is shows appends asked (inr (inl (memory, unchanged))) =
-      inr (inr (inl (ap placeless memory, unchanged, (said, begun_all said shows, appends))))
-  refused_writing format last refusal failed_before failed_after old new said Unaccepted FileSame ReportFailed stays is shows appends asked (inr (inr (failing, failed))) =
+  refused_writing format last refusal failed_before failed_after old new lines Unaccepted FileSame ReportFailed stays is shows appends asked (inr (inl (memory, unchanged))) =
+      inr (inr (inl (ap placeless memory, unchanged, (lines ++ picture_of options.window last, begun_whole last lines is shows, appends))))
+  refused_writing format last refusal failed_before failed_after old new lines Unaccepted FileSame ReportFailed stays is shows appends asked (inr (inr (failing, failed))) =
       inr (inr (inr (ap placeless failing, inr failed)))
 
-  -- where memory ran out after the report
+  -- where memory ran out after the lines
   pub refused_viewing : (old new : Option (List ℕ)) (said : List ℕ) (Unaccepted TooLarge FileSame Failed : Type 0) → FileSame → Shows start.rule here start.meaning.generation (shown options) said → Appends old new said →
       Unaccepted ⊎ TooLarge ⊎ ((placeless NoMemory ≡ placeless NoMemory) × FileSame × ((said : List ℕ) × IsBegun bytes options said × Appends old new said)) ⊎ Failed
   refused_viewing old new said Unaccepted TooLarge FileSame Failed unchanged shows appends = inr (inr (inl (refl, unchanged, (said, begun_all said shows, appends))))

@@ -1,5 +1,5 @@
 -- A run has one judgement and one ending.
-use Rattle.std.proofs.Common.{◌≡◌, ℕ, ◌+◌, List, [], ◌∷◌, length, Option, None, Some, Result, Ok, Err, refl, sym, ◌∙◌, ap, subst, arith, inl, inr}
+use Rattle.std.proofs.Common.{◌≡◌, ℕ, ◌+◌, List, [], ◌∷◌, ◌++◌, length, Option, None, Some, Result, Ok, Err, refl, sym, ◌∙◌, ap, subst, arith, inl, inr}
 use Rattle.std.specs.List.{AllZip, concat}
 use Rattle.rule_text.specs.CountRule.{CountRule}
 use Rattle.rule_text.specs.declared.fault.RuleFault.{RuleFault}
@@ -16,8 +16,8 @@ use Rattle.engine.specs.declared.options.Format.TheVariants.{Rle, Macrocell}
 use Rattle.pattern_writers.specs.McText.{mc_text}
 use Rattle.plane.specs.Centred.{IsSmallestLevel}
 use Rattle.engine.specs.Judgement.{Start, IsStart, Judges, StaysInRange, RefusesRange, RefusesRule, ReadsRule, rule_text_of}
-use Rattle.engine.specs.Report.{IsLineAfter, Shows, report_line}
-use Rattle.engine.specs.Run.{Finishes, last_generation}
+use Rattle.engine.specs.Report.{IsLineAfter, Shows, picture_of, report_line, shown}
+use Rattle.engine.specs.Run.{Finishes, IsReport, last_generation}
 use Rattle.engine.specs.declared.running.Summary.{Summary}
 use Rattle.engine.specs.declared.options.Options.{Options}
 
@@ -104,6 +104,12 @@ module _ (rule : CountRule) (plane : Plane) (start : ℕ) where
   one_text : (ns text other : List ℕ) → Shows rule plane start ns text → Shows rule plane start ns other → text ≡ other
   one_text ns text other shows also = shows.2 ∙ ap concat (one_lines ns shows.0 also.0 shows.1 also.1) ∙ sym also.2
 
+one_report : (meaning : Meaning) (rule : CountRule) (options : Options) (said others : List ℕ) → IsReport meaning rule options said → IsReport meaning rule options others → said ≡ others
+one_report meaning rule options said others is other =
+    is.is
+    ∙ ap (λ (lines : List ℕ). lines ++ picture_of options.window (after rule meaning.live options.gens)) (one_text rule meaning.live meaning.generation (shown options) is.lines other.lines is.shows other.shows)
+    ∙ sym other.is
+
 one_level : (plane : Plane) (a b : ℕ) → IsSmallestLevel a plane → IsSmallestLevel b plane → a ≡ b
 one_level plane a b is other = grind (arith, is.no_smaller b other.least, other.no_smaller a is.least, is.holds, other.holds)
 
@@ -120,7 +126,7 @@ pub one_ending_lem : (start : Start) (options : Options) (a b : Summary) (said o
 one_ending_lem start options a b said others drawn other finishes also =
     let cells = one_listing_lem (after start.rule start.meaning.live options.gens) finishes.cells also.cells finishes.last also.last in (
       finishes.summary ∙ rw cells refl ∙ sym also.summary,
-      one_text start.rule start.meaning.live start.meaning.generation _ said others finishes.report also.report,
+      one_report start.meaning start.rule options said others finishes.report also.report,
       one_file_text options.format start.meaning.comments start.rule (last_generation start options) also.cells drawn other
           (subst (λ (c : List Cell). IsFileText options.format start.meaning.comments start.rule (last_generation start options) c drawn) cells finishes.file) also.file,
     )

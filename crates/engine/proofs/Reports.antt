@@ -161,6 +161,9 @@ module _ (rule : CountRule) (plane other : Plane) (same : (x y : ℤ) → plane 
   same_after n cells listing =
       record { rising = listing.rising; live = λ x y. listing.live x y ∙ light_cone_lem rule plane other n x y (λ u v _ _. same u v) }
 
+  pub same_generation : (n : ℕ) (last : Plane) → IsSame last (after rule plane n) → IsSame last (after rule other n)
+  same_generation n last is = record { same = λ x y. is.same x y ∙ light_cone_lem rule plane other n x y (λ u v _ _. same u v) }
+
   same_lines : (start : ℕ) (ns : List ℕ) (lines : List (List ℕ)) → AllZip (IsLineAfter rule plane start) ns lines → AllZip (IsLineAfter rule other start) ns lines
   same_lines start [] [] zipped = tt
   same_lines start [] (line ∷ lines) zipped = absurd zipped

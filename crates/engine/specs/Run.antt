@@ -1,5 +1,5 @@
 -- What a run writes and answers.
-use Rattle.std.specs.Prelude.{◌≡◌, ◌⊎◌, ℕ, ◌+◌, true, List, [], length, take, Ok}
+use Rattle.std.specs.Prelude.{◌≡◌, ◌⊎◌, ℕ, ◌+◌, true, List, [], ◌++◌, length, take, Ok}
 use Rattle.rule_text.specs.CountRule.{CountRule}
 use Rattle.plane.specs.Bounds.{bounds_of}
 use Rattle.plane.specs.Listing.{IsListing}
@@ -8,7 +8,7 @@ use Rattle.plane.specs.declared.cell.Cell.{Cell}
 use Rattle.engine.specs.Meaning.{Meaning, is_macrocell, judged}
 use Rattle.engine.specs.FileText.{HasText, IsFileText}
 use Rattle.engine.specs.Judgement.{Start, Judges, ReadsRule}
-use Rattle.engine.specs.Report.{Shows, shown}
+use Rattle.engine.specs.Report.{Shows, picture_of, shown}
 use Rattle.engine.specs.declared.running.Summary.{Summary}
 use Rattle.engine.specs.declared.options.Options.{Options}
 
@@ -20,16 +20,22 @@ last_generation start options = start.meaning.generation + options.gens
 abbrev pub IsLast : Start → Options → List Cell → Type 0
 IsLast start options cells = IsListing cells (after start.rule start.meaning.live options.gens)
 
--- the text is the whole report
-abbrev pub IsReport : Start → Options → List ℕ → Type 0
-IsReport start options text =
-    Shows start.rule start.meaning.live start.meaning.generation (shown options) text
+-- the text is the whole report of a file that is run by the rule: its lines, and then the picture of the last cells
+pub record IsReport (meaning : Meaning) (rule : CountRule) (options : Options) (text : List ℕ) : Type 0 where
+  pub lines : List ℕ
+  pub shows : Shows rule meaning.live meaning.generation (shown options) lines
+  pub is : text ≡ lines ++ picture_of options.window (after rule meaning.live options.gens)
+
+-- the text is the first lines of the report, or none
+abbrev pub IsBeginning : Meaning → CountRule → Options → List ℕ → Type 0
+IsBeginning meaning rule options text =
+    (count : ℕ) × Shows rule meaning.live meaning.generation (take count (shown options)) text
 
 -- an accepted run says this in its report and draws this in its file, and gives this answer
 pub record Finishes (start : Start) (options : Options) (answer : Summary) (said drawn : List ℕ) : Type 0 where
   pub cells : List Cell
   pub last : IsLast start options cells
-  pub report : IsReport start options said
+  pub report : IsReport start.meaning start.rule options said
   pub fits : HasText options.format cells
   pub file : IsFileText options.format start.meaning.comments start.rule (last_generation start options) cells drawn
   pub summary : answer ≡ record {
@@ -44,17 +50,16 @@ pub record IsTooLarge (bytes : List ℕ) (options : Options) (said : List ℕ) :
   pub cells : List Cell
   pub accepted : Judges bytes options (Ok start)
   pub last : IsLast start options cells
-  pub report : IsReport start options said
+  pub report : IsReport start.meaning start.rule options said
   pub unfit : HasText options.format cells → ⊥
 
--- the run's text and rule are accepted, and these are the first lines of its report, or none
+-- the run's text and rule are accepted, and this is the whole of its report, or its first lines, or none
 pub record HasBegun (bytes : List ℕ) (options : Options) (said : List ℕ) : Type 0 where
   pub meaning : Meaning
   pub rule : CountRule
-  pub lines : ℕ
   pub text : judged bytes ≡ Ok meaning
   pub read : ReadsRule options.rule meaning (Ok rule)
-  pub report : Shows rule meaning.live meaning.generation (take lines (shown options)) said
+  pub report : IsBeginning meaning rule options said ⊎ IsReport meaning rule options said
 
 -- a run is about to read a macrocell file, which takes memory, and has said nothing; or it has begun
 abbrev pub IsBegun : List ℕ → Options → List ℕ → Type 0

@@ -1,3 +1,4 @@
+use plane::Window;
 use rule_text::Rule;
 
 /// What a run is asked to do.
@@ -10,9 +11,11 @@ pub struct Options {
     pub step: u64,
     /// The rule to run by in place of the file's, if one is given.
     pub rule: Option<Rule>,
+    /// The window of the last generation that is drawn behind the report, if one is.
+    pub window: Option<Window>,
     /// The format of the pattern that is written, if one is.
     pub format: Option<Format>,
-    /// Whether the report is left out.
+    /// Whether the lines of the report are left out.
     pub quiet: bool,
 }
 

@@ -14,12 +14,12 @@ use crate::pattern_file::PatternFile;
 use hashlife_step::{Tally, step};
 use macrocell_reader::NodeLines;
 use pattern_writers::{write_mc, write_rle};
-use plane::{Bounds, Cell, Refusal, Sink};
+use plane::{Bounds, Cell, Refusal, Sink, Window};
 use rule_text::Rule;
 use squares::{PlainBook, Sq, copy_square, runs_to_square};
 use std::alloc::Global;
 use text_lines::Comments;
-use viewport::{bounds, population};
+use viewport::{bounds, picture, population};
 
 // Live cells in the range, as a square whose centre corner is (0,0).
 #[derive(Drop)]
@@ -40,6 +40,8 @@ impl Pattern {
     ghost use Rattle.engine.specs.FileText.{Exceeds, Writes};
     ghost use Rattle.engine.specs.PatternFile.{meaning_of};
     ghost use Rattle.engine.specs.Pattern.{plane_of};
+    ghost use Rattle.engine.specs.Report.{picture_of};
+    ghost use Rattle.std.specs.Io.KnownBytes.{Appends};
 
     // The cells of runs.
     pub(crate) fn of_runs(alloc: Global, rule: Rule, runs: &[(Cell, u64)]) -> Result<Self, Refusal>
@@ -118,6 +120,22 @@ impl Pattern {
         let start = copy_square(alloc, &self.book, self.root, &mut book)?;
         let root = step(&mut book, start, &mut Tally { expansions: 0 })?;
         Ok(Pattern { book, root })
+    }
+
+    // Draws a window of the pattern, if one is asked for.
+    pub(crate) fn draw<W: Sink>(
+        &self,
+        window: Option<Window>,
+        report: &mut W,
+    ) -> Result<(), Refusal>
+        ensures drawn { OnOk result (Appends (W.taken report.old) (W.taken report.new) (picture_of window (plane_of self.now))) }
+        ensures unfailed { OnOk result (W.failure_count report.new ≡ W.failure_count report.old) }
+        ensures refused { IfErr result (IsWriteRefusal (W.failure_count report.old) (W.failure_count report.new)) }
+    {
+        match window {
+            Some(window) => picture(&self.book, self.root, &window, report),
+            None => Ok(()),
+        }
     }
 
     // Writes the pattern in a format, with the comments, the rule and the generation. It refuses `BoxTooLarge` where

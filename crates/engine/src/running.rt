@@ -30,8 +30,8 @@ pub struct Summary {
 const LIFE: &[u8] = b"B3/S23";
 
 /// Runs the pattern of a file's bytes: it writes a line for the first and the last generation, and for
-/// those on the way that the step asks for, to `report`, unless it is to be quiet, and then the last one's
-/// pattern to `file`, if a format is asked for.
+/// those on the way that the step asks for, to `report`, unless it is to be quiet, and behind them the picture
+/// of a window of the last one, if one is asked for; and then the last one's pattern to `file`, if a format is.
 ///
 /// It refuses, in this order, a text that is no pattern file, by its first fault; the file's rule
 /// (`BadRule`, `BirthOnZero`), at the place of the header, unless another rule is given; and a run that
@@ -78,6 +78,7 @@ pub fn run<R, W: Sink, V: Sink>(
         population: pattern.population(alloc)?,
         bounds: pattern.bounds(alloc)?,
     };
+    pattern.draw(options.window, report)?;
     if let Some(format) = options.format {
         let generation = summary.generation;
         pattern.write(alloc, format, text.comments(), &rule, generation, file)?;

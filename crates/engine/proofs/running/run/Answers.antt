@@ -1,13 +1,13 @@
-use Rattle.std.proofs.Common.{◌≡◌, ℕ, List, [], ◌+◌, Ok, Err, None, Some, rules, refl, sym, ap, inl, inr}
+use Rattle.std.proofs.Common.{◌≡◌, ℕ, List, [], ◌++◌, ◌+◌, Ok, Err, None, Some, rules, refl, sym, ap, inl, inr}
 use Rattle.std.specs.Io.KnownBytes.{Appends}
-use Rattle.std.proofs.KnownBytes.{Appends-nil}
+use Rattle.std.proofs.KnownBytes.{Appends-nil, Appends-trans}
 use Rattle.plane.specs.declared.refusal.Refusal.TheVariants.{NoMemory, TooFar}
 use Rattle.plane.specs.declared.cell.Cell.{Cell}
 use Rattle.engine.specs.Meaning.{judged}
 use Rattle.engine.specs.Judgement.{Start, StaysInRange, placeless}
 use Rattle.engine.specs.Pattern.{plane_of}
 use Rattle.engine.specs.PatternFile.{meaning_of}
-use Rattle.engine.specs.Report.{Shows, shown}
+use Rattle.engine.specs.Report.{Shows, picture_of, shown}
 use Rattle.engine.specs.Run.{last_generation}
 use Rattle.engine.specs.declared.running.Summary.{Summary}
 use Rattle.engine.proofs.Endings.{begun_none, finishes, has_written, refused_reporting, refused_viewing, refused_writing, started, stays_as}
@@ -104,7 +104,9 @@ returns-in_err-write-clause-refused g c =
     × Appends (g.W.Sink.taken c.args.report.now) (g.W.Sink.taken c.run_reported.new.report) said = search rules in
     let is : c.from_residual-in_err-write.result ≡ Err (placeless c.in_err-write.field-0.0) = search rules in
     let stays : StaysInRange c.args.options.now start = stays_as box.bounds c.generation-start.ensures c.in_ok-reach.ensures.ok.0 in
-    rw is (refused_writing c.args.bytes.now c.args.options.now start accepted here c.in_ok-pattern.ensures.ok c.in-Some.format (plane_of c.in_ok-pattern-2.pattern) c.in_err-write.field-0.0 _ _ _ _ reported.0 _ _ _ stays c.in_ok-pattern-2.ensures.cells reported.1 reported.2 (search rules) c.in_err-write.ensures.refused)
+    let last = plane_of c.in_ok-pattern-2.pattern in
+    let said = Appends-trans _ _ _ reported.0 (picture_of c.args.options.now.window last) reported.2 c.in_ok-draw.ensures.drawn in
+    rw is (refused_writing c.args.bytes.now c.args.options.now start accepted here c.in_ok-pattern.ensures.ok c.in-Some.format last c.in_err-write.field-0.0 _ _ _ _ reported.0 _ _ _ stays c.in_ok-pattern-2.ensures.cells reported.1 said (search rules) c.in_err-write.ensures.refused)
 
 pub returns-clause-finished : goal.returns-clause-finished
 returns-clause-finished g c =
@@ -117,6 +119,8 @@ returns-clause-finished g c =
     × Appends (g.W.Sink.taken c.args.report.now) (g.W.Sink.taken c.run_reported.new.report) said = search rules in
     let stays : StaysInRange c.args.options.now start = stays_as box.bounds c.generation-start.ensures c.in_ok-reach.ensures.ok.0 in
     let last = plane_of c.in_ok-pattern-2.pattern in
+    let picture = picture_of c.args.options.now.window last in
+    let said = Appends-trans _ _ _ reported.0 picture reported.2 c.in_ok-draw.ensures.drawn in
     let answer : Summary = record { generation = c.generation-start.result + c.args.options.now.gens; population = c.in_ok-population.field-0; bounds = c.in_ok-bounds-2.field-0 } in
     let generation : answer.generation ≡ last_generation start c.args.options.now = ap (λ n. n + c.args.options.now.gens) c.generation-start.ensures in
     let finish = λ (cells : List Cell) (drawn : List ℕ). finishes c.args.bytes.now c.args.options.now start accepted here c.in_ok-pattern.ensures.ok last reported.0 cells drawn answer c.in_ok-pattern-2.ensures.cells reported.1 in
@@ -126,21 +130,21 @@ returns-clause-finished g c =
           let writes = rw (w.comments.ensures, c.generation-start.ensures) at w.in_ok-write.ensures.written in
           let written = has_written w.in-Some.format last c.in_ok-bounds-2.ensures.ok.cells start.meaning.comments start.rule (last_generation start c.args.options.now) _ _ c.in_ok-bounds-2.ensures.ok.listing writes in (
             start,
-            reported.0,
+            reported.0 ++ picture,
             written.text,
             (accepted, stays),
             finish written.cells written.text written.listing (rw format written.fits) (rw format written.is) generation c.in_ok-population.ensures.ok c.in_ok-bounds-2.ensures.ok,
-            reported.2,
+            said,
             rw w.file-is written.appends,
           )
       | in_default w ↦
           let format : c.args.options.now.format ≡ None = search rules in (
             start,
-            reported.0,
+            reported.0 ++ picture,
             [],
             (accepted, stays),
             finish c.in_ok-bounds-2.ensures.ok.cells _ c.in_ok-bounds-2.ensures.ok.listing (rw format tt) (rw format refl) generation c.in_ok-population.ensures.ok c.in_ok-bounds-2.ensures.ok,
-            reported.2,
+            said,
             rw w.file-is (Appends-nil _),
           )
     ]

@@ -1,0 +1,47 @@
+-- Windows as words give them: `X,Y,W,H`.
+use Rattle.std.specs.Prelude.{◌≡◌, ℕ, ◌<◌, ◌^◌, ℤ, FitsSigned, List, ◌++◌, Option, None, Some, codes}
+use Rattle.std.specs.Int.{w64}
+use Rattle.std.specs.Str.Parse.{IsNumeral, digits_value, signed_digits_value, without_leading_plus, without_leading_sign}
+use Rattle.plane.specs.Window.{IsWindow, Rectangle}
+use Rattle.batch_program.specs.declared.window_option.WindowNumbers.{WindowNumbers}
+
+-- the text is a numeral, with or without a plus, of this number, which is below 2^bits
+abbrev pub IsUnsigned : ℕ → List ℕ → ℕ → Type 0
+IsUnsigned bits text number =
+    IsNumeral 10 (without_leading_plus text) × (number ≡ digits_value 10 (without_leading_plus text)) × (number < 2 ^ bits)
+
+-- the text is a numeral, with or without a sign, of this number, which is from -2^63 to 2^63 - 1
+abbrev pub IsSigned : List ℕ → ℤ → Type 0
+IsSigned text number =
+    IsNumeral 10 (without_leading_sign text) × (number ≡ signed_digits_value 10 text) × FitsSigned w64 number
+
+-- the text is four numerals with commas between them: of the first column, the first row, how many columns and how many rows
+pub record WritesWindow (text : List ℕ) (window : Rectangle) : Type 0 where
+  pub x : List ℕ
+  pub y : List ℕ
+  pub width : List ℕ
+  pub height : List ℕ
+  pub parts : text ≡ x ++ codes "," ++ y ++ codes "," ++ width ++ codes "," ++ height
+  pub column : IsSigned x window.x
+  pub row : IsSigned y window.y
+  pub columns : IsUnsigned 32 width window.width
+  pub rows : IsUnsigned 32 height window.height
+
+abbrev pub rectangle_of : WindowNumbers → Rectangle
+rectangle_of numbers = record { x = numbers.x; y = numbers.y; width = numbers.width; height = numbers.height }
+
+-- these are the numbers of the text, if there is one
+abbrev pub AreNumbersOf : Option (List ℕ) → Option WindowNumbers → Type 0
+AreNumbersOf None numbers = numbers ≡ None
+AreNumbersOf (Some text) numbers =
+    (given : WindowNumbers) × WritesWindow text (rectangle_of given) × (numbers ≡ Some given)
+
+-- the window has these numbers, if there are any
+abbrev pub IsWindowOf : Option WindowNumbers → Option Rectangle → Type 0
+IsWindowOf None window = window ≡ None
+IsWindowOf (Some numbers) window = IsWindow (rectangle_of numbers) × (window ≡ Some (rectangle_of numbers))
+
+-- there are numbers, and no window has them
+abbrev pub HasNoWindow : Option WindowNumbers → Type 0
+HasNoWindow None = ⊥
+HasNoWindow (Some numbers) = IsWindow (rectangle_of numbers) → ⊥
