@@ -1,10 +1,8 @@
 -- The text of a window is cut at its commas into its four numerals.
-use Rattle.std.proofs.Common.{◌≡◌, ◌≢◌, ℕ, zero, suc, ◌+◌, ◌<◌, ◌^◌, ℤ, FitsSigned, w64, List, [], ◌∷◌, ◌++◌, length, get_or, slice_index, ◌==◌, cond, drop, Bool, true, false, Bor, Option, None, Some, Result, Ok, Err, codes, refl, sym, ◌∙◌, append_assoc, subst, ap, arith, to_z, of_z, to_z-of_z}
-use Rattle.std.specs.Option.{MatchOption}
+use Rattle.std.proofs.Common.{◌≡◌, ◌≢◌, ℕ, zero, suc, ◌<◌, ◌^◌, ℤ, FitsSigned, w64, List, [], ◌∷◌, ◌++◌, length, get_or, ◌==◌, cond, drop, Bool, true, false, Bor, Option, None, Some, Result, Ok, Err, codes, refl, sym, ◌∙◌, append_assoc, subst, ap, arith, to_z, of_z, to_z-of_z}
 use Rattle.std.specs.Result.{result_ok}
 use Rattle.std.specs.Char.{digit_value}
 use Rattle.std.specs.Str.Parse.{AllDigits, IsNumeral, ParsesSigned, ParsesUnsigned, without_leading_plus, without_leading_sign}
-use Rattle.std.specs.Str.Pattern.{FindsChar}
 use Rattle.std.proofs.lemmas.Str.Pattern.{IsSplitOnceResult, split_after, split_parts}
 use Rattle.plane.specs.Window.{Rectangle}
 use Rattle.batch_program.specs.CommandLine.{IsAskedWindow, IsFitWindow, IsRefusedWindow}

@@ -7,6 +7,7 @@ pub(crate) const PLAIN: Options = Options {
     gens: 0,
     step: 0,
     rule: None,
+    window: None,
     format: None,
     quiet: false,
 };

@@ -1,6 +1,5 @@
 use Rattle.std.proofs.Common.{◌≡◌, ◌∙◌, Err, Ok, Some, codes, map, rules, subst, sym, ap, inl, inr}
 use Rattle.clap.specs.Words.{app_of}
-use Rattle.plane.specs.declared.refusal.Refusal.TheVariants.{WindowTooLarge}
 use Rattle.batch_program.specs.CommandLine.{IsAskedRule, IsAskedWindow, IsFitWindow, IsFlag, IsFormat, IsNumber, IsRefusedRule, IsRefusedWindow, command_form}
 use Rattle.batch_program.specs.declared.command_line.WordsFault.TheVariants.{Refused, Unfit}
 use Rattle.batch_program.proofs.AskedWords.{fails_by_form, text_matched, value_matched}
