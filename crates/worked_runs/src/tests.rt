@@ -1,7 +1,9 @@
 mod accepted;
 mod devices;
 mod ended;
+mod full_squares;
 mod macrocell;
+mod many_leaves;
 mod pictures;
 mod refused;
 mod rows;
