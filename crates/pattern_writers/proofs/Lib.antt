@@ -18,6 +18,7 @@ pub mod BitRows
 pub mod RootNodes
 pub mod RootParts
 pub mod McLines
+pub mod CommentLines
 pub mod McNumbers
 pub mod McLeaves
 pub mod McNodes
@@ -25,3 +26,8 @@ pub mod McOrder
 pub mod McRoot
 pub mod McKinds
 pub mod McTextReading
+pub mod BodySpots
+pub mod ItemsBack
+pub mod FaultlessRuns
+pub mod OpeningLines
+pub mod RleTextReading

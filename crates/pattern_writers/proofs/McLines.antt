@@ -1,5 +1,5 @@
 -- A text of lines, read line by line.
-use Rattle.std.proofs.Common.{◌≡◌, ℕ, zero, suc, ◌+◌, ◌-◌, ◌≤◌, Bool, true, false, cond, List, [], ◌∷◌, ◌++◌, length, map, filter, drop, take, flat_map, codes, Option, Some, None, refl, sym, ◌∙◌, ap, subst, arith, append_assoc}
+use Rattle.std.proofs.Common.{◌≡◌, ℕ, zero, suc, ◌+◌, ◌-◌, ◌≤◌, Bool, true, false, cond, List, [], ◌∷◌, ◌++◌, length, map, filter, drop, take, flat_map, codes, Option, Some, None, refl, sym, ◌∙◌, ap, subst, arith, append_assoc, append-nil}
 use Rattle.std.specs.Prelude.{◌==◌, ◌&&◌, ◌||◌, reverse}
 use Rattle.std.specs.List.{AllByRecursion, filter_map, onto_first, cons_option}
 use Rattle.std.specs.Option.{option_map}
@@ -26,14 +26,23 @@ ended_parts-first test end (first ∷ part) rest ends none =
     ap (λ t. cond t ([] ∷ ended_parts test (part ++ end ∷ rest)) (onto_first first (ended_parts test (part ++ end ∷ rest)))) none.0
     ∙ ap (onto_first first) (ended_parts-first test end part rest ends none.1)
 
+one_part : (part rest more : List ℕ) (end : ℕ) → ((part ++ end ∷ []) ++ rest) ++ more ≡ part ++ end ∷ (rest ++ more)
+one_part part rest more end = simp append_assoc
+
+-- parts that each have their end, and what follows
+pub ended_parts-front : (test : ℕ → Bool) (end : ℕ) (parts : List (List ℕ)) (rest : List ℕ) → test end ≡ true → AllByRecursion (AllByRecursion (λ b. test b ≡ false)) parts →
+    ended_parts test (flat_map (λ part. part ++ end ∷ []) parts ++ rest) ≡ parts ++ ended_parts test rest
+ended_parts-front test end [] rest ends none = refl
+ended_parts-front test end (part ∷ parts) rest ends none =
+    ap (ended_parts test) (one_part part (flat_map (λ p. p ++ end ∷ []) parts) rest end)
+    ∙ ended_parts-first test end part (flat_map (λ p. p ++ end ∷ []) parts ++ rest) ends none.0 ∙ ap (λ l. part ∷ l) (ended_parts-front test end parts rest ends none.1)
+
 -- parts that each have their end are cut as they were
 pub ended_parts-all : (test : ℕ → Bool) (end : ℕ) (parts : List (List ℕ)) → test end ≡ true → AllByRecursion (AllByRecursion (λ b. test b ≡ false)) parts →
     ended_parts test (flat_map (λ part. part ++ end ∷ []) parts) ≡ parts
 unfolding ended_parts
-ended_parts-all test end [] ends none = refl
-ended_parts-all test end (part ∷ parts) ends none =
-    ap (ended_parts test) (append_assoc part (end ∷ []) (flat_map (λ p. p ++ end ∷ []) parts))
-    ∙ ended_parts-first test end part (flat_map (λ p. p ++ end ∷ []) parts) ends none.0 ∙ ap (λ l. part ∷ l) (ended_parts-all test end parts ends none.1)
+ended_parts-all test end parts ends none =
+    ap (ended_parts test) (sym (append-nil (flat_map (λ part. part ++ end ∷ []) parts))) ∙ ended_parts-front test end parts [] ends none ∙ append-nil parts
 
 -- ---- bytes that are neither line ends nor blanks
 

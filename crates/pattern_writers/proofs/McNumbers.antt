@@ -51,7 +51,7 @@ digit_more n digits large is =
 pub decimal_is : (n : ℕ) → n < 2 ^ 64 → IsDecimal n (decimal n)
 decimal_is n small = decimal_by_steps IsDecimal one_digit digit_more n small
 
-number_from : (number : ℕ) (digits : List ℕ) → IsDecimal number digits → number_of digits ≡ Some number
+pub number_from : (number : ℕ) (digits : List ℕ) → IsDecimal number digits → number_of digits ≡ Some number
 unfolding number_of
 number_from number [] is = absurd (omega (arith, is.some))
 number_from number (first ∷ rest) is =
@@ -66,12 +66,12 @@ decimal_read n small = number_from n (decimal n) (decimal_is n small)
 abbrev IsWord : List ℕ → Type 0
 IsWord part = (0 < length part) × AllByRecursion IsMark part
 
-split_first : (part rest : List ℕ) → AllByRecursion IsMark part → slice_split is_blank (part ++ 32 ∷ rest) ≡ part ∷ slice_split is_blank rest
+pub split_first : (part rest : List ℕ) → AllByRecursion IsMark part → slice_split is_blank (part ++ 32 ∷ rest) ≡ part ∷ slice_split is_blank rest
 split_first [] rest marks = refl
 split_first (b ∷ part) rest marks =
     ap (λ t. cond t ([] ∷ slice_split is_blank (part ++ 32 ∷ rest)) (onto_first b (slice_split is_blank (part ++ 32 ∷ rest)))) (mark_no_blank b marks.0) ∙ ap (onto_first b) (split_first part rest marks.1)
 
-split_last : (part : List ℕ) → AllByRecursion IsMark part → slice_split is_blank part ≡ part ∷ []
+pub split_last : (part : List ℕ) → AllByRecursion IsMark part → slice_split is_blank part ≡ part ∷ []
 split_last [] marks = refl
 split_last (b ∷ part) marks =
     ap (λ t. cond t ([] ∷ slice_split is_blank part) (onto_first b (slice_split is_blank part))) (mark_no_blank b marks.0) ∙ ap (onto_first b) (split_last part marks.1)

@@ -1,5 +1,5 @@
 -- A macrocell text is read back: its lines, and what they mean.
-use Rattle.std.proofs.Common.{◌≡◌, ℕ, ◌+◌, ◌-◌, ◌^◌, ◌<◌, true, false, cond, List, [], ◌∷◌, ◌++◌, length, map, filter, drop, take, flat_map, codes, decimal, Some, None, refl, sym, ◌∙◌, ap, subst, arith, append_assoc, append-nil}
+use Rattle.std.proofs.Common.{◌≡◌, ℕ, ◌+◌, ◌-◌, ◌^◌, ◌<◌, true, false, cond, List, [], ◌∷◌, ◌++◌, length, map, filter, drop, flat_map, codes, decimal, Some, None, refl, sym, ◌∙◌, ap, subst, arith, append_assoc, append-nil}
 use Rattle.std.specs.Prelude.{◌==◌}
 use Rattle.std.specs.List.{AllByRecursion, cons_option, filter_map}
 use Rattle.std.proofs.lemmas.List.{map-append}
@@ -19,9 +19,11 @@ use Rattle.macrocell_reader.specs.Settings.{Said, after_line, after_lines, nothi
 use Rattle.macrocell_reader.proofs.MeaningLemmas.{judged-accepted, no_node_line}
 use Rattle.macrocell_reader.proofs.NodeLemmas.{node_of-other}
 use Rattle.pattern_writers.specs.LeafText.{leaf_text}
-use Rattle.pattern_writers.specs.McReading.{FitsMc, HasNoReturn, IsComment, IsRead}
+use Rattle.pattern_writers.specs.McReading.{FitsMc, IsReadFromMc}
 use Rattle.pattern_writers.specs.McText.{from_corner, inner_text, mc_text, square_text}
 use Rattle.pattern_writers.specs.Subsquares.{Square, listed_in, nw_of, ne_of, sw_of, se_of, number_in}
+use Rattle.pattern_writers.specs.WrittenComments.{HasNoReturn, IsComment}
+use Rattle.pattern_writers.proofs.CommentLines.{comment_feeds, comments_kept}
 use Rattle.pattern_writers.proofs.McKinds.{IsQuiet, comment_quiet, fine_nodes, fine_quiet, found_nodes, generation_line, generation_no_node, generation_not_kept, generation_plain, generation_said, generation_unfaulted, head_plain, kept_nodes, rule_line, rule_no_node, rule_not_kept, rule_plain, rule_said, rule_unfaulted, silent_nodes}
 use Rattle.pattern_writers.proofs.McLeaves.{leaf_marks}
 use Rattle.pattern_writers.proofs.McLines.{AreFine, AreSilent, IsMark, IsPlain, all_weaker, bare, comments_placed, ended_parts-all, fine_placed, nodes_placed, plain_kept, plain_no_feed, silent_placed}
@@ -113,28 +115,13 @@ comments_silent : (lines : List (List ℕ)) → AllByRecursion IsQuiet lines →
 comments_silent [] quiet = tt
 comments_silent (line ∷ lines) quiet = (quiet.0.silent, comments_silent lines quiet.1)
 
-comment_feeds : (comments : List (List ℕ)) → AllByRecursion IsComment comments → AllByRecursion (AllByRecursion (λ b. is_line_feed b ≡ false)) comments
-comment_feeds [] are = tt
-comment_feeds (comment ∷ comments) are = (are.0.one_line, comment_feeds comments are.1)
-
-no_return : (comment : List ℕ) → HasNoReturn comment → without_return comment ≡ comment
-unfolding without_return
-no_return comment is = ap (λ t. cond t (take (length comment - 1) comment) comment) is
-
-comments_kept : (comments more : List (List ℕ)) → AllByRecursion IsComment comments → AllByRecursion HasNoReturn comments → filter is_kept (map without_return comments ++ more) ≡ comments ++ filter is_kept more
-comments_kept [] more are none = refl
-comments_kept (comment ∷ comments) more are none =
-    ap (λ c. cond (is_kept c) (c ∷ filter is_kept (map without_return comments ++ more)) (filter is_kept (map without_return comments ++ more))) (no_return comment none.0)
-    ∙ ap (λ t. cond t (comment ∷ filter is_kept (map without_return comments ++ more)) (filter is_kept (map without_return comments ++ more))) are.0.kept
-    ∙ ap (λ l. comment ∷ l) (comments_kept comments more are.1 none.1)
-
 quiet_found : (lines more : List (List ℕ)) → AllByRecursion IsQuiet lines → filter_map node_of (lines ++ more) ≡ filter_map node_of more
 quiet_found [] more quiet = refl
 quiet_found (line ∷ lines) more quiet = ap (λ o. cons_option o (filter_map node_of (lines ++ more))) (node_of-other line quiet.0.no_node) ∙ quiet_found lines more quiet.1
 
 -- ---- the whole
 
-pub mc_read : (comments : List (List ℕ)) (rule : CountRule) (generation level : ℕ) (plane : Plane) → FitsMc comments rule generation level plane → IsRead comments rule generation plane (mc_text comments rule generation level plane)
+pub mc_read : (comments : List (List ℕ)) (rule : CountRule) (generation level : ℕ) (plane : Plane) → FitsMc comments generation level plane → IsReadFromMc comments rule generation plane (mc_text comments rule generation level plane)
 mc_read comments rule generation level plane fits =
     let square : Plane = from_corner level plane in
     let listed : List Square = listed_in level square in
