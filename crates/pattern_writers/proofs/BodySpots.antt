@@ -16,8 +16,8 @@ use Rattle.pattern_writers.specs.Items.{item_text, tag_text}
 use Rattle.pattern_writers.specs.Layout.{body_text, laid_out}
 use Rattle.pattern_writers.specs.declared.rle_text.items.Item.{Item}
 use Rattle.pattern_writers.proofs.BodyReading.{HasShortCount, body_text-joined, count_text, items_text, joined_lines}
-use Rattle.pattern_writers.proofs.McLines.{IsPlain, plain_kept}
-use Rattle.pattern_writers.proofs.McNumbers.{decimal_is}
+use Rattle.pattern_writers.proofs.TextLines.{IsPlain, plain_kept}
+use Rattle.pattern_writers.proofs.Decimals.{decimal_is}
 
 -- ---- the bytes of spots
 

@@ -14,8 +14,7 @@ use Rattle.plane.proofs.Cuts.{and_left, and_right}
 use Rattle.text_lines.specs.Faults.{fault_at}
 use Rattle.text_lines.specs.Numbers.{decimal_value}
 use Rattle.rle_reader.specs.Body.{Spot}
-use Rattle.rle_reader.specs.Items as reader
-use Rattle.rle_reader.specs.Items.{Drawn, Items, count_of, drawn_as, drawn_from, is_digit_spot, is_end_spot, items_of, place_of, run_of, tag_of, with_digit, with_tag}
+use Rattle.rle_reader.specs.Items.{Items, count_of, drawn_as, drawn_from, is_digit_spot, is_end_spot, items_of, place_of, run_of, tag_of, with_digit, with_tag}
 use Rattle.rle_reader.specs.Meaning.{covers, first_fault_from, is_covered, item_fault, state_after}
 use Rattle.rle_reader.specs.State.{State, after_item, faults_of, first_fault, leaves_range, passes_cells, when}
 use Rattle.rle_reader.specs.declared.item.Tag.{Tag}
@@ -25,7 +24,8 @@ use Rattle.pattern_writers.proofs.BodyReading.{HasShortCount, count_text, item_t
 use Rattle.pattern_writers.proofs.BodySpots.{bytes_of}
 use Rattle.pattern_writers.proofs.ItemReading.{cells_of, item_cells, past}
 use Rattle.pattern_writers.proofs.MaximalRuns.{in_span}
-use Rattle.pattern_writers.proofs.McNumbers.{decimal_is}
+use Rattle.pattern_writers.proofs.Decimals.{decimal_is}
+use Rattle.rle_reader.specs.Items as reader
 
 -- ---- the first item of spots
 

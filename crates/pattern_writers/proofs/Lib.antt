@@ -17,8 +17,10 @@ pub mod ListedQuarters
 pub mod BitRows
 pub mod RootNodes
 pub mod RootParts
-pub mod McLines
+pub mod TextLines
 pub mod CommentLines
+pub mod RuleBytes
+pub mod McLines
 pub mod McNumbers
 pub mod McLeaves
 pub mod McNodes

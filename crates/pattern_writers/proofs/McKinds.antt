@@ -1,17 +1,16 @@
 -- The kinds of lines of a macrocell text: the rule, the generation, comments and nodes.
 use Rattle.std.proofs.Common.{◌≡◌, ℕ, ◌^◌, ◌<◌, ◌≤◌, Bool, true, false, not, cond, List, [], ◌∷◌, ◌++◌, map, filter, codes, decimal, Some, None, refl, sym, ◌∙◌, ap, subst, arith, unwrap_or}
 use Rattle.std.specs.Prelude.{◌==◌, ◌&&◌, ◌||◌, nat_le, is_none}
-use Rattle.std.specs.List.{AllByRecursion, cons_option, filter_map, list_all}
+use Rattle.std.specs.List.{AllByRecursion, cons_option, filter_map}
 use Rattle.std.specs.Option.{option_map, option_to_list}
 use Rattle.std.proofs.lemmas.Bool.{false≢true}
 use Rattle.std.proofs.lemmas.Bool.Decides.{nat_tests}
 use Rattle.rule_text.specs.CountRule.{CountRule}
-use Rattle.rule_text.specs.RuleText.{canonical_text, digit_text, suffix}
-use Rattle.rule_text.specs.declared.neighbourhood.Neighbourhood.{Neighbourhood}
-use Rattle.rule_text.specs.declared.neighbourhood.Neighbourhood.TheVariants.{Moore, VonNeumann, Hexagonal}
-use Rattle.plane.proofs.Cuts.{and_left, and_right}
+use Rattle.rule_text.specs.RuleText.{canonical_text}
 use Rattle.plane.specs.declared.refusal.Refusal.TheVariants.{BadGen}
 use Rattle.plane.specs.declared.range.TheConstants.{GENERATION_LIMIT}
+use Rattle.plane.proofs.Turns.{AllByRecursion-append}
+use Rattle.viewport.proofs.Counts.{by_cases}
 use Rattle.text_lines.specs.Bytes.{begins_with}
 use Rattle.text_lines.specs.Comments.{is_blank_line, is_kept, is_settings_line}
 use Rattle.text_lines.specs.Lines.{without_return}
@@ -23,43 +22,17 @@ use Rattle.macrocell_reader.specs.Settings.{Said, after_line, generation_of, sai
 use Rattle.macrocell_reader.specs.declared.node.Node.{Node}
 use Rattle.macrocell_reader.proofs.MeaningLemmas.{no_node_line}
 use Rattle.macrocell_reader.proofs.NodeLemmas.{node_of-other}
-use Rattle.viewport.proofs.Counts.{by_cases}
-use Rattle.pattern_writers.proofs.CommentLines.{kept_begins, return_left}
-use Rattle.pattern_writers.proofs.McLines.{AreFine, AreSilent, IsMark, IsPlain, all_both, all_weaker, blank_cut}
-use Rattle.pattern_writers.proofs.McNumbers.{decimal_is, decimal_read}
 use Rattle.pattern_writers.specs.WrittenComments.{IsComment}
+use Rattle.pattern_writers.proofs.CommentLines.{kept_begins, return_left}
+use Rattle.pattern_writers.proofs.McLines.{AreFine, AreSilent}
+use Rattle.pattern_writers.proofs.TextLines.{IsPlain, blank_cut, plain_from_test, plain_marks}
+use Rattle.pattern_writers.proofs.Decimals.{decimal_is, decimal_read}
+use Rattle.pattern_writers.proofs.RuleBytes.{rule_marks}
 
 -- ---- bytes
 
-low_test : (b : ℕ) → nat_le 32 b ≡ true → 32 ≤ b
-low_test b is = grind (arith, nat_tests)
-
-pub plain_from_test : (text : List ℕ) → list_all (λ b. nat_le 32 b) text ≡ true → AllByRecursion IsPlain text
-plain_from_test [] is = tt
-plain_from_test (b ∷ text) is =
-    (low_test b (and_left (nat_le 32 b) (list_all (λ c. nat_le 32 c) text) is), plain_from_test text (and_right (nat_le 32 b) (list_all (λ c. nat_le 32 c) text) is))
-
 pub head_plain : AllByRecursion IsPlain (codes "[M2] (lifebatch 1)")
 head_plain = plain_from_test (codes "[M2] (lifebatch 1)") refl
-
-digits_mark : (digits : List ℕ) → AllByRecursion IsMark (digit_text digits)
-digits_mark [] = tt
-digits_mark (digit ∷ digits) = (omega arith, digits_mark digits)
-
-suffix_marks : (neighbourhood : Neighbourhood) → AllByRecursion IsMark (suffix neighbourhood)
-suffix_marks Moore = tt
-suffix_marks VonNeumann = (omega arith, tt)
-suffix_marks Hexagonal = (omega arith, tt)
-
-pub rule_marks : (rule : CountRule) → AllByRecursion IsMark (canonical_text rule)
-rule_marks rule =
-    all_both IsMark (codes "B" ++ digit_text rule.birth ++ codes "/S" ++ digit_text rule.survival) (suffix rule.neighbourhood)
-    (all_both IsMark (codes "B" ++ digit_text rule.birth ++ codes "/S") (digit_text rule.survival)
-    (all_both IsMark (codes "B" ++ digit_text rule.birth) (codes "/S") (all_both IsMark (codes "B") (digit_text rule.birth) (omega arith, tt) (digits_mark rule.birth)) (omega arith, (omega arith, tt))) (digits_mark rule.survival))
-    (suffix_marks rule.neighbourhood)
-
-pub plain_marks : (text : List ℕ) → AllByRecursion IsMark text → AllByRecursion IsPlain text
-plain_marks text marks = all_weaker IsMark IsPlain (λ b mark. omega (arith, mark)) text marks
 
 -- ---- the rule and the generation
 
@@ -70,10 +43,10 @@ abbrev pub generation_line : ℕ → List ℕ
 generation_line generation = codes "#G " ++ decimal generation
 
 pub rule_plain : (rule : CountRule) → AllByRecursion IsPlain (rule_line rule)
-rule_plain rule = all_both IsPlain (codes "#R ") (canonical_text rule) (plain_from_test (codes "#R ") refl) (plain_marks (canonical_text rule) (rule_marks rule))
+rule_plain rule = AllByRecursion-append IsPlain (codes "#R ") (canonical_text rule) (plain_from_test (codes "#R ") refl) (plain_marks (canonical_text rule) (rule_marks rule))
 
 pub generation_plain : (generation : ℕ) → generation < 2 ^ 64 → AllByRecursion IsPlain (generation_line generation)
-generation_plain generation small = all_both IsPlain (codes "#G ") (decimal generation) (plain_from_test (codes "#G ") refl) (plain_marks (decimal generation) (decimal_is generation small).marks)
+generation_plain generation small = AllByRecursion-append IsPlain (codes "#G ") (decimal generation) (plain_from_test (codes "#G ") refl) (plain_marks (decimal generation) (decimal_is generation small).marks)
 
 pub rule_unfaulted : (rule : CountRule) → said_fault (rule_line rule) ≡ None
 unfolding said_fault

@@ -13,6 +13,7 @@ use Rattle.plane.specs.Range.{IsCoordinate}
 use Rattle.plane.specs.declared.range.TheConstants.{COORDINATE_LIMIT, GENERATION_LIMIT}
 use Rattle.plane.specs.declared.refusal.Refusal.TheVariants.{BadGen, BadHeader, NotAPattern, OutOfRange}
 use Rattle.plane.proofs.Cuts.{and_left, and_right}
+use Rattle.plane.proofs.Turns.{AllByRecursion-append, AllByRecursion-weaker}
 use Rattle.text_lines.specs.Bytes.{is_byte, trimmed, trimmed_end, trimmed_start}
 use Rattle.text_lines.specs.Comments.{is_blank_line, is_kept}
 use Rattle.text_lines.specs.Lines.{without_return}
@@ -26,9 +27,8 @@ use Rattle.rle_reader.specs.Words.{cell_at, generation_at, is_coordinate, positi
 use Rattle.rle_reader.specs.declared.settings.Settings.{Settings}
 use Rattle.pattern_writers.specs.WrittenComments.{IsComment}
 use Rattle.pattern_writers.proofs.CommentLines.{comment_other, comment_stays}
-use Rattle.pattern_writers.proofs.McKinds.{plain_from_test, plain_marks}
-use Rattle.pattern_writers.proofs.McLines.{IsMark, IsPlain, all_both, all_weaker, blank_cut}
-use Rattle.pattern_writers.proofs.McNumbers.{IsDecimal, decimal_is, decimal_read, number_from, split_first, split_last}
+use Rattle.pattern_writers.proofs.TextLines.{plain_from_test, plain_marks, IsMark, IsPlain, blank_cut, split_first, split_last}
+use Rattle.pattern_writers.proofs.Decimals.{IsDecimal, decimal_is, decimal_read, number_from}
 use Rattle.pattern_writers.proofs.ShortCounts.{coordinate_short, mag_short}
 
 -- ---- the two lines
@@ -86,10 +86,10 @@ signed_bytes (pos n) small = decimal_bytes n (omega arith)
 signed_bytes (negsuc n) small = (record { mark = omega arith; no_comma = refl }, decimal_bytes (suc n) (omega arith))
 
 marks_of : (text : List ℕ) → AllByRecursion IsNumberByte text → AllByRecursion IsMark text
-marks_of text all = all_weaker IsNumberByte IsMark (λ byte one. one.mark) text all
+marks_of text all = AllByRecursion-weaker IsNumberByte IsMark (λ byte one. one.mark) text all
 
 no_commas : (text : List ℕ) → AllByRecursion IsNumberByte text → AllByRecursion (λ b. is_byte 44 b ≡ false) text
-no_commas text all = all_weaker IsNumberByte (λ b. is_byte 44 b ≡ false) (λ byte one. one.no_comma) text all
+no_commas text all = AllByRecursion-weaker IsNumberByte (λ b. is_byte 44 b ≡ false) (λ byte one. one.no_comma) text all
 
 -- ---- signed numbers
 
@@ -165,8 +165,8 @@ module _ (x y : ℤ) (generation : ℕ) (is : IsPosition x y generation) where
 
   pos_marks : AllByRecursion IsMark pos_word
   pos_marks =
-      all_both IsMark (codes "Pos=") (column ++ (codes "," ++ row)) (omega arith, (omega arith, (omega arith, (omega arith, tt))))
-      (all_both IsMark column (codes "," ++ row) (marks_of column column_bytes) (omega arith, marks_of row row_bytes))
+      AllByRecursion-append IsMark (codes "Pos=") (column ++ (codes "," ++ row)) (omega arith, (omega arith, (omega arith, (omega arith, tt))))
+      (AllByRecursion-append IsMark column (codes "," ++ row) (marks_of column column_bytes) (omega arith, marks_of row row_bytes))
 
   gen_marks : AllByRecursion IsMark gen_word
   gen_marks = (omega arith, (omega arith, (omega arith, (omega arith, (decimal_is generation small).marks))))
@@ -209,11 +209,11 @@ module _ (x y : ℤ) (generation : ℕ) (is : IsPosition x y generation) where
 
   pub position_plain : AllByRecursion IsPlain (position_text x y generation)
   position_plain =
-      all_both IsPlain (codes "#CXRLE Pos=" ++ column ++ codes "," ++ row ++ codes " Gen=") digits
-      (all_both IsPlain (codes "#CXRLE Pos=" ++ column ++ codes "," ++ row) (codes " Gen=")
-      (all_both IsPlain (codes "#CXRLE Pos=" ++ column ++ codes ",") row
-      (all_both IsPlain (codes "#CXRLE Pos=" ++ column) (codes ",")
-      (all_both IsPlain (codes "#CXRLE Pos=") column (plain_from_test (codes "#CXRLE Pos=") refl) (plain_marks column (marks_of column column_bytes)))
+      AllByRecursion-append IsPlain (codes "#CXRLE Pos=" ++ column ++ codes "," ++ row ++ codes " Gen=") digits
+      (AllByRecursion-append IsPlain (codes "#CXRLE Pos=" ++ column ++ codes "," ++ row) (codes " Gen=")
+      (AllByRecursion-append IsPlain (codes "#CXRLE Pos=" ++ column ++ codes ",") row
+      (AllByRecursion-append IsPlain (codes "#CXRLE Pos=" ++ column) (codes ",")
+      (AllByRecursion-append IsPlain (codes "#CXRLE Pos=") column (plain_from_test (codes "#CXRLE Pos=") refl) (plain_marks column (marks_of column column_bytes)))
       (plain_from_test (codes ",") refl))
       (plain_marks row (marks_of row row_bytes)))
       (plain_from_test (codes " Gen=") refl))
@@ -302,11 +302,11 @@ module _ (width height : ℕ) (rule : List ℕ) (short_width : width < 2 ^ 64) (
 
   pub header_plain : AllByRecursion IsPlain (header_text width height rule)
   header_plain =
-      all_both IsPlain (codes "x = " ++ decimal width ++ codes ", y = " ++ decimal height ++ codes ", rule = ") rule
-      (all_both IsPlain (codes "x = " ++ decimal width ++ codes ", y = " ++ decimal height) (codes ", rule = ")
-      (all_both IsPlain (codes "x = " ++ decimal width ++ codes ", y = ") (decimal height)
-      (all_both IsPlain (codes "x = " ++ decimal width) (codes ", y = ")
-      (all_both IsPlain (codes "x = ") (decimal width) (plain_from_test (codes "x = ") refl) (plain_marks (decimal width) (decimal_is width short_width).marks))
+      AllByRecursion-append IsPlain (codes "x = " ++ decimal width ++ codes ", y = " ++ decimal height ++ codes ", rule = ") rule
+      (AllByRecursion-append IsPlain (codes "x = " ++ decimal width ++ codes ", y = " ++ decimal height) (codes ", rule = ")
+      (AllByRecursion-append IsPlain (codes "x = " ++ decimal width ++ codes ", y = ") (decimal height)
+      (AllByRecursion-append IsPlain (codes "x = " ++ decimal width) (codes ", y = ")
+      (AllByRecursion-append IsPlain (codes "x = ") (decimal width) (plain_from_test (codes "x = ") refl) (plain_marks (decimal width) (decimal_is width short_width).marks))
       (plain_from_test (codes ", y = ") refl))
       (plain_marks (decimal height) (decimal_is height short_height).marks))
       (plain_from_test (codes ", rule = ") refl))

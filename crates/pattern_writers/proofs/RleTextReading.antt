@@ -11,12 +11,12 @@ use Rattle.plane.specs.Plane.{Plane}
 use Rattle.plane.specs.Square.{IsSame}
 use Rattle.plane.specs.declared.cell.Cell.{Cell}
 use Rattle.plane.specs.declared.fault.Fault.{Fault}
+use Rattle.plane.proofs.Turns.{AllByRecursion-weaker}
 use Rattle.text_lines.specs.Comments.{comments_of, is_kept}
 use Rattle.text_lines.specs.Faults.{at_place, ◌>>=◌}
 use Rattle.text_lines.specs.Lines.{Line, is_line_feed, lines, placed_lines, raw_lines, without_return}
 use Rattle.rle_reader.specs.Body.{struck}
 use Rattle.rle_reader.specs.Header.{header_rule}
-use Rattle.rle_reader.specs.Items as reader
 use Rattle.rle_reader.specs.Meaning.{body_fault, first_fault_from, judged, live_plane, meaning_of, unless}
 use Rattle.rle_reader.specs.Opening.{Opening, after_lines, before_header, from_header, may_stand, opening_of, stands_before_header, with_header}
 use Rattle.rle_reader.specs.Settings.{after_line, nothing_said}
@@ -33,12 +33,13 @@ use Rattle.pattern_writers.proofs.BodySpots.{body_bytes}
 use Rattle.pattern_writers.proofs.CommentLines.{comment_feeds, comments_kept}
 use Rattle.pattern_writers.proofs.FaultlessRuns.{items_faultless}
 use Rattle.pattern_writers.proofs.ItemsBack.{AreFaultless, ReadsBack, cells_back, items_back, no_fault}
-use Rattle.pattern_writers.proofs.McKinds.{rule_marks}
-use Rattle.pattern_writers.proofs.McLines.{IsPlain, all_weaker, comments_placed, ended_parts-first, ended_parts-front, plain_kept, plain_no_feed}
+use Rattle.pattern_writers.proofs.RuleBytes.{rule_marks}
+use Rattle.pattern_writers.proofs.TextLines.{IsPlain, comments_placed, ended_parts-first, ended_parts-front, plain_kept, plain_no_feed}
 use Rattle.pattern_writers.proofs.OpeningLines.{IsPosition, comment_said, comment_stands, header_plain, header_read, header_stops, header_text, position_not_kept, position_plain, position_said, position_stands, position_text}
 use Rattle.pattern_writers.proofs.RunReading.{runs_ahead, runs_cells}
 use Rattle.pattern_writers.proofs.ShortCounts.{counts_short}
 use Rattle.pattern_writers.proofs.TextReading.{IsFrame, cells_read, corner_short, frame_items, framed}
+use Rattle.rle_reader.specs.Items as reader
 
 -- ---- the lines before the header
 
@@ -157,7 +158,7 @@ three_parts : (first comments header body : List ℕ) → (first ++ 10 ∷ []) +
 three_parts first comments header body = simp append_assoc
 
 no_feeds : (line : List ℕ) → AllByRecursion IsPlain line → AllByRecursion (λ b. is_line_feed b ≡ false) line
-no_feeds line plain = all_weaker IsPlain (λ b. is_line_feed b ≡ false) plain_no_feed line plain
+no_feeds line plain = AllByRecursion-weaker IsPlain (λ b. is_line_feed b ≡ false) plain_no_feed line plain
 
 text_cut : (first header body : List ℕ) (comments : List (List ℕ)) → AllByRecursion IsPlain first → AllByRecursion IsPlain header → AllByRecursion IsComment comments →
     raw_lines ((first ++ 10 ∷ []) ++ comment_lines comments ++ (header ++ 10 ∷ []) ++ body) ≡ first ∷ (comments ++ header ∷ raw_lines body)
