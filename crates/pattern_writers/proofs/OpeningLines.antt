@@ -25,21 +25,12 @@ use Rattle.rle_reader.specs.Opening.{stands_before_header}
 use Rattle.rle_reader.specs.Settings.{after_line, after_readings, nothing_said}
 use Rattle.rle_reader.specs.Words.{cell_at, generation_at, is_coordinate, position_of, word_of}
 use Rattle.rle_reader.specs.declared.settings.Settings.{Settings}
+use Rattle.pattern_writers.specs.Opening.{header_text, position_text}
 use Rattle.pattern_writers.specs.WrittenComments.{IsComment}
 use Rattle.pattern_writers.proofs.CommentLines.{comment_other, comment_stays}
 use Rattle.pattern_writers.proofs.TextLines.{plain_from_test, plain_marks, IsMark, IsPlain, blank_cut, split_first, split_last}
 use Rattle.pattern_writers.proofs.Decimals.{IsDecimal, decimal_is, decimal_read, number_from}
 use Rattle.pattern_writers.proofs.ShortCounts.{coordinate_short, mag_short}
-
--- ---- the two lines
-
--- where the pattern lies and in which generation, as a line
-abbrev pub position_text : ℤ → ℤ → ℕ → List ℕ
-position_text x y generation = codes "#CXRLE Pos=" ++ signed_decimal x ++ codes "," ++ signed_decimal y ++ codes " Gen=" ++ decimal generation
-
--- the sides of the box and the rule, as a line
-abbrev pub header_text : ℕ → ℕ → List ℕ → List ℕ
-header_text width height rule = codes "x = " ++ decimal width ++ codes ", y = " ++ decimal height ++ codes ", rule = " ++ rule
 
 -- ---- a text on both sides of a byte
 
@@ -256,10 +247,10 @@ abbrev HasNoComma : List ℕ → Type 0
 HasNoComma text = AllByRecursion (λ b. is_byte 44 b ≡ false) text
 
 -- three parts with commas between, of which each says what it has to
-three_parts : (line first second third rule : List ℕ) → line ≡ first ++ 44 ∷ (second ++ 44 ∷ third) → begins_as_header line ≡ true → HasNoComma first → HasNoComma second →
+header_by_parts : (line first second third rule : List ℕ) → line ≡ first ++ 44 ∷ (second ++ 44 ∷ third) → begins_as_header line ≡ true → HasNoComma first → HasNoComma second →
     is_side (codes "x") first ≡ true → is_side (codes "y") second ≡ true → value_behind (codes "rule") third ≡ Some rule → header_rule line ≡ Ok (Some rule)
 unfolding header_rule
-three_parts line first second third rule is begins none also x_is y_is rule_is =
+header_by_parts line first second third rule is begins none also x_is y_is rule_is =
     let rest : List ℕ = after_first (is_byte 44) line in
     let more : List ℕ = second ++ 44 ∷ third in
     let front : before_first (is_byte 44) line ≡ first = ap (before_first (is_byte 44)) is ∙ before_end (is_byte 44) 44 first more refl none in
@@ -295,7 +286,7 @@ module _ (width height : ℕ) (rule : List ℕ) (short_width : width < 2 ^ 64) (
   -- the line names the rule
   pub header_read : header_rule (header_text width height rule) ≡ Ok (Some rule)
   header_read =
-      three_parts (header_text width height rule) x_part y_part rule_part rule header_parts begins
+      header_by_parts (header_text width height rule) x_part y_part rule_part rule header_parts begins
       (refl, (refl, (refl, (refl, no_commas (decimal width) (decimal_bytes width short_width)))))
       (refl, (refl, (refl, (refl, (refl, no_commas (decimal height) (decimal_bytes height short_height))))))
       (x_side width (decimal width) (decimal_is width short_width)) (y_side height (decimal height) (decimal_is height short_height)) (rule_value rule marks)

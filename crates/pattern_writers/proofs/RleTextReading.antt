@@ -24,6 +24,7 @@ use Rattle.rle_reader.specs.State.{start_at}
 use Rattle.rle_reader.specs.declared.settings.Settings.{Settings}
 use Rattle.pattern_writers.specs.Frame.{frame_of}
 use Rattle.pattern_writers.specs.Layout.{body_text}
+use Rattle.pattern_writers.specs.Opening.{header_text, position_text}
 use Rattle.pattern_writers.specs.RleReading.{IsReadable, IsReadFromRle}
 use Rattle.pattern_writers.specs.RleText.{comment_lines, rle_text}
 use Rattle.pattern_writers.specs.WrittenComments.{IsComment}
@@ -35,7 +36,7 @@ use Rattle.pattern_writers.proofs.FaultlessRuns.{items_faultless}
 use Rattle.pattern_writers.proofs.ItemsBack.{AreFaultless, ReadsBack, cells_back, items_back, no_fault}
 use Rattle.pattern_writers.proofs.RuleBytes.{rule_marks}
 use Rattle.pattern_writers.proofs.TextLines.{IsPlain, comments_placed, ended_parts-first, ended_parts-front, plain_kept, plain_no_feed}
-use Rattle.pattern_writers.proofs.OpeningLines.{IsPosition, comment_said, comment_stands, header_plain, header_read, header_stops, header_text, position_not_kept, position_plain, position_said, position_stands, position_text}
+use Rattle.pattern_writers.proofs.OpeningLines.{IsPosition, comment_said, comment_stands, header_plain, header_read, header_stops, position_not_kept, position_plain, position_said, position_stands}
 use Rattle.pattern_writers.proofs.RunReading.{runs_ahead, runs_cells}
 use Rattle.pattern_writers.proofs.ShortCounts.{counts_short}
 use Rattle.pattern_writers.proofs.TextReading.{IsFrame, cells_read, corner_short, frame_items, framed}
@@ -154,8 +155,8 @@ module _ (end : ℕ) (first header rule : List ℕ) (settings : Settings) (comme
 
 -- ---- the lines of a text
 
-three_parts : (first comments header body : List ℕ) → (first ++ 10 ∷ []) ++ comments ++ (header ++ 10 ∷ []) ++ body ≡ first ++ 10 ∷ (comments ++ (header ++ 10 ∷ body))
-three_parts first comments header body = simp append_assoc
+text_parts : (first comments header body : List ℕ) → (first ++ 10 ∷ []) ++ comments ++ (header ++ 10 ∷ []) ++ body ≡ first ++ 10 ∷ (comments ++ (header ++ 10 ∷ body))
+text_parts first comments header body = simp append_assoc
 
 no_feeds : (line : List ℕ) → AllByRecursion IsPlain line → AllByRecursion (λ b. is_line_feed b ≡ false) line
 no_feeds line plain = AllByRecursion-weaker IsPlain (λ b. is_line_feed b ≡ false) plain_no_feed line plain
@@ -163,7 +164,7 @@ no_feeds line plain = AllByRecursion-weaker IsPlain (λ b. is_line_feed b ≡ fa
 text_cut : (first header body : List ℕ) (comments : List (List ℕ)) → AllByRecursion IsPlain first → AllByRecursion IsPlain header → AllByRecursion IsComment comments →
     raw_lines ((first ++ 10 ∷ []) ++ comment_lines comments ++ (header ++ 10 ∷ []) ++ body) ≡ first ∷ (comments ++ header ∷ raw_lines body)
 text_cut first header body comments plain also are =
-    ap raw_lines (three_parts first (comment_lines comments) header body)
+    ap raw_lines (text_parts first (comment_lines comments) header body)
     ∙ ended_parts-first is_line_feed 10 first (comment_lines comments ++ (header ++ 10 ∷ body)) refl (no_feeds first plain)
     ∙ ap (λ l. first ∷ l) (ended_parts-front is_line_feed 10 comments (header ++ 10 ∷ body) refl (comment_feeds comments are)
     ∙ ap (λ l. comments ++ l) (ended_parts-first is_line_feed 10 header body refl (no_feeds header also)))
