@@ -1,16 +1,21 @@
 -- Comments as lines of a text.
-use Rattle.std.proofs.Common.{◌≡◌, ℕ, zero, suc, ◌-◌, Bool, true, false, not, cond, List, [], ◌∷◌, ◌++◌, length, map, filter, take, codes, refl, sym, ◌∙◌, ap, subst, arith}
+use Rattle.std.proofs.Common.{◌≡◌, ℕ, suc, Bool, true, false, not, cond, List, [], ◌∷◌, ◌++◌, length, map, take, codes, Ok, refl, ap, sym, ◌∙◌, arith, zero, ◌-◌, filter, subst}
 use Rattle.std.specs.Prelude.{◌==◌, ◌&&◌, ◌||◌}
 use Rattle.std.specs.List.{AllByRecursion}
-use Rattle.std.proofs.lemmas.Bool.{false≢true}
-use Rattle.std.proofs.lemmas.Bool.Decides.{Decides-eqb}
 use Rattle.std.specs.Str.{bytes_eq}
+use Rattle.std.proofs.lemmas.Bool.Decides.{Decides-eqb}
+use Rattle.std.proofs.lemmas.Bool.{false≢true}
 use Rattle.plane.proofs.Cuts.{and_left, and_right}
-use Rattle.text_lines.specs.Bytes.{begins_with, ends_with}
-use Rattle.text_lines.specs.Comments.{is_comment, is_kept, is_settings_line}
-use Rattle.text_lines.specs.Lines.{is_line_feed, without_return}
 use Rattle.viewport.proofs.Counts.{by_cases}
-use Rattle.pattern_writers.specs.WrittenComments.{HasNoReturn, IsComment}
+use Rattle.text_lines.specs.Bytes.{begins_with, ends_with}
+use Rattle.text_lines.specs.Comments.{is_blank_line, is_kept, is_comment, is_settings_line}
+use Rattle.text_lines.specs.Lines.{without_return, is_line_feed}
+use Rattle.rle_reader.specs.Bytes.{words}
+use Rattle.rle_reader.specs.Opening.{stands_before_header}
+use Rattle.rle_reader.specs.Settings.{after_line, after_readings}
+use Rattle.rle_reader.specs.Words.{word_of}
+use Rattle.rle_reader.specs.declared.settings.Settings.{Settings}
+use Rattle.pattern_writers.specs.WrittenComments.{IsComment, HasNoReturn}
 
 -- ---- what a kept comment begins with
 
@@ -124,3 +129,14 @@ comments_kept (comment ∷ comments) more are none =
     ap (λ c. cond (is_kept c) (c ∷ filter is_kept (map without_return comments ++ more)) (filter is_kept (map without_return comments ++ more))) (no_return comment none.0)
     ∙ ap (λ t. cond t (comment ∷ filter is_kept (map without_return comments ++ more)) (filter is_kept (map without_return comments ++ more))) are.0.kept
     ∙ ap (λ l. comment ∷ l) (comments_kept comments more are.1 none.1)
+
+-- ---- comments before a header
+
+pub comment_stands : (comment : List ℕ) → IsComment comment → stands_before_header (without_return comment) ≡ true
+unfolding stands_before_header
+comment_stands comment is = ap (λ b. b || is_blank_line (without_return comment)) (comment_stays comment is)
+
+pub comment_said : (settings : Settings) (comment : List ℕ) → IsComment comment → after_line settings (without_return comment) ≡ Ok settings
+unfolding after_line
+comment_said settings comment is =
+    ap (λ b. cond b (after_readings settings (map word_of (words (without_return comment)))) (Ok settings)) (comment_other comment is)

@@ -31,5 +31,7 @@ pub mod McTextReading
 pub mod BodySpots
 pub mod ItemsBack
 pub mod FaultlessRuns
-pub mod OpeningLines
+pub mod WrittenNumbers
+pub mod PositionLines
+pub mod HeaderLines
 pub mod RleTextReading

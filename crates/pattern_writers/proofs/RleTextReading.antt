@@ -31,12 +31,13 @@ use Rattle.pattern_writers.specs.WrittenComments.{IsComment}
 use Rattle.pattern_writers.specs.declared.rle_text.frame.Frame.{Frame}
 use Rattle.pattern_writers.specs.declared.rle_text.items.Item.{Item}
 use Rattle.pattern_writers.proofs.BodySpots.{body_bytes}
-use Rattle.pattern_writers.proofs.CommentLines.{comment_feeds, comments_kept}
+use Rattle.pattern_writers.proofs.CommentLines.{comment_feeds, comment_said, comment_stands, comments_kept}
 use Rattle.pattern_writers.proofs.FaultlessRuns.{items_faultless}
 use Rattle.pattern_writers.proofs.ItemsBack.{AreFaultless, ReadsBack, cells_back, items_back, no_fault}
 use Rattle.pattern_writers.proofs.RuleBytes.{rule_marks}
 use Rattle.pattern_writers.proofs.TextLines.{IsPlain, comments_placed, ended_parts-first, ended_parts-front, plain_kept, plain_no_feed}
-use Rattle.pattern_writers.proofs.OpeningLines.{IsPosition, comment_said, comment_stands, header_plain, header_read, header_stops, position_not_kept, position_plain, position_said, position_stands}
+use Rattle.pattern_writers.proofs.HeaderLines.{header_plain, header_read, header_stops}
+use Rattle.pattern_writers.proofs.PositionLines.{IsPosition, position_not_kept, position_plain, position_said, position_stands}
 use Rattle.pattern_writers.proofs.RunReading.{runs_ahead, runs_cells}
 use Rattle.pattern_writers.proofs.ShortCounts.{counts_short}
 use Rattle.pattern_writers.proofs.TextReading.{IsFrame, cells_read, corner_short, frame_items, framed}
