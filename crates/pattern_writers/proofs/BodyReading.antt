@@ -16,7 +16,7 @@ use Rattle.pattern_writers.proofs.Decimals.{IsNoDigit, digits_end}
 -- ---- without the ends of the lines
 
 -- the bytes of a text but for the ends of its lines
-abbrev joined_lines : List ℕ → List ℕ
+abbrev pub joined_lines : List ℕ → List ℕ
 joined_lines text = filter (λ byte. not (byte == 10)) text
 
 -- the text is no more than a piece of a line
@@ -46,7 +46,7 @@ laid_out-joined line (next ∷ pieces) piece all =
 -- ---- the text of an item
 
 -- the byte of a tag
-abbrev tag_byte : Tag → ℕ
+abbrev pub tag_byte : Tag → ℕ
 tag_byte Dead = 98
 tag_byte Live = 111
 tag_byte Row = 36
@@ -78,7 +78,7 @@ tag_byte-injective Row Live is = absurd (omega arith)
 tag_byte-injective Row Row is = refl
 
 -- the digits of a count
-abbrev count_text : ℕ → List ℕ
+abbrev pub count_text : ℕ → List ℕ
 count_text count = if count == 1 then [] else decimal count
 
 count-digits : (count : ℕ) → count < 2 ^ 64 → AllDigits 10 (count_text count)
@@ -126,7 +126,7 @@ item-piece : (item : Item) → HasShortCount item → IsPiece (item_text item)
 item-piece item small = IsPiece-append (count_text item.count) (tag_text item.tag) (digits-piece (count_text item.count) (count-digits item.count small)) (tag-piece item.tag)
 
 -- the texts of items and the `!`
-abbrev items_text : List Item → List ℕ
+abbrev pub items_text : List Item → List ℕ
 items_text [] = codes "!"
 items_text (item ∷ items) = item_text item ++ items_text items
 
@@ -138,11 +138,11 @@ pieces-concat : (items : List Item) → concat (map item_text items ++ codes "!"
 pieces-concat [] = refl
 pieces-concat (item ∷ items) = ap (λ l. item_text item ++ l) (pieces-concat items)
 
-body_text-joined : (items : List Item) → AllByRecursion HasShortCount items → joined_lines (body_text items) ≡ items_text items
+pub body_text-joined : (items : List Item) → AllByRecursion HasShortCount items → joined_lines (body_text items) ≡ items_text items
 body_text-joined items small = laid_out-joined [] (map item_text items ++ codes "!" ∷ []) refl (pieces-all items small) ∙ pieces-concat items
 
 -- an item's text is its digits and its tag's byte
-item_text-flat : (item : Item) (rest : List ℕ) → item_text item ++ rest ≡ count_text item.count ++ tag_byte item.tag ∷ rest
+pub item_text-flat : (item : Item) (rest : List ℕ) → item_text item ++ rest ≡ count_text item.count ++ tag_byte item.tag ∷ rest
 item_text-flat item rest =
     append_assoc (count_text item.count) (tag_text item.tag) rest ∙ ap (λ l. count_text item.count ++ (l ++ rest)) (tag_text-byte item.tag)
 

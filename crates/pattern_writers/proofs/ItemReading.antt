@@ -23,13 +23,13 @@ abbrev pub run_cells : RowRun → List Cell
 run_cells run = span run.row run.first (distance run.first run.end)
 
 -- the cells of an item that begins at a cell
-abbrev item_cells : Cell → Tag → ℕ → List Cell
+abbrev pub item_cells : Cell → Tag → ℕ → List Cell
 item_cells next Live count = span next.y next.x count
 item_cells next Dead count = []
 item_cells next Row count = []
 
 -- where the next item begins, in rows that begin in the column `left`
-abbrev past : ℤ → Cell → Tag → ℕ → Cell
+abbrev pub past : ℤ → Cell → Tag → ℕ → Cell
 past left next Live count = at (next.x +ℤ pos count) next.y
 past left next Dead count = at (next.x +ℤ pos count) next.y
 past left next Row count = at left (next.y +ℤ pos count)
@@ -44,7 +44,7 @@ cells_of left next (item ∷ items) = item_cells next item.tag item.count ++ cel
 no_step : (next : Cell) → next ≡ at (next.x +ℤ pos 0) next.y
 no_step next = same_cell next.x next.y _ _ (omega (arith, ints)) refl
 
-counted_some : (tag : Tag) (count : ℕ) → counted tag (suc count) ≡ record { count = suc count; tag = tag } ∷ []
+pub counted_some : (tag : Tag) (count : ℕ) → counted tag (suc count) ≡ record { count = suc count; tag = tag } ∷ []
 counted_some tag count = ap (λ b. if b then [] else (record { count = suc count; tag = tag } ∷ [])) (eqb-suc-zero count)
 
 dead_read : (left : ℤ) (next : Cell) (count : ℕ) (items : List Item) →
@@ -73,14 +73,14 @@ pub record IsAhead (left : ℤ) (next : Cell) (run : RowRun) : Type 0 where
   pub across : start_of left next run ≤ℤ run.first
   pub ends : run.first ≤ℤ run.end
 
-start_same : (left : ℤ) (next : Cell) (run : RowRun) → distance next.y run.row ≡ 0 → next ≡ at (start_of left next run) run.row
+pub start_same : (left : ℤ) (next : Cell) (run : RowRun) → distance next.y run.row ≡ 0 → next ≡ at (start_of left next run) run.row
 start_same left next run none =
     let decides : Decides (int_eq run.row next.y) (run.row ≡ next.y) = Decides-int_eq run.row next.y in
     let row : next.y ≡ run.row = omega (arith, ints) in
     let column : next.x ≡ start_of left next run = grind arith in
     same_cell next.x next.y _ _ column row
 
-start_below : (left : ℤ) (next : Cell) (run : RowRun) → next.y ≤ℤ run.row → 0 < distance next.y run.row → at left (next.y +ℤ pos (distance next.y run.row)) ≡ at (start_of left next run) run.row
+pub start_below : (left : ℤ) (next : Cell) (run : RowRun) → next.y ≤ℤ run.row → 0 < distance next.y run.row → at left (next.y +ℤ pos (distance next.y run.row)) ≡ at (start_of left next run) run.row
 start_below left next run down some =
     let decides : Decides (int_eq run.row next.y) (run.row ≡ next.y) = Decides-int_eq run.row next.y in
     let other : run.row ≡ next.y → ⊥ = λ same. omega (arith, ints) in

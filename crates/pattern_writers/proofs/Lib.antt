@@ -17,6 +17,9 @@ pub mod ListedQuarters
 pub mod BitRows
 pub mod RootNodes
 pub mod RootParts
+pub mod TextLines
+pub mod CommentLines
+pub mod RuleBytes
 pub mod McLines
 pub mod McNumbers
 pub mod McLeaves
@@ -25,3 +28,10 @@ pub mod McOrder
 pub mod McRoot
 pub mod McKinds
 pub mod McTextReading
+pub mod BodySpots
+pub mod ItemsBack
+pub mod FaultlessRuns
+pub mod WrittenNumbers
+pub mod PositionLines
+pub mod HeaderLines
+pub mod RleTextReading

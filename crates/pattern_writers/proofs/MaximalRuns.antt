@@ -151,7 +151,7 @@ between_none first x = grind (arith, ints)
 between_more : (first x : ℤ) (count : ℕ) → (int_eq x first || (int_le (first +ℤ pos 1) x && int_lt x ((first +ℤ pos 1) +ℤ pos count))) ≡ (int_le first x && int_lt x (first +ℤ pos (suc count)))
 between_more first x count = grind (arith, ints)
 
-in_span : (row first : ℤ) (count : ℕ) (x y : ℤ) → list_any (is_at x y) (span row first count) ≡ (int_eq y row && (int_le first x && int_lt x (first +ℤ pos count)))
+pub in_span : (row first : ℤ) (count : ℕ) (x y : ℤ) → list_any (is_at x y) (span row first count) ≡ (int_eq y row && (int_le first x && int_lt x (first +ℤ pos count)))
 in_span row first zero x y = sym (ap (λ b. int_eq y row && b) (between_none first x) ∙ and_nothing (int_eq y row))
 in_span row first (suc count) x y =
     ap (λ b. (int_eq y row && int_eq x first) || b) (in_span row (first +ℤ pos 1) count x y)

@@ -1,18 +1,17 @@
 -- The kinds of lines of a macrocell text: the rule, the generation, comments and nodes.
-use Rattle.std.proofs.Common.{◌≡◌, ℕ, suc, ◌-◌, ◌^◌, ◌<◌, ◌≤◌, Bool, true, false, not, cond, List, [], ◌∷◌, ◌++◌, length, map, filter, take, codes, decimal, Some, None, refl, sym, ◌∙◌, ap, subst, arith, unwrap_or}
+use Rattle.std.proofs.Common.{◌≡◌, ℕ, ◌^◌, ◌<◌, ◌≤◌, Bool, true, false, not, cond, List, [], ◌∷◌, ◌++◌, map, filter, codes, decimal, Some, None, refl, sym, ◌∙◌, ap, subst, arith, unwrap_or}
 use Rattle.std.specs.Prelude.{◌==◌, ◌&&◌, ◌||◌, nat_le, is_none}
-use Rattle.std.specs.List.{AllByRecursion, cons_option, filter_map, list_all}
+use Rattle.std.specs.List.{AllByRecursion, cons_option, filter_map}
 use Rattle.std.specs.Option.{option_map, option_to_list}
 use Rattle.std.proofs.lemmas.Bool.{false≢true}
-use Rattle.std.proofs.lemmas.Bool.Decides.{Decides-eqb, nat_tests}
+use Rattle.std.proofs.lemmas.Bool.Decides.{nat_tests}
 use Rattle.rule_text.specs.CountRule.{CountRule}
-use Rattle.rule_text.specs.RuleText.{canonical_text, digit_text, suffix}
-use Rattle.rule_text.specs.declared.neighbourhood.Neighbourhood.{Neighbourhood}
-use Rattle.rule_text.specs.declared.neighbourhood.Neighbourhood.TheVariants.{Moore, VonNeumann, Hexagonal}
-use Rattle.plane.proofs.Cuts.{and_left, and_right}
+use Rattle.rule_text.specs.RuleText.{canonical_text}
 use Rattle.plane.specs.declared.refusal.Refusal.TheVariants.{BadGen}
 use Rattle.plane.specs.declared.range.TheConstants.{GENERATION_LIMIT}
-use Rattle.text_lines.specs.Bytes.{begins_with, ends_with}
+use Rattle.plane.proofs.Turns.{AllByRecursion-append}
+use Rattle.viewport.proofs.Counts.{by_cases}
+use Rattle.text_lines.specs.Bytes.{begins_with}
 use Rattle.text_lines.specs.Comments.{is_blank_line, is_kept, is_settings_line}
 use Rattle.text_lines.specs.Lines.{without_return}
 use Rattle.text_lines.specs.Numbers.{number_of}
@@ -23,42 +22,17 @@ use Rattle.macrocell_reader.specs.Settings.{Said, after_line, generation_of, sai
 use Rattle.macrocell_reader.specs.declared.node.Node.{Node}
 use Rattle.macrocell_reader.proofs.MeaningLemmas.{no_node_line}
 use Rattle.macrocell_reader.proofs.NodeLemmas.{node_of-other}
-use Rattle.viewport.proofs.Counts.{by_cases}
-use Rattle.pattern_writers.proofs.McLines.{AreFine, AreSilent, IsMark, IsPlain, all_both, all_weaker, blank_cut}
-use Rattle.pattern_writers.proofs.McNumbers.{decimal_is, decimal_read}
-use Rattle.pattern_writers.specs.McReading.{IsComment}
+use Rattle.pattern_writers.specs.WrittenComments.{IsComment}
+use Rattle.pattern_writers.proofs.CommentLines.{kept_begins, return_left}
+use Rattle.pattern_writers.proofs.McLines.{AreFine, AreSilent}
+use Rattle.pattern_writers.proofs.TextLines.{IsPlain, blank_cut, plain_from_test, plain_marks}
+use Rattle.pattern_writers.proofs.Decimals.{decimal_is, decimal_read}
+use Rattle.pattern_writers.proofs.RuleBytes.{rule_marks}
 
 -- ---- bytes
 
-low_test : (b : ℕ) → nat_le 32 b ≡ true → 32 ≤ b
-low_test b is = grind (arith, nat_tests)
-
-plain_from_test : (text : List ℕ) → list_all (λ b. nat_le 32 b) text ≡ true → AllByRecursion IsPlain text
-plain_from_test [] is = tt
-plain_from_test (b ∷ text) is =
-    (low_test b (and_left (nat_le 32 b) (list_all (λ c. nat_le 32 c) text) is), plain_from_test text (and_right (nat_le 32 b) (list_all (λ c. nat_le 32 c) text) is))
-
 pub head_plain : AllByRecursion IsPlain (codes "[M2] (lifebatch 1)")
 head_plain = plain_from_test (codes "[M2] (lifebatch 1)") refl
-
-digits_mark : (digits : List ℕ) → AllByRecursion IsMark (digit_text digits)
-digits_mark [] = tt
-digits_mark (digit ∷ digits) = (omega arith, digits_mark digits)
-
-suffix_marks : (neighbourhood : Neighbourhood) → AllByRecursion IsMark (suffix neighbourhood)
-suffix_marks Moore = tt
-suffix_marks VonNeumann = (omega arith, tt)
-suffix_marks Hexagonal = (omega arith, tt)
-
-pub rule_marks : (rule : CountRule) → AllByRecursion IsMark (canonical_text rule)
-rule_marks rule =
-    all_both IsMark (codes "B" ++ digit_text rule.birth ++ codes "/S" ++ digit_text rule.survival) (suffix rule.neighbourhood)
-    (all_both IsMark (codes "B" ++ digit_text rule.birth ++ codes "/S") (digit_text rule.survival)
-    (all_both IsMark (codes "B" ++ digit_text rule.birth) (codes "/S") (all_both IsMark (codes "B") (digit_text rule.birth) (omega arith, tt) (digits_mark rule.birth)) (omega arith, (omega arith, tt))) (digits_mark rule.survival))
-    (suffix_marks rule.neighbourhood)
-
-plain_marks : (text : List ℕ) → AllByRecursion IsMark text → AllByRecursion IsPlain text
-plain_marks text marks = all_weaker IsMark IsPlain (λ b mark. omega (arith, mark)) text marks
 
 -- ---- the rule and the generation
 
@@ -69,10 +43,10 @@ abbrev pub generation_line : ℕ → List ℕ
 generation_line generation = codes "#G " ++ decimal generation
 
 pub rule_plain : (rule : CountRule) → AllByRecursion IsPlain (rule_line rule)
-rule_plain rule = all_both IsPlain (codes "#R ") (canonical_text rule) (plain_from_test (codes "#R ") refl) (plain_marks (canonical_text rule) (rule_marks rule))
+rule_plain rule = AllByRecursion-append IsPlain (codes "#R ") (canonical_text rule) (plain_from_test (codes "#R ") refl) (plain_marks (canonical_text rule) (rule_marks rule))
 
 pub generation_plain : (generation : ℕ) → generation < 2 ^ 64 → AllByRecursion IsPlain (generation_line generation)
-generation_plain generation small = all_both IsPlain (codes "#G ") (decimal generation) (plain_from_test (codes "#G ") refl) (plain_marks (decimal generation) (decimal_is generation small).marks)
+generation_plain generation small = AllByRecursion-append IsPlain (codes "#G ") (decimal generation) (plain_from_test (codes "#G ") refl) (plain_marks (decimal generation) (decimal_is generation small).marks)
 
 pub rule_unfaulted : (rule : CountRule) → said_fault (rule_line rule) ≡ None
 unfolding said_fault
@@ -132,59 +106,6 @@ quiet_line letter rest no_frames no_generation no_rule =
     let generation : begins_with (codes "#G") (35 ∷ letter ∷ rest) ≡ false = and_first (letter == 71) _ no_generation in
     let rule : begins_with (codes "#R") (35 ∷ letter ∷ rest) ≡ false = and_first (letter == 82) _ no_rule in
     record { unfaulted = rw (frames, generation) refl; no_node = refl; silent = λ said place. rw (rule, generation) refl }
-
-letters : (a c d n o s : Bool) → (not s && ((((a && (c && true)) || (a && (d && true))) || (a && (n && true))) || (a && (o && true)))) ≡ true → (a ≡ true) × ((c || (d || (n || o))) ≡ true)
-letters false c d n o true is = absurd (false≢true is)
-letters false c d n o false is = absurd (false≢true is)
-letters true true d n o s is = (refl, refl)
-letters true false true n o s is = (refl, refl)
-letters true false false true o s is = (refl, refl)
-letters true false false false true s is = (refl, refl)
-letters true false false false false true is = absurd (false≢true is)
-letters true false false false false false is = absurd (false≢true is)
-
-at_letter : (P : ℕ → Type 0) → P 67 → P 68 → P 78 → P 79 → (b : ℕ) → ((b == 67) || ((b == 68) || ((b == 78) || (b == 79)))) ≡ true → P b
-at_letter P c d n o b is =
-    by_cases (b == 67) (λ e. subst P (sym ((Decides-eqb b 67).0 e)) c)
-    (λ no_c. by_cases (b == 68) (λ e. subst P (sym ((Decides-eqb b 68).0 e)) d)
-    (λ no_d. by_cases (b == 78) (λ e. subst P (sym ((Decides-eqb b 78).0 e)) n)
-    (λ no_n. by_cases (b == 79) (λ e. subst P (sym ((Decides-eqb b 79).0 e)) o)
-    (λ no_o. absurd (false≢true (sym (λ i. no_c i || (no_d i || (no_n i || no_o i))) ∙ is))))))
-
-abbrev IsOtherLetter : ℕ → Type 0
-IsOtherLetter b = ((b == 70) ≡ false) × ((b == 71) ≡ false) × ((b == 82) ≡ false) × ((b == 13) ≡ false)
-
--- what a kept comment begins with
-record BeginsComment (line : List ℕ) : Type 0 where
-  letter : ℕ
-  rest : List ℕ
-  is : line ≡ 35 ∷ letter ∷ rest
-  other : IsOtherLetter letter
-
-kept_begins : (line : List ℕ) → is_kept line ≡ true → BeginsComment line
-unfolding is_kept
-kept_begins [] is = absurd (false≢true is)
-kept_begins (a ∷ []) is = absurd (false≢true (sym (none_of (a == 35) (is_settings_line (a ∷ []))) ∙ is))
-  where
-    none_of : (a s : Bool) → (not s && ((((a && false) || (a && false)) || (a && false)) || (a && false))) ≡ false
-    none_of true true = refl
-    none_of true false = refl
-    none_of false true = refl
-    none_of false false = refl
-kept_begins (a ∷ b ∷ rest) is =
-    let found = letters (a == 35) (b == 67) (b == 68) (b == 78) (b == 79) (is_settings_line (a ∷ b ∷ rest)) is in
-    let first : a ≡ 35 = (Decides-eqb a 35).0 found.0 in
-    record { letter = b; rest = rest; is = λ i. first i ∷ b ∷ rest; other = at_letter IsOtherLetter (refl, refl, refl, refl) (refl, refl, refl, refl) (refl, refl, refl, refl) (refl, refl, refl, refl) b found.1 }
-
-return_left : (letter : ℕ) (rest : List ℕ) → (letter == 13) ≡ false → (others : List ℕ) × (without_return (35 ∷ letter ∷ rest) ≡ 35 ∷ letter ∷ others)
-unfolding without_return
-return_left letter [] other = ([], ap (λ t. cond (t && true) (35 ∷ []) (35 ∷ letter ∷ [])) other)
-return_left letter (r ∷ rest) other =
-    by_cases (ends_with (codes "\r") (35 ∷ letter ∷ r ∷ rest))
-    (λ ends.
-    let e : suc (suc (suc (length rest))) - 1 ≡ suc (suc (length rest)) = omega arith in
-    (take (length rest) (r ∷ rest), ap (λ t. cond t (take (suc (suc (suc (length rest))) - 1) (35 ∷ letter ∷ r ∷ rest)) (35 ∷ letter ∷ r ∷ rest)) ends ∙ ap (λ n. take n (35 ∷ letter ∷ r ∷ rest)) e))
-    (λ no_end. (r ∷ rest, ap (λ t. cond t (take (suc (suc (suc (length rest))) - 1) (35 ∷ letter ∷ r ∷ rest)) (35 ∷ letter ∷ r ∷ rest)) no_end))
 
 -- a kept comment says nothing, also without a CR
 pub comment_quiet : (comment : List ℕ) → IsComment comment → IsQuiet (without_return comment)

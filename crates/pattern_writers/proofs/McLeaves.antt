@@ -4,15 +4,16 @@ use Rattle.std.specs.Prelude.{◌==◌, ◌&&◌, ◌||◌, nat_le, unsigned_abs
 use Rattle.std.specs.Int.{bit_at}
 use Rattle.std.specs.List.{AllByRecursion, list_all}
 use Rattle.std.specs.Option.{option_map}
+use Rattle.std.specs.Char.{is_ascii_digit}
 use Rattle.std.proofs.lemmas.Bool.{false≢true}
 use Rattle.std.proofs.lemmas.Bool.Decides.{nat_tests}
 use Rattle.std.proofs.lemmas.Int.{ints}
-use Rattle.plane.specs.Plane.{Plane}
-use Rattle.std.specs.Char.{is_ascii_digit}
 use Rattle.std.proofs.lemmas.Nat.Bits.{bit_at-zero}
+use Rattle.plane.specs.Plane.{Plane}
 use Rattle.plane.specs.Square.{IsSame, IsSquare, bits_plane, empty, spans}
 use Rattle.plane.proofs.Cuts.{and_left, and_right, cut_case}
 use Rattle.plane.proofs.Same.{same_sym, same_trans}
+use Rattle.plane.proofs.Turns.{AllByRecursion-append, AllByRecursion-weaker}
 use Rattle.text_lines.specs.Bytes.{is_byte}
 use Rattle.macrocell_reader.specs.Inner.{inner_of, numbers}
 use Rattle.macrocell_reader.specs.Leaf.{are_rows, is_cell, is_live_at, is_row, leaf_bits, leaf_of, rows_of, word_of}
@@ -20,7 +21,7 @@ use Rattle.macrocell_reader.specs.Nodes.{begins_leaf, node_of}
 use Rattle.macrocell_reader.specs.declared.node.Node.TheVariants.{Leaf}
 use Rattle.macrocell_reader.proofs.LeafBits.{leaf_bit}
 use Rattle.pattern_writers.specs.LeafText.{cell_byte, eight, is_nothing, leaf_text, onto_rest, row_text, without_end}
-use Rattle.pattern_writers.proofs.McLines.{IsMark, all_both, all_weaker, ended_parts-all, ends_with_marks}
+use Rattle.pattern_writers.proofs.TextLines.{IsMark, ended_parts-all, ends_with_marks}
 
 -- the rows that are written
 abbrev pub rows_written : Plane → List (List ℕ)
@@ -104,7 +105,7 @@ all_map P Q weaker (x ∷ all) is = (weaker x is.0, all_map P Q weaker all is.1)
 rows_read : (plane : Plane) → rows_of (leaf_text plane) ≡ rows_written plane
 rows_read plane =
     ended_parts-all (is_byte 36) 36 (rows_written plane) refl
-    (all_map IsRow (AllByRecursion (λ b. is_byte 36 b ≡ false)) (λ row is. all_weaker IsCellByte (λ b. is_byte 36 b ≡ false) (λ b cell. cell.1) row is.1) (rows_written plane) (rows_are plane))
+    (all_map IsRow (AllByRecursion (λ b. is_byte 36 b ≡ false)) (λ row is. AllByRecursion-weaker IsCellByte (λ b. is_byte 36 b ≡ false) (λ b cell. cell.1) row is.1) (rows_written plane) (rows_are plane))
 
 all_cells : (row : List ℕ) → AllByRecursion IsCellByte row → list_all is_cell row ≡ true
 all_cells [] is = refl
@@ -128,7 +129,7 @@ rows_pass plane =
 all_flat : (rows : List (List ℕ)) → AllByRecursion IsRow rows → AllByRecursion IsMark (flat_map (λ row. row ++ codes "$") rows)
 all_flat [] is = tt
 all_flat (row ∷ rows) is =
-    all_both IsMark (row ++ codes "$") _ (all_both IsMark row (codes "$") (all_weaker IsCellByte IsMark (λ b cell. cell.2) row is.0.1) (omega arith, tt)) (all_flat rows is.1)
+    AllByRecursion-append IsMark (row ++ codes "$") _ (AllByRecursion-append IsMark row (codes "$") (AllByRecursion-weaker IsCellByte IsMark (λ b cell. cell.2) row is.0.1) (omega arith, tt)) (all_flat rows is.1)
 
 -- no byte of the text is a blank
 pub leaf_marks : (plane : Plane) → AllByRecursion IsMark (leaf_text plane)

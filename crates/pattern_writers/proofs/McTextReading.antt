@@ -1,5 +1,5 @@
 -- A macrocell text is read back: its lines, and what they mean.
-use Rattle.std.proofs.Common.{◌≡◌, ℕ, ◌+◌, ◌-◌, ◌^◌, ◌<◌, true, false, cond, List, [], ◌∷◌, ◌++◌, length, map, filter, drop, take, flat_map, codes, decimal, Some, None, refl, sym, ◌∙◌, ap, subst, arith, append_assoc, append-nil}
+use Rattle.std.proofs.Common.{◌≡◌, ℕ, ◌+◌, ◌-◌, ◌^◌, ◌<◌, true, false, cond, List, [], ◌∷◌, ◌++◌, length, map, filter, drop, flat_map, codes, decimal, Some, None, refl, sym, ◌∙◌, ap, subst, arith, append_assoc, append-nil}
 use Rattle.std.specs.Prelude.{◌==◌}
 use Rattle.std.specs.List.{AllByRecursion, cons_option, filter_map}
 use Rattle.std.proofs.lemmas.List.{map-append}
@@ -9,6 +9,7 @@ use Rattle.rule_text.specs.CountRule.{CountRule}
 use Rattle.rule_text.specs.RuleText.{canonical_text}
 use Rattle.plane.specs.Plane.{Plane}
 use Rattle.plane.specs.Square.{IsSame, IsSquare}
+use Rattle.plane.proofs.Turns.{AllByRecursion-weaker, AllByRecursion-append}
 use Rattle.text_lines.specs.Comments.{comments_of, is_kept}
 use Rattle.text_lines.specs.Lines.{is_line_feed, lines, placed_lines, raw_lines, without_return}
 use Rattle.text_lines.proofs.LineLemmas.{placed_lines-cons}
@@ -19,12 +20,15 @@ use Rattle.macrocell_reader.specs.Settings.{Said, after_line, after_lines, nothi
 use Rattle.macrocell_reader.proofs.MeaningLemmas.{judged-accepted, no_node_line}
 use Rattle.macrocell_reader.proofs.NodeLemmas.{node_of-other}
 use Rattle.pattern_writers.specs.LeafText.{leaf_text}
-use Rattle.pattern_writers.specs.McReading.{FitsMc, HasNoReturn, IsComment, IsRead}
+use Rattle.pattern_writers.specs.McReading.{FitsMc, IsReadFromMc}
 use Rattle.pattern_writers.specs.McText.{from_corner, inner_text, mc_text, square_text}
 use Rattle.pattern_writers.specs.Subsquares.{Square, listed_in, nw_of, ne_of, sw_of, se_of, number_in}
+use Rattle.pattern_writers.specs.WrittenComments.{HasNoReturn, IsComment}
+use Rattle.pattern_writers.proofs.CommentLines.{comment_feeds, comments_kept}
 use Rattle.pattern_writers.proofs.McKinds.{IsQuiet, comment_quiet, fine_nodes, fine_quiet, found_nodes, generation_line, generation_no_node, generation_not_kept, generation_plain, generation_said, generation_unfaulted, head_plain, kept_nodes, rule_line, rule_no_node, rule_not_kept, rule_plain, rule_said, rule_unfaulted, silent_nodes}
 use Rattle.pattern_writers.proofs.McLeaves.{leaf_marks}
-use Rattle.pattern_writers.proofs.McLines.{AreFine, AreSilent, IsMark, IsPlain, all_weaker, bare, comments_placed, ended_parts-all, fine_placed, nodes_placed, plain_kept, plain_no_feed, silent_placed}
+use Rattle.pattern_writers.proofs.McLines.{AreFine, AreSilent, bare, fine_placed, nodes_placed, silent_placed}
+use Rattle.pattern_writers.proofs.TextLines.{IsMark, IsPlain, comments_placed, ended_parts-all, plain_kept, plain_no_feed}
 use Rattle.pattern_writers.proofs.McNodes.{AreRead, IsGood, nothing_read, number_low}
 use Rattle.pattern_writers.proofs.McNumbers.{inner_plain}
 use Rattle.pattern_writers.proofs.McRoot.{all_read, root_ends, root_plane_read}
@@ -83,7 +87,7 @@ text_plain listed square few good =
     (number_in listed (sw_of (square.level - 1) square.plane)) (number_in listed (se_of (square.level - 1) square.plane)) (omega (arith, high)) (omega (arith, a, few)) (omega (arith, b, few)) (omega (arith, c, few)) (omega (arith, d, few)) in
     elim (square.level == 3) as (λ t. AllByRecursion IsPlain (cond t (leaf_text square.plane) (inner_text square.level (number_in listed (nw_of (square.level - 1) square.plane)) (number_in listed (ne_of (square.level - 1) square.plane))
     (number_in listed (sw_of (square.level - 1) square.plane)) (number_in listed (se_of (square.level - 1) square.plane))))) [
-      | true ↦ all_weaker IsMark IsPlain (λ b mark. omega (arith, mark)) (leaf_text square.plane) (leaf_marks square.plane)
+      | true ↦ AllByRecursion-weaker IsMark IsPlain (λ b mark. omega (arith, mark)) (leaf_text square.plane) (leaf_marks square.plane)
       | false ↦ inner
     ]
 
@@ -97,13 +101,9 @@ all_kept (text ∷ texts) plain = λ i. plain_kept text plain.0 i ∷ all_kept t
 
 no_feeds : (texts : List (List ℕ)) → AllByRecursion (AllByRecursion IsPlain) texts → AllByRecursion (AllByRecursion (λ b. is_line_feed b ≡ false)) texts
 no_feeds [] plain = tt
-no_feeds (text ∷ texts) plain = (all_weaker IsPlain (λ b. is_line_feed b ≡ false) plain_no_feed text plain.0, no_feeds texts plain.1)
+no_feeds (text ∷ texts) plain = (AllByRecursion-weaker IsPlain (λ b. is_line_feed b ≡ false) plain_no_feed text plain.0, no_feeds texts plain.1)
 
 -- ---- comments
-
-both : (P : List ℕ → Type 0) (first second : List (List ℕ)) → AllByRecursion P first → AllByRecursion P second → AllByRecursion P (first ++ second)
-both P [] second a b = b
-both P (line ∷ first) second a b = (a.0, both P first second a.1 b)
 
 comments_quiet : (comments : List (List ℕ)) → AllByRecursion IsComment comments → AllByRecursion IsQuiet (map without_return comments)
 comments_quiet [] are = tt
@@ -113,28 +113,13 @@ comments_silent : (lines : List (List ℕ)) → AllByRecursion IsQuiet lines →
 comments_silent [] quiet = tt
 comments_silent (line ∷ lines) quiet = (quiet.0.silent, comments_silent lines quiet.1)
 
-comment_feeds : (comments : List (List ℕ)) → AllByRecursion IsComment comments → AllByRecursion (AllByRecursion (λ b. is_line_feed b ≡ false)) comments
-comment_feeds [] are = tt
-comment_feeds (comment ∷ comments) are = (are.0.one_line, comment_feeds comments are.1)
-
-no_return : (comment : List ℕ) → HasNoReturn comment → without_return comment ≡ comment
-unfolding without_return
-no_return comment is = ap (λ t. cond t (take (length comment - 1) comment) comment) is
-
-comments_kept : (comments more : List (List ℕ)) → AllByRecursion IsComment comments → AllByRecursion HasNoReturn comments → filter is_kept (map without_return comments ++ more) ≡ comments ++ filter is_kept more
-comments_kept [] more are none = refl
-comments_kept (comment ∷ comments) more are none =
-    ap (λ c. cond (is_kept c) (c ∷ filter is_kept (map without_return comments ++ more)) (filter is_kept (map without_return comments ++ more))) (no_return comment none.0)
-    ∙ ap (λ t. cond t (comment ∷ filter is_kept (map without_return comments ++ more)) (filter is_kept (map without_return comments ++ more))) are.0.kept
-    ∙ ap (λ l. comment ∷ l) (comments_kept comments more are.1 none.1)
-
 quiet_found : (lines more : List (List ℕ)) → AllByRecursion IsQuiet lines → filter_map node_of (lines ++ more) ≡ filter_map node_of more
 quiet_found [] more quiet = refl
 quiet_found (line ∷ lines) more quiet = ap (λ o. cons_option o (filter_map node_of (lines ++ more))) (node_of-other line quiet.0.no_node) ∙ quiet_found lines more quiet.1
 
 -- ---- the whole
 
-pub mc_read : (comments : List (List ℕ)) (rule : CountRule) (generation level : ℕ) (plane : Plane) → FitsMc comments rule generation level plane → IsRead comments rule generation plane (mc_text comments rule generation level plane)
+pub mc_read : (comments : List (List ℕ)) (rule : CountRule) (generation level : ℕ) (plane : Plane) → FitsMc comments generation level plane → IsReadFromMc comments rule generation plane (mc_text comments rule generation level plane)
 mc_read comments rule generation level plane fits =
     let square : Plane = from_corner level plane in
     let listed : List Square = listed_in level square in
@@ -153,7 +138,7 @@ mc_read comments rule generation level plane fits =
     let nodes_are = text_nodes listed are in
     let cs : List (List ℕ) = map without_return comments in
     let quiet = comments_quiet comments fits.are_comments in
-    let feed = λ (line : List ℕ) (is : AllByRecursion IsPlain line). all_weaker IsPlain (λ b. is_line_feed b ≡ false) plain_no_feed line is in
+    let feed = λ (line : List ℕ) (is : AllByRecursion IsPlain line). AllByRecursion-weaker IsPlain (λ b. is_line_feed b ≡ false) plain_no_feed line is in
     let raw : raw_lines text ≡ codes "[M2] (lifebatch 1)" ∷ body =
     ap raw_lines (text_lines_are comments rule generation level plane)
     ∙ ended_parts-all is_line_feed 10 (codes "[M2] (lifebatch 1)" ∷ body) refl (
@@ -162,7 +147,7 @@ mc_read comments rule generation level plane fits =
         feed (rule_line rule) (rule_plain rule),
         (
           feed (generation_line generation) (generation_plain generation small),
-          both (AllByRecursion (λ b. is_line_feed b ≡ false)) comments texts (comment_feeds comments fits.are_comments) (no_feeds texts plain),
+          AllByRecursion-append (AllByRecursion (λ b. is_line_feed b ≡ false)) comments texts (comment_feeds comments fits.are_comments) (no_feeds texts plain),
         ),
       ),
     ) in
@@ -187,7 +172,7 @@ mc_read comments rule generation level plane fits =
     let third : ℕ = second + length (generation_line generation) + 1 in
     let said : Said = record { generation = generation; rule = Some (canonical_text rule); rule_place = place } in
     let silent : AreSilent (map without_return (comments ++ texts)) =
-    subst AreSilent (sym rest_is) (both (λ line. (s : Said) (p : ℕ) → after_line s (record { place = p; text = line }) ≡ s) cs texts (comments_silent cs quiet) (silent_nodes texts are.nodes nodes_are)) in
+    subst AreSilent (sym rest_is) (AllByRecursion-append (λ line. (s : Said) (p : ℕ) → after_line s (record { place = p; text = line }) ≡ s) cs texts (comments_silent cs quiet) (silent_nodes texts are.nodes nodes_are)) in
     let said_is : after_lines nothing_said (body_of text) ≡ said =
     ap (after_lines nothing_said) (body_is ∙ placed_lines-cons place (rule_line rule) (generation_line generation ∷ (comments ++ texts))
     ∙ ap (λ l. record { place = place; text = without_return (rule_line rule) } ∷ l) (placed_lines-cons second (generation_line generation) (comments ++ texts)))

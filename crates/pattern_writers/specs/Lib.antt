@@ -8,7 +8,9 @@ pub mod McReading
 pub mod McText
 pub mod NodeLines
 pub mod Opening
+pub mod RleReading
 pub mod RleText
 pub mod Roots
 pub mod RowRuns
 pub mod Subsquares
+pub mod WrittenComments

@@ -6,8 +6,9 @@ ghost use Rattle.plane.specs.Listing.{IsListing};
 ghost use Rattle.plane.specs.Plane.{Plane};
 ghost use Rattle.plane.specs.declared.cell.Cell.{Cell};
 ghost use Rattle.rule_text.specs.CountRule.{CountRule};
-ghost use Rattle.pattern_writers.specs.McReading.{FitsMc, IsRead};
+ghost use Rattle.pattern_writers.specs.McReading.{FitsMc, IsReadFromMc};
 ghost use Rattle.pattern_writers.specs.McText.{mc_text};
+ghost use Rattle.pattern_writers.specs.RleReading.{IsReadable, IsReadFromRle};
 ghost use Rattle.pattern_writers.specs.RleText.{rle_text};
 
 /// The text of a pattern depends on its live cells alone.
@@ -24,9 +25,16 @@ pub fn distinct_texts()
         rle_text comments rule generation cells ≡ rle_text comments rule generation others → cells ≡ others }
 {}
 
+/// The text of at most 2^28 cells of the range is accepted, and read as the same cells, the same rule and generation, and
+/// the same comments where none ends with a CR.
+pub fn rle_read_back()
+    ensures { (comments : List (List ℕ)) (rule : CountRule) (generation : ℕ) (plane : Plane) (cells : List Cell) →
+        IsReadable comments generation plane cells → IsReadFromRle comments rule generation plane (rle_text comments rule generation cells) }
+{}
+
 /// The text of a pattern as a macrocell file of fewer than 2^32 nodes is accepted, and read as the same cells, the same
 /// rule and generation, and the same comments where none ends with a CR.
 pub fn macrocell_read_back()
     ensures { (comments : List (List ℕ)) (rule : CountRule) (generation level : ℕ) (plane : Plane) →
-        FitsMc comments rule generation level plane → IsRead comments rule generation plane (mc_text comments rule generation level plane) }
+        FitsMc comments generation level plane → IsReadFromMc comments rule generation plane (mc_text comments rule generation level plane) }
 {}

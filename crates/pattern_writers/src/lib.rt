@@ -9,6 +9,6 @@ mod rle_text;
 #[cfg(test)]
 mod tests;
 
-pub use laws::{distinct_texts, macrocell_read_back, same_text};
+pub use laws::{distinct_texts, macrocell_read_back, rle_read_back, same_text};
 pub use mc_text::write_mc;
 pub use rle_text::write_rle;
