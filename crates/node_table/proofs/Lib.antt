@@ -4,6 +4,7 @@ pub mod Steps
 pub mod Searching
 pub mod Desks
 pub mod TwoBlocks
+pub mod Refusing
 pub mod Telling
 pub mod Joining
 pub mod Leaving

@@ -14,13 +14,13 @@ use Rattle.table_core.specs.Learning.{LearnsWord, MeetsWord}
 use Rattle.table_core.proofs.Claims.{same_or_other}
 use Rattle.table_core.proofs.Knowing.{grows_refl, grows_trans, knows_grown}
 use Rattle.table_core.proofs.Ways.{way_is_slot}
-use Rattle.node_table.specs.Numbers.{KeepsTold, IsNumber, KnowsFullWay}
+use Rattle.node_table.specs.Numbers.{KeepsTold, IsNumber, HasSeenAnother, KnowsFullWay}
 
 -- a desk that knew so much has seen other words at so many places of the word's way
 pub record Sought (bits : ℕ) (old now : Knowledge) (kind : Kind) (word place : ℕ) : Type 0 where
   pub grows : Grows old now
   pub told : KeepsTold old now
-  pub before : (earlier : ℕ) → earlier < place → (other : ℕ) × HasSeen now (way bits kind word earlier) other × (other ≢ word)
+  pub before : (earlier : ℕ) → earlier < place → HasSeenAnother now (way bits kind word earlier) word
 
 told_refl : (a : Knowledge) → KeepsTold a a
 told_refl a = record { results = refl; learned = refl }
@@ -66,7 +66,7 @@ module _ (key : Key) (old now after : Knowledge) (kind : Kind) (word place index
   still_sought = record {
     grows = still_grows;
     told = still_told;
-    before = λ earlier less. let was = sought.before earlier less in (was.0, grows.words _ was.1, was.2);
+    before = λ earlier less. let was = sought.before earlier less in (was.0, grows.words _ was.1, was.2, was.3);
   }
 
   -- the word was found, or placed
@@ -86,8 +86,8 @@ module _ (key : Key) (old now after : Knowledge) (kind : Kind) (word place index
     grows = still_grows;
     told = still_told;
     before = λ earlier less. ⊎_elim
-        (λ e. (found, subst (λ i. HasSeen after i found) (there ∙ ap (way key.shape.bits kind word) (sym e)) (seen_now key now after index found some met), other))
-        (λ n. let was = sought.before earlier (omega arith) in (was.0, grows.words _ was.1, was.2))
+        (λ e. (found, subst (λ i. HasSeen after i found) (there ∙ ap (way key.shape.bits kind word) (sym e)) (seen_now key now after index found some met), some, other))
+        (λ n. let was = sought.before earlier (omega arith) in (was.0, grows.words _ was.1, was.2, was.3))
         (same_or_other earlier place);
   }
 
@@ -100,7 +100,7 @@ module _ (key : Key) (old now after : Knowledge) (kind : Kind) (word place index
     place = place;
     short = less;
     here = sym there;
-    before = still_sought.before;
+    before = λ earlier less. let was = still_sought.before earlier less in (was.0, was.1, was.3);
     parts = parts_grown old after kind word still_grows parts;
   }
 

@@ -5,3 +5,4 @@ pub mod Numbers
 pub mod Rule
 pub mod Stills
 pub mod Openings
+pub mod Refusals

@@ -21,9 +21,13 @@ pub record IsNumber (bits : ℕ) (old new : Knowledge) (kind : Kind) (word index
   pub leaf : kind ≡ Leaf → KnowsBlock new 0 index (bits_plane word)
   pub pair : (rank : ℕ) (one two : Plane) → kind ≡ Pair → KnowsBoth old rank word one two → KnowsBlock new (suc rank) index (paired rank one two)
 
+-- it has seen another word there, and not 0
+abbrev pub HasSeenAnother : Knowledge → ℕ → ℕ → Type 0
+HasSeenAnother known index word = (other : ℕ) × HasSeen known index other × (other ≢ 0) × (other ≢ word)
+
 -- it has seen another word at each place of the word's way
 pub record KnowsFullWay (bits : ℕ) (known : Knowledge) (kind : Kind) (word : ℕ) : Type 0 where
-  pub full : (place : ℕ) → place < 256 → (other : ℕ) × HasSeen known (way bits kind word place) other × (other ≢ word)
+  pub full : (place : ℕ) → place < 256 → HasSeenAnother known (way bits kind word place) word
 
 -- the number shows the two blocks that the desk knew, beside or below one another
 pub record IsPair (old new : Knowledge) (first second number : ℕ) : Type 0 where

@@ -4,8 +4,9 @@ ghost use Rattle.table_core.specs.declared.shape.Kind.TheVariants.{Pair};
 ghost use Rattle.table_core.specs.Knowledge.{Grows};
 ghost use Rattle.table_core.specs.Lawful.{KnowsParts};
 ghost use Rattle.table_core.specs.Layout.{pair_of};
-ghost use Rattle.node_table.specs.Numbers.{KeepsTold, IsPair, KnowsSomePair, KnowsPairOf, KnowsFullWay};
+ghost use Rattle.node_table.specs.Numbers.{KeepsTold, IsPair, KnowsSomePair, KnowsPairOf};
 ghost use Rattle.node_table.specs.Desks.{IsDeskOf, book_at};
+ghost use Rattle.node_table.specs.Refusals.{HasNoRoom};
 
 use crate::desk::Desk;
 use crate::table::NodeTable;
@@ -29,7 +30,7 @@ impl Desk {
         ensures ok { IfOk result (IsPair self.old.seat.me.0.known self.new.seat.me.0.known first second) }
         ensures empty { first ≡ 0 → second ≡ 0 → result ≡ Ok 0 }
         ensures refusal { IfErr result (MayRefuse (book_at table.now self.new)) }
-        ensures full { OnErr result (KnowsFullWay table.now.key.shape.bits self.new.seat.me.0.known Pair (pair_of first second)) }
+        ensures full { OnErr result (HasNoRoom table.now self.new Pair (pair_of first second)) }
     {
         if first == 0 && second == 0 {
             return Ok(0);

@@ -1,8 +1,9 @@
 ghost use Rattle.std.specs.Prelude.{◌≢◌, IfSome, IfNone};
 ghost use Rattle.table_core.specs.Knowledge.{Grows};
 ghost use Rattle.table_core.specs.Lawful.{KnowsPartsFor};
-ghost use Rattle.node_table.specs.Numbers.{KeepsTold, IsNumber, KnowsFullWay};
+ghost use Rattle.node_table.specs.Numbers.{KeepsTold, IsNumber};
 ghost use Rattle.node_table.specs.Desks.{IsDeskOf};
+ghost use Rattle.node_table.specs.Refusals.{HasNoRoom};
 
 use crate::desk::Desk;
 use crate::table::NodeTable;
@@ -19,7 +20,7 @@ impl Desk {
         ensures grows { Grows self.old.seat.me.0.known self.new.seat.me.0.known }
         ensures told { KeepsTold self.old.seat.me.0.known self.new.seat.me.0.known }
         ensures some { IfSome result (IsNumber table.now.key.shape.bits self.old.seat.me.0.known self.new.seat.me.0.known kind word) }
-        ensures none { IfNone result (KnowsFullWay table.now.key.shape.bits self.new.seat.me.0.known kind word) }
+        ensures none { IfNone result (HasNoRoom table.now self.new kind word) }
     {
         for place in 0..SHARD_LEN {
             let index = table.key.shape.way_index(kind, word, place);

@@ -3,6 +3,8 @@ ghost use Rattle.node_table.specs.Desks.{IsDeskOf};
 ghost use Rattle.node_table.specs.Openings.{Opens};
 
 mod steps;
+mod two_desks;
+mod want_of_memory;
 
 use crate::{Desk, NodeTable, Still};
 use plane::Refusal;

@@ -13,7 +13,7 @@ pub returns-in_default-clause-refusal : goal.returns-in_default-clause-refusal
 returns-in_default-clause-refusal c =
     let key = c.args.self.now.table.now.key in
     let known = c.number.new.self.seat.me.0.known in
-    inr (refl, shard_full key known (way_full key known Leaf c.args.word c.in_default.ensures.none))
+    inr (refl, shard_full key known (way_full key known Leaf c.args.word c.in_default.ensures.none.way))
 
 pub returns-in_default-clause-keeps : goal.returns-in_default-clause-keeps
 returns-in_default-clause-keeps c = keeps_at c.args.self.now.table.now c.args.self.now.desk c.number.new.self c.number.ensures.table c.number.ensures.grows

@@ -12,4 +12,4 @@ pub returns-in-None-clause-refusal : goal.returns-in-None-clause-refusal
 returns-in-None-clause-refusal c =
     let key = c.args.table.now.key in
     let known = c.number.new.self.seat.me.0.known in
-    inr (refl, shard_full key known (way_full key known Pair _ c.in-None.ensures.none))
+    inr (refl, shard_full key known (way_full key known Pair _ c.in-None.ensures.none.way))

@@ -1,0 +1,44 @@
+-- Where a table has no room for a word.
+use Rattle.std.specs.Prelude.{◌≢◌, ℕ, suc, List}
+use Rattle.squares.specs.declared.sq.Sq.{Sq}
+use Rattle.squares.specs.Book.{nth}
+use Rattle.table_core.specs.declared.knowledge.Knowledge.{Knowledge}
+use Rattle.table_core.specs.declared.shape.Kind.{Kind}
+use Rattle.table_core.specs.declared.shape.Kind.TheVariants.{Pair}
+use Rattle.table_core.specs.Layout.{pair_of}
+use Rattle.table_core.specs.Blocks.{paired, square_rank}
+use Rattle.table_core.specs.Knowledge.{KnowsBlock}
+use Rattle.node_table.specs.declared.desk.Desk.{Desk}
+use Rattle.node_table.specs.declared.table.NodeTable.{NodeTable}
+use Rattle.node_table.specs.Books.{cells_in}
+use Rattle.node_table.specs.Numbers.{KnowsFullWay}
+
+abbrev pub known_by : Desk → Knowledge
+known_by desk = desk.seat.me.0.known
+
+-- the desk has seen another word in each of the 256 slots of this word's way
+pub record HasNoRoom (table : NodeTable) (desk : Desk) (kind : Kind) (word : ℕ) : Type 0 where
+  pub some : word ≢ 0
+  pub way : KnowsFullWay table.key.shape.bits (known_by desk) kind word
+
+-- the number shows two squares that were known, side by side
+abbrev pub IsHalf : Knowledge → Knowledge → Sq → Sq → ℕ → Type 0
+IsHalf old new left right number =
+    KnowsBlock new (suc (square_rank left.level)) number (paired (square_rank left.level) (cells_in old left) (cells_in old right))
+
+-- the word of two numbers of squares
+abbrev pub word_of : Sq → Sq → ℕ
+word_of left right = pair_of left.num.0 right.num.0
+
+-- a word that a square with these quarters needs: that of its upper half, of its lower half, or of both halves
+pub data Needs (old new : Knowledge) (quarters : List Sq) : ℕ → Type 0 where
+  upper_half : Needs old new quarters (word_of (nth quarters 0) (nth quarters 1))
+  lower_half : Needs old new quarters (word_of (nth quarters 2) (nth quarters 3))
+  both_halves : (upper lower : ℕ) → IsHalf old new (nth quarters 0) (nth quarters 1) upper →
+      IsHalf old new (nth quarters 2) (nth quarters 3) lower → Needs old new quarters (pair_of upper lower)
+
+-- the desk has no room for a word that a square with these quarters needs
+pub record HasNoRoomForQuad (table : NodeTable) (old new : Desk) (quarters : List Sq) : Type 0 where
+  pub word : ℕ
+  pub needed : Needs (known_by old) (known_by new) quarters word
+  pub room : HasNoRoom table new Pair word

@@ -1,0 +1,57 @@
+//! Want of memory: no words are made, or no table is opened and the words come back as they were.
+//!
+//! In a plain run of the tests there is memory. `rt try --test --fail-alloc N -- want_of_memory` makes the
+//! Nth allocation fail, and is run for each N from 1 up to the first at which the test prints no line of
+//! its own.
+
+ghost use Rattle.std.specs.Prelude.{IfOk};
+ghost use Rattle.node_table.specs.Desks.{IsDeskOf};
+
+use crate::tests::two_desks::{glider, glider_and_future};
+use crate::tests::{PAIRS, open_table};
+use crate::{Desk, NodeTable, Still};
+use plane::Refusal;
+use rule_text::Rule;
+use squares::Squares;
+use std::process::Abort;
+use std::test::Fail;
+use table_core::Shape;
+
+// A running table of these words. Where memory was wanting, it is opened at the second try, with the
+// words that came back from the first.
+fn opened<R: Abort + AllocGlobal + Print>(rt: &R, still: Still) -> Result<(NodeTable, Desk), Fail>
+    ensures { IfOk result (λ opened. IsDeskOf opened.0 opened.1) }
+{
+    let rule = Rule::read(b"B3/S23")?;
+    match NodeTable::open(rt.alloc(), still, rule, 2) {
+        Ok(opened) => Ok(opened),
+        Err((same, refusal)) => {
+            assert_eq!(rt; refusal, Refusal::NoMemory);
+            println!(rt; "not opened")?;
+            open_table(rt.alloc(), same, rule, 2)
+        }
+    }
+}
+
+#[test]
+fn words_come_back_for_want_of_memory(rt: HostRuntime) -> Result<(), Fail> {
+    assert!(rt; Shape::is_pair_count(PAIRS));
+    let still = match Still::empty(rt.alloc(), PAIRS) {
+        Ok(still) => still,
+        Err(refusal) => {
+            assert_eq!(rt; refusal, Refusal::NoMemory);
+            return Ok(println!(rt; "no words")?);
+        }
+    };
+    let (table, desk) = opened(&rt, still)?;
+    let mut at = table.at(desk);
+    let (sq, later) = glider_and_future(&mut at)?;
+    let desk = at.leave();
+    let words = table.close(desk);
+    let (table, desk) = opened(&rt, words)?;
+    let mut at = table.at(desk);
+    let again = glider(&mut at)?;
+    assert_eq!(rt; again, sq);
+    assert_eq!(rt; at.recall(again), Some(later));
+    Ok(())
+}
