@@ -1,7 +1,7 @@
-//! Texts, and what they are read as.
+//! RLE texts, and what they are read as.
 
-use super::*;
 use plane::Refusal;
+use rle_reader::{RleFile, Run, Runs, Tag};
 use std::process::Abort;
 
 /// The refusal of a text and its place.
@@ -253,7 +253,7 @@ fn keeps_comments(rt: HostRuntime) {
 #[test]
 fn reads_items(rt: HostRuntime) {
     let text = "x = 3, y = 3\nb2o$2o$bo!";
-    let mut runs = runs_of(text.as_bytes());
+    let mut runs = runs_of(text.as_bytes()).expect(&rt, "a file");
     for (slice, place, count, tag) in [
         ("b", 13, 1, Tag::Dead),
         ("2o", 14, 2, Tag::Live),
@@ -284,7 +284,7 @@ fn reads_a_count_over_lines_and_comments(rt: HostRuntime) {
             "1\r\n#C 3b\r\n2\r\r\n#x\r\no",
         ),
     ] {
-        let mut runs = runs_of(text.as_bytes());
+        let mut runs = runs_of(text.as_bytes()).expect(&rt, "a file");
         let place = if text.as_bytes()[13] == b'\r' { 15 } else { 14 };
         assert_run(&rt, runs.next(), slice, place, 12, Tag::Live);
         assert!(rt; runs.next().is_none(), "{text:?}");
@@ -296,14 +296,14 @@ fn reads_a_count_over_lines_and_comments(rt: HostRuntime) {
     }
 }
 
-/// The items of a text, which stay when the file is gone; none if it is refused.
-fn runs_of(text: &[u8]) -> Runs<'_> {
+/// The items of a text, which stay when the file is gone, if it is accepted.
+fn runs_of(text: &[u8]) -> Option<Runs<'_>> {
     match RleFile::open(text) {
         Ok(file) => {
             let moved = file;
-            moved.runs()
+            Some(moved.runs())
         }
-        Err(_) => Runs::new(text, text.len()),
+        Err(_) => None,
     }
 }
 

@@ -1,6 +1,7 @@
-ghost use Rattle.plane.specs.Range.{IsInRange};
+//! Sets of cells, the range, windows, and devices that fail.
 
-use crate::{
+use crate::tests::places::{Place, cell_at, cells_at};
+use plane::{
     Bounds, COORDINATE_LIMIT, Cell, CellSet, Counted, FailAt, Failed, Fault, GENERATION_LIMIT,
     Memory, Refusal, Sink, Source, Window, reach,
 };
@@ -9,26 +10,6 @@ use std::alloc::Global;
 use std::io;
 use std::io::{Error, ErrorKind, Read, Write};
 use std::test::Fail;
-
-// A place as x and y, near the middle of the plane.
-type Place = (i8, i8);
-
-fn cell_at(place: Place) -> Cell
-    ensures { IsInRange result }
-{
-    Cell {
-        y: i64::from(place.1),
-        x: i64::from(place.0),
-    }
-}
-
-fn cells_at(alloc: Global, places: &[Place]) -> Result<CellSet, Refusal> {
-    let mut cells = CellSet::new(alloc);
-    for place in places {
-        cells.insert(cell_at(*place))?;
-    }
-    Ok(cells)
-}
 
 // The next generation, by the rule that the text says.
 fn next(alloc: Global, text: &str, places: &[Place]) -> Result<CellSet, Fail> {

@@ -1,7 +1,8 @@
-ghost use Rattle.plane.specs.Range.{IsInRange};
+//! Plans, paddings, futures and steps of squares.
 
-use crate::{Tally, future, pad, plan, step, trim};
-use plane::{Cell, CellSet, Refusal, reach};
+use crate::tests::places::cell_at;
+use hashlife_step::{Tally, future, pad, plan, step, trim};
+use plane::{CellSet, Refusal, reach};
 use rule_text::Rule;
 use squares::{Look, PlainBook, Squares, cells_to_square};
 use std::alloc::Global;
@@ -174,15 +175,6 @@ fn a_glider_goes_far(rt: HostRuntime) -> Result<(), Fail> {
         assert_eq!(rt; level_of_stepped_glider(rt.alloc(), exponent)?, level);
     }
     Ok(())
-}
-
-fn cell_at(place: (i8, i8)) -> Cell
-    ensures { IsInRange result }
-{
-    Cell {
-        y: i64::from(place.1),
-        x: i64::from(place.0),
-    }
 }
 
 // About a quarter of the cells of a square of 8 by 8 at (-4, -4), by a linear congruential generator.

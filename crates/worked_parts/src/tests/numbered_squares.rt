@@ -1,17 +1,16 @@
-ghost use Rattle.plane.specs.Range.{IsInRange};
-ghost use Rattle.squares.specs.Book.{IsKnown};
-ghost use Rattle.std.specs.Prelude.{IfOk};
+//! Squares and their numbers, from cells, runs and leaves.
 
-use crate::{
+use crate::tests::places::{Place, cells_at};
+use plane::{Cell, Refusal};
+use rule_text::Rule;
+use squares::{
     Num, PlainBook, Sq, Squares, cells_to_square, centre, copy_square, nine, runs_to_square,
 };
-use plane::{Cell, CellSet, Refusal};
-use rule_text::Rule;
 use std::alloc::Global;
 use std::test::Fail;
 
 // A glider, as its cells, as runs and as the bits of a leaf.
-const GLIDER: [(i8, i8); 5] = [(1, 0), (2, 1), (0, 2), (1, 2), (2, 2)];
+const GLIDER: [Place; 5] = [(1, 0), (2, 1), (0, 2), (1, 2), (2, 2)];
 
 const GLIDER_RUNS: [(Cell, u64); 3] = [
     (Cell { y: 0, x: 1 }, 1),
@@ -25,19 +24,8 @@ fn life_book(alloc: Global) -> Result<PlainBook, Fail> {
     Ok(PlainBook::new(alloc, Rule::read(b"B3/S23")?, 2))
 }
 
-fn cell_at(place: (i8, i8)) -> Cell
-    ensures { IsInRange result }
-{
-    Cell {
-        y: i64::from(place.1),
-        x: i64::from(place.0),
-    }
-}
-
 // The square of level 4 with these leaves.
-fn square_of(book: &mut PlainBook, words: [u64; 4]) -> Result<Sq, Refusal>
-    ensures { IfOk result (IsKnown (⟦<PlainBook as Squares>⟧.book book.new) 4) }
-{
+fn square_of(book: &mut PlainBook, words: [u64; 4]) -> Result<Sq, Refusal> {
     let [nw, ne, sw, se] = words;
     let nw = book.leaf(nw)?;
     let ne = book.leaf(ne)?;
@@ -54,10 +42,7 @@ fn glider(alloc: Global, book: &mut PlainBook, by_cells: bool) -> Result<Sq, Ref
             made => made,
         };
     }
-    let mut cells = CellSet::new(alloc);
-    for place in GLIDER {
-        cells.insert(cell_at(place))?;
-    }
+    let cells = cells_at(alloc, &GLIDER)?;
     match cells_to_square(alloc, book, &cells) {
         Err(Refusal::NoMemory) => cells_to_square(alloc, book, &cells),
         made => made,
@@ -152,7 +137,7 @@ fn nine_squares_and_the_centre(rt: HostRuntime) -> Result<(), Fail> {
 // The glider's square, made in one book and copied into another that has other squares.
 fn copied(alloc: Global, from: &mut PlainBook, to: &mut PlainBook) -> Result<Sq, Refusal> {
     square_of(to, [5, 6, 7, 8])?;
-    let square = square_of(from, [0, 0, 0, GLIDER_BITS])?;
+    let square = runs_to_square(alloc, from, &GLIDER_RUNS)?;
     copy_square(alloc, from, square, to)
 }
 

@@ -1,13 +1,15 @@
+//! What squares show: their populations, boxes, rows and pictures.
+
 ghost use Rattle.std.specs.Prelude.{◌≤◌, IfOk};
-ghost use Rattle.plane.specs.Range.{IsInRange};
 ghost use Rattle.squares.specs.Book.{IsKnown};
 
-use crate::{bounds, first_row, picture, population, row_runs};
-use plane::{Bounds, Cell, CellSet, FailAt, Memory, Refusal, Sink, Window};
+use crate::tests::places::{Place, cells_at};
+use plane::{Bounds, FailAt, Memory, Refusal, Sink, Window};
 use rule_text::Rule;
 use squares::{PlainBook, Sq, Squares, cells_to_square};
 use std::alloc::Global;
 use std::test::Fail;
+use viewport::{bounds, first_row, picture, population, row_runs};
 
 // What a square shows, with the runs of one row and the first live row from there on.
 #[derive(Drop)]
@@ -122,18 +124,6 @@ fn largest_square(rt: HostRuntime) -> Result<(), Fail> {
     Ok(())
 }
 
-// A place as x and y, near the middle of the plane.
-type Place = (i8, i8);
-
-fn cell_at(place: Place) -> Cell
-    ensures { IsInRange result }
-{
-    Cell {
-        y: i64::from(place.1),
-        x: i64::from(place.0),
-    }
-}
-
 // The first row and column of a window, and how many columns and rows it has.
 type Sides = (i64, i64, u32, u32);
 
@@ -148,10 +138,7 @@ fn draw<W: Sink>(
     sides: Sides,
     sink: &mut W,
 ) -> Result<(), Refusal> {
-    let mut cells = CellSet::new(alloc);
-    for place in places {
-        cells.insert(cell_at(*place))?;
-    }
+    let cells = cells_at(alloc, places)?;
     let mut book = empty_book(alloc)?;
     let sq = cells_to_square(alloc, &mut book, &cells)?;
     if sq.level > 63 {

@@ -1,9 +1,13 @@
+//! The words of the shared table, where they stand, and steps on them.
+
 ghost use Rattle.std.specs.Prelude.{◌≡◌};
 ghost use Rattle.table_core.specs.Events.{index_of};
 
-use super::*;
 use rule_text::Rule;
 use std::process::Abort;
+use table_core::{
+    Event, Key, Kind, LARGEST_PAIR_COUNT, SHARD_LEN, Shape, pair_word, parts, result_word, step,
+};
 
 // The smallest table: 256 leaf slots and 1024 pair slots.
 const PAIRS: u32 = 1024;

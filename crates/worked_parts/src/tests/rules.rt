@@ -1,4 +1,6 @@
-use crate::{Rule, RuleFault};
+//! Texts of rules, and what they are read as.
+
+use rule_text::{Rule, RuleFault};
 use std::test::Fail;
 
 /// What a text of a rule is read as: its canonical text and its code.

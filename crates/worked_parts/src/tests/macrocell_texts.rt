@@ -1,10 +1,9 @@
-//! Texts, and what they are read as.
+//! Macrocell texts, and what they are read as.
 
-use super::*;
+use macrocell_reader::{McFile, Node, NodeLine, NodeLines};
 use plane::Refusal;
 use std::alloc::{AllocError, Global};
 use std::process::Abort;
-use text_lines::Lines;
 
 /// The refusal of a text, and its place.
 fn refused(alloc: Global, text: &[u8]) -> Option<(Refusal, u64)> {
@@ -141,22 +140,24 @@ fn keeps_comments(rt: HostRuntime) {
     }
 }
 
-/// The node lines of a text, which stay when the file is gone; none if it is refused.
-fn nodes_of(alloc: Global, text: &[u8]) -> NodeLines<'_> {
+/// The node lines of a text, which stay when the file is gone, if it is accepted.
+fn nodes_of(alloc: Global, text: &[u8]) -> Option<NodeLines<'_>> {
     match McFile::open(alloc, text) {
         Ok(file) => {
             let moved = file;
-            moved.lines()
+            Some(moved.lines())
         }
-        Err(_) => NodeLines::new(Lines::new(&text[..0])),
+        Err(_) => None,
     }
 }
 
 /// How many node lines a text has; none if it is refused.
 fn node_count(alloc: Global, text: &[u8]) -> u64 {
     let mut count = 0u64;
-    for _line in nodes_of(alloc, text) {
-        count = count.saturating_add(1);
+    if let Some(nodes) = nodes_of(alloc, text) {
+        for _line in nodes {
+            count = count.saturating_add(1);
+        }
     }
     count
 }
@@ -179,7 +180,7 @@ fn reads_leaves(rt: HostRuntime) {
         ),
     ] {
         let text = format!(in rt.alloc(); "[M2]\n{line}\r\n").expect(&rt, "memory");
-        let mut nodes = nodes_of(rt.alloc(), text.as_bytes());
+        let mut nodes = nodes_of(rt.alloc(), text.as_bytes()).expect(&rt, "a file");
         assert_node(&rt, nodes.next(), line, 5, Node::Leaf(word));
         assert!(rt; nodes.next().is_none(), "{line:?}");
     }
@@ -192,7 +193,7 @@ fn reads_node_lines(rt: HostRuntime) {
             "[M2]{end}#C here{end}*$ {end}{end}4 0 1 0 1{end}#G 1{end}005 2\t0  0 02 "
         ).expect(&rt, "memory");
         let step = end.len() as u64;
-        let mut nodes = nodes_of(rt.alloc(), text.as_bytes());
+        let mut nodes = nodes_of(rt.alloc(), text.as_bytes()).expect(&rt, "a file");
         assert_node(&rt, nodes.next(), "*$ ", 11 + 2 * step, Node::Leaf(1));
         let inner = Node::Inner {
             level: 4,

@@ -1,4 +1,6 @@
-use crate::{centre16, next_rows, result16};
+//! The middles of squares of 16 by 16 cells, also beside a reckoning that goes cell by cell.
+
+use leaf_kernels::{centre16, next_rows, result16};
 use rule_text::Rule;
 use std::simd::prelude::*;
 use std::test::Fail;
