@@ -9,8 +9,6 @@ mod plans;
 mod recursion;
 mod steps;
 mod tally;
-#[cfg(test)]
-mod tests;
 mod trimming;
 
 pub use padding::pad;

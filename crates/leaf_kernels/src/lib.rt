@@ -8,8 +8,6 @@ mod leaves;
 mod result;
 mod rows;
 mod sum;
-#[cfg(test)]
-mod tests;
 
 pub use generation::next_rows;
 pub use result::{centre16, result16};

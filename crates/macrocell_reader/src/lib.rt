@@ -10,8 +10,6 @@ mod node;
 mod node_faults;
 mod node_lines;
 mod settings;
-#[cfg(test)]
-mod tests;
 
 pub use laws::{accepted_in_range, faults_have_places, leaf_cells, node_lines_are_slices};
 pub use mc_file::McFile;

@@ -10,8 +10,6 @@ mod generation;
 mod laws;
 mod range;
 mod refusal;
-#[cfg(test)]
-mod tests;
 mod window;
 
 pub use cell::{Bounds, Cell};

@@ -13,8 +13,6 @@ mod preamble;
 mod rle_file;
 mod runs;
 mod settings;
-#[cfg(test)]
-mod tests;
 
 pub use item::{Run, Tag};
 pub use laws::{accepted_in_range, one_cut};

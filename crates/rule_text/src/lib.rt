@@ -7,8 +7,6 @@ mod laws;
 mod neighbourhood;
 mod parts;
 mod rule;
-#[cfg(test)]
-mod tests;
 
 pub use fault::RuleFault;
 pub use laws::{canonical_text_read_back, one_reading, one_rule_a_code, one_rule_a_text};

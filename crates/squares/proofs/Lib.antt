@@ -3,6 +3,7 @@ pub mod CopyMaps
 pub mod EmptyFutures
 pub mod Kept
 pub mod KeptResults
+pub mod KnownQuarters
 pub mod NineSquares
 pub mod NodeLaws
 pub mod NodeLists

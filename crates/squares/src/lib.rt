@@ -9,8 +9,6 @@ mod runs;
 mod spans;
 mod sq;
 mod subsquares;
-#[cfg(test)]
-mod tests;
 
 pub use book::{Look, Squares};
 pub use copies::copy_square;

@@ -14,8 +14,6 @@ mod knowledge;
 mod laws;
 mod machine;
 mod shape;
-#[cfg(test)]
-mod tests;
 mod word;
 
 pub use key::Key;

@@ -11,8 +11,6 @@ mod populations;
 mod rows;
 mod runs;
 mod sides;
-#[cfg(test)]
-mod tests;
 
 pub use boxes::bounds;
 pub use laws::one_list_of_runs;

@@ -3,7 +3,7 @@ use Rattle.std.proofs.lemmas.Result.{IfOk-weaker}
 use Rattle.squares.specs.Book.{Shows}
 use Rattle.squares.specs.declared.sq.Sq.{Sq}
 use Rattle.squares.proofs.CopyMaps.{copies_kept, leaf_copied, noted_copies, quad_copied}
-use Rattle.squares.proofs.Kept.{keeps_trans, shows_kept}
+use Rattle.squares.proofs.Kept.{keeps_trans, results_trans, shows_kept}
 use Rattle.squares.proofs.copies.+copy_into.Goals as goal
 
 pub returns-in_err-copy-clause-copies : goal.returns-in_err-copy-clause-copies
@@ -48,3 +48,33 @@ returns-clause-copies g t c =
     ((g.met.L.Look.is_book c.args.from.now).square sq c.requires.known.known) c.parts.ensures
     (shows_kept k2 c.in_ok-nw.ensures.ok) (shows_kept k3 c.in_ok-ne.ensures.ok) (shows_kept k4 c.in_ok-sw.ensures.ok) c.in_ok-se.ensures.ok c.in_ok-copy-2.ensures.ok in
     noted_copies from (book c.quad.new.self) c.copy_into-4.new.copies c.noted-2.new.copies sq c.in_ok-copy-2.copy c.noted-2.result c.noted-2.ensures.updates c.noted-2.ensures.err shown (copies_kept c.quad.ensures.keeps c.copy_into-4.ensures.copies)
+
+pub returns-in_err-ne-clause-keeps : goal.returns-in_err-ne-clause-keeps
+returns-in_err-ne-clause-keeps g t c = keeps_trans c.copy_into.ensures.keeps c.copy_into-2.ensures.keeps
+
+pub returns-in_err-ne-clause-results : goal.returns-in_err-ne-clause-results
+returns-in_err-ne-clause-results g t c = results_trans c.copy_into.ensures.results c.copy_into-2.ensures.results
+
+pub returns-in_err-sw-clause-keeps : goal.returns-in_err-sw-clause-keeps
+returns-in_err-sw-clause-keeps g t c = keeps_trans c.copy_into.ensures.keeps (keeps_trans c.copy_into-2.ensures.keeps c.copy_into-3.ensures.keeps)
+
+pub returns-in_err-sw-clause-results : goal.returns-in_err-sw-clause-results
+returns-in_err-sw-clause-results g t c = results_trans c.copy_into.ensures.results (results_trans c.copy_into-2.ensures.results c.copy_into-3.ensures.results)
+
+pub returns-in_err-se-clause-keeps : goal.returns-in_err-se-clause-keeps
+returns-in_err-se-clause-keeps g t c = keeps_trans c.copy_into.ensures.keeps (keeps_trans c.copy_into-2.ensures.keeps (keeps_trans c.copy_into-3.ensures.keeps c.copy_into-4.ensures.keeps))
+
+pub returns-in_err-se-clause-results : goal.returns-in_err-se-clause-results
+returns-in_err-se-clause-results g t c = results_trans c.copy_into.ensures.results (results_trans c.copy_into-2.ensures.results (results_trans c.copy_into-3.ensures.results c.copy_into-4.ensures.results))
+
+pub returns-in_err-copy-2-clause-keeps : goal.returns-in_err-copy-2-clause-keeps
+returns-in_err-copy-2-clause-keeps g t c = keeps_trans c.copy_into.ensures.keeps (keeps_trans c.copy_into-2.ensures.keeps (keeps_trans c.copy_into-3.ensures.keeps (keeps_trans c.copy_into-4.ensures.keeps c.quad.ensures.keeps)))
+
+pub returns-in_err-copy-2-clause-results : goal.returns-in_err-copy-2-clause-results
+returns-in_err-copy-2-clause-results g t c = results_trans c.copy_into.ensures.results (results_trans c.copy_into-2.ensures.results (results_trans c.copy_into-3.ensures.results (results_trans c.copy_into-4.ensures.results c.quad.ensures.results)))
+
+pub returns-clause-keeps : goal.returns-clause-keeps
+returns-clause-keeps g t c = keeps_trans c.copy_into.ensures.keeps (keeps_trans c.copy_into-2.ensures.keeps (keeps_trans c.copy_into-3.ensures.keeps (keeps_trans c.copy_into-4.ensures.keeps c.quad.ensures.keeps)))
+
+pub returns-clause-results : goal.returns-clause-results
+returns-clause-results g t c = results_trans c.copy_into.ensures.results (results_trans c.copy_into-2.ensures.results (results_trans c.copy_into-3.ensures.results (results_trans c.copy_into-4.ensures.results c.quad.ensures.results)))

@@ -1,9 +1,10 @@
-use Rattle.std.proofs.Common.{◌≡◌, rules, arith, sym, vec_len, []}
+use Rattle.std.proofs.Common.{◌≡◌, ◌-◌, rules, arith, sym, vec_len, []}
 use Rattle.std.proofs.lemmas.Bool.{eqb-true}
 use Rattle.std.proofs.lemmas.List.{nil_from_length}
 use Rattle.std.proofs.lemmas.Result.{IfOk-weaker}
 use Rattle.squares.specs.declared.sq.Sq.{Sq}
-use Rattle.squares.proofs.Kept.{keeps_trans, shows_kept}
+use Rattle.squares.proofs.Kept.{keeps_trans, known_kept, shows_kept}
+use Rattle.squares.proofs.KnownQuarters.{quarters_of_level}
 use Rattle.squares.proofs.SpanSquares.{no_spans, quarters_marked}
 use Rattle.squares.proofs.runs.+spans_to_square.Goals as goal
 
@@ -30,3 +31,11 @@ returns-clause-ok g t c =
     c.in_ok-nw.ensures.ok c.in_ok-ne.ensures.ok c.in_ok-sw.ensures.ok c.in_ok-se.ensures.ok
     (shows_kept k2 c.in_ok-nw-2.ensures.ok) (shows_kept k3 c.in_ok-ne-2.ensures.ok) (shows_kept k4 c.in_ok-sw-2.ensures.ok) c.in_ok-se-2.ensures.ok made)
     c.quad.ensures.ok
+
+pub quad-requires-clause-known : goal.quad-requires-clause-known
+quad-requires-clause-known g t c =
+    let k4 = c.spans_to_square-4.ensures.keeps in
+    let k3 = keeps_trans c.spans_to_square-3.ensures.keeps k4 in
+    let k2 = keeps_trans c.spans_to_square-2.ensures.keeps k3 in
+    quarters_of_level (g.S.Squares.book c.spans_to_square-4.new.book) (c.args.level - 1) c.in_ok-nw-2.nw c.in_ok-ne-2.ne c.in_ok-sw-2.sw c.in_ok-se-2.se
+    (known_kept k2 c.in_ok-nw-2.ensures.ok.known) (known_kept k3 c.in_ok-ne-2.ensures.ok.known) (known_kept k4 c.in_ok-sw-2.ensures.ok.known) c.in_ok-se-2.ensures.ok.known

@@ -1,0 +1,12 @@
+-- Squares of one level that are known, as the quarters that a book is asked for.
+use Rattle.std.proofs.Common.{ℕ, List, [], ◌∷◌, subst, sym}
+use Rattle.std.specs.List.{AllByRecursion}
+use Rattle.squares.specs.declared.sq.Sq.{Sq}
+use Rattle.squares.specs.Book.{Book, IsKnown}
+
+-- four squares of one level are known at the level of the first
+pub quarters_of_level : (book : Book) (level : ℕ) (nw ne sw se : Sq) → IsKnown book level nw → IsKnown book level ne → IsKnown book level sw → IsKnown book level se →
+    AllByRecursion (IsKnown book nw.level) (nw ∷ ne ∷ sw ∷ se ∷ [])
+quarters_of_level book level nw ne sw se k0 k1 k2 k3 =
+    let own = λ (sq : Sq) (known : IsKnown book level sq). subst (λ n. IsKnown book n sq) (sym k0.at_level) known in
+    (own nw k0, (own ne k1, (own sw k2, (own se k3, tt))))
