@@ -25,8 +25,8 @@ pub fn distinct_texts()
         rle_text comments rule generation cells ≡ rle_text comments rule generation others → cells ≡ others }
 {}
 
-/// The text of at most 2^28 cells of the range is accepted, and read as the same cells, the same rule and generation, and
-/// the same comments where none ends with a CR.
+/// The text of a pattern of at most 2^28 cells, all in the range, is accepted, and read as the same cells, the same rule
+/// and generation, and the same comments where none ends with a CR.
 pub fn rle_read_back()
     ensures { (comments : List (List ℕ)) (rule : CountRule) (generation : ℕ) (plane : Plane) (cells : List Cell) →
         IsReadable comments generation plane cells → IsReadFromRle comments rule generation plane (rle_text comments rule generation cells) }
