@@ -14,7 +14,8 @@ use squares::{Num, Sq, Squares};
 use table_core::{Kind, parts};
 
 /// A desk at work at its table. Its calls wait for nobody, take no memory and always return,
-/// whatever other desks do meanwhile.
+/// whatever other desks do meanwhile. They refuse `NodesFull` alone, where each of the 256 slots of
+/// the way of a word that they need holds another word.
 #[derive(Drop)]
 pub struct At<'t> {
     pub(crate) table: &'t NodeTable,

@@ -15,11 +15,11 @@ use std::test::Fail;
 use std::thread::{Threads, join};
 use table_core::Shape;
 
-// The leaves of a square with the glider bob$2bo$3o! just below and to the right of its middle, but
-// for one column and one row.
+// The leaves of a square with the glider bob$2bo$3o! in its columns and rows 7 to 9.
 const GLIDER: [u64; 4] = [0, 0x0100000000000000, 0x8000, 0x302];
 
-// The middle of the square, with the glider one cell further down and to the right.
+// The centre of that square after four generations: the glider is in the square's columns and rows
+// 8 to 10.
 const FOUR_GENERATIONS_ON: u64 = 0x0070402000000000;
 
 pub fn glider<S: Squares>(book: &mut S) -> Result<Sq, Refusal>
