@@ -1,10 +1,7 @@
 mod cells;
 mod futures;
 mod leaves;
-mod macrocell_texts;
 mod numbered_squares;
 mod places;
-mod rle_texts;
-mod rules;
 mod table_words;
 mod views;

@@ -1,0 +1,6 @@
+//! What no clause says of cells, squares and the words of their table: worked examples of the calls,
+//! computed apart from this program, and memory that fails. The crate holds tests alone.
+#![tactic(auto)]
+
+#[cfg(test)]
+mod tests;

@@ -1,0 +1,3 @@
+mod macrocell_texts;
+mod rle_texts;
+mod rules;
