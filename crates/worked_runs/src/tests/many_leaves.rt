@@ -20,7 +20,7 @@ const SQUARES: [(u8, u32); 8] = [
 
 // The line of a leaf: bit 8y + x of the word is the cell in column x of row y.
 fn push_leaf(text: &mut String, word: u32) -> Result<(), Fail> {
-    for bit in 0..32 {
+    for bit in 0..32u32 {
         text.push_str(if (word >> bit) & 1 == 1 { "*" } else { "." })?;
         if bit % 8 == 7 {
             text.push_str("$")?;
