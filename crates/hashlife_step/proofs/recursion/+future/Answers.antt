@@ -1,5 +1,5 @@
 use Rattle.std.proofs.Common.{rules, arith, ◌≡◌, ◌-◌, ◌<◌, length, sym, subst}
-use Rattle.std.proofs.lemmas.Result.{IfOk-weaker}
+use Rattle.std.proofs.lemmas.Result.{IfOk-weaker, on_ok_weaker}
 use Rattle.plane.specs.Square.{future}
 use Rattle.squares.specs.Book.{nth}
 use Rattle.squares.proofs.Kept.{keeps_trans, known_kept}
@@ -192,3 +192,18 @@ replace_by_futures-returns-clause-ok g t c =
     let all : c.loop-i.i ≡ length c.args.squares.now = omega arith in
     all_futures old now c.args.level c.args.squares.now c.loop-i.squares
     (subst (λ n. IsReplaced (future old.rule old.exponent c.args.level) old now c.args.level n c.args.squares.now c.loop-i.squares) all replaced) c.requires.known
+
+pub finish-returns-then-exponent-level-clause-futures : goal.finish-returns-then-exponent-level-clause-futures
+finish-returns-then-exponent-level-clause-futures g t c = on_ok_weaker c.replace_by_futures.result (λ are. λ long. are) c.replace_by_futures.ensures.ok
+
+pub finish-returns-then-exponent-level-clause-centres : goal.finish-returns-then-exponent-level-clause-centres
+finish-returns-then-exponent-level-clause-centres g t c = on_ok_weaker c.replace_by_futures.result (λ are. λ short. absurd (omega arith)) c.replace_by_futures.ensures.ok
+
+pub finish-returns-else-exponent-level-clause-futures : goal.finish-returns-else-exponent-level-clause-futures
+finish-returns-else-exponent-level-clause-futures g t c = on_ok_weaker c.replace_by_centres.result (λ are. λ long. absurd (omega arith)) c.replace_by_centres.ensures.ok
+
+pub finish-returns-else-exponent-level-clause-centres : goal.finish-returns-else-exponent-level-clause-centres
+finish-returns-else-exponent-level-clause-centres g t c = on_ok_weaker c.replace_by_centres.result (λ are. λ short. are) c.replace_by_centres.ensures.ok
+
+pub future-returns-clause-kept : goal.future-returns-clause-kept
+future-returns-clause-kept g t c = c.in_ok-keep.ensures.ok.known

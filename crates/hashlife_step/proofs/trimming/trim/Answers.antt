@@ -1,4 +1,4 @@
-use Rattle.std.proofs.Common.{sym, ◌∙◌}
+use Rattle.std.proofs.Common.{arith, sym, ◌∙◌}
 use Rattle.std.proofs.lemmas.Bool.{false≢true}
 use Rattle.squares.proofs.Kept.{keeps_trans, results_trans}
 use Rattle.hashlife_step.proofs.Trimmed.{centre_reached, round_kept, smallest_reached}
@@ -31,3 +31,8 @@ returns-else-has_empty_border-clause-keeps g c = keeps_trans c.loop-trimmed.inva
 
 pub returns-else-has_empty_border-clause-results : goal.returns-else-has_empty_border-clause-results
 returns-else-has_empty_border-clause-results g c = results_trans c.loop-trimmed.invariant.results c.has_empty_border.ensures.results
+
+pub returns-after-loop-trimmed-clause-level : goal.returns-after-loop-trimmed-clause-level
+returns-after-loop-trimmed-clause-level g c =
+    let book = g.S.Squares.book in
+    smallest_reached (book c.args.book.now) (book c.loop-trimmed.book) _ 65 c.loop-trimmed.trimmed c.loop-trimmed.invariant (g.met.S.Squares.is_book c.loop-trimmed.book) (λ above _. absurd (omega arith))
