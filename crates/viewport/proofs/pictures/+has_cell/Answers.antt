@@ -1,6 +1,6 @@
 use Rattle.std.proofs.Common.{◌-◌, ◌^◌, ◌≤◌, pos, sym, ap, ◌∙◌, arith, rules}
 use Rattle.squares.specs.Book.{nth}
-use Rattle.viewport.proofs.CellsOfSquares.{lower_left, lower_right, upper_right}
+use Rattle.viewport.proofs.CellsOfSquares.{lower_left, lower_right, upper_left, upper_right}
 use Rattle.viewport.proofs.Quarters.{own_level, quartered}
 use Rattle.viewport.proofs.RowsOfSquares.{quarter_high, quarter_low}
 use Rattle.viewport.proofs.pictures.+has_cell.Goals as goal
@@ -104,3 +104,10 @@ has_cell-requires-else-x-half-2 g t c κs within =
         ),
       ),
     )
+
+pub returns-then-x-half : goal.returns-then-x-half
+returns-then-x-half g t c =
+    let book = g.L.Look.book c.args.look.now in
+    let quarters = quartered book c.args.sq c.parts.result (g.met.L.Look.is_book c.args.look.now) c.requires.known (omega arith) c.parts.ensures in
+    let side = c.side-half.ensures.side in
+    c.has_cell.ensures ∙ sym (upper_left (2 ^ (c.args.sq.level - 1)) _ _ _ _ _ quarters c.args.x c.args.y (omega (arith, side)) (omega (arith, side)))

@@ -1,7 +1,7 @@
 use Rattle.std.proofs.Common.{sym, arith, rules}
 use Rattle.squares.specs.Book.{nth}
 use Rattle.viewport.specs.Population.{IsCount}
-use Rattle.viewport.proofs.Counts.{none_counted, four_counted, few, true_of_kept}
+use Rattle.viewport.proofs.Counts.{counted_as, none_counted, four_counted, few, true_of_kept}
 use Rattle.viewport.proofs.Quarters.{own_level, quartered}
 use Rattle.viewport.proofs.populations.+count.Goals as goal
 
@@ -69,3 +69,10 @@ count_quarters-count-requires-4 g t c κs within =
     let book = g.L.Look.book c.args.look.now in
     let at_level = c.parts.ensures.se.known.at_level in
     (search rules, (search rules, (own_level book _ _ c.parts.ensures.se.known, (omega (arith, at_level), c.in_ok-count-2.ensures.counted))))
+
+pub count-returns-then-sq-eq3-clause-ok : goal.count-returns-then-sq-eq3-clause-ok
+count-returns-then-sq-eq3-clause-ok g t c =
+    counted_as (g.L.Look.book c.args.look.now) c.args.sq 3 c.leaf_count.result _ c.if-sq-eq3.true c.bits.ensures.cells c.leaf_count.ensures.count c.leaf_count.ensures.most
+
+pub count-returns-clause-ok : goal.count-returns-clause-ok
+count-returns-clause-ok g t c = c.in_ok-whole.ensures.ok

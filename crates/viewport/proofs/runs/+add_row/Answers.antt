@@ -1,11 +1,11 @@
 use Rattle.std.proofs.Common.{◌≡◌, ◌-◌, ◌^◌, ◌<◌, ◌≤◌, ℤ, pos, ◌+ℤ◌, ◌-ℤ◌, ◌||◌, refl, sym, ap, ◌∙◌, subst, arith, rules, w64, SFits}
 use Rattle.std.proofs.lemmas.Int.{to_z-of_z}
-use Rattle.std.proofs.lemmas.Result.{IfOk-weaker}
+use Rattle.std.proofs.lemmas.Result.{IfOk-weaker, on_ok_weaker}
 use Rattle.squares.specs.Book.{nth}
 use Rattle.viewport.specs.RowRuns.{cells_at}
 use Rattle.viewport.proofs.Counts.{zero_is_empty}
 use Rattle.viewport.proofs.Quarters.{own_level, quartered}
-use Rattle.viewport.proofs.RowsOfSquares.{ends_between, first_room, middle_fits, quarter_high, quarter_low, quarter_room, quarter_rows, under_row, upper_row}
+use Rattle.viewport.proofs.RowsOfSquares.{ends_between, first_room, middle_fits, quarter_high, quarter_low, quarter_room, quarter_rows, row_as, under_row, upper_row}
 use Rattle.viewport.proofs.RunsBeside.{adds_none}
 use Rattle.viewport.proofs.runs.+add_row.Goals as goal
 
@@ -149,3 +149,11 @@ add_row-requires-else-y-half g t c κs within =
         ),
       ),
     )
+
+pub returns-then-sq-eq3 : goal.returns-then-sq-eq3
+returns-then-sq-eq3 g t c =
+    let left : SFits w64 c.args.left = c.ranges.left in
+    record {
+      ok = on_ok_weaker c.add_leaf_row.result (row_as c.args.sq.level _ _ c.args.left c.args.y c.args.runs.now.items c.add_leaf_row.new.runs.items c.if-sq-eq3.true c.bits.ensures.cells)
+          (simp to_z-of_z at c.add_leaf_row.ensures.ok);
+    }
