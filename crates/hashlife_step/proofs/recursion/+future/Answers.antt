@@ -204,6 +204,3 @@ finish-returns-else-exponent-level-clause-futures g t c = on_ok_weaker c.replace
 
 pub finish-returns-else-exponent-level-clause-centres : goal.finish-returns-else-exponent-level-clause-centres
 finish-returns-else-exponent-level-clause-centres g t c = on_ok_weaker c.replace_by_centres.result (λ are. λ short. are) c.replace_by_centres.ensures.ok
-
-pub future-returns-clause-kept : goal.future-returns-clause-kept
-future-returns-clause-kept g t c = c.in_ok-keep.ensures.ok.known
