@@ -1,5 +1,6 @@
 pub mod Counted
 pub mod EmptyBorders
+pub mod FourKnown
 pub mod Grown
 pub mod LeafSquares
 pub mod NineFutures

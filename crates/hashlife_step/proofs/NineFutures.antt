@@ -29,6 +29,18 @@ ninths_known book level plane squares nine are = all_known book (level - 1) squa
 pub futures_known : (book : Book) (level : ℕ) (squares futures : List Sq) → length futures ≡ length squares → AreFutures book level squares futures → All (IsKnown book (level - 1)) futures
 futures_known book level squares futures same are = all_known book (level - 1) futures (λ k less. (are.each k (omega arith)).known)
 
+at_four : (P : ℕ → Type 0) (k : ℕ) → k < 4 → P 0 → P 1 → P 2 → P 3 → P k
+at_four P zero less a b c d = a
+at_four P (suc zero) less a b c d = b
+at_four P (suc (suc zero)) less a b c d = c
+at_four P (suc (suc (suc zero))) less a b c d = d
+at_four P (suc (suc (suc (suc k)))) less a b c d = absurd (omega arith)
+
+pub overlaps_known : (book : Book) (level : ℕ) (nine four : List Sq) → length four ≡ 4 → 1 ≤ level → AreOverlaps book (level - 1) nine four → All (IsKnown book level) four
+overlaps_known book level nine four long some are = all_known book level four (λ k less.
+    let e : level - 1 + 1 ≡ level = omega arith in
+    subst (λ n. IsKnown book n (nth four k)) e (at_four (λ i. IsKnown book (level - 1 + 1) (nth four i)) k (omega arith) are.nw.known are.ne.known are.sw.known are.se.known))
+
 -- futures where there is time for them, else centres
 pub record IsFinished (book : Book) (exponent level : ℕ) (before now : List Sq) : Type 0 where
   pub futures : level ≤ exponent + 1 → AreFutures book level before now
@@ -39,7 +51,7 @@ le_or_lt zero b = inl (omega arith)
 le_or_lt (suc a) zero = inr (omega arith)
 le_or_lt (suc a) (suc b) = ⊎_elim (λ h. inl (omega arith)) (λ h. inr (omega arith)) (le_or_lt a b)
 
-finished_each : (book : Book) (exponent level : ℕ) (before now : List Sq) → IsFinished book exponent level before now → (k : ℕ) → k < length before → IsKnown book (level - 1) (nth now k)
+pub finished_each : (book : Book) (exponent level : ℕ) (before now : List Sq) → IsFinished book exponent level before now → (k : ℕ) → k < length before → IsKnown book (level - 1) (nth now k)
 finished_each book exponent level before now is k less =
     ⊎_elim (λ long. ((is.futures long).each k less).known) (λ short. ((is.centres short).each k less).known) (le_or_lt level (exponent + 1))
 

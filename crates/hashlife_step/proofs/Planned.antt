@@ -58,3 +58,7 @@ planned_same number place exponents other is = record {
       let whole = next_digit number place ∙ ap (λ b. b * 2 ^ place + number % 2 ^ place) digit in
       let so_far = is.sum in omega arith;
 }
+
+-- each number of 64 bits is planned with 64 places
+pub planned_all : (number : ℕ) (exponents : List ℕ) → number < 2 ^ 64 → IsPlanned number 64 exponents → sum_by (λ exponent. 2 ^ exponent) exponents ≡ number
+planned_all number exponents low is = let whole = is.sum in omega arith

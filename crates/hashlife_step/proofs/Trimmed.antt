@@ -4,12 +4,12 @@ use Rattle.plane.specs.Centred.{centred, Holds, IsSmallestLevel}
 use Rattle.plane.specs.Plane.{Plane}
 use Rattle.plane.specs.Square.{centre_of}
 use Rattle.plane.proofs.Paddings.{centred_centre, holds_more, holds_same, square_held}
-use Rattle.plane.proofs.Same.{same_sym, plane_equal}
+use Rattle.plane.proofs.Same.{same_sym, same_trans, plane_equal}
 use Rattle.squares.specs.Book.{Book, IsBook, Shows, Keeps, KeepsResults}
 use Rattle.squares.specs.declared.sq.Sq.{Sq}
-use Rattle.squares.proofs.Kept.{keeps_trans, results_trans}
+use Rattle.squares.proofs.Kept.{keeps_trans, known_kept, results_trans}
 use Rattle.hashlife_step.specs.Round.{ShowsRound}
-use Rattle.hashlife_step.proofs.Grown.{shows_round}
+use Rattle.hashlife_step.proofs.Grown.{centred_same, shows_round}
 use Rattle.hashlife_step.proofs.RoundSquares.{IsReached, reached_next}
 
 -- the centre, where it holds all
@@ -22,6 +22,10 @@ centre_reached old now read new plane high sq next is above held k2 r2 k3 r3 sho
     let round : ShowsRound new (centred sq.level (now.cells sq)) next = shows_round new (sq.level - 1) (centre_of sq.level (now.cells sq)) _ next centre (centred_centre sq.level (now.cells sq) (omega arith) held) in
     let level = shown.known.at_level in let below = is.below in
     reached_next old now new plane 4 high sq next is (keeps_trans k2 k3) (results_trans r2 r3) round (omega arith) (omega arith)
+
+-- it is still so in a later book
+pub round_kept : {old new : Book} {plane : Plane} {sq : Sq} → Keeps old new → ShowsRound old plane sq → ShowsRound new plane sq
+round_kept {sq = sq} keeps is = record { known = known_kept keeps is.known; cells = same_trans (centred_same sq.level _ _ (keeps.cells sq is.known.known)) is.cells }
 
 -- there is no smaller level
 pub smallest_reached : (old now : Book) (plane : Plane) (high : ℕ) (sq : Sq) → IsReached old now plane 4 high sq → IsBook now →

@@ -19,7 +19,7 @@ use Rattle.plane.proofs.Boxes.{smallest_box_lem, some_box, box_at}
 use Rattle.plane.proofs.Listings.{is_at-own}
 use Rattle.plane.proofs.Paddings.{centred_moved}
 use Rattle.plane.proofs.Same.{plane_equal, same_sym}
-use Rattle.viewport.specs.BoundingBox.{HasBounds, IsBoxOf, IsInside, IsLocalBox, FitsMoved, box_round, moved_box}
+use Rattle.viewport.specs.BoundingBox.{HasBounds, IsBoxOf, IsInside, IsLocalBox, FitsMoved, box_round, joined_boxes, moved_box}
 use Rattle.viewport.proofs.Counts.{by_cases, centred_listing}
 use Rattle.viewport.proofs.Quarters.{either, beside, dead_column, dead_row, from_nothing, IsQuartered, over}
 
@@ -129,16 +129,13 @@ apart h sw se = record {
       ∙ ap (λ v. sw (x -ℤ pos 0) (y -ℤ pos h) || se (x -ℤ pos h) v) (from_nothing (y -ℤ pos h));
 }
 
-abbrev pub quarters_box : ℕ → Option Bounds → Option Bounds → Option Bounds → Option Bounds → Option Bounds
-quarters_box h a b c d = box_round (box_round a (moved_box (pos h) (pos 0) b)) (box_round (moved_box (pos 0) (pos h) c) (moved_box (pos h) (pos h) d))
-
 -- the box of a square from those of its quarters
 pub four_boxes : (h : ℕ) (p nw ne sw se : Plane) (a b c d : Option Bounds) → IsSquare (h + h) p → IsQuartered h p nw ne sw se →
-    IsLocalBox h nw a → IsLocalBox h ne b → IsLocalBox h sw c → IsLocalBox h se d → IsLocalBox (h + h) p (quarters_box h a b c d)
+    IsLocalBox h nw a → IsLocalBox h ne b → IsLocalBox h sw c → IsLocalBox h se d → IsLocalBox (h + h) p (joined_boxes h a b c d)
 four_boxes h p nw ne sw se a b c d is quarters is_a is_b is_c is_d =
     let lower : Plane = either (moved (pos 0) (pos h) sw) (moved (pos h) (pos h) se) in
     let all : p ≡ either (beside h nw ne) lower = over h p nw ne sw se quarters ∙ ap (either (beside h nw ne)) (plane_equal _ _ (apart h sw se)) in
-    local_from (h + h) p (quarters_box h a b c d) is (subst (λ q. BoxMatches q (quarters_box h a b c d)) (sym all)
+    local_from (h + h) p (joined_boxes h a b c d) is (subst (λ q. BoxMatches q (joined_boxes h a b c d)) (sym all)
     (either_box (beside h nw ne) lower (box_round a (moved_box (pos h) (pos 0) b)) (box_round (moved_box (pos 0) (pos h) c) (moved_box (pos h) (pos h) d))
     (either_box nw (moved (pos h) (pos 0) ne) a (moved_box (pos h) (pos 0) b) (matches_from h nw a is_a) (moved_matches (pos h) (pos 0) ne b (matches_from h ne b is_b)))
     (either_box (moved (pos 0) (pos h) sw) (moved (pos h) (pos h) se) (moved_box (pos 0) (pos h) c) (moved_box (pos h) (pos h) d)

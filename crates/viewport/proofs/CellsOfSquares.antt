@@ -3,11 +3,10 @@ use Rattle.std.proofs.Common.{◌≡◌, ℕ, ◌-◌, ◌^◌, ◌<◌, ◌≤�
 use Rattle.std.specs.Prelude.{int_lt, int_le}
 use Rattle.std.proofs.lemmas.Int.{ints}
 use lib.IntN.{nat_abs}
-use Rattle.plane.specs.Centred.{centred}
 use Rattle.plane.specs.Plane.{Plane}
-use Rattle.plane.specs.Square.{IsSquare}
+use Rattle.plane.specs.Square.{spans}
 use Rattle.plane.proofs.Paddings.{twice_half}
-use Rattle.viewport.proofs.Quarters.{IsQuartered, dead_column, dead_row}
+use Rattle.viewport.proofs.Quarters.{IsQuartered}
 use Rattle.viewport.proofs.RowsOfSquares.{high_out, is_less, is_most, low_out}
 
 is_before : (z h : ℕ) → z < h → int_lt (pos z) (pos h) ≡ true
@@ -53,16 +52,10 @@ place_low z half level least e before behind = let twice = twice_half level leas
 pub place_is : (z half : ℤ) (level : ℕ) → half ≡ pos (2 ^ (level - 1)) → int_lt z (pos 0 -ℤ half) ≡ false → pos (nat_abs (z +ℤ half)) ≡ z +ℤ pos (2 ^ (level - 1))
 place_is z half level e before = grind (arith, ints)
 
-module _ (level : ℕ) (least : 1 ≤ level) (p : Plane) (is : IsSquare (2 ^ level) p) (half : ℤ) (side : half ≡ pos (2 ^ (level - 1))) (x y : ℤ) where
-  -- outside the square no cell is live
-  pub dead_left : int_lt x (pos 0 -ℤ half) ≡ true → centred level p x y ≡ false
-  dead_left e = dead_column (2 ^ level) p is _ _ (low_out (2 ^ level) (2 ^ (level - 1)) x (is_less _ _ (ap (λ h. int_lt x (pos 0 -ℤ h)) (sym side) ∙ e)))
+module _ (level : ℕ) (half : ℤ) (side : half ≡ pos (2 ^ (level - 1))) (z : ℤ) where
+  -- a place that the square has not
+  pub out_before : int_lt z (pos 0 -ℤ half) ≡ true → spans (2 ^ level) (z +ℤ pos (2 ^ (level - 1))) ≡ false
+  out_before e = low_out (2 ^ level) (2 ^ (level - 1)) z (is_less _ _ (ap (λ h. int_lt z (pos 0 -ℤ h)) (sym side) ∙ e))
 
-  pub dead_right : int_le half x ≡ true → centred level p x y ≡ false
-  dead_right e = dead_column (2 ^ level) p is _ _ (high_out (2 ^ level) (2 ^ (level - 1)) x (twice_half level least) (is_most _ _ (ap (λ h. int_le h x) (sym side) ∙ e)))
-
-  pub dead_above : int_lt y (pos 0 -ℤ half) ≡ true → centred level p x y ≡ false
-  dead_above e = dead_row (2 ^ level) p is _ _ (low_out (2 ^ level) (2 ^ (level - 1)) y (is_less _ _ (ap (λ h. int_lt y (pos 0 -ℤ h)) (sym side) ∙ e)))
-
-  pub dead_below : int_le half y ≡ true → centred level p x y ≡ false
-  dead_below e = dead_row (2 ^ level) p is _ _ (high_out (2 ^ level) (2 ^ (level - 1)) y (twice_half level least) (is_most _ _ (ap (λ h. int_le h y) (sym side) ∙ e)))
+  pub out_behind : 1 ≤ level → int_le half z ≡ true → spans (2 ^ level) (z +ℤ pos (2 ^ (level - 1))) ≡ false
+  out_behind least e = high_out (2 ^ level) (2 ^ (level - 1)) z (twice_half level least) (is_most _ _ (ap (λ h. int_le h z) (sym side) ∙ e))

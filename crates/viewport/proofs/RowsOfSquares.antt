@@ -1,10 +1,10 @@
 -- The runs of a row of a square, from those of its quarters, and of a leaf, one bit after the other.
 use Rattle.std.proofs.Common.{◌≡◌, ◌≢◌, ℕ, suc, ◌+◌, ◌-◌, ◌*◌, ◌^◌, ◌<◌, ◌≤◌, ℤ, pos, ◌+ℤ◌, ◌-ℤ◌, ◌≤ℤ◌, ◌<ℤ◌, Bool, true, false, ◌&&◌, ◌||◌, List, [], refl, sym, ◌∙◌, ap, subst, arith, w64, SFits}
 use Rattle.std.specs.Prelude.{◌==◌, int_lt, int_le}
-use Rattle.std.specs.Int.{int_max, bit_at}
+use Rattle.std.specs.Int.{bit_at}
 use Rattle.std.specs.Ordering.{int_eq}
 use Rattle.std.proofs.lemmas.Bool.Decides.{nat_tests}
-use Rattle.std.proofs.lemmas.Int.{ints, clamps}
+use Rattle.std.proofs.lemmas.Int.{ints}
 use Rattle.plane.specs.Centred.{centred}
 use Rattle.plane.specs.Plane.{Plane}
 use Rattle.plane.specs.Square.{IsSame, IsSquare, spans, bits_plane, bit}
@@ -120,14 +120,8 @@ row_as level p q left y old new e same h =
 from_centre : (x : ℤ) (h : ℕ) → x -ℤ (pos 0 -ℤ pos h) ≡ x +ℤ pos h
 from_centre x h = omega (arith, ints)
 
-up_there : (y : ℤ) (h from : ℕ) → (pos 0 -ℤ pos h) ≤ℤ y → pos from ≡ int_max (pos 0) (y +ℤ pos h) → pos from ≡ y +ℤ pos h
-up_there y h from low e = omega (arith, ints, clamps)
-
 outside : (level : ℕ) (p : Plane) → IsSquare (2 ^ level) p → (x y : ℤ) → spans (2 ^ level) y ≡ false → p x y ≡ false
 outside level p is x y e = dead_row (2 ^ level) p is x y e
-
-pub not_above : (y : ℤ) (h : ℕ) → int_lt y (pos 0 -ℤ pos h) ≡ false → (pos 0 -ℤ pos h) ≤ℤ y
-not_above y h e = grind (arith, ints)
 
 pub is_less : (a b : ℤ) → int_lt a b ≡ true → a <ℤ b
 is_less a b e = grind (arith, ints)
@@ -136,14 +130,14 @@ pub is_most : (a b : ℤ) → int_le a b ≡ true → a ≤ℤ b
 is_most a b e = grind (arith, ints)
 
 -- the runs of a row of a square, counted from (0,0)
-pub centred_runs : (level : ℕ) (p : Plane) (y : ℤ) (from : ℕ) (runs : List (ℤ × ℕ)) → (pos 0 -ℤ pos (2 ^ (level - 1))) ≤ℤ y → pos from ≡ int_max (pos 0) (y +ℤ pos (2 ^ (level - 1))) →
-    AddsCells (pos 0 -ℤ pos (2 ^ (level - 1))) (2 ^ level) (cells_at p (pos 0 -ℤ pos (2 ^ (level - 1))) from) [] runs → AreRowRuns (centred level p) y runs
-centred_runs level p y from runs low e h =
+pub centred_runs : (level : ℕ) (p : Plane) (y : ℤ) (row : ℕ) (runs : List (ℤ × ℕ)) → pos row ≡ y +ℤ pos (2 ^ (level - 1)) →
+    AddsCells (pos 0 -ℤ pos (2 ^ (level - 1))) (2 ^ level) (cells_at p (pos 0 -ℤ pos (2 ^ (level - 1))) row) [] runs → AreRowRuns (centred level p) y runs
+centred_runs level p y row runs e h =
     let half : ℕ = 2 ^ (level - 1) in
     record {
       apart = h.end.apart;
-      cells = λ x. h.adds x ∙ ap (λ t. t || cells_at p (pos 0 -ℤ pos half) from x) (no_cells x)
-          ∙ ap (λ u. p u (pos from)) (from_centre x half) ∙ ap (p (x +ℤ pos half)) (up_there y half from low e);
+      cells = λ x. h.adds x ∙ ap (λ t. t || cells_at p (pos 0 -ℤ pos half) row x) (no_cells x)
+          ∙ ap (λ u. p u (pos row)) (from_centre x half) ∙ ap (p (x +ℤ pos half)) e;
     }
 
 pub low_out : (side half : ℕ) (y : ℤ) → y <ℤ (pos 0 -ℤ pos half) → spans side (y +ℤ pos half) ≡ false
@@ -153,13 +147,8 @@ pub high_out : (side half : ℕ) (y : ℤ) → side ≡ half + half → pos half
 high_out side half y e f = outside_high side (y +ℤ pos half) (omega (arith, ints))
 
 -- a row outside the square has no runs
-pub no_runs_above : (level : ℕ) (p : Plane) (y : ℤ) → IsSquare (2 ^ level) p → int_lt y (pos 0 -ℤ pos (2 ^ (level - 1))) ≡ true → AreRowRuns (centred level p) y []
-no_runs_above level p y is e =
-    record { apart = tt; cells = λ x. no_cells x ∙ sym (outside level p is (x +ℤ pos (2 ^ (level - 1))) _ (low_out (2 ^ level) (2 ^ (level - 1)) y (is_less _ _ e))) }
-
-pub no_runs_below : (level : ℕ) (p : Plane) (y : ℤ) → 1 ≤ level → IsSquare (2 ^ level) p → int_le (pos (2 ^ (level - 1))) y ≡ true → AreRowRuns (centred level p) y []
-no_runs_below level p y least is e =
-    record { apart = tt; cells = λ x. no_cells x ∙ sym (outside level p is (x +ℤ pos (2 ^ (level - 1))) _ (high_out (2 ^ level) (2 ^ (level - 1)) y (twice_half level least) (is_most _ _ e))) }
+pub no_runs_outside : (level : ℕ) (p : Plane) (y : ℤ) → IsSquare (2 ^ level) p → spans (2 ^ level) (y +ℤ pos (2 ^ (level - 1))) ≡ false → AreRowRuns (centred level p) y []
+no_runs_outside level p y is e = record { apart = tt; cells = λ x. no_cells x ∙ sym (outside level p is (x +ℤ pos (2 ^ (level - 1))) _ e) }
 
 -- the square ends within the range
 pub room_there : (level : ℕ) → 1 ≤ level → 2 ^ (level - 1) ≤ 2 ^ 62 → ((pos 0 -ℤ pos (2 ^ (level - 1))) +ℤ pos (2 ^ level)) ≤ℤ pos (2 ^ 62)
@@ -176,6 +165,9 @@ quarter_low y half level low h e f = let g = ap (λ n. 2 ^ n) f in omega (arith,
 
 pub quarter_high : (y half level low : ℕ) → 1 ≤ level → half ≤ y → y < 2 ^ level → half ≡ 2 ^ (level - 1) → low ≡ level - 1 → y - half < 2 ^ low
 quarter_high y half level low least h k e f = let g = ap (λ n. 2 ^ n) f in let twice = twice_half level least in omega (arith, g, twice)
+
+pub first_room : (left : ℤ) (level low : ℕ) → 1 ≤ level → low ≡ level - 1 → (left +ℤ pos (2 ^ level)) ≤ℤ pos (2 ^ 62) → (left +ℤ pos (2 ^ low)) ≤ℤ pos (2 ^ 62)
+first_room left level low least f room = let g = ap (λ n. 2 ^ n) f in let twice = twice_half level least in omega (arith, ints, g, twice)
 
 pub quarter_room : (left half : ℤ) (level low : ℕ) → 1 ≤ level → half ≡ pos (2 ^ (level - 1)) → low ≡ level - 1 → (left +ℤ pos (2 ^ level)) ≤ℤ pos (2 ^ 62) → ((left +ℤ half) +ℤ pos (2 ^ low)) ≤ℤ pos (2 ^ 62)
 quarter_room left half level low least e f room = let g = ap (λ n. 2 ^ n) f in let twice = twice_half level least in omega (arith, ints, g, twice)

@@ -77,3 +77,8 @@ box_round (Some a) (Some b) = Some (record {
   right = int_max a.right b.right;
   bottom = int_max a.bottom b.bottom;
 })
+
+-- the box round those of the quarters of a square, each of which has this side
+abbrev pub joined_boxes : ℕ → Option Bounds → Option Bounds → Option Bounds → Option Bounds → Option Bounds
+joined_boxes side nw ne sw se =
+    box_round (box_round nw (moved_box (pos side) (pos 0) ne)) (box_round (moved_box (pos 0) (pos side) sw) (moved_box (pos side) (pos side) se))

@@ -1,9 +1,9 @@
-ghost use Rattle.std.specs.Prelude.{◌≡◌, ◌≤◌, ◌^◌, IfOk, IsOkUnless};
+ghost use Rattle.std.specs.Prelude.{◌≡◌, ◌≤◌, ◌<◌, ◌-◌, ◌^◌, IfOk, IsOkUnless};
 ghost use Rattle.std.specs.Option.{ForSome};
 ghost use Rattle.plane.specs.Centred.{centred};
 ghost use Rattle.plane.specs.Square.{bits_plane};
 ghost use Rattle.squares.specs.Book.{IsKnown};
-ghost use Rattle.viewport.specs.BoundingBox.{AreBoxes, FitsMoved, HasBounds, IsLocalBox, box_round, moved_box};
+ghost use Rattle.viewport.specs.BoundingBox.{AreBoxes, FitsMoved, HasBounds, IsInside, IsLocalBox, box_round, joined_boxes, moved_box};
 
 use crate::sides::half_side;
 use plane::{Bounds, Refusal};
@@ -29,6 +29,7 @@ pub fn bounds<L: Look>(look: &L, alloc: Global, sq: Sq) -> Result<Option<Bounds>
 }
 
 // The box of the square's live cells, by the boxes that are known; it adds what it finds to them.
+#[cycle(local_box)]
 fn local_box<L: Look>(look: &L, sq: Sq, boxes: &mut Boxes) -> Result<Option<Bounds>, Refusal>
     requires known { IsKnown (L.book look.now) sq.level sq }
     requires level { sq.level ≤ 63 }
@@ -47,19 +48,52 @@ fn local_box<L: Look>(look: &L, sq: Sq, boxes: &mut Boxes) -> Result<Option<Boun
     if let Some(known) = boxes.get(&key) {
         return Ok(*known);
     }
-    let [nw, ne, sw, se] = look.parts(sq);
-    let half = half_side(sq.level);
-    let nw = local_box(look, nw, boxes)?;
-    let ne = local_box(look, ne, boxes)?;
-    let sw = local_box(look, sw, boxes)?;
-    let se = local_box(look, se, boxes)?;
-    let upper = round(nw, moved(ne, half, 0));
-    let lower = round(moved(sw, 0, half), moved(se, half, half));
-    let whole = round(upper, lower);
+    let whole = quarters_box(look, sq, boxes)?;
     let Ok(_) = boxes.insert(key, whole) else {
         return Err(Refusal::NoMemory);
     };
     Ok(whole)
+}
+
+// The box of the live cells of a square's quarters.
+#[cycle(local_box)]
+fn quarters_box<L: Look>(look: &L, sq: Sq, boxes: &mut Boxes) -> Result<Option<Bounds>, Refusal>
+    requires known { IsKnown (L.book look.now) sq.level sq }
+    requires low { 3 < sq.level }
+    requires high { sq.level ≤ 63 }
+    requires boxed { AreBoxes (L.book look.now) boxes.old }
+    ensures ok { IfOk result (IsLocalBox (2 ^ sq.level) ((L.book look.now).cells sq)) }
+    ensures boxed { AreBoxes (L.book look.now) boxes.new }
+    ensures memory { IsOkUnless result Refusal.NoMemory }
+{
+    let [nw, ne, sw, se] = look.parts(sq);
+    let nw = local_box(look, nw, boxes)?;
+    let ne = local_box(look, ne, boxes)?;
+    let sw = local_box(look, sw, boxes)?;
+    let se = local_box(look, se, boxes)?;
+    Ok(box_of_quarters(sq.level, nw, ne, sw, se))
+}
+
+// The box round those of the quarters of a square of this level, each of which is given from its
+// quarter's upper left corner.
+fn box_of_quarters(
+    level: u8,
+    nw: Option<Bounds>,
+    ne: Option<Bounds>,
+    sw: Option<Bounds>,
+    se: Option<Bounds>,
+) -> Option<Bounds>
+    requires low { 1 ≤ level }
+    requires high { level ≤ 63 }
+    requires ne { ForSome ne (IsInside (2 ^ (level - 1))) }
+    requires sw { ForSome sw (IsInside (2 ^ (level - 1))) }
+    requires se { ForSome se (IsInside (2 ^ (level - 1))) }
+    ensures { result ≡ joined_boxes (2 ^ (level - 1)) nw ne sw se }
+{
+    let half = half_side(level);
+    let upper = round(nw, moved(ne, half, 0));
+    let lower = round(moved(sw, 0, half), moved(se, half, half));
+    round(upper, lower)
 }
 
 // The box, moved so far to the right and down.

@@ -5,7 +5,7 @@ ghost use Rattle.plane.specs.Device.{IsWriteRefusal};
 ghost use Rattle.squares.specs.Book.{IsKnown};
 ghost use Rattle.viewport.specs.Picture.{mark_of, picture_text, row_text};
 
-use crate::sides::{half_side, side};
+use crate::sides::{place, side};
 use plane::{Refusal, Sink, WINDOW_SIDE_LIMIT, Window, write_all};
 use squares::{Look, Sq};
 
@@ -66,11 +66,13 @@ fn is_live<L: Look>(look: &L, sq: Sq, x: i64, y: i64) -> bool
     requires level { sq.level ≤ 63 }
     ensures { result ≡ centred sq.level ((L.book look.now).cells sq) x y }
 {
-    let half = half_side(sq.level);
-    if x < -half || x >= half || y < -half || y >= half {
+    let Some(column) = place(x, sq.level) else {
         return false;
-    }
-    has_cell(look, sq, (x + half) as u64, (y + half) as u64)
+    };
+    let Some(row) = place(y, sq.level) else {
+        return false;
+    };
+    has_cell(look, sq, column, row)
 }
 
 // Whether the cell is live that lies so far from the left side and from the top of the square.

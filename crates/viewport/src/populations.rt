@@ -1,4 +1,4 @@
-ghost use Rattle.std.specs.Prelude.{◌≡◌, ◌≤◌, IfOk, IsOkUnless};
+ghost use Rattle.std.specs.Prelude.{◌≡◌, ◌≤◌, ◌<◌, IfOk, IsOkUnless};
 ghost use Rattle.plane.specs.Centred.{centred};
 ghost use Rattle.plane.specs.Square.{bits_plane};
 ghost use Rattle.squares.specs.Book.{IsKnown};
@@ -25,6 +25,7 @@ pub fn population<L: Look>(look: &L, alloc: Global, sq: Sq) -> Result<u128, Refu
 }
 
 // How many live cells the square has, by the counts that are known; it adds what it finds to them.
+#[cycle(count)]
 fn count<L: Look>(look: &L, sq: Sq, counts: &mut Counts) -> Result<u128, Refusal>
     requires known { IsKnown (L.book look.now) sq.level sq }
     requires level { sq.level ≤ 63 }
@@ -43,12 +44,27 @@ fn count<L: Look>(look: &L, sq: Sq, counts: &mut Counts) -> Result<u128, Refusal
     if let Some(known) = counts.get(&key) {
         return Ok(*known);
     }
+    let whole = count_quarters(look, sq, counts)?;
+    let Ok(_) = counts.insert(key, whole) else {
+        return Err(Refusal::NoMemory);
+    };
+    Ok(whole)
+}
+
+// How many live cells the quarters of a square have.
+#[cycle(count)]
+fn count_quarters<L: Look>(look: &L, sq: Sq, counts: &mut Counts) -> Result<u128, Refusal>
+    requires known { IsKnown (L.book look.now) sq.level sq }
+    requires low { 3 < sq.level }
+    requires high { sq.level ≤ 63 }
+    requires counted { AreCounts (L.book look.now) counts.old }
+    ensures ok { IfOk result (IsCount (L.book look.now) sq) }
+    ensures counted { AreCounts (L.book look.now) counts.new }
+    ensures memory { IsOkUnless result Refusal.NoMemory }
+{
     let [nw, ne, sw, se] = look.parts(sq);
     let upper = count(look, nw, counts)? + count(look, ne, counts)?;
     let lower = count(look, sw, counts)? + count(look, se, counts)?;
-    let Ok(_) = counts.insert(key, upper + lower) else {
-        return Err(Refusal::NoMemory);
-    };
     Ok(upper + lower)
 }
 

@@ -4,7 +4,7 @@ ghost use Rattle.plane.specs.Square.{bits_plane};
 ghost use Rattle.squares.specs.Book.{IsKnown};
 ghost use Rattle.viewport.specs.RowRuns.{AddsCells, AreRowRuns, EndBy, cells_at, end_of, run_cells};
 
-use crate::sides::{half_side, rows_above, side};
+use crate::sides::{half_side, place, side};
 use plane::Refusal;
 use squares::{Look, Sq};
 use std::alloc::{AllocError, Global};
@@ -24,11 +24,10 @@ pub fn row_runs<L: Look>(
     ensures memory { IsOkUnless result Refusal.NoMemory }
 {
     let mut runs = Vec::new(alloc);
-    let half = half_side(sq.level);
-    if y < -half || y >= half {
+    let Some(row) = place(y, sq.level) else {
         return Ok(runs);
-    }
-    let Ok(_) = add_row(look, sq, -half, rows_above(y, half), &mut runs) else {
+    };
+    let Ok(_) = add_row(look, sq, -half_side(sq.level), row, &mut runs) else {
         return Err(Refusal::NoMemory);
     };
     Ok(runs)

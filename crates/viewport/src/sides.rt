@@ -1,5 +1,6 @@
 ghost use Rattle.std.specs.Prelude.{◌≡◌, ◌≤◌, ◌<◌, ◌-◌, ◌^◌, pos, ◌+ℤ◌, ◌-ℤ◌, ◌≤ℤ◌, ◌<ℤ◌};
 ghost use Rattle.std.specs.Int.{int_max};
+ghost use Rattle.viewport.specs.Places.{IsPlace};
 
 // The side of a square of this level.
 pub fn side(level: u8) -> u64
@@ -18,6 +19,20 @@ pub fn half_side(level: u8) -> i64
     ensures small { 2 ^ (level - 1) ≤ 2 ^ 62 }
 {
     side(level - 1) as i64
+}
+
+// How far a column or a row lies from the left side or from the top of a square of this level, if the
+// square has it.
+pub fn place(z: i64, level: u8) -> Option<u64>
+    requires low { 1 ≤ level }
+    requires high { level ≤ 63 }
+    ensures { IsPlace level z result }
+{
+    let half = half_side(level);
+    if z < -half || z >= half {
+        return None;
+    }
+    Some((z + half) as u64)
 }
 
 // How many rows lie above row y, from the top on.

@@ -1,14 +1,15 @@
-use Rattle.std.proofs.Common.{rules, arith, ◌≡◌, ◌-◌, ◌<◌, length, subst}
-use Rattle.std.proofs.lemmas.Result.{IfOk-weaker}
+use Rattle.std.proofs.Common.{rules, arith, ◌≡◌, ◌-◌, ◌<◌, length, sym, subst}
+use Rattle.std.proofs.lemmas.Result.{IfOk-weaker, on_ok_weaker}
 use Rattle.plane.specs.Square.{future}
 use Rattle.squares.specs.Book.{nth}
 use Rattle.squares.proofs.Kept.{keeps_trans, known_kept}
 use Rattle.squares.proofs.Results.{future_kept}
 use Rattle.hashlife_step.specs.Tallies.{Tallies}
-use Rattle.hashlife_step.proofs.Counted.{made_and_kept, made_between, made_twice, results_none, tallies_learned, tallies_trans}
+use Rattle.hashlife_step.proofs.Counted.{made_and_kept, made_between, made_twice, results_none, tallies_learned, tallies_none, tallies_trans}
+use Rattle.hashlife_step.proofs.FourKnown.{known_as}
 use Rattle.hashlife_step.proofs.LeafSquares.{future_later}
-use Rattle.hashlife_step.proofs.NineFutures.{IsFinished, finished_known, futures_known, nine_futures, ninths_known}
-use Rattle.hashlife_step.proofs.Replaced.{future_shown, next_known, next_made, replaced_more}
+use Rattle.hashlife_step.proofs.NineFutures.{IsFinished, finished_each, finished_known, futures_known, nine_futures, ninths_known, overlaps_known}
+use Rattle.hashlife_step.proofs.Replaced.{IsReplaced, all_futures, future_shown, next_known, next_made, replaced_more, replaced_none}
 use Rattle.hashlife_step.proofs.recursion.+future.Goals as goal
 
 pub future-returns-in-Some-clause-tally : goal.future-returns-in-Some-clause-tally
@@ -127,3 +128,79 @@ replace_by_futures-loop-i-preserved g t c =
       tallies_trans old (book c.loop-i.book) (book c.future.new.book) c.args.level c.args.level _ _ _ (omega arith) c.loop-i.invariant.1
           (subst (λ n. Tallies (book c.loop-i.book) (book c.future.new.book) n c.loop-i.tally.expansions c.future.new.tally.expansions) known.at_level c.future.ensures.tally),
     )
+
+pub future-returns-in_err-future-clause-keeps : goal.future-returns-in_err-future-clause-keeps
+future-returns-in_err-future-clause-keeps g t c = keeps_trans c.recall.ensures.keeps c.make.ensures.keeps
+
+pub future-keep-requires-clause-known : goal.future-keep-requires-clause-known
+future-keep-requires-clause-known g t c = known_kept (keeps_trans c.recall.ensures.keeps c.make.ensures.keeps) c.requires.known
+
+pub finish-returns-else-exponent-level-clause-tally : goal.finish-returns-else-exponent-level-clause-tally
+finish-returns-else-exponent-level-clause-tally g t c = tallies_none _ _ _ _ c.replace_by_centres.ensures.results
+
+pub make-returns-then-sq-eq4-clause-tally : goal.make-returns-then-sq-eq4-clause-tally
+make-returns-then-sq-eq4-clause-tally g t c = tallies_none _ _ _ _ c.leaf_future.ensures.results
+
+pub make-returns-in_err-parts-clause-tally : goal.make-returns-in_err-parts-clause-tally
+make-returns-in_err-parts-clause-tally g t c = tallies_none _ _ _ _ c.nine.ensures.results
+
+pub make-returns-in_err-replace_by_futures-clause-keeps : goal.make-returns-in_err-replace_by_futures-clause-keeps
+make-returns-in_err-replace_by_futures-clause-keeps g t c = keeps_trans c.nine.ensures.keeps c.replace_by_futures.ensures.keeps
+
+pub make-returns-in_err-quarters-clause-keeps : goal.make-returns-in_err-quarters-clause-keeps
+make-returns-in_err-quarters-clause-keeps g t c = keeps_trans c.nine.ensures.keeps (keeps_trans c.replace_by_futures.ensures.keeps c.overlaps.ensures.keeps)
+
+pub make-returns-in_err-finish-clause-keeps : goal.make-returns-in_err-finish-clause-keeps
+make-returns-in_err-finish-clause-keeps g t c = keeps_trans c.nine.ensures.keeps (keeps_trans c.replace_by_futures.ensures.keeps (keeps_trans c.overlaps.ensures.keeps c.finish.ensures.keeps))
+
+pub make-finish-requires : goal.make-finish-requires
+make-finish-requires g t c κs within =
+    let four : length c.in_ok-quarters.quarters ≡ 4 = search rules in
+    let known = overlaps_known (g.S.Squares.book c.overlaps.new.book) (c.args.sq.level - 1) _ c.in_ok-quarters.quarters four (omega arith) c.in_ok-quarters.ensures.ok in
+    search rules
+
+pub make-quad-requires-clause-level : goal.make-quad-requires-clause-level
+make-quad-requires-clause-level g t c =
+    let book = g.S.Squares.book in
+    let four : length c.in_ok-quarters.quarters ≡ 4 = search rules in
+    let first = finished_each (book c.finish.new.book) (book c.overlaps.new.book).exponent (c.args.sq.level - 1) c.in_ok-quarters.quarters c.finish.new.quarters
+    (record { futures = c.in_ok-finish.ensures.futures; centres = c.in_ok-finish.ensures.centres }) 0 (omega arith) in
+    let at_level = first.at_level in let high = c.requires.known.high in omega arith
+
+pub replace_by_futures-loop-i-init : goal.replace_by_futures-loop-i-init
+replace_by_futures-loop-i-init g t c = (replaced_none _ _ _ _, tallies_none _ _ _ _ (results_none _))
+
+pub replace_by_futures-future-requires : goal.replace_by_futures-future-requires
+replace_by_futures-future-requires g t c κs within =
+    let book = g.S.Squares.book in
+    let replaced = c.loop-i.invariant.0 in
+    let same = replaced.same_length in
+    let known = next_known _ (book c.args.book.now) (book c.loop-i.book) c.args.level c.loop-i.i c.args.squares.now c.loop-i.squares replaced (omega arith) c.requires.known in
+    let at_level = known.at_level in let low = c.requires.low in
+    let own = known_as (sym at_level) known in
+    search rules
+
+pub replace_by_futures-returns-in_err-squares-clause-keeps : goal.replace_by_futures-returns-in_err-squares-clause-keeps
+replace_by_futures-returns-in_err-squares-clause-keeps g t c = keeps_trans c.loop-i.invariant.0.keeps c.future.ensures.keeps
+
+pub replace_by_futures-returns-clause-ok : goal.replace_by_futures-returns-clause-ok
+replace_by_futures-returns-clause-ok g t c =
+    let old = g.S.Squares.book c.args.book.now in
+    let now = g.S.Squares.book c.loop-i.book in
+    let replaced = c.loop-i.invariant.0 in
+    let same = replaced.same_length in
+    let all : c.loop-i.i ≡ length c.args.squares.now = omega arith in
+    all_futures old now c.args.level c.args.squares.now c.loop-i.squares
+    (subst (λ n. IsReplaced (future old.rule old.exponent c.args.level) old now c.args.level n c.args.squares.now c.loop-i.squares) all replaced) c.requires.known
+
+pub finish-returns-then-exponent-level-clause-futures : goal.finish-returns-then-exponent-level-clause-futures
+finish-returns-then-exponent-level-clause-futures g t c = on_ok_weaker c.replace_by_futures.result (λ are. λ long. are) c.replace_by_futures.ensures.ok
+
+pub finish-returns-then-exponent-level-clause-centres : goal.finish-returns-then-exponent-level-clause-centres
+finish-returns-then-exponent-level-clause-centres g t c = on_ok_weaker c.replace_by_futures.result (λ are. λ short. absurd (omega arith)) c.replace_by_futures.ensures.ok
+
+pub finish-returns-else-exponent-level-clause-futures : goal.finish-returns-else-exponent-level-clause-futures
+finish-returns-else-exponent-level-clause-futures g t c = on_ok_weaker c.replace_by_centres.result (λ are. λ long. absurd (omega arith)) c.replace_by_centres.ensures.ok
+
+pub finish-returns-else-exponent-level-clause-centres : goal.finish-returns-else-exponent-level-clause-centres
+finish-returns-else-exponent-level-clause-centres g t c = on_ok_weaker c.replace_by_centres.result (λ are. λ short. are) c.replace_by_centres.ensures.ok

@@ -1,6 +1,7 @@
-use Rattle.std.proofs.Common.{sym, ◌∙◌}
+use Rattle.std.proofs.Common.{arith, sym, ◌∙◌}
 use Rattle.std.proofs.lemmas.Bool.{false≢true}
-use Rattle.hashlife_step.proofs.Trimmed.{centre_reached, smallest_reached}
+use Rattle.squares.proofs.Kept.{keeps_trans, results_trans}
+use Rattle.hashlife_step.proofs.Trimmed.{centre_reached, round_kept, smallest_reached}
 use Rattle.hashlife_step.proofs.trimming.trim.Goals as goal
 
 pub loop-trimmed-preserved : goal.loop-trimmed-preserved
@@ -15,3 +16,23 @@ returns-else-has_empty_border-clause-level g c =
     let book = g.S.Squares.book in
     smallest_reached (book c.args.book.now) (book c.loop-trimmed.book) _ 65 c.loop-trimmed.trimmed c.loop-trimmed.invariant (g.met.S.Squares.is_book c.loop-trimmed.book)
     (λ _ held. false≢true (sym c.if-has_empty_border.false ∙ c.has_empty_border.ensures.value.1 held))
+
+pub returns-in_err-trimmed-2-clause-keeps : goal.returns-in_err-trimmed-2-clause-keeps
+returns-in_err-trimmed-2-clause-keeps g c = keeps_trans c.loop-trimmed.invariant.keeps (keeps_trans c.has_empty_border.ensures.keeps c.centre.ensures.keeps)
+
+pub returns-in_err-trimmed-2-clause-results : goal.returns-in_err-trimmed-2-clause-results
+returns-in_err-trimmed-2-clause-results g c = results_trans c.loop-trimmed.invariant.results (results_trans c.has_empty_border.ensures.results c.centre.ensures.results)
+
+pub returns-else-has_empty_border-clause-cells : goal.returns-else-has_empty_border-clause-cells
+returns-else-has_empty_border-clause-cells g c = round_kept c.has_empty_border.ensures.keeps c.loop-trimmed.invariant.shown
+
+pub returns-else-has_empty_border-clause-keeps : goal.returns-else-has_empty_border-clause-keeps
+returns-else-has_empty_border-clause-keeps g c = keeps_trans c.loop-trimmed.invariant.keeps c.has_empty_border.ensures.keeps
+
+pub returns-else-has_empty_border-clause-results : goal.returns-else-has_empty_border-clause-results
+returns-else-has_empty_border-clause-results g c = results_trans c.loop-trimmed.invariant.results c.has_empty_border.ensures.results
+
+pub returns-after-loop-trimmed-clause-level : goal.returns-after-loop-trimmed-clause-level
+returns-after-loop-trimmed-clause-level g c =
+    let book = g.S.Squares.book in
+    smallest_reached (book c.args.book.now) (book c.loop-trimmed.book) _ 65 c.loop-trimmed.trimmed c.loop-trimmed.invariant (g.met.S.Squares.is_book c.loop-trimmed.book) (λ above _. absurd (omega arith))

@@ -2,7 +2,7 @@ use Rattle.std.proofs.Common.{◌≡◌, ◌+◌, ◌-◌, ◌^◌, min, ℕ, sy
 use Rattle.std.specs.Prelude.{Option, Some, None}
 use Rattle.std.specs.Option.{option_map}
 use Rattle.viewport.specs.Rows.{IsFirstRowBelow}
-use Rattle.viewport.proofs.FirstRows.{upper_part, lower_part}
+use Rattle.viewport.proofs.FirstRows.{rows_as, upper_part, lower_part}
 use Rattle.viewport.proofs.Quarters.{quartered}
 use Rattle.viewport.proofs.rows.+first_row_below.Goals as goal
 
@@ -47,3 +47,6 @@ returns g t c =
     c.saturating_sub-from.result c.saturating_sub-left_end.result c.unwrap_or-2.result c.first_row_below-left-2.result c.first_row_below-right-2.result o
     from_is end_is c.first_row_below-left-2.ensures c.unwrap_or-2.ensures c.first_row_below-right-2.ensures (sym e ∙ c.or.ensures) in
     subst (λ n. IsFirstRowBelow (book.cells c.args.sq) c.args.from c.args.end (Some (c.in_ok-lower.lower + n))) (sym c.side-half.ensures.side) (lower (Some c.in_ok-lower.lower) c.in_ok-lower.was)
+
+pub returns-then-sq-eq3 : goal.returns-then-sq-eq3
+returns-then-sq-eq3 g t c = rows_as _ _ c.args.from c.args.end c.first_leaf_row.result c.bits.ensures.cells c.first_leaf_row.ensures

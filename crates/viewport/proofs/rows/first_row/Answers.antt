@@ -3,16 +3,25 @@ use Rattle.std.specs.Prelude.{Option, Some, None}
 use Rattle.std.proofs.lemmas.Int.{to_z-of_z}
 use Rattle.plane.specs.Centred.{centred}
 use Rattle.viewport.specs.Rows.{IsFirstRow, IsFirstRowBelow}
-use Rattle.viewport.proofs.FirstRows.{centred_rows}
+use Rattle.viewport.proofs.FirstRows.{centred_rows, past_all}
 use Rattle.viewport.proofs.Quarters.{known_square}
+use Rattle.viewport.proofs.RowsOfSquares.{is_most}
 use Rattle.viewport.proofs.rows.first_row.Goals as goal
+
+pub returns-then-y-half : goal.returns-then-y-half
+returns-then-y-half g c =
+    let book = g.L.Look.book c.args.look.now in
+    let half : SFits w64 c.half_side-half.result = search rules in
+    let y : SFits w64 c.args.y = c.ranges.y in
+    past_all c.args.sq.level (book.cells c.args.sq) (omega arith) (known_square book c.args.sq.level c.args.sq (g.met.L.Look.is_book c.args.look.now) c.requires.known)
+    c.args.y c.half_side-half.result c.half_side-half.ensures.side (is_most _ _ (simp to_z-of_z at c.if-y-half.true))
 
 pub returns-in_err-row : goal.returns-in_err-row
 returns-in_err-row g c =
     let book = g.L.Look.book c.args.look.now in
     let p = book.cells c.args.sq in
     let half : SFits w64 c.half_side-half.result = search rules in
-    let y : SFits w64 c.args.y = search rules in
+    let y : SFits w64 c.args.y = c.ranges.y in
     let from_is = rw c.half_side-half.ensures.side at (simp to_z-of_z at c.rows_above-from.ensures) in
     let none = subst (λ n. IsFirstRowBelow p c.rows_above-from.result n None) c.side.ensures.side
     (subst (λ (o : Option ℕ). IsFirstRowBelow p c.rows_above-from.result c.side.result o) c.in_err-row.was c.first_row_below.ensures) in
@@ -24,7 +33,7 @@ returns g c =
     let book = g.L.Look.book c.args.look.now in
     let p = book.cells c.args.sq in
     let half : SFits w64 c.half_side-half.result = search rules in
-    let y : SFits w64 c.args.y = search rules in
+    let y : SFits w64 c.args.y = c.ranges.y in
     let row : SFits w64 c.row_at.result = search rules in
     let from_is = rw c.half_side-half.ensures.side at (simp to_z-of_z at c.rows_above-from.ensures) in
     let row_is = rw c.half_side-half.ensures.side at (simp to_z-of_z at c.row_at.ensures) in

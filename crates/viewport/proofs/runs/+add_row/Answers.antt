@@ -1,11 +1,11 @@
 use Rattle.std.proofs.Common.{◌≡◌, ◌-◌, ◌^◌, ◌<◌, ◌≤◌, ℤ, pos, ◌+ℤ◌, ◌-ℤ◌, ◌||◌, refl, sym, ap, ◌∙◌, subst, arith, rules, w64, SFits}
 use Rattle.std.proofs.lemmas.Int.{to_z-of_z}
-use Rattle.std.proofs.lemmas.Result.{IfOk-weaker}
+use Rattle.std.proofs.lemmas.Result.{IfOk-weaker, on_ok_weaker}
 use Rattle.squares.specs.Book.{nth}
 use Rattle.viewport.specs.RowRuns.{cells_at}
 use Rattle.viewport.proofs.Counts.{zero_is_empty}
 use Rattle.viewport.proofs.Quarters.{own_level, quartered}
-use Rattle.viewport.proofs.RowsOfSquares.{ends_between, middle_fits, quarter_high, quarter_low, quarter_room, quarter_rows, under_row, upper_row}
+use Rattle.viewport.proofs.RowsOfSquares.{ends_between, first_room, middle_fits, quarter_high, quarter_low, quarter_room, quarter_rows, row_as, under_row, upper_row}
 use Rattle.viewport.proofs.RunsBeside.{adds_none}
 use Rattle.viewport.proofs.runs.+add_row.Goals as goal
 
@@ -20,7 +20,7 @@ returns-then-sq-eq0 g t c =
 pub add_row-requires-then-y-half : goal.add_row-requires-then-y-half
 add_row-requires-then-y-half g t c κs within =
     let book = g.L.Look.book c.args.look.now in
-    let left : SFits w64 c.args.left = search rules in
+    let left : SFits w64 c.args.left = c.ranges.left in
     let half : SFits w64 c.half_side.result = search rules in
     let least : 1 ≤ c.args.sq.level = omega arith in
     let middle : SFits w64 (c.args.left +ℤ c.half_side.result) = middle_fits c.args.left c.half_side.result c.args.sq.level least left c.half_side.ensures.side c.requires.room in
@@ -48,7 +48,7 @@ add_row-requires-then-y-half g t c κs within =
 pub returns-in_ok-add_row : goal.returns-in_ok-add_row
 returns-in_ok-add_row g t c =
     let book = g.L.Look.book c.args.look.now in
-    let left : SFits w64 c.args.left = search rules in
+    let left : SFits w64 c.args.left = c.ranges.left in
     let half : SFits w64 c.half_side.result = search rules in
     let least : 1 ≤ c.args.sq.level = omega arith in
     let middle : SFits w64 (c.args.left +ℤ c.half_side.result) = middle_fits c.args.left c.half_side.result c.args.sq.level least left c.half_side.ensures.side c.requires.room in
@@ -69,7 +69,7 @@ returns-in_ok-add_row g t c =
 pub returns-in_ok-add_row-2 : goal.returns-in_ok-add_row-2
 returns-in_ok-add_row-2 g t c =
     let book = g.L.Look.book c.args.look.now in
-    let left : SFits w64 c.args.left = search rules in
+    let left : SFits w64 c.args.left = c.ranges.left in
     let half : SFits w64 c.half_side.result = search rules in
     let least : 1 ≤ c.args.sq.level = omega arith in
     let middle : SFits w64 (c.args.left +ℤ c.half_side.result) = middle_fits c.args.left c.half_side.result c.args.sq.level least left c.half_side.ensures.side c.requires.room in
@@ -93,7 +93,7 @@ returns-in_ok-add_row-2 g t c =
 pub add_row-requires-else-y-half-2 : goal.add_row-requires-else-y-half-2
 add_row-requires-else-y-half-2 g t c κs within =
     let book = g.L.Look.book c.args.look.now in
-    let left : SFits w64 c.args.left = search rules in
+    let left : SFits w64 c.args.left = c.ranges.left in
     let half : SFits w64 c.half_side.result = search rules in
     let least : 1 ≤ c.args.sq.level = omega arith in
     let middle : SFits w64 (c.args.left +ℤ c.half_side.result) = middle_fits c.args.left c.half_side.result c.args.sq.level least left c.half_side.ensures.side c.requires.room in
@@ -117,3 +117,43 @@ add_row-requires-else-y-half-2 g t c κs within =
         ),
       ),
     )
+
+pub add_row-requires : goal.add_row-requires
+add_row-requires g t c κs within =
+    let book = g.L.Look.book c.args.look.now in
+    let left : SFits w64 c.args.left = c.ranges.left in
+    let least : 1 ≤ c.args.sq.level = omega arith in
+    let at_level = c.parts.ensures.nw.known.at_level in (
+      search rules,
+      (
+        search rules,
+        (
+          own_level book _ _ c.parts.ensures.nw.known,
+          (omega (arith, at_level), (quarter_low c.args.y c.side-half.result c.args.sq.level _ c.if-y-half.true c.side-half.ensures.side at_level, (simp to_z-of_z (first_room c.args.left c.args.sq.level _ least at_level c.requires.room), simp to_z-of_z c.requires.before))),
+        ),
+      ),
+    )
+
+pub add_row-requires-else-y-half : goal.add_row-requires-else-y-half
+add_row-requires-else-y-half g t c κs within =
+    let book = g.L.Look.book c.args.look.now in
+    let left : SFits w64 c.args.left = c.ranges.left in
+    let least : 1 ≤ c.args.sq.level = omega arith in
+    let at_level = c.parts.ensures.sw.known.at_level in (
+      search rules,
+      (
+        search rules,
+        (
+          own_level book _ _ c.parts.ensures.sw.known,
+          (omega (arith, at_level), (quarter_high c.args.y c.side-half.result c.args.sq.level _ least c.if-y-half.false c.requires.row c.side-half.ensures.side at_level, (simp to_z-of_z (first_room c.args.left c.args.sq.level _ least at_level c.requires.room), simp to_z-of_z c.requires.before))),
+        ),
+      ),
+    )
+
+pub returns-then-sq-eq3 : goal.returns-then-sq-eq3
+returns-then-sq-eq3 g t c =
+    let left : SFits w64 c.args.left = c.ranges.left in
+    record {
+      ok = on_ok_weaker c.add_leaf_row.result (row_as c.args.sq.level _ _ c.args.left c.args.y c.args.runs.now.items c.add_leaf_row.new.runs.items c.if-sq-eq3.true c.bits.ensures.cells)
+          (simp to_z-of_z at c.add_leaf_row.ensures.ok);
+    }

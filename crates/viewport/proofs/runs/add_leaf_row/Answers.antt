@@ -2,7 +2,8 @@ use Rattle.std.proofs.Common.{◌≡◌, ◌≢◌, ◌+◌, ◌*◌, ◌+ℤ◌
 use Rattle.std.specs.Int.{bit_at}
 use Rattle.std.proofs.lemmas.Int.{to_z-of_z}
 use Rattle.std.proofs.lemmas.Nat.Bits.{shr_and_one}
-use Rattle.viewport.proofs.RowsOfSquares.{column_fits, step_passed, step_taken, whole_row}
+use Rattle.viewport.proofs.RowsOfSquares.{cells_before, column_fits, none_taken, step_passed, step_taken, whole_row}
+use Rattle.viewport.proofs.RunsBeside.{adds_none}
 use Rattle.viewport.proofs.runs.add_leaf_row.Goals as goal
 use Rattle.viewport.proofs.runs.add_leaf_row.Goals.{then-word-y-eq1+in_ok-add_run, else-word-y-eq1}
 
@@ -28,3 +29,8 @@ pub returns : goal.returns
 returns c =
     let left : SFits w64 c.args.left = search rules in
     record { ok = whole_row c.args.word c.args.y c.loop-x.x c.args.left c.args.runs.now.items c.loop-x.runs.items (omega arith) (simp to_z-of_z at c.loop-x.invariant) }
+
+pub loop-x-init : goal.loop-x-init
+loop-x-init c =
+    let left : SFits w64 c.args.left = c.ranges.left in
+    simp to_z-of_z (adds_none c.args.left 0 (cells_before c.args.word c.args.left c.args.y 0) c.args.runs.now.items c.requires.before (none_taken c.args.word c.args.y c.args.left))
