@@ -169,34 +169,59 @@ fn two_writes<S: Sink>(sink: &mut S, first: &[u8], second: &[u8]) -> Answers {
     [sink.write_some(first), sink.write_some(second)]
 }
 
-#[test]
-fn memory_takes_what_it_has_room_for(rt: HostRuntime) -> Result<(), Fail> {
-    let mut memory = Memory::with_room(rt.alloc(), 4)?;
-    let written = two_writes(&mut memory, b"abc", b"de");
-    assert_eq!(rt;
-        (written, Sink::failures(&memory)),
-        ([Ok(3), Err(Failed)], 1)
-    );
-    assert_eq!(rt; memory.bytes(), b"abc".as_slice());
-    Ok(())
+// A memory that has room for so many bytes.
+fn memory_of(alloc: Global, room: usize) -> Result<Memory, Refusal> {
+    match Memory::with_room(alloc, room) {
+        Ok(memory) => Ok(memory),
+        Err(_) => Err(Refusal::NoMemory),
+    }
+}
+
+// What a memory of four bytes answers to two writes, how many failed, and whether it holds the first.
+fn written_to_four_bytes(alloc: Global) -> Result<(Answers, u64, bool), Refusal> {
+    let mut memory = memory_of(alloc, 4)?;
+    let answers = two_writes(&mut memory, b"abc", b"de");
+    let is_held = memory.bytes() == b"abc".as_slice();
+    Ok((answers, Sink::failures(&memory), is_held))
 }
 
 #[test]
-fn source_that_fails_once(rt: HostRuntime) -> Result<(), Fail> {
-    let mut source = FailAt::new(Memory::holding(rt.alloc(), b"abc")?, 2);
+fn memory_takes_what_it_has_room_for(rt: HostRuntime) {
+    let wanted = ([Ok(3), Err(Failed)], 1, true);
+    assert_eq!(rt; written_to_four_bytes(rt.alloc()), Ok(wanted));
+}
+
+// What two reads answer of which the second fails, and what the next one answers and what it leaves.
+type Reads = (Answers, Result<usize, Failed>, [u8; 2]);
+
+fn read_with_one_failure(alloc: Global) -> Result<Reads, Refusal> {
+    let Ok(memory) = Memory::holding(alloc, b"abc") else {
+        return Err(Refusal::NoMemory);
+    };
+    let mut source = FailAt::new(memory, 2);
     let mut buffer = [0; 2];
-    assert_eq!(rt; two_reads(&mut source, &mut buffer), [Ok(2), Err(Failed)]);
+    let answers = two_reads(&mut source, &mut buffer);
     let last = source.read_some(&mut buffer);
-    assert_eq!(rt; (last, buffer), (Ok(1), *b"cb"));
-    Ok(())
+    Ok((answers, last, buffer))
 }
 
 #[test]
-fn sink_that_fails_once(rt: HostRuntime) -> Result<(), Fail> {
-    let mut sink = FailAt::new(Memory::with_room(rt.alloc(), 2)?, 1);
-    assert_eq!(rt; two_writes(&mut sink, b"a", b"b"), [Err(Failed), Ok(1)]);
-    assert_eq!(rt; sink.inner().bytes(), b"b".as_slice());
-    Ok(())
+fn source_that_fails_once(rt: HostRuntime) {
+    let wanted = ([Ok(2), Err(Failed)], Ok(1), *b"cb");
+    assert_eq!(rt; read_with_one_failure(rt.alloc()), Ok(wanted));
+}
+
+// What two writes answer of which the first fails, and whether the second alone is held.
+fn written_with_one_failure(alloc: Global) -> Result<(Answers, bool), Refusal> {
+    let mut sink = FailAt::new(memory_of(alloc, 2)?, 1);
+    let answers = two_writes(&mut sink, b"a", b"b");
+    Ok((answers, sink.inner().bytes() == b"b".as_slice()))
+}
+
+#[test]
+fn sink_that_fails_once(rt: HostRuntime) {
+    let wanted = ([Err(Failed), Ok(1)], true);
+    assert_eq!(rt; written_with_one_failure(rt.alloc()), Ok(wanted));
 }
 
 // A reader and a writer that is interrupted at every other call, and otherwise moves one byte.
