@@ -1,3 +1,4 @@
+mod books;
 mod cells;
 mod futures;
 mod leaves;

@@ -1,31 +1,37 @@
 //! Sets of cells, the range, windows, and devices that fail.
 
+use crate::tests::books::rule_of;
 use crate::tests::places::{Place, cell_at, cells_at};
 use plane::{
     Bounds, COORDINATE_LIMIT, Cell, CellSet, Counted, FailAt, Failed, Fault, GENERATION_LIMIT,
     Memory, Refusal, Sink, Source, Window, reach,
 };
-use rule_text::Rule;
 use std::alloc::Global;
 use std::io;
 use std::io::{Error, ErrorKind, Read, Write};
 use std::test::Fail;
 
-// The next generation, by the rule that the text says.
-fn next(alloc: Global, text: &str, places: &[Place]) -> Result<CellSet, Fail> {
-    let cells = cells_at(alloc, places)?;
-    reach(cells.bounds(), 0, 1)?;
-    Ok(cells.next(alloc, &Rule::read(text.as_bytes())?)?)
+// The cells as x and y, in their order.
+fn listed(alloc: Global, cells: &CellSet) -> Result<Vec<(i64, i64)>, Refusal> {
+    let mut listed = Vec::new(alloc);
+    for cell in cells.iter() {
+        if listed.push((cell.x, cell.y)).is_err() {
+            return Err(Refusal::NoMemory);
+        }
+    }
+    Ok(listed)
 }
 
-// Whether the cells are at these places, in this order.
-fn are_at(cells: &CellSet, places: &[Place]) -> bool {
-    let same = |pair: (&Cell, &Place)| *pair.0 == cell_at(*pair.1);
-    cells.len() == places.len() && cells.iter().zip(places).all(same)
+// The cells of the next generation, by the rule that the text says.
+fn next(alloc: Global, text: &str, places: &[Place]) -> Result<Vec<(i64, i64)>, Refusal> {
+    let cells = cells_at(alloc, places)?;
+    reach(cells.bounds(), 0, 1)?;
+    let next = cells.next(alloc, &rule_of(text)?)?;
+    listed(alloc, &next)
 }
 
 // A rule's text, some cells, and the cells of the next generation, in the order of reading.
-const NEXT: [(&str, &[Place], &[Place]); 6] = [
+const NEXT: [(&str, &[Place], &[(i64, i64)]); 6] = [
     ("B3/S23", &[], &[]),
     // A blinker, a glider and its neighbour phase.
     (
@@ -49,31 +55,40 @@ const NEXT: [(&str, &[Place], &[Place]); 6] = [
 ];
 
 #[test]
-fn next_generations(rt: HostRuntime) -> Result<(), Fail> {
+fn next_generations(rt: HostRuntime) {
     for (text, before, after) in NEXT {
-        let cells = next(rt.alloc(), text, before)?;
-        assert!(rt; are_at(&cells, after), "by {text}");
+        assert_eq!(rt; next(rt.alloc(), text, before).as_deref(), Ok(after));
     }
-    Ok(())
+}
+
+// The cells at these places as they are listed, whether (3, 1) and (1, 3) are among them, and their box.
+type Shown = (Vec<(i64, i64)>, bool, bool, Option<Bounds>);
+
+fn shown(alloc: Global, places: &[Place]) -> Result<Shown, Refusal> {
+    let cells = cells_at(alloc, places)?;
+    let has = cells.contains(cell_at((3, 1)));
+    let has_mirrored = cells.contains(cell_at((1, 3)));
+    Ok((listed(alloc, &cells)?, has, has_mirrored, cells.bounds()))
 }
 
 #[test]
 fn sets_of_cells(rt: HostRuntime) -> Result<(), Fail> {
-    let cells = cells_at(rt.alloc(), &[(3, 1), (-2, 4), (3, 1)])?;
-    assert!(rt; are_at(&cells, &[(3, 1), (-2, 4)]));
-    assert!(rt; cells.contains(cell_at((3, 1))));
-    assert!(rt; !cells.contains(cell_at((1, 3))));
-    let bounds = Bounds {
+    let (listed, has, has_mirrored, bounds) = shown(rt.alloc(), &[(3, 1), (-2, 4), (3, 1)])?;
+    assert_eq!(rt; listed.as_slice(), [(3, 1), (-2, 4)].as_slice());
+    let wanted = Bounds {
         left: -2,
         top: 1,
         right: 3,
         bottom: 4,
     };
-    assert_eq!(rt; cells.bounds(), Some(bounds));
-    let none = CellSet::new(rt.alloc());
-    assert!(rt; none.is_empty());
-    assert_eq!(rt; none.bounds(), None);
+    assert_eq!(rt; (has, has_mirrored, bounds), (true, false, Some(wanted)));
     Ok(())
+}
+
+#[test]
+fn a_set_of_no_cells(rt: HostRuntime) {
+    let none = CellSet::new(rt.alloc());
+    assert_eq!(rt; (none.is_empty(), none.bounds()), (true, None));
 }
 
 const LAST: Bounds = Bounds {
@@ -125,51 +140,88 @@ const WINDOWS: [((i64, i64, u32, u32), bool); 13] = [
     ((i64::MAX, i64::MAX, 1, 1), false),
 ];
 
+// The sides of the window of these sides.
+fn window_sides(sides: (i64, i64, u32, u32)) -> Result<(i64, i64, u32, u32), Refusal> {
+    let window = Window::new(sides.0, sides.1, sides.2, sides.3)?;
+    Ok((window.x(), window.y(), window.width(), window.height()))
+}
+
 #[test]
 fn windows(rt: HostRuntime) {
     for (sides, is_window) in WINDOWS {
-        let (x, y, width, height) = sides;
-        let made = match Window::new(x, y, width, height) {
-            Ok(window) => Ok((window.x(), window.y(), window.width(), window.height())),
-            Err(refusal) => Err(refusal),
-        };
         let wanted = if is_window {
             Ok(sides)
         } else {
             Err(Refusal::WindowTooLarge)
         };
-        assert_eq!(rt; made, wanted);
+        assert_eq!(rt; (sides, window_sides(sides)), (sides, wanted));
     }
 }
 
-#[test]
-fn memory_takes_what_it_has_room_for(rt: HostRuntime) -> Result<(), Fail> {
-    let mut memory = Memory::with_room(rt.alloc(), 4)?;
-    let written = [memory.write_some(b"abc"), memory.write_some(b"de")];
-    assert_eq!(rt; written, [Ok(3), Err(Failed)]);
-    assert_eq!(rt; memory.bytes(), b"abc".as_slice());
-    assert_eq!(rt; Sink::failures(&memory), 1);
-    Ok(())
+// What two reads and two writes answer.
+type Answers = [Result<usize, Failed>; 2];
+
+fn two_reads<S: Source>(source: &mut S, buffer: &mut [u8; 2]) -> Answers {
+    [source.read_some(buffer), source.read_some(buffer)]
+}
+
+fn two_writes<S: Sink>(sink: &mut S, first: &[u8], second: &[u8]) -> Answers {
+    [sink.write_some(first), sink.write_some(second)]
+}
+
+// A memory that has room for so many bytes.
+fn memory_of(alloc: Global, room: usize) -> Result<Memory, Refusal> {
+    match Memory::with_room(alloc, room) {
+        Ok(memory) => Ok(memory),
+        Err(_) => Err(Refusal::NoMemory),
+    }
+}
+
+// What a memory of four bytes answers to two writes, how many failed, and whether it holds the first.
+fn written_to_four_bytes(alloc: Global) -> Result<(Answers, u64, bool), Refusal> {
+    let mut memory = memory_of(alloc, 4)?;
+    let answers = two_writes(&mut memory, b"abc", b"de");
+    let is_held = memory.bytes() == b"abc".as_slice();
+    Ok((answers, Sink::failures(&memory), is_held))
 }
 
 #[test]
-fn source_that_fails_once(rt: HostRuntime) -> Result<(), Fail> {
-    let mut source = FailAt::new(Memory::holding(rt.alloc(), b"abc")?, 2);
+fn memory_takes_what_it_has_room_for(rt: HostRuntime) {
+    let wanted = ([Ok(3), Err(Failed)], 1, true);
+    assert_eq!(rt; written_to_four_bytes(rt.alloc()), Ok(wanted));
+}
+
+// What two reads answer of which the second fails, and what the next one answers and what it leaves.
+type Reads = (Answers, Result<usize, Failed>, [u8; 2]);
+
+fn read_with_one_failure(alloc: Global) -> Result<Reads, Refusal> {
+    let Ok(memory) = Memory::holding(alloc, b"abc") else {
+        return Err(Refusal::NoMemory);
+    };
+    let mut source = FailAt::new(memory, 2);
     let mut buffer = [0; 2];
-    let read = [source.read_some(&mut buffer), source.read_some(&mut buffer)];
-    assert_eq!(rt; read, [Ok(2), Err(Failed)]);
-    assert_eq!(rt; source.read_some(&mut buffer), Ok(1));
-    assert_eq!(rt; buffer, *b"cb");
-    Ok(())
+    let answers = two_reads(&mut source, &mut buffer);
+    let last = source.read_some(&mut buffer);
+    Ok((answers, last, buffer))
 }
 
 #[test]
-fn sink_that_fails_once(rt: HostRuntime) -> Result<(), Fail> {
-    let mut sink = FailAt::new(Memory::with_room(rt.alloc(), 2)?, 1);
-    let written = [sink.write_some(b"a"), sink.write_some(b"b")];
-    assert_eq!(rt; written, [Err(Failed), Ok(1)]);
-    assert_eq!(rt; sink.inner().bytes(), b"b".as_slice());
-    Ok(())
+fn source_that_fails_once(rt: HostRuntime) {
+    let wanted = ([Ok(2), Err(Failed)], Ok(1), *b"cb");
+    assert_eq!(rt; read_with_one_failure(rt.alloc()), Ok(wanted));
+}
+
+// What two writes answer of which the first fails, and whether the second alone is held.
+fn written_with_one_failure(alloc: Global) -> Result<(Answers, bool), Refusal> {
+    let mut sink = FailAt::new(memory_of(alloc, 2)?, 1);
+    let answers = two_writes(&mut sink, b"a", b"b");
+    Ok((answers, sink.inner().bytes() == b"b".as_slice()))
+}
+
+#[test]
+fn sink_that_fails_once(rt: HostRuntime) {
+    let wanted = ([Err(Failed), Ok(1)], true);
+    assert_eq!(rt; written_with_one_failure(rt.alloc()), Ok(wanted));
 }
 
 // A reader and a writer that is interrupted at every other call, and otherwise moves one byte.
@@ -209,16 +261,20 @@ impl Write for Halting {
 }
 
 #[test]
-fn counts_failures(rt: HostRuntime) {
+fn counts_failed_reads(rt: HostRuntime) {
     let mut source = Counted::new(Halting { calls: 0 });
-    let mut buffer = [0; 2];
-    let read = [source.read_some(&mut buffer), source.read_some(&mut buffer)];
-    assert_eq!(rt; read, [Err(Failed), Ok(1)]);
-    assert_eq!(rt; Source::failures(&source), 1);
+    let read = two_reads(&mut source, &mut [0; 2]);
+    assert_eq!(rt;
+        (read, Source::failures(&source)),
+        ([Err(Failed), Ok(1)], 1)
+    );
+}
+
+#[test]
+fn counts_failed_writes(rt: HostRuntime) {
     let mut sink = Counted::new(Halting { calls: 0 });
-    let written = [sink.write_some(b"ab"), sink.write_some(b"ab")];
-    assert_eq!(rt; written, [Err(Failed), Ok(1)]);
-    assert_eq!(rt; Sink::failures(&sink), 1);
+    let written = two_writes(&mut sink, b"ab", b"ab");
+    assert_eq!(rt; (written, Sink::failures(&sink)), ([Err(Failed), Ok(1)], 1));
 }
 
 #[test]

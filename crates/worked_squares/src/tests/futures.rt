@@ -1,12 +1,15 @@
 //! Plans, paddings, futures and steps of squares.
 
+ghost use Rattle.std.specs.Prelude.{◌≡◌, IfOk};
+ghost use Rattle.squares.specs.Book.{IsKnown};
+
+use crate::tests::books::{book_of, rule_of, square_of, square_round};
 use crate::tests::places::cell_at;
 use hashlife_step::{Tally, future, pad, plan, step, trim};
 use plane::{CellSet, Refusal, reach};
 use rule_text::Rule;
-use squares::{Look, PlainBook, Squares, cells_to_square};
+use squares::{Look, PlainBook, Sq, Squares};
 use std::alloc::Global;
-use std::test::Fail;
 
 // A number of generations, and the exponents of its steps.
 const PLANS: [(u64, &[u8]); 6] = [
@@ -43,38 +46,46 @@ const PADDINGS: [(u8, u8, u8); 7] = [
     (63, 62, 65),
 ];
 
-// Pads a root of this level, which has one cell, and trims it again. Answers the levels after both.
-fn padded_and_trimmed(alloc: Global, level: u8, exponent: u8) -> Result<(u8, u8), Fail> {
-    let rule = Rule::read(b"B3/S23")?;
-    let mut book = PlainBook::new(alloc, rule, exponent);
-    let cell = book.leaf(1)?;
-    let empty = book.leaf(0)?;
-    let mut root = book.quad([empty, empty, empty, cell])?;
-    if level > 63 || exponent > 62 {
-        return Ok((0, 0));
+// A root that has one cell, of level 4 or of a level from 7 on.
+fn root_of<S: Squares>(book: &mut S, level: u8) -> Result<Sq, Refusal>
+    ensures { IfOk result (λ sq. IsKnown (S.book book.new) sq.level sq) }
+{
+    let root = square_of(book, [0, 0, 0, 1])?;
+    if level < 7 || level > 65 {
+        return Ok(root);
     }
-    if level > 6 {
-        root = pad(&mut book, root, level - 3)?;
+    pad(book, root, level - 3)
+}
+
+// Pads the root, and trims it again. Answers the levels after both.
+fn padded_and_trimmed<S: Squares>(book: &mut S, root: Sq, exponent: u8) -> Result<(u8, u8), Refusal>
+    requires { IsKnown (S.book book.old) root.level root }
+{
+    if root.level < 4 || root.level > 63 || exponent > 62 {
+        return Err(Refusal::OutOfRange);
     }
-    let padded = pad(&mut book, root, exponent)?;
-    let trimmed = trim(&mut book, padded)?;
+    let padded = pad(book, root, exponent)?;
+    let trimmed = trim(book, padded)?;
     Ok((padded.level, trimmed.level))
 }
 
+// The levels of a root of this level when it was padded, and when it was trimmed again.
+fn levels(alloc: Global, level: u8, exponent: u8) -> Result<(u8, u8), Refusal> {
+    let mut book = book_of(alloc, "B3/S23", exponent)?;
+    let root = root_of(&mut book, level)?;
+    padded_and_trimmed(&mut book, root, exponent)
+}
+
 #[test]
-fn levels_of_worked_paddings(rt: HostRuntime) -> Result<(), Fail> {
+fn levels_of_worked_paddings(rt: HostRuntime) {
     for (level, exponent, padded) in PADDINGS {
-        assert_eq!(rt;
-            padded_and_trimmed(rt.alloc(), level, exponent)?,
-            (padded, 4)
-        );
+        assert_eq!(rt; levels(rt.alloc(), level, exponent), Ok((padded, 4)));
     }
-    Ok(())
 }
 
 // A leaf, and the four leaves of the square of level 4 that has it in its middle: each corner of the
-// leaf, a glider, a row, and all cells.
-const SURROUNDED: [(u64, [u64; 4]); 7] = [
+// leaf, a glider, a row, all cells, and none.
+const SURROUNDED: [(u64, [u64; 4]); 8] = [
     (1, [1 << 36, 0, 0, 0]),
     (1 << 7, [0, 1 << 35, 0, 0]),
     (1 << 56, [0, 0, 1 << 28, 0]),
@@ -90,91 +101,99 @@ const SURROUNDED: [(u64, [u64; 4]); 7] = [
             0x0f0f0f0f,
         ],
     ),
+    (0, [0; 4]),
 ];
 
-// A leaf trimmed: its level, its number, and its four leaves if it has the level 4.
-fn trimmed_leaf(alloc: Global, word: u64) -> Result<(u8, u32, [u64; 4]), Fail> {
-    let mut book = PlainBook::new(alloc, Rule::read(b"B3/S23")?, 0);
+// The leaves of a square of level 4.
+fn leaves_of<L: Look>(book: &L, sq: Sq) -> [u64; 4]
+    requires { IsKnown (L.book book.now) 4 sq }
+{
+    let [nw, ne, sw, se] = book.parts(sq);
+    [book.bits(nw), book.bits(ne), book.bits(sw), book.bits(se)]
+}
+
+// A leaf trimmed: its level, whether its number is 0, and its four leaves if it has the level 4.
+fn trimmed_leaf(alloc: Global, word: u64) -> Result<(u8, bool, [u64; 4]), Refusal> {
+    let mut book = book_of(alloc, "B3/S23", 0)?;
     let leaf = book.leaf(word)?;
     let trimmed = trim(&mut book, leaf)?;
-    if trimmed.level != 4 {
-        return Ok((trimmed.level, trimmed.num.0, [0; 4]));
-    }
-    let [nw, ne, sw, se] = book.parts(trimmed);
-    let leaves = [book.bits(nw), book.bits(ne), book.bits(sw), book.bits(se)];
-    Ok((trimmed.level, trimmed.num.0, leaves))
+    let leaves = if trimmed.level == 4 {
+        leaves_of(&book, trimmed)
+    } else {
+        [0; 4]
+    };
+    Ok((trimmed.level, trimmed.num.0 == 0, leaves))
 }
 
 // A leaf's corner (0,0) comes to (4,4), so that its centre stays the centre.
 #[test]
-fn leaves_in_the_middle(rt: HostRuntime) -> Result<(), Fail> {
+fn leaves_in_the_middle(rt: HostRuntime) {
     for (word, leaves) in SURROUNDED {
-        let (level, _, parts) = trimmed_leaf(rt.alloc(), word)?;
-        assert_eq!(rt; (level, parts), (4, leaves));
+        assert_eq!(rt; trimmed_leaf(rt.alloc(), word), Ok((4, word == 0, leaves)));
     }
-    assert_eq!(rt; trimmed_leaf(rt.alloc(), 0)?, (4, 0, [0; 4]));
-    Ok(())
+}
+
+// The cells of the future of a square of level 4.
+fn future_bits(book: &mut PlainBook, sq: Sq, tally: &mut Tally) -> Result<u64, Refusal>
+    requires { IsKnown (⟦<PlainBook as Squares>⟧.book book.old) 4 sq }
+    ensures { IsKnown (⟦<PlainBook as Squares>⟧.book book.new) 4 sq }
+{
+    let result = future(book, sq, tally)?;
+    Ok(book.bits(result))
 }
 
 // The cells of the future of a square of level 4, and the tally after it was asked for once and twice.
-fn future_twice(
-    alloc: Global,
-    text: &str,
-    exponent: u8,
-    leaves: [u64; 4],
-) -> Result<(u64, u64, u64), Fail> {
-    let mut book = PlainBook::new(alloc, Rule::read(text.as_bytes())?, exponent);
-    let nw = book.leaf(leaves[0])?;
-    let ne = book.leaf(leaves[1])?;
-    let sw = book.leaf(leaves[2])?;
-    let se = book.leaf(leaves[3])?;
-    let sq = book.quad([nw, ne, sw, se])?;
+fn future_twice(alloc: Global, exponent: u8, leaves: [u64; 4]) -> Result<(u64, u64, u64), Refusal> {
+    let mut book = book_of(alloc, "B3/S23", exponent)?;
+    let sq = square_of(&mut book, leaves)?;
     let mut tally = Tally { expansions: 0 };
-    let _ = future(&mut book, sq, &mut tally)?;
+    future_bits(&mut book, sq, &mut tally)?;
     let once = tally.expansions;
-    let again = future(&mut book, sq, &mut tally)?;
-    Ok((book.bits(again), once, tally.expansions))
+    let again = future_bits(&mut book, sq, &mut tally)?;
+    Ok((again, once, tally.expansions))
 }
 
+const BLINKER: [u64; 4] = [0x8000000000000000, 0x0300000000000000, 0, 0];
+
+// An exponent, a square of level 4, and the cells of its future and the tally after each time.
+const FUTURES: [(u8, [u64; 4], (u64, u64, u64)); 5] = [
+    (0, BLINKER, (0x1010100000, 1, 1)),
+    (1, BLINKER, (0x38000000, 1, 1)),
+    (2, BLINKER, (0x38000000, 1, 1)),
+    (40, BLINKER, (0x38000000, 1, 1)),
+    (0, [0; 4], (0, 0, 0)),
+];
+
 #[test]
-fn futures_are_made_once(rt: HostRuntime) -> Result<(), Fail> {
-    let blinker = [0x8000000000000000, 0x0300000000000000, 0, 0];
-    for (exponent, cells) in [
-        (0, 0x1010100000),
-        (1, 0x38000000),
-        (2, 0x38000000),
-        (40, 0x38000000),
-    ] {
-        assert_eq!(rt;
-            future_twice(rt.alloc(), "B3/S23", exponent, blinker)?,
-            (cells, 1, 1)
-        );
+fn futures_are_made_once(rt: HostRuntime) {
+    for (exponent, leaves, wanted) in FUTURES {
+        assert_eq!(rt; future_twice(rt.alloc(), exponent, leaves), Ok(wanted));
     }
-    assert_eq!(rt; future_twice(rt.alloc(), "B3/S23", 0, [0; 4])?, (0, 0, 0));
-    Ok(())
+}
+
+// The root after a step of the book.
+fn stepped<S: Squares>(book: &mut S, root: Sq) -> Result<Sq, Refusal>
+    requires { IsKnown (S.book book.old) root.level root }
+{
+    if root.level < 4 || root.level > 60 || book.exponent() > 62 {
+        return Err(Refusal::OutOfRange);
+    }
+    step(book, root, &mut Tally { expansions: 0 })
 }
 
 // The level of the square round (0,0) of a glider that began right of and below (0,0), after a step.
-fn level_of_stepped_glider(alloc: Global, exponent: u8) -> Result<u8, Fail> {
-    let mut book = PlainBook::new(alloc, Rule::read(b"B3/S23")?, exponent);
-    let glider = book.leaf(0x70402)?;
-    let empty = book.leaf(0)?;
-    let root = book.quad([empty, empty, empty, glider])?;
-    if exponent > 62 {
-        return Ok(0);
-    }
-    let mut tally = Tally { expansions: 0 };
-    let next = step(&mut book, root, &mut tally)?;
-    Ok(next.level)
+fn level_of_stepped_glider(alloc: Global, exponent: u8) -> Result<u8, Refusal> {
+    let mut book = book_of(alloc, "B3/S23", exponent)?;
+    let root = square_of(&mut book, [0, 0, 0, 0x70402])?;
+    Ok(stepped(&mut book, root)?.level)
 }
 
 // A glider goes one cell right and down in four generations.
 #[test]
-fn a_glider_goes_far(rt: HostRuntime) -> Result<(), Fail> {
+fn a_glider_goes_far(rt: HostRuntime) {
     for (exponent, level) in [(0, 4), (4, 4), (5, 5), (6, 6), (40, 40), (62, 62)] {
-        assert_eq!(rt; level_of_stepped_glider(rt.alloc(), exponent)?, level);
+        assert_eq!(rt; level_of_stepped_glider(rt.alloc(), exponent), Ok(level));
     }
-    Ok(())
 }
 
 // About a quarter of the cells of a square of 8 by 8 at (-4, -4), by a linear congruential generator.
@@ -197,41 +216,46 @@ fn next(alloc: Global, cells: &CellSet, rule: &Rule) -> Result<CellSet, Refusal>
     cells.next(alloc, rule)
 }
 
-// Whether a step gives the square of the cells that single generations give.
-fn steps_agree(alloc: Global, text: &str, exponent: u8, mut cells: CellSet) -> Result<bool, Fail> {
-    let rule = Rule::read(text.as_bytes())?;
-    let mut book = PlainBook::new(alloc, rule, exponent);
-    let root = cells_to_square(alloc, &mut book, &cells)?;
-    if exponent > 6 || root.level > 60 {
-        return Ok(false);
-    }
-    let stepped = step(&mut book, root, &mut Tally { expansions: 0 })?;
-    for _ in 0..1u64 << exponent {
+// The cells after so many single generations.
+fn later(
+    alloc: Global,
+    mut cells: CellSet,
+    text: &str,
+    generations: u64,
+) -> Result<CellSet, Refusal> {
+    let rule = rule_of(text)?;
+    for _ in 0..generations {
         cells = next(alloc, &cells, &rule)?;
     }
-    Ok(cells_to_square(alloc, &mut book, &cells)? == stepped)
+    Ok(cells)
 }
 
-// Rules of the three neighbourhoods, and exponents.
-const SOUPS: [(&str, u8); 8] = [
-    ("B3/S23", 0),
-    ("B3/S23", 3),
-    ("B3/S23", 6),
-    ("B2/S34H", 1),
-    ("B2/S34H", 4),
-    ("B13/S024V", 2),
-    ("B13/S024V", 4),
-    ("B1357/S1357", 3),
+// Whether a step of a soup gives the square of the cells that single generations give.
+fn step_agrees(alloc: Global, text: &str, exponent: u8, generations: u64) -> Result<bool, Refusal> {
+    let cells = soup(alloc, u32::from(exponent))?;
+    let mut book = book_of(alloc, text, exponent)?;
+    let root = square_round(alloc, &mut book, &cells)?;
+    let root = stepped(&mut book, root)?;
+    let cells = later(alloc, cells, text, generations)?;
+    Ok(square_round(alloc, &mut book, &cells)? == root)
+}
+
+// Rules of the three neighbourhoods, and exponents with their powers of two.
+const SOUPS: [(&str, u8, u64); 8] = [
+    ("B3/S23", 0, 1),
+    ("B3/S23", 3, 8),
+    ("B3/S23", 6, 64),
+    ("B2/S34H", 1, 2),
+    ("B2/S34H", 4, 16),
+    ("B13/S024V", 2, 4),
+    ("B13/S024V", 4, 16),
+    ("B1357/S1357", 3, 8),
 ];
 
 #[test]
-fn steps_of_soups(rt: HostRuntime) -> Result<(), Fail> {
-    for (text, exponent) in SOUPS {
-        let cells = soup(rt.alloc(), u32::from(exponent))?;
-        assert!(rt;
-            steps_agree(rt.alloc(), text, exponent, cells)?,
-            "{text}, {exponent}"
-        );
+fn steps_of_soups(rt: HostRuntime) {
+    for (text, exponent, generations) in SOUPS {
+        let agrees = step_agrees(rt.alloc(), text, exponent, generations);
+        assert_eq!(rt; (text, exponent, agrees), (text, exponent, Ok(true)));
     }
-    Ok(())
 }

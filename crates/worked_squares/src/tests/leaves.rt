@@ -1,60 +1,76 @@
 //! The middles of squares of 16 by 16 cells, also beside a reckoning that goes cell by cell.
 
+use crate::tests::books::rule_of;
 use leaf_kernels::{centre16, next_rows, result16};
+use plane::Refusal;
 use rule_text::Rule;
 use std::simd::prelude::*;
-use std::test::Fail;
 
 // Three live cells in a row in the middle of a square, and one live cell right of and below the middle.
 const BLINKER: [u64; 4] = [0x8000000000000000, 0x0300000000000000, 0, 0];
 
 const ONE_CELL: [u64; 4] = [0, 0, 0, 1];
 
-// A rule's text, a square, and its centre after one, two and four generations, or after the first of these.
-const RESULTS: [(&str, [u64; 4], &[u64]); 6] = [
-    ("B3/S23", [0; 4], &[0, 0, 0]),
-    ("B2/S34H", [0; 4], &[0, 0, 0]),
-    ("B13/S024V", [0; 4], &[0, 0, 0]),
-    ("B3/S23", BLINKER, &[0x1010100000, 0x38000000, 0x38000000]),
-    ("B1/SV", ONE_CELL, &[0x102810000000]),
-    ("B1/SH", ONE_CELL, &[0x302818000000]),
+// A rule's text, a square, and its centre after one, two and four generations.
+const RESULTS: [(&str, [u64; 4], [u64; 3]); 6] = [
+    ("B3/S23", [0; 4], [0, 0, 0]),
+    ("B2/S34H", [0; 4], [0, 0, 0]),
+    ("B13/S024V", [0; 4], [0, 0, 0]),
+    ("B3/S23", BLINKER, [0x1010100000, 0x38000000, 0x38000000]),
+    (
+        "B1/SV",
+        ONE_CELL,
+        [0x102810000000, 0x10004400100000, 0x100000010],
+    ),
+    (
+        "B1/SH",
+        ONE_CELL,
+        [0x302818000000, 0x50004400140000, 0x100000011],
+    ),
 ];
 
+fn results16(rule: &Rule, leaves: [u64; 4]) -> [u64; 3] {
+    [
+        result16(rule, leaves, 0),
+        result16(rule, leaves, 1),
+        result16(rule, leaves, 2),
+    ]
+}
+
+// The centres by the rule that the text says.
+fn results(text: &str, leaves: [u64; 4]) -> Result<[u64; 3], Refusal> {
+    Ok(results16(&rule_of(text)?, leaves))
+}
+
 #[test]
-fn results_of_worked_squares(rt: HostRuntime) -> Result<(), Fail> {
+fn results_of_worked_squares(rt: HostRuntime) {
     for (text, leaves, centres) in RESULTS {
-        let rule = Rule::read(text.as_bytes())?;
-        for exp in 0..3 {
-            if let Some(centre) = centres.get(exp as usize) {
-                assert_eq!(rt; result16(&rule, leaves, exp), *centre, "by {text}");
-            }
-        }
+        assert_eq!(rt; (text, results(text, leaves)), (text, Ok(centres)));
     }
-    Ok(())
 }
 
 #[test]
 fn centres_of_worked_squares(rt: HostRuntime) {
-    assert_eq!(rt; centre16(BLINKER), 0x38000000);
-    assert_eq!(rt; centre16(ONE_CELL), 0x1000000000);
-    assert_eq!(rt; centre16([0; 4]), 0);
+    assert_eq!(rt;
+        [centre16(BLINKER), centre16(ONE_CELL), centre16([0; 4])],
+        [0x38000000, 0x1000000000, 0]
+    );
+}
+
+// The rows that follow on this row above empty ones.
+fn next_of(row: u16) -> Result<[u16; 16], Refusal> {
+    let mut rows = [0; 16];
+    rows[0] = row;
+    let rule = rule_of("B2/S")?;
+    Ok(next_rows(&rule, u16x16::from_array(rows)).to_array())
 }
 
 // Two cells beside each other make two cells that stand across them, also at an edge.
 #[test]
-fn next_rows_at_an_edge(rt: HostRuntime) -> Result<(), Fail> {
-    let rule = Rule::read(b"B2/S")?;
-    let mut rows = [0; 16];
-    rows[0] = 0b11;
-    let mut next = [0; 16];
-    next[1] = 0b11;
-    assert_eq!(rt; next_rows(&rule, u16x16::from_array(rows)).to_array(), next);
-    rows[0] = 0x8001;
-    assert_eq!(rt;
-        next_rows(&rule, u16x16::from_array(rows)).to_array(),
-        [0; 16]
-    );
-    Ok(())
+fn next_rows_at_an_edge(rt: HostRuntime) {
+    let next = [0, 0b11, 0, 0, 0, 0, 0, 0, 0, 0, 0, 0, 0, 0, 0, 0];
+    assert_eq!(rt; next_of(0b11), Ok(next));
+    assert_eq!(rt; next_of(0x8001), Ok([0; 16]));
 }
 
 // A square, cell by cell: cell (x, y) stands at 16y + x.
@@ -117,41 +133,51 @@ fn next_number(state: &mut u64) -> u64 {
     *state ^ (*state >> 29)
 }
 
-const TEXTS: [&str; 3] = ["B3/S23", "B13/S024V", "B2/S34H"];
+fn next_leaves(state: &mut u64) -> [u64; 4] {
+    [
+        next_number(state),
+        next_number(state),
+        next_number(state),
+        next_number(state),
+    ]
+}
 
-#[test]
-fn results_of_many_squares_cell_by_cell(rt: HostRuntime) -> Result<(), Fail> {
-    for text in TEXTS {
-        let rule = Rule::read(text.as_bytes())?;
-        let mut state = 1;
-        for _ in 0..10000 {
-            let leaves = [
-                next_number(&mut state),
-                next_number(&mut state),
-                next_number(&mut state),
-                next_number(&mut state),
-            ];
-            let mut cells = cells_of(leaves);
-            assert_eq!(rt; centre16(leaves), centre_of_cells(&cells));
-            cells = next_cells(&rule, &cells);
-            assert_eq!(rt;
-                result16(&rule, leaves, 0),
-                centre_of_cells(&cells),
-                "by {text}"
-            );
-            cells = next_cells(&rule, &cells);
-            assert_eq!(rt;
-                result16(&rule, leaves, 1),
-                centre_of_cells(&cells),
-                "by {text}"
-            );
-            cells = next_cells(&rule, &next_cells(&rule, &cells));
-            assert_eq!(rt;
-                result16(&rule, leaves, 2),
-                centre_of_cells(&cells),
-                "by {text}"
-            );
+// The centre of a square now, and after one, two and four generations.
+type Centres = (u64, [u64; 3]);
+
+fn centres_by_rows(rule: &Rule, leaves: [u64; 4]) -> Centres {
+    (centre16(leaves), results16(rule, leaves))
+}
+
+fn centres_by_cells(rule: &Rule, leaves: [u64; 4]) -> Centres {
+    let now = cells_of(leaves);
+    let one = next_cells(rule, &now);
+    let two = next_cells(rule, &one);
+    let four = next_cells(rule, &next_cells(rule, &two));
+    let results = [
+        centre_of_cells(&one),
+        centre_of_cells(&two),
+        centre_of_cells(&four),
+    ];
+    (centre_of_cells(&now), results)
+}
+
+// The first of so many squares whose centres differ.
+fn first_difference(text: &str, rounds: u32) -> Result<Option<[u64; 4]>, Refusal> {
+    let rule = rule_of(text)?;
+    let mut state = 1;
+    for _ in 0..rounds {
+        let leaves = next_leaves(&mut state);
+        if centres_by_rows(&rule, leaves) != centres_by_cells(&rule, leaves) {
+            return Ok(Some(leaves));
         }
     }
-    Ok(())
+    Ok(None)
+}
+
+#[test]
+fn results_of_many_squares_cell_by_cell(rt: HostRuntime) {
+    for text in ["B3/S23", "B13/S024V", "B2/S34H"] {
+        assert_eq!(rt; (text, first_difference(text, 10000)), (text, Ok(None)));
+    }
 }

@@ -1,11 +1,9 @@
 //! Squares and their numbers, from cells, runs and leaves.
 
+use crate::tests::books::{book_of, square_of, square_round};
 use crate::tests::places::{Place, cells_at};
 use plane::{Cell, Refusal};
-use rule_text::Rule;
-use squares::{
-    Num, PlainBook, Sq, Squares, cells_to_square, centre, copy_square, nine, runs_to_square,
-};
+use squares::{Num, PlainBook, Sq, Squares, centre, copy_square, nine, runs_to_square};
 use std::alloc::Global;
 use std::test::Fail;
 
@@ -20,43 +18,40 @@ const GLIDER_RUNS: [(Cell, u64); 3] = [
 
 const GLIDER_BITS: u64 = 0x7_0402;
 
-fn life_book(alloc: Global) -> Result<PlainBook, Fail> {
-    Ok(PlainBook::new(alloc, Rule::read(b"B3/S23")?, 2))
+fn life_book(alloc: Global) -> Result<PlainBook, Refusal> {
+    book_of(alloc, "B3/S23", 2)
 }
 
-// The square of level 4 with these leaves.
-fn square_of(book: &mut PlainBook, words: [u64; 4]) -> Result<Sq, Refusal> {
-    let [nw, ne, sw, se] = words;
-    let nw = book.leaf(nw)?;
-    let ne = book.leaf(ne)?;
-    let sw = book.leaf(sw)?;
-    let se = book.leaf(se)?;
-    book.quad([nw, ne, sw, se])
-}
-
-// The glider's square, by its cells or by its runs; once more if memory ran out.
-fn glider(alloc: Global, book: &mut PlainBook, by_cells: bool) -> Result<Sq, Refusal> {
-    if !by_cells {
-        return match runs_to_square(alloc, book, &GLIDER_RUNS) {
-            Err(Refusal::NoMemory) => runs_to_square(alloc, book, &GLIDER_RUNS),
-            made => made,
-        };
-    }
-    let cells = cells_at(alloc, &GLIDER)?;
-    match cells_to_square(alloc, book, &cells) {
-        Err(Refusal::NoMemory) => cells_to_square(alloc, book, &cells),
+// The glider's square by its runs; once more if memory ran out.
+fn glider_of_runs<S: Squares>(alloc: Global, book: &mut S) -> Result<Sq, Refusal> {
+    match runs_to_square(alloc, book, &GLIDER_RUNS) {
+        Err(Refusal::NoMemory) => runs_to_square(alloc, book, &GLIDER_RUNS),
         made => made,
     }
 }
 
+// The glider's square by its cells; once more if memory ran out.
+fn glider_of_cells<S: Squares>(alloc: Global, book: &mut S) -> Result<Sq, Refusal> {
+    let cells = cells_at(alloc, &GLIDER)?;
+    match square_round(alloc, book, &cells) {
+        Err(Refusal::NoMemory) => square_round(alloc, book, &cells),
+        made => made,
+    }
+}
+
+// The glider's squares by its runs, by its cells and by its leaf.
+fn gliders(alloc: Global) -> Result<[Sq; 3], Refusal> {
+    let mut book = life_book(alloc)?;
+    let of_runs = glider_of_runs(alloc, &mut book)?;
+    let of_cells = glider_of_cells(alloc, &mut book)?;
+    let square = square_of(&mut book, [0, 0, 0, GLIDER_BITS])?;
+    Ok([of_runs, of_cells, square])
+}
+
 #[test]
 fn cells_and_runs_make_one_square(rt: HostRuntime) -> Result<(), Fail> {
-    let mut book = life_book(rt.alloc())?;
-    let by_runs = glider(rt.alloc(), &mut book, false)?;
-    let by_cells = glider(rt.alloc(), &mut book, true)?;
-    let square = square_of(&mut book, [0, 0, 0, GLIDER_BITS])?;
-    assert_eq!(rt; by_runs, square);
-    assert_eq!(rt; by_cells, square);
+    let squares = gliders(rt.alloc())?;
+    assert_eq!(rt; squares, [squares[2]; 3]);
     Ok(())
 }
 
@@ -78,15 +73,21 @@ const LEVELS: [(Cell, u64, u8); 7] = [
 #[test]
 fn levels_of_runs(rt: HostRuntime) -> Result<(), Fail> {
     let mut book = life_book(rt.alloc())?;
-    let none = Sq {
-        level: 4,
-        num: Num(0),
-    };
-    assert_eq!(rt; runs_to_square(rt.alloc(), &mut book, &[])?, none);
     for (cell, count, level) in LEVELS {
         let square = runs_to_square(rt.alloc(), &mut book, &[(cell, count)])?;
         assert_eq!(rt; square.level, level);
     }
+    Ok(())
+}
+
+#[test]
+fn no_runs_make_the_empty_square(rt: HostRuntime) -> Result<(), Fail> {
+    let mut book = life_book(rt.alloc())?;
+    let none = Sq {
+        level: 4,
+        num: Num(0),
+    };
+    assert_eq!(rt; runs_to_square(rt.alloc(), &mut book, &[]), Ok(none));
     Ok(())
 }
 
@@ -100,13 +101,13 @@ const ROUND_THE_CENTRE: [(Cell, u64); 5] = [
 ];
 
 // Its nine squares and its centre.
-fn inner_squares(alloc: Global, book: &mut PlainBook) -> Result<Option<([Sq; 9], Sq)>, Refusal> {
+fn inner_squares(alloc: Global, book: &mut PlainBook) -> Result<([Sq; 9], Sq), Refusal> {
     let whole = runs_to_square(alloc, book, &ROUND_THE_CENTRE)?;
     if whole.level != 5 {
-        return Ok(None);
+        return Err(Refusal::OutOfRange);
     }
     let middle = centre(book, whole)?;
-    Ok(Some((nine(book, whole)?, middle)))
+    Ok((nine(book, whole)?, middle))
 }
 
 // The leaves of the nine squares.
@@ -122,31 +123,47 @@ const NINE: [[u64; 4]; 9] = [
     [4, 0, 0, 0],
 ];
 
+fn squares_of_nine<S: Squares>(book: &mut S) -> Result<[Sq; 9], Refusal> {
+    let none = Sq {
+        level: 4,
+        num: Num(0),
+    };
+    let mut squares = [none; 9];
+    for place in 0..9usize {
+        squares[place] = square_of(book, NINE[place])?;
+    }
+    Ok(squares)
+}
+
+// The nine squares and the centre, and the squares that they have to be.
+fn inner_and_wanted(alloc: Global) -> Result<([Sq; 9], Sq, [Sq; 9]), Refusal> {
+    let mut book = life_book(alloc)?;
+    let (squares, middle) = inner_squares(alloc, &mut book)?;
+    Ok((squares, middle, squares_of_nine(&mut book)?))
+}
+
 #[test]
 fn nine_squares_and_the_centre(rt: HostRuntime) -> Result<(), Fail> {
-    let mut book = life_book(rt.alloc())?;
-    let inner = inner_squares(rt.alloc(), &mut book)?;
-    let (squares, middle) = inner.expect(&rt, "a square of level 5");
-    for (square, leaves) in squares.iter().zip(NINE) {
-        assert_eq!(rt; *square, square_of(&mut book, leaves)?);
-    }
-    assert_eq!(rt; middle, squares[4]);
+    let (squares, middle, wanted) = inner_and_wanted(rt.alloc())?;
+    assert_eq!(rt; (squares, middle), (wanted, wanted[4]));
     Ok(())
 }
 
-// The glider's square, made in one book and copied into another that has other squares.
-fn copied(alloc: Global, from: &mut PlainBook, to: &mut PlainBook) -> Result<Sq, Refusal> {
-    square_of(to, [5, 6, 7, 8])?;
-    let square = runs_to_square(alloc, from, &GLIDER_RUNS)?;
-    copy_square(alloc, from, square, to)
+// The glider's square, made in one book and copied into another that has other squares, and the
+// glider's square that the other makes.
+fn copied(alloc: Global) -> Result<(Sq, Sq), Refusal> {
+    let mut from = life_book(alloc)?;
+    let mut to = life_book(alloc)?;
+    square_of(&mut to, [5, 6, 7, 8])?;
+    let square = square_of(&mut from, [0, 0, 0, GLIDER_BITS])?;
+    let copy = copy_square(alloc, &from, square, &mut to)?;
+    Ok((copy, square_of(&mut to, [0, 0, 0, GLIDER_BITS])?))
 }
 
 #[test]
 fn a_copy_in_another_book(rt: HostRuntime) -> Result<(), Fail> {
-    let mut from = life_book(rt.alloc())?;
-    let mut to = life_book(rt.alloc())?;
-    let copy = copied(rt.alloc(), &mut from, &mut to)?;
-    assert_eq!(rt; copy, square_of(&mut to, [0, 0, 0, GLIDER_BITS])?);
+    let (copy, square) = copied(rt.alloc())?;
+    assert_eq!(rt; copy, square);
     Ok(())
 }
 

@@ -3,8 +3,8 @@
 ghost use Rattle.std.specs.Prelude.{◌≡◌};
 ghost use Rattle.table_core.specs.Events.{index_of};
 
-use rule_text::Rule;
-use std::process::Abort;
+use crate::tests::books::rule_of;
+use plane::Refusal;
 use table_core::{
     Event, Key, Kind, LARGEST_PAIR_COUNT, SHARD_LEN, Shape, pair_word, parts, result_word, step,
 };
@@ -26,27 +26,19 @@ const PLACES: [(Kind, u64, u32, u32, u32); 8] = [
     (Kind::Pair, 1, 200, 576, 833),
 ];
 
-fn look(desk: usize, index: u32) -> Event
-    ensures { index_of result ≡ index }
-{
+fn look(desk: usize, index: u32) -> Event {
     Event::Look { desk, index }
 }
 
-fn claim(desk: usize, index: u32, word: u64) -> Event
-    ensures { index_of result ≡ index }
-{
+fn claim(desk: usize, index: u32, word: u64) -> Event {
     Event::Claim { desk, index, word }
 }
 
-fn ask(desk: usize, index: u32) -> Event
-    ensures { index_of result ≡ index }
-{
+fn ask(desk: usize, index: u32) -> Event {
     Event::Ask { desk, index }
 }
 
-fn tell(desk: usize, index: u32, number: u32) -> Event
-    ensures { index_of result ≡ index }
-{
+fn tell(desk: usize, index: u32, number: u32) -> Event {
     Event::Tell {
         desk,
         index,
@@ -54,26 +46,48 @@ fn tell(desk: usize, index: u32, number: u32) -> Event
     }
 }
 
-fn shape_of(rt: &impl Abort, pairs: u32) -> Shape {
-    assert!(rt; Shape::is_pair_count(pairs));
-    Shape::new(pairs)
+fn shape_of(pairs: u32) -> Option<Shape> {
+    if Shape::is_pair_count(pairs) {
+        Some(Shape::new(pairs))
+    } else {
+        None
+    }
+}
+
+// The slot at this place of the word's way in the smallest table, and its index.
+fn slot_and_index(kind: Kind, word: u64, place: u32) -> Option<(u32, u32)> {
+    let shape = shape_of(PAIRS)?;
+    if place >= SHARD_LEN {
+        return None;
+    }
+    let slot = shape.way(kind, word, place);
+    Some((slot, shape.index(kind, slot)))
 }
 
 #[test]
 fn words_have_their_slots_and_indices(rt: HostRuntime) {
-    let shape = shape_of(&rt, PAIRS);
     for (kind, word, place, slot, index) in PLACES {
-        assert!(rt; place < SHARD_LEN);
-        let found = shape.way(kind, word, place);
-        assert_eq!(rt; found, slot, "word {word}, place {place}");
-        assert_eq!(rt; shape.index(kind, found), index, "slot {slot}");
+        assert_eq!(rt; slot_and_index(kind, word, place), Some((slot, index)));
     }
+}
+
+// In the smallest table the index of a pair's result, and how many words there are.
+fn result_index_and_word_count() -> Option<(u32, u32)> {
+    let shape = shape_of(PAIRS)?;
     let pair = shape.way_index(Kind::Pair, 1, 200);
-    assert_eq!(rt; shape.result_index(pair), 1857);
-    assert_eq!(rt; shape.word_count(), 2305);
-    let largest = shape_of(&rt, LARGEST_PAIR_COUNT);
-    assert_eq!(rt; largest.first(Kind::Leaf, 1), 41_475_558);
-    assert_eq!(rt; largest.first(Kind::Pair, 1), 165_902_235);
+    Some((shape.result_index(pair), shape.word_count()))
+}
+
+// In the largest table the first slots of the leaf and of the pair of word 1.
+fn first_slots_of_largest() -> Option<(u32, u32)> {
+    let shape = shape_of(LARGEST_PAIR_COUNT)?;
+    Some((shape.first(Kind::Leaf, 1), shape.first(Kind::Pair, 1)))
+}
+
+#[test]
+fn smallest_and_largest_table(rt: HostRuntime) {
+    assert_eq!(rt; result_index_and_word_count(), Some((1857, 2305)));
+    assert_eq!(rt; first_slots_of_largest(), Some((41_475_558, 165_902_235)));
 }
 
 #[test]
@@ -91,22 +105,34 @@ fn a_table_has_a_power_of_two_of_pair_slots(rt: HostRuntime) {
         (536_870_912, false),
         (u32::MAX, false),
     ] {
-        assert_eq!(rt; Shape::is_pair_count(pairs), is, "at {pairs}");
+        assert_eq!(rt; (pairs, Shape::is_pair_count(pairs)), (pairs, is));
     }
+}
+
+// The head of the smallest table for the rule and exponent 5.
+fn head_by(text: &str) -> Option<u64> {
+    let Ok(rule) = rule_of(text) else {
+        return None;
+    };
+    let key = Key {
+        shape: shape_of(PAIRS)?,
+        rule,
+        exponent: 5,
+    };
+    Some(key.head())
 }
 
 #[test]
 fn words_are_spelled(rt: HostRuntime) {
-    let key = Key {
-        shape: shape_of(&rt, PAIRS),
-        rule: Rule::read(b"B3/S23").expect(&rt, "a rule"),
-        exponent: 5,
-    };
-    assert_eq!(rt; key.head(), 5_249_032);
-    assert_eq!(rt; pair_word(3, 5), 0x3_0000_0005);
-    assert_eq!(rt; parts(0x3_0000_0005), (3, 5));
-    assert_eq!(rt; result_word(0), 0x1_0000_0000);
-    assert_eq!(rt; parts(result_word(159)), (1, 159));
+    assert_eq!(rt; head_by("B3/S23"), Some(5_249_032));
+    assert_eq!(rt;
+        (pair_word(3, 5), result_word(0)),
+        (0x3_0000_0005, 0x1_0000_0000)
+    );
+    assert_eq!(rt;
+        (parts(0x3_0000_0005), parts(result_word(159))),
+        ((3, 5), (1, 159))
+    );
 }
 
 fn index_in(event: Event) -> usize
@@ -116,6 +142,19 @@ fn index_in(event: Event) -> usize
         Event::Look { index, .. } | Event::Ask { index, .. } => index as usize,
         Event::Claim { index, .. } | Event::Tell { index, .. } => index as usize,
     }
+}
+
+// The word that the event finds, if its index is one of the table's.
+fn found_by(words: &mut [u64; WORDS], event: Event) -> Option<u64> {
+    if index_in(event) < WORDS {
+        Some(step(words, event))
+    } else {
+        None
+    }
+}
+
+fn count_written(words: &[u64; WORDS]) -> usize {
+    words.iter().filter(|word| **word != 0).count()
 }
 
 #[test]
@@ -139,14 +178,12 @@ fn steps_of_two_desks(rt: HostRuntime) {
         (ask(0, 1857), 0x1_0000_0000),
         (look(0, 160), 0),
     ] {
-        assert!(rt; index_in(event) < words.len());
-        assert_eq!(rt; step(&mut words, event), found, "{event:?}");
+        assert_eq!(rt; (event, found_by(&mut words, event)), (event, Some(found)));
     }
     assert_eq!(rt;
-        (words[159], words[833], words[1857]),
-        (1, 0x9F_0000_0000, 0x1_0000_0000)
+        (words[159], words[833], words[1857], count_written(&words)),
+        (1, 0x9F_0000_0000, 0x1_0000_0000, 3)
     );
-    assert_eq!(rt; words.iter().filter(|word| **word != 0).count(), 3);
 }
 
 // The one shard of leaves as a plain list: a word stands in the first slot from its own on that is
@@ -165,41 +202,56 @@ fn number_in_shard(shard: &mut [u64; 256], word: u64) -> Option<usize> {
     None
 }
 
+// What two desks find, one after the other.
+type Found = (Option<u64>, Option<u64>);
+
 // Two desks number the word of a leaf, each step of the one followed by the same step of the other.
+// Answers what they found where it is not what they have to find.
 fn numbered_by_two(
-    rt: &impl Abort,
     shape: Shape,
     words: &mut [u64; WORDS],
     word: u64,
-) -> Option<usize> {
+) -> Result<Option<usize>, Found> {
     for place in 0..SHARD_LEN {
         let index = shape.way_index(Kind::Leaf, word, place);
-        assert!(rt; (index as usize) < WORDS);
-        let found = step(words, look(0, index));
-        assert_eq!(rt; step(words, look(1, index)), found);
-        if found == 0 {
-            assert_eq!(rt; step(words, claim(0, index, word)), 0);
+        let mut found = (
+            found_by(words, look(0, index)),
+            found_by(words, look(1, index)),
+        );
+        if found == (Some(0), Some(0)) {
+            found = (
+                found_by(words, claim(0, index, word)),
+                found_by(words, claim(1, index, word)),
+            );
             // The second claim is lost to the first, and finds the word.
-            assert_eq!(rt; step(words, claim(1, index, word)), word);
-            return Some(index as usize);
+            return if found == (Some(0), Some(word)) {
+                Ok(Some(index as usize))
+            } else {
+                Err(found)
+            };
         }
-        if found == word {
-            return Some(index as usize);
+        if found == (Some(word), Some(word)) {
+            return Ok(Some(index as usize));
+        }
+        if found.0 != found.1 {
+            return Err(found);
         }
     }
-    None
+    Ok(None)
 }
 
 #[test]
 fn a_full_shard_gives_each_word_one_number(rt: HostRuntime) {
-    let shape = shape_of(&rt, PAIRS);
+    let shape = Shape::new(PAIRS);
     let mut words = [0; WORDS];
     let mut shard = [0; 256];
     // A word that is sought again has its old number, and one too many has none.
     for word in (1..=257).chain(1..=257) {
         let expected = number_in_shard(&mut shard, word);
-        let number = numbered_by_two(&rt, shape, &mut words, word);
-        assert_eq!(rt; number, expected, "word {word}");
-        assert_eq!(rt; number.is_none(), word == 257);
+        let number = numbered_by_two(shape, &mut words, word);
+        assert_eq!(rt;
+            (word, number, expected.is_none()),
+            (word, Ok(expected), word == 257)
+        );
     }
 }

@@ -3,22 +3,13 @@
 ghost use Rattle.std.specs.Prelude.{◌≤◌, IfOk};
 ghost use Rattle.squares.specs.Book.{IsKnown};
 
+use crate::tests::books::{book_of, square_round};
 use crate::tests::places::{Place, cells_at};
 use plane::{Bounds, FailAt, Memory, Refusal, Sink, Window};
-use rule_text::Rule;
-use squares::{PlainBook, Sq, Squares, cells_to_square};
+use squares::{Look, PlainBook, Sq, Squares};
 use std::alloc::Global;
 use std::test::Fail;
 use viewport::{bounds, first_row, picture, population, row_runs};
-
-// What a square shows, with the runs of one row and the first live row from there on.
-#[derive(Drop)]
-struct Views {
-    population: u128,
-    bounds: Option<Bounds>,
-    runs: Vec<(i64, u64)>,
-    first_row: Option<i64>,
-}
 
 // The square of this level that has the leaf everywhere.
 fn shared<S: Squares>(book: &mut S, word: u64, level: u8) -> Result<Sq, Refusal>
@@ -34,94 +25,120 @@ fn shared<S: Squares>(book: &mut S, word: u64, level: u8) -> Result<Sq, Refusal>
 }
 
 fn empty_book(alloc: Global) -> Result<PlainBook, Refusal> {
-    let Ok(rule) = Rule::read(b"B3/S23") else {
-        return Err(Refusal::BadRule);
-    };
-    Ok(PlainBook::new(alloc, rule, 0))
+    book_of(alloc, "B3/S23", 0)
 }
 
-fn look_at(alloc: Global, word: u64, level: u8, y: i64) -> Result<Views, Refusal>
-    requires low { 3 ≤ level }
-    requires high { level ≤ 63 }
+// The square of a level from 3 to 63 that has the leaf everywhere.
+fn filled<S: Squares>(book: &mut S, word: u64, level: u8) -> Result<Sq, Refusal>
+    ensures known { IfOk result (λ sq. IsKnown (S.book book.new) sq.level sq) }
+    ensures level { IfOk result (λ sq. sq.level ≤ 63) }
 {
-    let mut book = empty_book(alloc)?;
-    let sq = shared(&mut book, word, level)?;
-    Ok(Views {
-        population: population(&book, alloc, sq)?,
-        bounds: bounds(&book, alloc, sq)?,
-        runs: row_runs(&book, alloc, sq, y)?,
-        first_row: first_row(&book, sq, y),
-    })
+    if level < 3 || level > 63 {
+        return Err(Refusal::OutOfRange);
+    }
+    shared(book, word, level)
 }
 
-fn box_of(left: i64, top: i64, right: i64, bottom: i64) -> Option<Bounds> {
-    Some(Bounds {
-        left,
-        top,
-        right,
-        bottom,
-    })
+fn sides_of(bounds: Bounds) -> [i64; 4] {
+    [bounds.left, bounds.top, bounds.right, bounds.bottom]
+}
+
+// How many cells the square has, and the sides of their box.
+fn size_of(alloc: Global, word: u64, level: u8) -> Result<(u128, Option<[i64; 4]>), Refusal> {
+    let mut book = empty_book(alloc)?;
+    let sq = filled(&mut book, word, level)?;
+    let count = population(&book, alloc, sq)?;
+    let sides = match bounds(&book, alloc, sq)? {
+        Some(bounds) => Some(sides_of(bounds)),
+        None => None,
+    };
+    Ok((count, sides))
 }
 
 const FULL: u64 = u64::MAX;
 
-// A leaf, the level of the square that has it everywhere, and how many cells that has; a row, its
-// runs, and the first live row from it on.
-const ROWS: [(u64, u8, u128, i64, &[(i64, u64)], Option<i64>); 9] = [
-    (0, 3, 0, 0, &[], None),
-    (0, 63, 0, -1, &[], None),
-    (1, 3, 1, -4, &[(-4, 1)], Some(-4)),
-    (1, 4, 4, 0, &[(-8, 1), (0, 1)], Some(0)),
-    (1, 4, 4, -7, &[], Some(0)),
-    (1, 4, 4, 1, &[], None),
-    // Cells 1, 2, 4, 5 and 6 of the third row.
-    (0x76 << 16, 3, 5, -2, &[(-3, 2), (0, 3)], Some(-2)),
-    // Both ends of the first row: two of them touch in the middle.
-    (0x81, 4, 8, -8, &[(-8, 1), (-1, 2), (7, 1)], Some(-8)),
-    (FULL, 5, 1024, 15, &[(-16, 32)], Some(15)),
+const LOW: i64 = -4611686018427387904;
+
+const HIGH: i64 = 4611686018427387903;
+
+// A leaf, the level of the square that has it everywhere, how many cells that has, and the sides of
+// their box. The last is the largest square, 2^63 cells on each side.
+const SIZES: [(u64, u8, u128, Option<[i64; 4]>); 9] = [
+    (0, 3, 0, None),
+    (0, 4, 0, None),
+    (0, 63, 0, None),
+    (1, 3, 1, Some([-4, -4, -4, -4])),
+    (1, 4, 4, Some([-8, -8, 0, 0])),
+    (0x76 << 16, 3, 5, Some([-3, -2, 2, -2])),
+    (0x81, 4, 8, Some([-8, -8, 7, 0])),
+    (FULL, 5, 1024, Some([-16, -16, 15, 15])),
+    (
+        FULL,
+        63,
+        85070591730234615865843651857942052864,
+        Some([LOW, LOW, HIGH, HIGH]),
+    ),
 ];
 
 #[test]
-fn populations_and_rows(rt: HostRuntime) -> Result<(), Fail> {
-    for (word, level, count, y, runs, row) in ROWS {
-        assert!(rt; level >= 3 && level <= 63);
-        let seen = look_at(rt.alloc(), word, level, y)?;
-        assert_eq!(rt; seen.population, count);
-        assert_eq!(rt; seen.runs.as_slice(), runs);
-        assert_eq!(rt; seen.first_row, row);
+fn populations_and_boxes(rt: HostRuntime) {
+    for (word, level, count, sides) in SIZES {
+        assert_eq!(rt; size_of(rt.alloc(), word, level), Ok((count, sides)));
+    }
+}
+
+// The runs of a row, and the first live row from it on.
+fn row_of(
+    alloc: Global,
+    word: u64,
+    level: u8,
+    y: i64,
+) -> Result<(Vec<(i64, u64)>, Option<i64>), Refusal> {
+    let mut book = empty_book(alloc)?;
+    let sq = filled(&mut book, word, level)?;
+    Ok((row_runs(&book, alloc, sq, y)?, first_row(&book, sq, y)))
+}
+
+// A leaf, the level of the square that has it everywhere, a row, its runs, and the first live row
+// from it on.
+const ROWS: [(u64, u8, i64, &[(i64, u64)], Option<i64>); 9] = [
+    (0, 3, 0, &[], None),
+    (0, 63, -1, &[], None),
+    (1, 3, -4, &[(-4, 1)], Some(-4)),
+    (1, 4, 0, &[(-8, 1), (0, 1)], Some(0)),
+    (1, 4, -7, &[], Some(0)),
+    (1, 4, 1, &[], None),
+    // Cells 1, 2, 4, 5 and 6 of the third row.
+    (0x76 << 16, 3, -2, &[(-3, 2), (0, 3)], Some(-2)),
+    // Both ends of the first row: two of them touch in the middle.
+    (0x81, 4, -8, &[(-8, 1), (-1, 2), (7, 1)], Some(-8)),
+    (FULL, 5, 15, &[(-16, 32)], Some(15)),
+];
+
+#[test]
+fn rows(rt: HostRuntime) -> Result<(), Fail> {
+    for (word, level, y, runs, first) in ROWS {
+        let row = row_of(rt.alloc(), word, level, y)?;
+        assert_eq!(rt; (row.0.as_slice(), row.1), (runs, first));
     }
     Ok(())
 }
 
-#[test]
-fn boxes(rt: HostRuntime) -> Result<(), Fail> {
-    assert_eq!(rt; look_at(rt.alloc(), 0, 4, 0)?.bounds, None);
-    assert_eq!(rt; look_at(rt.alloc(), 1, 4, 0)?.bounds, box_of(-8, -8, 0, 0));
-    assert_eq!(rt;
-        look_at(rt.alloc(), 0x76 << 16, 3, 0)?.bounds,
-        box_of(-3, -2, 2, -2)
-    );
-    assert_eq!(rt;
-        look_at(rt.alloc(), FULL, 5, 0)?.bounds,
-        box_of(-16, -16, 15, 15)
-    );
-    Ok(())
+// The first live row of the largest square, from far above it, from its last row and from far below.
+fn first_rows_of_largest(alloc: Global) -> Result<[Option<i64>; 3], Refusal> {
+    let mut book = empty_book(alloc)?;
+    let sq = filled(&mut book, FULL, 63)?;
+    Ok([
+        first_row(&book, sq, i64::MIN),
+        first_row(&book, sq, HIGH),
+        first_row(&book, sq, i64::MAX),
+    ])
 }
 
-// The whole of the largest square: 2^63 cells on each side.
 #[test]
-fn largest_square(rt: HostRuntime) -> Result<(), Fail> {
-    let mut book = empty_book(rt.alloc())?;
-    let sq = shared(&mut book, FULL, 63)?;
-    let count = population(&book, rt.alloc(), sq)?;
-    assert_eq!(rt; count, 85070591730234615865843651857942052864);
-    let sides = bounds(&book, rt.alloc(), sq)?;
-    let (low, high) = (-4611686018427387904, 4611686018427387903);
-    assert_eq!(rt; sides, box_of(low, low, high, high));
-    assert_eq!(rt; first_row(&book, sq, i64::MIN), Some(low));
-    assert_eq!(rt; first_row(&book, sq, high), Some(high));
-    assert_eq!(rt; first_row(&book, sq, i64::MAX), None);
-    Ok(())
+fn first_rows_of_the_largest_square(rt: HostRuntime) {
+    let wanted = [Some(LOW), Some(HIGH), None];
+    assert_eq!(rt; first_rows_of_largest(rt.alloc()), Ok(wanted));
 }
 
 // The first row and column of a window, and how many columns and rows it has.
@@ -129,6 +146,22 @@ type Sides = (i64, i64, u32, u32);
 
 fn window_of(sides: Sides) -> Result<Window, Refusal> {
     Window::new(sides.0, sides.1, sides.2, sides.3)
+}
+
+// Draws the windows one after another.
+fn draw_windows<L: Look, W: Sink>(
+    book: &L,
+    sq: Sq,
+    windows: &[Sides],
+    sink: &mut W,
+) -> Result<(), Refusal>
+    requires known { IsKnown (L.book book.now) sq.level sq }
+    requires level { sq.level ≤ 63 }
+{
+    for sides in windows {
+        picture(book, sq, &window_of(*sides)?, sink)?;
+    }
+    Ok(())
 }
 
 // Draws the cells into the sink.
@@ -140,11 +173,11 @@ fn draw<W: Sink>(
 ) -> Result<(), Refusal> {
     let cells = cells_at(alloc, places)?;
     let mut book = empty_book(alloc)?;
-    let sq = cells_to_square(alloc, &mut book, &cells)?;
+    let sq = square_round(alloc, &mut book, &cells)?;
     if sq.level > 63 {
         return Err(Refusal::OutOfRange);
     }
-    picture(&book, sq, &window_of(sides)?, sink)
+    draw_windows(&book, sq, &[sides], sink)
 }
 
 // A blinker that stands, and five cells on both sides of (0,0), some at the corners of the square of
@@ -170,11 +203,18 @@ const PICTURES: [(&[Place], Sides, &str); 11] = [
     (&SPREAD, (FAR, -FAR, 1, 2), ".\n.\n"),
 ];
 
+fn drawing_of(alloc: Global, places: &[Place], sides: Sides) -> Result<Memory, Refusal> {
+    let Ok(mut drawn) = Memory::with_room(alloc, 100) else {
+        return Err(Refusal::NoMemory);
+    };
+    draw(alloc, places, sides, &mut drawn)?;
+    Ok(drawn)
+}
+
 #[test]
 fn pictures(rt: HostRuntime) -> Result<(), Fail> {
     for (places, sides, text) in PICTURES {
-        let mut drawn = Memory::with_room(rt.alloc(), 100)?;
-        draw(rt.alloc(), places, sides, &mut drawn)?;
+        let drawn = drawing_of(rt.alloc(), places, sides)?;
         assert_eq!(rt; drawn.bytes(), text.as_bytes());
     }
     Ok(())
@@ -184,23 +224,48 @@ fn pictures(rt: HostRuntime) -> Result<(), Fail> {
 fn picture_that_is_not_taken(rt: HostRuntime) -> Result<(), Fail> {
     let mut drawn = FailAt::new(Memory::with_room(rt.alloc(), 100)?, 2);
     let outcome = draw(rt.alloc(), &BLINKER, (0, -1, 3, 3), &mut drawn);
-    assert_eq!(rt; outcome, Err(Refusal::WriteFailed));
-    assert_eq!(rt; drawn.inner().bytes(), b".*.\n".as_slice());
+    assert_eq!(rt;
+        (outcome, drawn.inner().bytes()),
+        (Err(Refusal::WriteFailed), b".*.\n".as_slice())
+    );
     Ok(())
 }
 
-// The corners of the largest square, which is full, and the widest window.
-#[test]
-fn pictures_of_the_largest_square(rt: HostRuntime) -> Result<(), Fail> {
-    let mut book = empty_book(rt.alloc())?;
+// Draws windows of the largest square, which is full.
+fn draw_largest<W: Sink>(alloc: Global, windows: &[Sides], sink: &mut W) -> Result<(), Refusal> {
+    let mut book = empty_book(alloc)?;
     let sq = shared(&mut book, FULL, 63)?;
+    draw_windows(&book, sq, windows, sink)
+}
+
+// Two corners, and the widest window.
+const CORNERS: [Sides; 2] = [(-FAR, -FAR, 2, 1), (FAR - 1, FAR - 2, 2, 3)];
+
+const WIDE: [Sides; 1] = [(-1000, -1, 1024, 2)];
+
+fn count_live(bytes: &[u8]) -> usize {
+    bytes.iter().filter(|byte| **byte == b'*').count()
+}
+
+#[test]
+fn corners_of_the_largest_square(rt: HostRuntime) -> Result<(), Fail> {
+    let mut drawn = Memory::with_room(rt.alloc(), 100)?;
+    let outcome = draw_largest(rt.alloc(), &CORNERS, &mut drawn);
+    assert_eq!(rt;
+        (outcome, drawn.bytes()),
+        (Ok(()), b"**\n*.\n*.\n..\n".as_slice())
+    );
+    Ok(())
+}
+
+#[test]
+fn widest_window(rt: HostRuntime) -> Result<(), Fail> {
     let mut drawn = Memory::with_room(rt.alloc(), 3000)?;
-    picture(&book, sq, &window_of((-FAR, -FAR, 2, 1))?, &mut drawn)?;
-    picture(&book, sq, &window_of((FAR - 1, FAR - 2, 2, 3))?, &mut drawn)?;
-    assert_eq!(rt; drawn.bytes(), b"**\n*.\n*.\n..\n".as_slice());
-    picture(&book, sq, &window_of((-1000, -1, 1024, 2))?, &mut drawn)?;
-    assert_eq!(rt; drawn.bytes().len(), 12 + 2 * 1025);
-    let live = drawn.bytes().iter().filter(|byte| **byte == b'*');
-    assert_eq!(rt; live.count(), 4 + 2 * 1024);
+    let outcome = draw_largest(rt.alloc(), &WIDE, &mut drawn);
+    let bytes = drawn.bytes();
+    assert_eq!(rt;
+        (outcome, bytes.len(), count_live(bytes)),
+        (Ok(()), 2 * 1025, 2 * 1024)
+    );
     Ok(())
 }

@@ -1,0 +1,43 @@
+//! Rules, books and squares that several examples begin with.
+
+ghost use Rattle.std.specs.Prelude.{◌≡◌, IfOk};
+ghost use Rattle.squares.specs.Book.{IsKnown};
+
+use plane::{CellSet, Refusal};
+use rule_text::Rule;
+use squares::{PlainBook, Sq, Squares, cells_to_square};
+use std::alloc::Global;
+
+pub(crate) fn rule_of(text: &str) -> Result<Rule, Refusal> {
+    match Rule::read(text.as_bytes()) {
+        Ok(rule) => Ok(rule),
+        Err(_) => Err(Refusal::BadRule),
+    }
+}
+
+pub(crate) fn book_of(alloc: Global, text: &str, exponent: u8) -> Result<PlainBook, Refusal> {
+    Ok(PlainBook::new(alloc, rule_of(text)?, exponent))
+}
+
+/// The square of level 4 with these leaves.
+pub(crate) fn square_of<S: Squares>(book: &mut S, words: [u64; 4]) -> Result<Sq, Refusal>
+    ensures { IfOk result (IsKnown (S.book book.new) 4) }
+{
+    let [nw, ne, sw, se] = words;
+    let nw = book.leaf(nw)?;
+    let ne = book.leaf(ne)?;
+    let sw = book.leaf(sw)?;
+    let se = book.leaf(se)?;
+    book.quad([nw, ne, sw, se])
+}
+
+/// The square of the cells round (0,0).
+pub(crate) fn square_round<S: Squares>(
+    alloc: Global,
+    book: &mut S,
+    cells: &CellSet,
+) -> Result<Sq, Refusal>
+    ensures { IfOk result (λ sq. IsKnown (S.book book.new) sq.level sq) }
+{
+    cells_to_square(alloc, book, cells)
+}
