@@ -1,4 +1,4 @@
-use Rattle.std.proofs.Common.{◌≡◌, ◌≢◌, ◌<◌, ◌^◌, ◌++◌, ◌∷◌, [], subst, sym, ap, ◌∙◌, rules, None, suc, length, refl, List}
+use Rattle.std.proofs.Common.{◌≡◌, ◌≢◌, ◌<◌, ◌^◌, ◌++◌, ◌∷◌, [], subst, sym, ap, ◌∙◌, rules, None, Some, suc, length, refl, List}
 use Rattle.std.specs.BTreeMap.{get}
 use Rattle.std.specs.Ordering.{nat_cmp}
 use Rattle.std.proofs.lemmas.List.{length-map}
@@ -8,8 +8,9 @@ use Rattle.squares.specs.declared.node.Record.{Record}
 use Rattle.squares.specs.Book.{IsBook, Keeps, KeepsResults}
 use Rattle.squares.specs.Nodes.{nodes_of, plain_book, quarters_order, AreFutures, HasNumbers, IsGood}
 use Rattle.squares.proofs.Kept.{keeps_none}
+use Rattle.squares.proofs.NodeLists.{not_zero}
 use Rattle.squares.proofs.NumberMaps.{numbers_same, refused, numbers_added, numbers_kept, leaves_apart, no_inner, not_there, inserted}
-use Rattle.squares.proofs.PlainLaws.{book_good, nodes_pushed}
+use Rattle.squares.proofs.PlainLaws.{book_good, leaf_shows, nodes_pushed}
 use Rattle.squares.proofs.Pushed.{good_pushed, popped, pushed_futures, pushed_keeps, pushed_results}
 use Rattle.squares.proofs.plain_book.PlainBookSquares.leaf.Goals as goal
 
@@ -81,3 +82,11 @@ pub returns-clause-results : goal.returns-clause-results
 returns-clause-results c =
     let at = c.args.self.now in
     subst (λ items. KeepsResults (plain_book at.rule at.exponent at.records.items) (plain_book at.rule at.exponent items)) (sym c.in_ok-num.ensures.ok) (pushed_results at.rule at.exponent at.records.items (Leaf c.args.word) at.good)
+
+pub returns-in-Some-clause-ok : goal.returns-in-Some-clause-ok
+returns-in-Some-clause-ok c =
+    let at = c.args.self.now in
+    let num = c.in-Some.num.now in
+    let found : get nat_cmp at.leaves c.args.word ≡ Some num = search rules in
+    let there = at.leaves_listed.found c.args.word num found in
+    leaf_shows at.rule at.exponent at.records.items num.0 c.args.word at.good (not_zero (nodes_of at.records.items) num.0 _ there) there
