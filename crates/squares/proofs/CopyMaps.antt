@@ -2,6 +2,7 @@
 use Rattle.std.proofs.Common.{◌≡◌, ℕ, ◌+◌, ◌-◌, ◌^◌, ◌<◌, List, [], ◌∷◌, sym, ◌∙◌, ap, subst, arith, refl}
 use Rattle.std.specs.Prelude.{IsTrue, Some, None, Result, Ok, Err, OnOk, OnErr}
 use Rattle.std.specs.BTreeMap.{BTreeMap, get, is_at, Updates, IsUnchanged}
+use Rattle.std.specs.List.{AllByRecursion}
 use Rattle.std.specs.Map.{lookup}
 use Rattle.std.specs.Ordering.{nat_cmp, is_eq}
 use Rattle.std.proofs.lemmas.Map.Lookups.{CmpEqualImpliesEq, exact_unsigned}
@@ -17,6 +18,7 @@ use Rattle.squares.specs.declared.sq.Num.{Num}
 use Rattle.squares.specs.declared.sq.Sq.{Sq}
 use Rattle.squares.proofs.Centres.{shows_as}
 use Rattle.squares.proofs.Kept.{shows_kept}
+use Rattle.squares.proofs.KnownQuarters.{quarters_of_level}
 use Rattle.squares.proofs.NumberMaps.{both_equal, equal_from, by_cases}
 
 pub exact_sq : CmpEqualImpliesEq sq_order
@@ -79,6 +81,13 @@ quad_copied from to new level plane parts nw ne sw se copy above square is is_nw
     (copied_part from to (level - 1) _ (nth parts 0) nw is.nw is_nw) (copied_part from to (level - 1) _ (nth parts 1) ne is.ne is_ne)
     (copied_part from to (level - 1) _ (nth parts 2) sw is.sw is_sw) (copied_part from to (level - 1) _ (nth parts 3) se is.se is_se) in
     shows_as new (level - 1 + 1) level _ plane copy (omega arith) same (subst (λ n. Shows new (n + 1) (joined_squares to n (nw ∷ ne ∷ sw ∷ se ∷ [])) copy) low made)
+
+-- the copies of the quarters are known squares of one level
+pub copies_known : (from to : Book) (level : ℕ) (plane : Plane) (parts : List Sq) (nw ne sw se : Sq) → AreQuarters from level plane parts →
+    IsKnown to (nth parts 0).level nw → IsKnown to (nth parts 1).level ne → IsKnown to (nth parts 2).level sw → IsKnown to (nth parts 3).level se → AllByRecursion (IsKnown to nw.level) (nw ∷ ne ∷ sw ∷ se ∷ [])
+copies_known from to level plane parts nw ne sw se is k0 k1 k2 k3 =
+    quarters_of_level to (level - 1) nw ne sw se (subst (λ n. IsKnown to n nw) is.nw.known.at_level k0) (subst (λ n. IsKnown to n ne) is.ne.known.at_level k1)
+    (subst (λ n. IsKnown to n sw) is.sw.known.at_level k2) (subst (λ n. IsKnown to n se) is.se.known.at_level k3)
 
 -- what is noted of a copy
 pub noted_copies : (from to : Book) (old new : BTreeMap Sq Num) (sq copy : Sq) (r : Result Sq Refusal) → OnOk r (Updates sq_order old new sq (Some copy.num)) → OnErr r (IsUnchanged old new) →

@@ -1,30 +1,25 @@
 -- The nine overlapping squares, put together of quarters of quarters.
 use Rattle.std.proofs.Common.{◌≡◌, ℕ, zero, suc, ◌+◌, ◌-◌, ◌*◌, ◌^◌, ◌<◌, List, [], ◌∷◌, sym, ap, subst, arith, refl}
+use Rattle.std.specs.List.{AllByRecursion}
 use Rattle.plane.specs.Plane.{Plane}
 use Rattle.plane.specs.Square.{IsSame, cut, ninth}
 use Rattle.plane.proofs.Ninths.{nw_ninth, ne_ninth, sw_ninth, se_ninth, upper_ninth, left_ninth, middle_ninth, right_ninth, lower_ninth}
 use Rattle.plane.proofs.Same.{plane_equal}
-use Rattle.squares.specs.Book.{Book, Shows, Keeps, AreQuarters, AreNinths, joined_squares, nth}
+use Rattle.squares.specs.Book.{Book, IsKnown, Shows, Keeps, AreQuarters, AreNinths, joined_squares, nth}
+use Rattle.squares.specs.Parts.{ArePartsOfParts}
 use Rattle.squares.specs.declared.sq.Sq.{Sq}
+use Rattle.squares.proofs.KnownQuarters.{quarters_of_level}
 use Rattle.squares.proofs.Kept.{keeps_trans, shows_kept}
 use Rattle.squares.proofs.Centres.{lowered, shows_as}
 
 quarters_kept : {a b : Book} {level : ℕ} {plane : Plane} {quarters : List Sq} → Keeps a b → AreQuarters a level plane quarters → AreQuarters b level plane quarters
 quarters_kept keeps h = record { nw = shows_kept keeps h.nw; ne = shows_kept keeps h.ne; sw = shows_kept keeps h.sw; se = shows_kept keeps h.se }
 
--- the quarters of a square and their quarters
-pub record Read (book : Book) (level : ℕ) (plane : Plane) (q a b c d : List Sq) : Type 0 where
-  pub whole : AreQuarters book level plane q
-  pub nw : AreQuarters book (level - 1) (book.cells (nth q 0)) a
-  pub ne : AreQuarters book (level - 1) (book.cells (nth q 1)) b
-  pub sw : AreQuarters book (level - 1) (book.cells (nth q 2)) c
-  pub se : AreQuarters book (level - 1) (book.cells (nth q 3)) d
-
 -- quarters of a square that was read earlier
 later : (old new : Book) (level : ℕ) (plane : Plane) (sq : Sq) (quarters : List Sq) → Keeps old new → Shows old level plane sq → AreQuarters new level (old.cells sq) quarters → AreQuarters new level (new.cells sq) quarters
 later old new level plane sq quarters keeps known h = subst (λ p. AreQuarters new level p quarters) (sym (plane_equal _ _ (keeps.cells sq known.known.known))) h
 
-pub read_kept : {old new : Book} {level : ℕ} {plane : Plane} {q a b c d : List Sq} → Keeps old new → Read old level plane q a b c d → Read new level plane q a b c d
+pub read_kept : {old new : Book} {level : ℕ} {plane : Plane} {q a b c d : List Sq} → Keeps old new → ArePartsOfParts old level plane q a b c d → ArePartsOfParts new level plane q a b c d
 read_kept {old = old} {new = new} {level = level} {q = q} {a = a} {b = b} {c = c} {d = d} keeps r = record {
   whole = quarters_kept keeps r.whole;
   nw = later old new (level - 1) _ (nth q 0) a keeps r.whole.nw (quarters_kept keeps r.nw);
@@ -40,7 +35,7 @@ pub read_all : (level : ℕ) (b1 b2 b3 b4 b5 : Book) (plane : Plane) (q a b c d 
     Keeps b2 b3 → AreQuarters b3 (nth q 1).level (b2.cells (nth q 1)) b →
     Keeps b3 b4 → AreQuarters b4 (nth q 2).level (b3.cells (nth q 2)) c →
     Keeps b4 b5 → AreQuarters b5 (nth q 3).level (b4.cells (nth q 3)) d →
-    Read b5 level plane q a b c d
+    ArePartsOfParts b5 level plane q a b c d
 read_all level b1 b2 b3 b4 b5 plane q a b c d all k2 in_a k3 in_b k4 in_c k5 in_d =
     let a2 = lowered b2 _ (level - 1) _ a all.nw.known.at_level in_a in
     let b3q = lowered b3 _ (level - 1) _ b all.ne.known.at_level in_b in
@@ -60,7 +55,7 @@ read_all level b1 b2 b3 b4 b5 plane q a b c d all k2 in_a k3 in_b k4 in_c k5 in_
       se = later b4 b5 (level - 1) _ (nth q 3) d k5 (shows_kept k14 all.se) d5;
     }
 
-module _ (book : Book) (level : ℕ) (plane : Plane) (q a b c d : List Sq) (above : 4 < level) (r : Read book level plane q a b c d) where
+module _ (book : Book) (level : ℕ) (plane : Plane) (q a b c d : List Sq) (above : 4 < level) (r : ArePartsOfParts book level plane q a b c d) where
   side_is : 2 ^ (level - 1 - 1) ≡ 2 ^ (level - 2)
   side_is = ap (λ n. 2 ^ n) (let e : level - 1 - 1 ≡ level - 2 = omega arith in e)
 
@@ -69,6 +64,21 @@ module _ (book : Book) (level : ℕ) (plane : Plane) (q a b c d : List Sq) (abov
   joined_at row column quarters same new sq e shown =
       let here = subst (λ n. Shows new (n + 1) (joined_squares book n quarters) sq) e shown in
       shows_as new (level - 1 - 1 + 1) (level - 1) _ _ sq (omega arith) same here
+
+  pub upper_known : AllByRecursion (IsKnown book (nth a 1).level) (nth a 1 ∷ nth b 0 ∷ nth a 3 ∷ nth b 2 ∷ [])
+  upper_known = quarters_of_level book (level - 1 - 1) (nth a 1) (nth b 0) (nth a 3) (nth b 2) r.nw.ne.known r.ne.nw.known r.nw.se.known r.ne.sw.known
+
+  pub left_known : AllByRecursion (IsKnown book (nth a 2).level) (nth a 2 ∷ nth a 3 ∷ nth c 0 ∷ nth c 1 ∷ [])
+  left_known = quarters_of_level book (level - 1 - 1) (nth a 2) (nth a 3) (nth c 0) (nth c 1) r.nw.sw.known r.nw.se.known r.sw.nw.known r.sw.ne.known
+
+  pub middle_known : AllByRecursion (IsKnown book (nth a 3).level) (nth a 3 ∷ nth b 2 ∷ nth c 1 ∷ nth d 0 ∷ [])
+  middle_known = quarters_of_level book (level - 1 - 1) (nth a 3) (nth b 2) (nth c 1) (nth d 0) r.nw.se.known r.ne.sw.known r.sw.ne.known r.se.nw.known
+
+  pub right_known : AllByRecursion (IsKnown book (nth b 2).level) (nth b 2 ∷ nth b 3 ∷ nth d 0 ∷ nth d 1 ∷ [])
+  right_known = quarters_of_level book (level - 1 - 1) (nth b 2) (nth b 3) (nth d 0) (nth d 1) r.ne.sw.known r.ne.se.known r.se.nw.known r.se.ne.known
+
+  pub lower_known : AllByRecursion (IsKnown book (nth c 1).level) (nth c 1 ∷ nth d 0 ∷ nth c 3 ∷ nth d 2 ∷ [])
+  lower_known = quarters_of_level book (level - 1 - 1) (nth c 1) (nth d 0) (nth c 3) (nth d 2) r.sw.ne.known r.se.nw.known r.sw.se.known r.se.sw.known
 
   pub upper_shown : (new : Book) (sq : Sq) → let quarters = nth a 1 ∷ nth b 0 ∷ nth a 3 ∷ nth b 2 ∷ [] in
       Shows new ((nth quarters 0).level + 1) (joined_squares book (nth quarters 0).level quarters) sq → Shows new (level - 1) (ninth level 0 1 plane) sq

@@ -5,17 +5,17 @@ use Rattle.std.proofs.lemmas.Bool.{le-leb, false≢true}
 use Rattle.std.proofs.lemmas.List.{map-append}
 use Rattle.rule_text.specs.CountRule.{CountRule, IsRule}
 use Rattle.plane.specs.Plane.{Plane}
-use Rattle.plane.specs.Square.{IsSame, IsSquare, cut, empty}
+use Rattle.plane.specs.Square.{IsSame, IsSquare, bits_plane, cut, empty}
 use Rattle.plane.proofs.Cuts.{cut_same, cut_empty}
-use Rattle.plane.proofs.Same.{same_sym, same_trans}
+use Rattle.plane.proofs.Same.{same_refl, same_sym, same_trans}
 use Rattle.squares.specs.Book.{IsBook, IsKnown, Shows, IsEmpty, IsFuture, Keeps, AreQuarters, numbered}
 use Rattle.squares.specs.declared.node.Node.{Node}
-use Rattle.squares.specs.declared.node.Node.TheVariants.{Inner}
+use Rattle.squares.specs.declared.node.Node.TheVariants.{Inner, Leaf}
 use Rattle.squares.specs.declared.node.Quarters.{Quarters}
 use Rattle.squares.specs.declared.node.Record.{Record}
 use Rattle.squares.specs.declared.sq.Num.{Num}
 use Rattle.squares.specs.declared.sq.Sq.{Sq}
-use Rattle.squares.specs.Nodes.{nodes_of, node_at, level_of, knows_number, plane_at, plain_book, results_from, AreFutures, IsGood}
+use Rattle.squares.specs.Nodes.{nodes_of, node_at, level_of, knows_number, leaf_plane, plane_at, plain_book, results_from, AreFutures, IsGood}
 use Rattle.squares.proofs.NodeLaws.{plane_square, zero_plane, one_number, all_joined, node_is, at_nw, at_ne, at_sw, at_se}
 use Rattle.squares.proofs.NodeLists.{known_later, node_known, plane_later, level_at, levels, at_height}
 use Rattle.squares.proofs.RecordLists.{kept_of, results_once, node_of_record, future_of_record}
@@ -34,6 +34,13 @@ same_sq a b e n = λ i. record { level = e i; num = record { 0 = n i } }
 -- a number of good nodes is a known square
 pub is_known : (rule : CountRule) (exponent : ℕ) (records : List Record) → IsGood (nodes_of records) → (level n : ℕ) → IsTrue (knows_number (nodes_of records) level n) → IsKnown (plain_book rule exponent records) level (numbered level n)
 is_known rule exponent records good level n h = let k = levels (nodes_of records) good level n h in record { known = h; at_level = refl; low = k.0; high = k.1 }
+
+-- a node of a leaf shows its cells
+pub leaf_shows : (rule : CountRule) (exponent : ℕ) (records : List Record) (n word : ℕ) → IsGood (nodes_of records) → n ≢ 0 → node_at (nodes_of records) n ≡ Some (Leaf word) → Shows (plain_book rule exponent records) 3 (bits_plane word) (numbered 3 n)
+leaf_shows rule exponent records n word good some at = record {
+  known = is_known rule exponent records good 3 n (node_known (nodes_of records) 3 n (Leaf word) some at refl);
+  cells = subst (λ o. IsSame (leaf_plane o) (bits_plane word)) (sym at) (same_refl (bits_plane word));
+}
 
 some_from : (o : Option Num) → is_some o ≡ true → (num : Num) × (o ≡ Some num)
 some_from None e = absurd (false≢true e)

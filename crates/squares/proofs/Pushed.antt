@@ -1,6 +1,7 @@
 -- A book with one node more.
-use Rattle.std.proofs.Common.{◌≡◌, ◌≢◌, ℕ, suc, ◌-◌, ◌^◌, ◌<◌, List, [], ◌∷◌, ◌++◌, sym, ◌∙◌, ap, subst, arith, refl, ⊎_elim}
+use Rattle.std.proofs.Common.{◌≡◌, ◌≢◌, ℕ, suc, ◌-◌, ◌^◌, ◌<◌, List, [], ◌∷◌, ◌++◌, length, take, sym, ◌∙◌, ap, subst, arith, refl, ⊎_elim}
 use Rattle.std.specs.Prelude.{Some, None, slice_get, Contains}
+use Rattle.std.proofs.lemmas.List.{take_at}
 use Rattle.rule_text.specs.CountRule.{CountRule}
 use Rattle.squares.specs.Book.{IsFuture, Keeps, KeepsResults, numbered}
 use Rattle.squares.specs.declared.node.Node.{Node}
@@ -36,6 +37,12 @@ good_pushed nodes last new leaf inner h = record {
       (λ t. ⊎_elim (λ u. absurd (new m (u ∙ ap (λ x. Some x) (sym t.1)))) (λ u. t.0 ∙ sym u.0) (node_snoc nodes last node m at_m))
       (node_snoc nodes last node n at_n);
 }
+
+-- what is left when the last record is taken off again
+pub popped : (records : List Record) (last : Record) (pushed rest : List Record) (number len : ℕ) → pushed ≡ records ++ last ∷ [] → number ≡ suc (length records) → len ≡ number → rest ≡ take (len - 1) pushed → rest ≡ records
+popped records last pushed rest number len items is size taken =
+    let before : length records ≡ number - 1 = omega arith in
+    taken ∙ ap (λ n. take (n - 1) pushed) size ∙ ap (take (number - 1)) items ∙ take_at records _ (number - 1) before
 
 fresh : Node → Record
 fresh node = record { node = node; future = None }

@@ -5,7 +5,7 @@ ghost use Rattle.squares.specs.Quarters.{quarters_of};
 use crate::sq::{Num, Sq};
 
 /// The level of a square and the numbers of its quarters.
-#[derive(Clone, Copy, Debug, PartialEq, Eq, PartialOrd, Ord)]
+#[derive(Clone, Copy, PartialEq, Eq, PartialOrd, Ord)]
 pub struct Quarters {
     pub level: u8,
     pub nw: Num,
@@ -39,14 +39,14 @@ impl Quarters {
 }
 
 /// What a number other than 0 stands for: the cells of a leaf, or the quarters of a larger square.
-#[derive(Clone, Copy, Debug)]
+#[derive(Clone, Copy)]
 pub enum Node {
     Leaf(u64),
     Inner(Quarters),
 }
 
 /// A node, and the number of its result once that is known.
-#[derive(Clone, Copy, Debug)]
+#[derive(Clone, Copy)]
 pub struct Record {
     pub node: Node,
     pub future: Option<Num>,

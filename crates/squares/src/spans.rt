@@ -8,7 +8,7 @@ use std::alloc::Global;
 
 /// Live cells of one row of a square, from the first up to the end, which is not one of them. Rows
 /// and cells are counted from the square's upper left corner.
-#[derive(Clone, Copy, Debug, PartialEq, Eq)]
+#[derive(Clone, Copy)]
 pub struct Span {
     pub row: u64,
     pub first: u64,

@@ -1,6 +1,7 @@
 ghost use Rattle.std.specs.Prelude.{◌-◌, ◌<◌, IfOk, IfErr};
 ghost use Rattle.squares.specs.Book.{AreNinths, IsKnown, Shows, Keeps, KeepsResults, MayRefuse};
 ghost use Rattle.plane.specs.Square.{centre_of};
+ghost use Rattle.squares.specs.Parts.{ArePartsOfParts};
 
 use crate::book::Squares;
 use crate::sq::Sq;
@@ -24,6 +25,38 @@ pub fn centre<S: Squares>(book: &mut S, sq: Sq) -> Result<Sq, Refusal>
     book.quad([a, b, c, d])
 }
 
+// The quarters of a square, and the quarters of each.
+#[derive(Clone, Copy)]
+struct Parts {
+    whole: [Sq; 4],
+    nw: [Sq; 4],
+    ne: [Sq; 4],
+    sw: [Sq; 4],
+    se: [Sq; 4],
+}
+
+// Reads the quarters of a square above level 4, and the quarters of each.
+fn read_twice<S: Squares>(book: &mut S, sq: Sq) -> Parts
+    requires known { IsKnown (S.book book.old) sq.level sq }
+    requires level { 4 < sq.level }
+    ensures value { ArePartsOfParts (S.book book.new) sq.level ((S.book book.old).cells sq) result.whole result.nw result.ne result.sw result.se }
+    ensures keeps { Keeps (S.book book.old) (S.book book.new) }
+    ensures results { KeepsResults (S.book book.old) (S.book book.new) }
+{
+    let whole = book.read_parts(sq);
+    let nw = book.read_parts(whole[0]);
+    let ne = book.read_parts(whole[1]);
+    let sw = book.read_parts(whole[2]);
+    let se = book.read_parts(whole[3]);
+    Parts {
+        whole,
+        nw,
+        ne,
+        sw,
+        se,
+    }
+}
+
 /// The nine overlapping squares of a square above level 4, row by row from the top, each with half
 /// its side: they begin at 0, a quarter and a half of its side in each direction.
 pub fn nine<S: Squares>(book: &mut S, sq: Sq) -> Result<[Sq; 9], Refusal>
@@ -34,11 +67,12 @@ pub fn nine<S: Squares>(book: &mut S, sq: Sq) -> Result<[Sq; 9], Refusal>
     ensures keeps { Keeps (S.book book.old) (S.book book.new) }
     ensures results { KeepsResults (S.book book.old) (S.book book.new) }
 {
-    let [nw, ne, sw, se] = book.read_parts(sq);
-    let [_, nw_ne, nw_sw, nw_se] = book.read_parts(nw);
-    let [ne_nw, _, ne_sw, ne_se] = book.read_parts(ne);
-    let [sw_nw, sw_ne, _, sw_se] = book.read_parts(sw);
-    let [se_nw, se_ne, se_sw, _] = book.read_parts(se);
+    let parts = read_twice(book, sq);
+    let [nw, ne, sw, se] = parts.whole;
+    let [_, nw_ne, nw_sw, nw_se] = parts.nw;
+    let [ne_nw, _, ne_sw, ne_se] = parts.ne;
+    let [sw_nw, sw_ne, _, sw_se] = parts.sw;
+    let [se_nw, se_ne, se_sw, _] = parts.se;
     let upper = book.quad([nw_ne, ne_nw, nw_se, ne_sw])?;
     let left = book.quad([nw_sw, nw_se, sw_nw, sw_ne])?;
     let middle = book.quad([nw_se, ne_sw, sw_ne, se_nw])?;

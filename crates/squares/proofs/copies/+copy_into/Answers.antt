@@ -1,9 +1,9 @@
-use Rattle.std.proofs.Common.{sym, subst, arith}
+use Rattle.std.proofs.Common.{◌<◌, sym, subst, arith}
 use Rattle.std.proofs.lemmas.Result.{IfOk-weaker}
 use Rattle.squares.specs.Book.{Shows}
 use Rattle.squares.specs.declared.sq.Sq.{Sq}
-use Rattle.squares.proofs.CopyMaps.{copies_kept, leaf_copied, noted_copies, quad_copied}
-use Rattle.squares.proofs.Kept.{keeps_trans, results_trans, shows_kept}
+use Rattle.squares.proofs.CopyMaps.{copies_kept, copies_known, empty_copied, leaf_copied, noted_copies, quad_copied}
+use Rattle.squares.proofs.Kept.{keeps_trans, known_kept, results_trans, shows_kept}
 use Rattle.squares.proofs.copies.+copy_into.Goals as goal
 
 pub returns-in_err-copy-clause-copies : goal.returns-in_err-copy-clause-copies
@@ -78,3 +78,25 @@ returns-clause-keeps g t c = keeps_trans c.copy_into.ensures.keeps (keeps_trans 
 
 pub returns-clause-results : goal.returns-clause-results
 returns-clause-results g t c = results_trans c.copy_into.ensures.results (results_trans c.copy_into-2.ensures.results (results_trans c.copy_into-3.ensures.results (results_trans c.copy_into-4.ensures.results c.quad.ensures.results)))
+
+pub quad-requires-clause-known : goal.quad-requires-clause-known
+quad-requires-clause-known g t c =
+    let from = g.L.Look.book c.args.from.now in
+    let sq = c.args.sq in
+    let k4 = c.copy_into-4.ensures.keeps in
+    let k3 = keeps_trans c.copy_into-3.ensures.keeps k4 in
+    let k2 = keeps_trans c.copy_into-2.ensures.keeps k3 in
+    copies_known from (g.S.Squares.book c.copy_into-4.new.to) sq.level (from.cells sq) c.parts.result c.in_ok-nw.nw c.in_ok-ne.ne c.in_ok-sw.sw c.in_ok-se.se c.parts.ensures
+    (known_kept k2 c.in_ok-nw.ensures.ok.known) (known_kept k3 c.in_ok-ne.ensures.ok.known) (known_kept k4 c.in_ok-sw.ensures.ok.known) c.in_ok-se.ensures.ok.known
+
+pub quad-requires-clause-level : goal.quad-requires-clause-level
+quad-requires-clause-level g t c =
+    let copy = c.in_ok-nw.ensures.ok.known.at_level in
+    let part = c.parts.ensures.nw.known.at_level in
+    let low = c.requires.known.low in
+    let high = c.requires.known.high in
+    omega arith
+
+pub returns-then-sq-eq0-clause-ok : goal.returns-then-sq-eq0-clause-ok
+returns-then-sq-eq0-clause-ok g t c =
+    empty_copied (g.L.Look.book c.args.from.now) (g.S.Squares.book c.args.to.now) c.args.sq (g.met.L.Look.is_book c.args.from.now) (g.met.S.Squares.is_book c.args.to.now) c.requires.known c.if-sq-eq0.true

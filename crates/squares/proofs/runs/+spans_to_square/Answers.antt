@@ -3,7 +3,7 @@ use Rattle.std.proofs.lemmas.Bool.{eqb-true}
 use Rattle.std.proofs.lemmas.List.{nil_from_length}
 use Rattle.std.proofs.lemmas.Result.{IfOk-weaker}
 use Rattle.squares.specs.declared.sq.Sq.{Sq}
-use Rattle.squares.proofs.Kept.{keeps_trans, known_kept, shows_kept}
+use Rattle.squares.proofs.Kept.{keeps_trans, known_kept, results_trans, shows_kept}
 use Rattle.squares.proofs.KnownQuarters.{quarters_of_level}
 use Rattle.squares.proofs.SpanSquares.{no_spans, quarters_marked}
 use Rattle.squares.proofs.runs.+spans_to_square.Goals as goal
@@ -39,3 +39,27 @@ quad-requires-clause-known g t c =
     let k2 = keeps_trans c.spans_to_square-2.ensures.keeps k3 in
     quarters_of_level (g.S.Squares.book c.spans_to_square-4.new.book) (c.args.level - 1) c.in_ok-nw-2.nw c.in_ok-ne-2.ne c.in_ok-sw-2.sw c.in_ok-se-2.se
     (known_kept k2 c.in_ok-nw-2.ensures.ok.known) (known_kept k3 c.in_ok-ne-2.ensures.ok.known) (known_kept k4 c.in_ok-sw-2.ensures.ok.known) c.in_ok-se-2.ensures.ok.known
+
+pub returns-in_err-ne-2-clause-keeps : goal.returns-in_err-ne-2-clause-keeps
+returns-in_err-ne-2-clause-keeps g t c = keeps_trans c.spans_to_square.ensures.keeps c.spans_to_square-2.ensures.keeps
+
+pub returns-in_err-ne-2-clause-results : goal.returns-in_err-ne-2-clause-results
+returns-in_err-ne-2-clause-results g t c = results_trans c.spans_to_square.ensures.results c.spans_to_square-2.ensures.results
+
+pub returns-in_err-sw-2-clause-keeps : goal.returns-in_err-sw-2-clause-keeps
+returns-in_err-sw-2-clause-keeps g t c = keeps_trans c.spans_to_square.ensures.keeps (keeps_trans c.spans_to_square-2.ensures.keeps c.spans_to_square-3.ensures.keeps)
+
+pub returns-in_err-sw-2-clause-results : goal.returns-in_err-sw-2-clause-results
+returns-in_err-sw-2-clause-results g t c = results_trans c.spans_to_square.ensures.results (results_trans c.spans_to_square-2.ensures.results c.spans_to_square-3.ensures.results)
+
+pub returns-in_err-se-2-clause-keeps : goal.returns-in_err-se-2-clause-keeps
+returns-in_err-se-2-clause-keeps g t c = keeps_trans c.spans_to_square.ensures.keeps (keeps_trans c.spans_to_square-2.ensures.keeps (keeps_trans c.spans_to_square-3.ensures.keeps c.spans_to_square-4.ensures.keeps))
+
+pub returns-in_err-se-2-clause-results : goal.returns-in_err-se-2-clause-results
+returns-in_err-se-2-clause-results g t c = results_trans c.spans_to_square.ensures.results (results_trans c.spans_to_square-2.ensures.results (results_trans c.spans_to_square-3.ensures.results c.spans_to_square-4.ensures.results))
+
+pub returns-clause-keeps : goal.returns-clause-keeps
+returns-clause-keeps g t c = keeps_trans c.spans_to_square.ensures.keeps (keeps_trans c.spans_to_square-2.ensures.keeps (keeps_trans c.spans_to_square-3.ensures.keeps (keeps_trans c.spans_to_square-4.ensures.keeps c.quad.ensures.keeps)))
+
+pub returns-clause-results : goal.returns-clause-results
+returns-clause-results g t c = results_trans c.spans_to_square.ensures.results (results_trans c.spans_to_square-2.ensures.results (results_trans c.spans_to_square-3.ensures.results (results_trans c.spans_to_square-4.ensures.results c.quad.ensures.results)))

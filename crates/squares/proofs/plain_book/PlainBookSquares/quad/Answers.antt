@@ -1,21 +1,70 @@
-use Rattle.std.proofs.Common.{◌≡◌, ◌+◌, ◌-◌, ◌++◌, ◌∷◌, [], subst, sym, ap, ◌∙◌, rules, arith, None, Some, suc, length, take, List}
+use Rattle.std.proofs.Common.{◌≡◌, Bool, true, false, refl, ◌+◌, ◌-◌, ◌++◌, ◌∷◌, [], subst, sym, ap, ◌∙◌, rules, arith, None, Some, suc, length, take, List}
 use Rattle.std.specs.BTreeMap.{get}
+use Rattle.std.specs.List.{AllByRecursion}
 use Rattle.std.specs.Ordering.{nat_cmp}
 use Rattle.std.proofs.lemmas.Bool.{false≢true}
 use Rattle.std.proofs.lemmas.List.{length-map, take_at}
 use Rattle.squares.specs.declared.node.Node.TheVariants.{Leaf, Inner}
 use Rattle.squares.specs.declared.node.Quarters.{Quarters}
 use Rattle.squares.specs.declared.node.Record.{Record}
-use Rattle.squares.specs.Book.{IsBook, IsKnown, Keeps, KeepsResults, Shows, joined_squares, nth}
+use Rattle.squares.specs.declared.sq.Sq.{Sq}
+use Rattle.squares.specs.Book.{IsBook, IsEmpty, IsKnown, Keeps, KeepsResults, Shows, joined_squares, numbered, nth}
 use Rattle.squares.specs.Nodes.{node_at, nodes_of, plain_book, quarters_order, AreFutures, AreKnown, HasNumbers, IsGood}
 use Rattle.squares.specs.Quarters.{quarters_of}
 use Rattle.squares.proofs.Kept.{keeps_none}
 use Rattle.squares.proofs.NodeLists.{node_last, not_zero}
 use Rattle.squares.proofs.NumberMaps.{exact_quarters, numbers_added, numbers_kept, numbers_same, inner_apart, no_leaf, inserted, refused}
 use Rattle.squares.proofs.PlainLaws.{book_good, nodes_pushed}
-use Rattle.squares.proofs.PlainQuads.{all_four, good_quad, quarters_known, node_shows}
-use Rattle.squares.proofs.Pushed.{pushed_futures, pushed_keeps, pushed_results}
+use Rattle.squares.proofs.PlainQuads.{all_four, empty_shows, good_quad, sum_of_empty, quarters_known, node_shows}
+use Rattle.squares.proofs.Pushed.{popped, pushed_futures, pushed_keeps, pushed_results}
 use Rattle.squares.proofs.plain_book.PlainBookSquares.quad.Goals as goal
+
+-- squares that are not all empty, by the test of their quarters
+some_cell : (squares : List Sq) (q : Quarters) (test : Bool) → length squares ≡ 4 → q ≡ quarters_of squares → (q.nw.0 + q.ne.0 + q.sw.0 + q.se.0 ≡ 0 → test ≡ true) → test ≡ false → ¬ AllByRecursion IsEmpty squares
+some_cell squares q test size is tested failed all =
+    let none : q.nw.0 + q.ne.0 + q.sw.0 + q.se.0 ≡ 0 = ap (λ (p : Quarters). p.nw.0 + p.ne.0 + p.sw.0 + p.se.0) is ∙ sum_of_empty squares (all_four IsEmpty squares size all) in
+    false≢true (sym failed ∙ tested none)
+
+pub returns-then-are_empty-clause-ok : goal.returns-then-are_empty-clause-ok
+returns-then-are_empty-clause-ok c =
+    let at = c.args.self.now in
+    let squares = c.args.quarters in
+    let book = plain_book at.rule at.exponent at.records.items in
+    let known = all_four (IsKnown book (nth squares 0).level) squares (search rules) c.requires.known in
+    let none : (nth squares 0).num.0 + (nth squares 1).num.0 + (nth squares 2).num.0 + (nth squares 3).num.0 ≡ 0 =
+    ap (λ (p : Quarters). p.nw.0 + p.ne.0 + p.sw.0 + p.se.0) (sym c.of-node.ensures) ∙ c.are_empty.ensures.0 c.if-are_empty.true in
+    subst (Shows book ((nth squares 0).level + 1) (joined_squares book (nth squares 0).level squares)) (sym (c.empty_square.ensures ∙ ap (λ (p : Quarters). numbered p.level 0) c.of-node.ensures))
+    (empty_shows at.rule at.exponent at.records.items squares known at.good c.requires.level none)
+
+pub returns-in_err-num-clause-empty : goal.returns-in_err-num-clause-empty
+returns-in_err-num-clause-empty c = λ all. absurd (some_cell c.args.quarters c.of-node.result c.are_empty.result (search rules) c.of-node.ensures c.are_empty.ensures.1 c.if-are_empty.false all)
+
+pub returns-then-is_err-clause-empty : goal.returns-then-is_err-clause-empty
+returns-then-is_err-clause-empty c = λ all. absurd (some_cell c.args.quarters c.of-node.result c.are_empty.result (search rules) c.of-node.ensures c.are_empty.ensures.1 c.if-are_empty.false all)
+
+pub returns-in_err-num-clause-keeps : goal.returns-in_err-num-clause-keeps
+returns-in_err-num-clause-keeps c =
+    let at = c.args.self.now in
+    let book = plain_book at.rule at.exponent at.records.items in
+    subst (λ items. Keeps book (plain_book at.rule at.exponent items)) (sym c.in_err-num.ensures.err) (keeps_none book)
+
+pub returns-in_err-num-clause-results : goal.returns-in_err-num-clause-results
+returns-in_err-num-clause-results c =
+    let at = c.args.self.now in
+    subst (λ items. KeepsResults (plain_book at.rule at.exponent at.records.items) (plain_book at.rule at.exponent items)) (sym c.in_err-num.ensures.err) (record { results = refl; learned = refl })
+
+pub returns-then-is_err-clause-keeps : goal.returns-then-is_err-clause-keeps
+returns-then-is_err-clause-keeps c =
+    let at = c.args.self.now in
+    let book = plain_book at.rule at.exponent at.records.items in
+    let same = popped at.records.items _ c.push_node.new.records.items c.pop.new.self.items _ _ c.in_ok-num.ensures.ok c.in_ok-num.ensures.number c.in_ok-num.ensures.len c.pop.ensures.rest in
+    subst (λ items. Keeps book (plain_book at.rule at.exponent items)) (sym same) (keeps_none book)
+
+pub returns-then-is_err-clause-results : goal.returns-then-is_err-clause-results
+returns-then-is_err-clause-results c =
+    let at = c.args.self.now in
+    let same = popped at.records.items _ c.push_node.new.records.items c.pop.new.self.items _ _ c.in_ok-num.ensures.ok c.in_ok-num.ensures.number c.in_ok-num.ensures.len c.pop.ensures.rest in
+    subst (λ items. KeepsResults (plain_book at.rule at.exponent at.records.items) (plain_book at.rule at.exponent items)) (sym same) (record { results = refl; learned = refl })
 
 pub returns-in-Some-clause-ok : goal.returns-in-Some-clause-ok
 returns-in-Some-clause-ok c =
@@ -33,10 +82,7 @@ returns-in-Some-clause-ok c =
 pub invariant_of-self-then-is_err : goal.invariant_of-self-then-is_err
 invariant_of-self-then-is_err c =
     let at = c.args.self.now in
-    let pushed = c.in_ok-num.ensures.ok in
-    let size : length at.records.items ≡ c.in_ok-num.num.0 - 1 = let n = c.in_ok-num.ensures.number in omega arith in
-    let taken : c.pop.new.self.items ≡ take (c.in_ok-num.num.0 - 1) c.push_node.new.records.items = c.pop.ensures.rest ∙ ap (λ n. take (n - 1) c.push_node.new.records.items) c.in_ok-num.ensures.len in
-    let same : c.pop.new.self.items ≡ at.records.items = taken ∙ ap (take (c.in_ok-num.num.0 - 1)) pushed ∙ take_at at.records.items _ (c.in_ok-num.num.0 - 1) size in
+    let same = popped at.records.items _ c.push_node.new.records.items c.pop.new.self.items _ _ c.in_ok-num.ensures.ok c.in_ok-num.ensures.number c.in_ok-num.ensures.len c.pop.ensures.rest in
     record {
       good = subst (λ (items : List Record). IsGood (nodes_of items)) (sym same) at.good;
       leaves_listed = subst (λ (items : List Record). HasNumbers nat_cmp Leaf (nodes_of items) at.leaves) (sym same) at.leaves_listed;

@@ -1,0 +1,19 @@
+use Rattle.squares.proofs.Kept.{keeps_trans, results_trans}
+use Rattle.squares.proofs.NineSquares.{read_all}
+use Rattle.squares.proofs.subsquares.read_twice.Goals as goal
+
+pub returns-clause-value : goal.returns-clause-value
+returns-clause-value g c =
+    let book = g.S.Squares.book in
+    read_all c.args.sq.level (book c.read_parts-whole.new.self) (book c.read_parts-nw.new.self) (book c.read_parts-ne.new.self) (book c.read_parts-sw.new.self) (book c.read_parts-se.new.self) ((book c.args.book.now).cells c.args.sq)
+    c.read_parts-whole.result c.read_parts-nw.result c.read_parts-ne.result c.read_parts-sw.result c.read_parts-se.result
+    c.read_parts-whole.ensures.value c.read_parts-nw.ensures.keeps c.read_parts-nw.ensures.value c.read_parts-ne.ensures.keeps c.read_parts-ne.ensures.value
+    c.read_parts-sw.ensures.keeps c.read_parts-sw.ensures.value c.read_parts-se.ensures.keeps c.read_parts-se.ensures.value
+
+pub returns-clause-keeps : goal.returns-clause-keeps
+returns-clause-keeps g c =
+    keeps_trans c.read_parts-whole.ensures.keeps (keeps_trans c.read_parts-nw.ensures.keeps (keeps_trans c.read_parts-ne.ensures.keeps (keeps_trans c.read_parts-sw.ensures.keeps c.read_parts-se.ensures.keeps)))
+
+pub returns-clause-results : goal.returns-clause-results
+returns-clause-results g c =
+    results_trans c.read_parts-whole.ensures.results (results_trans c.read_parts-nw.ensures.results (results_trans c.read_parts-ne.ensures.results (results_trans c.read_parts-sw.ensures.results c.read_parts-se.ensures.results)))
