@@ -9,8 +9,6 @@ mod rules;
 mod search;
 mod still;
 mod table;
-#[cfg(test)]
-mod tests;
 mod view;
 
 pub use at::At;

@@ -7,12 +7,12 @@
 ghost use Rattle.std.specs.Prelude.{IfOk};
 ghost use Rattle.node_table.specs.Desks.{IsDeskOf};
 
-use crate::tests::two_desks::{glider, glider_and_future};
-use crate::tests::{PAIRS, open_table};
-use crate::{Desk, NodeTable, Still};
+use crate::tests::glider::{glider_and_future, glider_and_result};
+use crate::tests::tables::{PAIRS, open_table};
+use node_table::{Desk, NodeTable, Still};
 use plane::Refusal;
 use rule_text::Rule;
-use squares::Squares;
+use squares::Sq;
 use std::process::Abort;
 use std::test::Fail;
 use table_core::Shape;
@@ -33,25 +33,40 @@ fn opened<R: Abort + AllocGlobal + Print>(rt: &R, still: Still) -> Result<(NodeT
     }
 }
 
-#[test]
-fn words_come_back_for_want_of_memory(rt: HostRuntime) -> Result<(), Fail> {
+// The words of a table without a square, where there is memory for them.
+fn empty_words<R: Abort + AllocGlobal + Print>(rt: &R) -> Result<Option<Still>, Fail> {
     assert!(rt; Shape::is_pair_count(PAIRS));
-    let still = match Still::empty(rt.alloc(), PAIRS) {
-        Ok(still) => still,
+    match Still::empty(rt.alloc(), PAIRS) {
+        Ok(still) => Ok(Some(still)),
         Err(refusal) => {
             assert_eq!(rt; refusal, Refusal::NoMemory);
-            return Ok(println!(rt; "no words")?);
+            println!(rt; "no words")?;
+            Ok(None)
         }
-    };
-    let (table, desk) = opened(&rt, still)?;
+    }
+}
+
+// The words in which a glider's square and its future were made, and these squares.
+fn words_with_future<R: Abort + AllocGlobal + Print>(
+    rt: &R,
+    still: Still,
+) -> Result<(Still, Sq, Sq), Fail> {
+    let (table, desk) = opened(rt, still)?;
     let mut at = table.at(desk);
-    let (sq, later) = glider_and_future(&mut at)?;
+    let made = glider_and_future(&mut at);
     let desk = at.leave();
     let words = table.close(desk);
+    let (sq, later) = made?;
+    Ok((words, sq, later))
+}
+
+#[test]
+fn words_come_back_for_want_of_memory(rt: HostRuntime) -> Result<(), Fail> {
+    let Some(still) = empty_words(&rt)? else {
+        return Ok(());
+    };
+    let (words, sq, later) = words_with_future(&rt, still)?;
     let (table, desk) = opened(&rt, words)?;
-    let mut at = table.at(desk);
-    let again = glider(&mut at)?;
-    assert_eq!(rt; again, sq);
-    assert_eq!(rt; at.recall(again), Some(later));
+    assert_eq!(rt; glider_and_result(&mut table.at(desk))?, (sq, Some(later)));
     Ok(())
 }

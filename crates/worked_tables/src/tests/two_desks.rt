@@ -1,50 +1,20 @@
 //! Two desks at work in two threads, and the desk that they are joined into.
 
-ghost use Rattle.std.specs.Prelude.{◌≡◌, IfOk};
-ghost use Rattle.squares.specs.Book.{IsKnown, Keeps};
+ghost use Rattle.squares.specs.Book.{IsKnown};
 ghost use Rattle.node_table.specs.Desks.{IsDeskOf};
 
-use crate::tests::{PAIRS, open_table};
-use crate::{Desk, NodeTable, Still};
-use hashlife_step::{Tally, future};
+use crate::tests::glider::{
+    FOUR_GENERATIONS_ON, GLIDER, glider, glider_and_future, glider_and_result,
+};
+use crate::tests::tables::{PAIRS, empty_table};
+use node_table::{Desk, NodeTable};
 use plane::Refusal;
-use rule_text::Rule;
 use squares::{Sq, Squares};
-use std::process::Abort;
 use std::test::Fail;
 use std::thread::{Threads, join};
-use table_core::Shape;
-
-// The leaves of a square with the glider bob$2bo$3o! in its columns and rows 7 to 9.
-const GLIDER: [u64; 4] = [0, 0x0100000000000000, 0x8000, 0x302];
-
-// The centre of that square after four generations: the glider is in the square's columns and rows
-// 8 to 10.
-const FOUR_GENERATIONS_ON: u64 = 0x0070402000000000;
-
-pub fn glider<S: Squares>(book: &mut S) -> Result<Sq, Refusal>
-    ensures known { IfOk result (IsKnown (S.book book.new) 4) }
-    ensures keeps { Keeps (S.book book.old) (S.book book.new) }
-{
-    let [nw, ne, sw, se] = GLIDER;
-    let nw = book.leaf(nw)?;
-    let ne = book.leaf(ne)?;
-    let sw = book.leaf(sw)?;
-    let se = book.leaf(se)?;
-    book.quad([nw, ne, sw, se])
-}
-
-pub fn glider_and_future<S: Squares>(book: &mut S) -> Result<(Sq, Sq), Refusal>
-    ensures keeps { Keeps (S.book book.old) (S.book book.new) }
-{
-    let sq = glider(book)?;
-    let later = future(book, sq, &mut Tally { expansions: 0 })?;
-    Ok((sq, later))
-}
 
 fn leaves<S: Squares>(book: &mut S, sq: Sq) -> [u64; 4]
     requires { IsKnown (S.book book.old) 4 sq }
-    ensures { Keeps (S.book book.old) (S.book book.new) }
 {
     let [nw, ne, sw, se] = book.read_parts(sq);
     let nw = book.read_bits(nw);
@@ -52,6 +22,18 @@ fn leaves<S: Squares>(book: &mut S, sq: Sq) -> [u64; 4]
     let sw = book.read_bits(sw);
     let se = book.read_bits(se);
     [nw, ne, sw, se]
+}
+
+// What stands in the glider's square.
+fn leaves_of_glider<S: Squares>(book: &mut S) -> Result<[u64; 4], Refusal> {
+    let sq = glider(book)?;
+    Ok(leaves(book, sq))
+}
+
+// What stands in the result of the glider's square, where that is known.
+fn bits_of_result<S: Squares>(book: &mut S) -> Result<Option<u64>, Refusal> {
+    let sq = glider(book)?;
+    Ok(book.recall(sq).map(|later| book.read_bits(later)))
 }
 
 fn desk_with_glider(table: &NodeTable, desk: Desk) -> (Desk, Result<Sq, Refusal>)
@@ -105,21 +87,13 @@ fn made_by_two<R: Threads + Sync>(rt: &R, table: &NodeTable, desk: Desk) -> Made
 
 #[test]
 fn a_square_of_two_threads_has_one_number(rt: HostRuntime) -> Result<(), Fail> {
-    assert!(rt; Shape::is_pair_count(PAIRS));
-    let still = Still::empty(rt.alloc(), PAIRS)?;
-    let (table, desk) = open_table(rt.alloc(), still, Rule::read(b"B3/S23")?, 2)?;
+    let (table, desk) = empty_table(&rt, PAIRS, 2)?;
     let Made { desk, square, told } = made_by_two(&rt, &table, desk);
-    let (other, later) = told?;
+    let (sq, later) = told?;
     let mut at = table.at(desk);
-    let sq = glider(&mut at)?;
     assert_eq!(rt; square?, sq);
-    assert_eq!(rt; other, sq);
-    assert_eq!(rt; leaves(&mut at, sq), GLIDER);
-    let recalled = at.recall(sq);
-    assert_eq!(rt; recalled, Some(later));
-    assert_eq!(rt;
-        recalled.map(|sq| at.read_bits(sq)),
-        Some(FOUR_GENERATIONS_ON)
-    );
+    assert_eq!(rt; glider_and_result(&mut at)?, (sq, Some(later)));
+    assert_eq!(rt; leaves_of_glider(&mut at)?, GLIDER);
+    assert_eq!(rt; bits_of_result(&mut at)?, Some(FOUR_GENERATIONS_ON));
     Ok(())
 }

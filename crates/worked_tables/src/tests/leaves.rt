@@ -1,0 +1,48 @@
+//! Leaves at one desk: where their words stand, and the word that finds no room.
+
+use crate::tests::tables::{PAIRS, empty_table};
+use plane::Refusal;
+use squares::{Num, Sq, Squares};
+use std::process::Abort;
+use std::test::Fail;
+
+// A word, and the number of its leaf in a table without a square.
+const FIRST_NUMBERS: [(u64, u32); 2] = [(1, 159), (2, 61)];
+
+fn leaf<S: Squares>(book: &mut S, word: u64) -> Result<Sq, Refusal> {
+    book.leaf(word)
+}
+
+fn first_number(rt: &(impl Abort + AllocGlobal), word: u64) -> Result<u32, Fail> {
+    let (table, desk) = empty_table(rt, PAIRS, 0)?;
+    Ok(leaf(&mut table.at(desk), word)?.num.0)
+}
+
+#[test]
+fn leaves_stand_on_their_ways(rt: HostRuntime) -> Result<(), Fail> {
+    for (word, wanted) in FIRST_NUMBERS {
+        assert_eq!(rt; (word, first_number(&rt, word)?), (word, wanted));
+    }
+    Ok(())
+}
+
+// The first of the words 1 to 257 that is refused.
+fn first_refused<S: Squares>(book: &mut S) -> Option<(u64, Refusal)> {
+    for word in 1..=257 {
+        if let Err(refusal) = book.leaf(word) {
+            return Some((word, refusal));
+        }
+    }
+    None
+}
+
+#[test]
+fn a_full_table_refuses_one_word_more(rt: HostRuntime) -> Result<(), Fail> {
+    let (table, desk) = empty_table(&rt, PAIRS, 0)?;
+    let mut at = table.at(desk);
+    let first = leaf(&mut at, 1)?;
+    assert_eq!(rt; first_refused(&mut at), Some((257, Refusal::NodesFull)));
+    assert_eq!(rt; leaf(&mut at, 1)?, first);
+    assert_eq!(rt; leaf(&mut at, 0)?.num, Num(0));
+    Ok(())
+}
