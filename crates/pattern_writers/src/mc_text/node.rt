@@ -14,7 +14,7 @@ use plane::{Refusal, Sink};
 const LINE_ROOM: usize = 205;
 
 // A square that is listed.
-#[derive(Clone, Copy, Debug, PartialEq, Eq)]
+#[derive(Clone, Copy)]
 pub(crate) enum Node {
     // Bit 8y + x is the cell (x, y).
     Leaf(u64),
