@@ -70,43 +70,43 @@ fn placed(book: &mut PlainBook, leaves: [u64; 4], place: Place) -> Result<Sq, Re
 const OPENING: &[u8] = b"[M2] (lifebatch 1)\n#R B3/S23\n#G 4\n";
 
 // Whether this, behind the opening, is the macrocell text of a square of level 4 with these leaves, where it stands, with
-// the comments of an RLE file.
+// the kept comments or with none.
 fn has_text(
     alloc: Global,
     leaves: [u64; 4],
     place: Place,
-    commented: &[u8],
+    commented: bool,
     wanted: &str,
 ) -> Option<bool> {
     let rule = Rule::read(b"23/3").ok()?;
     let mut book = PlainBook::new(alloc, rule, 0);
     let sq = placed(&mut book, leaves, place).ok()?;
-    let read = RleFile::open(commented).ok()?;
+    let read = RleFile::open(if commented { COMMENTED } else { NO_COMMENTS }).ok()?;
     let mut file = Memory::with_room(alloc, 1000).ok()?;
     write_mc(&book, alloc, sq, read.comments(), &rule, 4, &mut file).ok()?;
     Some(file.bytes().strip_prefix(OPENING) == Some(wanted.as_bytes()))
 }
 
-// The leaves of a square of level 4, where it stands, and its comments and nodes.
-const TEXTS: [([u64; 4], Place, &[u8], &str); 8] = [
+// The leaves of a square of level 4, where it stands, whether there are comments, and the comments and nodes.
+const TEXTS: [([u64; 4], Place, bool, &str); 8] = [
     (
         [0, 0, 0, GLIDER_BITS],
         Place::Alone,
-        COMMENTED,
+        true,
         "#N Glider\n$..*$...*$.***$\n4 0 0 0 1\n",
     ),
     // Equal squares stand once.
-    ([1; 4], Place::Alone, NO_COMMENTS, "*$\n4 1 1 1 1\n"),
-    ([1, 0, 0, 1], Place::Alone, NO_COMMENTS, "*$\n4 1 0 0 1\n"),
-    ([1 << 36, 0, 0, 0], Place::Alone, NO_COMMENTS, "$$$$....*$\n4 1 0 0 0\n"),
-    ([0; 4], Place::Alone, NO_COMMENTS, ""),
+    ([1; 4], Place::Alone, false, "*$\n4 1 1 1 1\n"),
+    ([1, 0, 0, 1], Place::Alone, false, "*$\n4 1 0 0 1\n"),
+    ([1 << 36, 0, 0, 0], Place::Alone, false, "$$$$....*$\n4 1 0 0 0\n"),
+    ([0; 4], Place::Alone, false, ""),
     // The root is the smallest square round (0,0).
-    ([0, 0, 0, 1], Place::UpperLeft, NO_COMMENTS, "*$\n4 1 0 0 0\n"),
-    ([0; 4], Place::UpperLeft, NO_COMMENTS, ""),
+    ([0, 0, 0, 1], Place::UpperLeft, false, "*$\n4 1 0 0 0\n"),
+    ([0; 4], Place::UpperLeft, false, ""),
     (
         [1, 0, 0, 0],
         Place::UpperLeftAndLowerRight,
-        NO_COMMENTS,
+        false,
         "*$\n4 1 0 0 0\n5 2 0 0 2\n",
     ),
 ];
@@ -123,11 +123,16 @@ fn macrocell_texts(rt: HostRuntime) {
 fn answers_of_writers(
     alloc: Global,
 ) -> Option<(Result<(), Refusal>, Result<(), Refusal>, u64)> {
-    let rule = Rule::read(b"23/3").ok()?;
+    let (Ok(rule), Ok(read), Ok(memory)) = (
+        Rule::read(b"23/3"),
+        RleFile::open(NO_COMMENTS),
+        Memory::with_room(alloc, 1000),
+    ) else {
+        return None;
+    };
     let mut book = PlainBook::new(alloc, rule, 0);
-    let sq = square_of(&mut book, [1; 4]).ok()?;
-    let read = RleFile::open(NO_COMMENTS).ok()?;
-    let mut file = FailAt::new(Memory::with_room(alloc, 1000).ok()?, 1);
+    let sq = placed(&mut book, [1; 4], Place::Alone).ok()?;
+    let mut file = FailAt::new(memory, 1);
     let first = write_mc(&book, alloc, sq, read.comments(), &rule, 0, &mut file);
     let second = write_rle(&book, alloc, sq, read.comments(), &rule, 0, &mut file);
     Some((first, second, file.failures()))

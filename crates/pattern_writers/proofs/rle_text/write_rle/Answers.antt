@@ -1,14 +1,12 @@
-use Rattle.std.proofs.Common.{subst, ap}
+use Rattle.std.proofs.Common.{subst}
 use Rattle.std.specs.Io.KnownBytes.{Appends}
 use Rattle.std.proofs.lemmas.Result.{on_ok_weaker}
-use Rattle.pattern_writers.specs.RleText.{items_text}
 use Rattle.pattern_writers.proofs.WholeText.{whole_text}
 use Rattle.pattern_writers.proofs.rle_text.write_rle.Goals as goal
 
 pub returns-clause-written : goal.returns-clause-written
 returns-clause-written g c =
     let framed = c.in_ok-frame.ensures.ok in
-    let items = rw c.as_slice.ensures.value at c.write_items.ensures.written in
     on_ok_weaker c.write_items.result
     (λ wrote. record {
       cells = framed.cells;
@@ -16,4 +14,4 @@ returns-clause-written g c =
       fits = framed.fits;
       appends = subst (Appends (g.V.Sink.taken c.args.file.now) (g.V.Sink.taken c.write_items.new.file)) (whole_text _ _ _ framed.cells _ _ framed.frame_is framed.items_is) wrote;
     })
-    items
+    (rw c.as_slice.ensures.value at c.write_items.ensures.written)
