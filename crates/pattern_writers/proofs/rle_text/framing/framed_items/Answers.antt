@@ -1,4 +1,4 @@
-use Rattle.std.proofs.Common.{◌≡◌, rules, subst, sym, ap, ◌∙◌}
+use Rattle.std.proofs.Common.{rules, subst, sym, ap, ◌∙◌}
 use Rattle.plane.specs.Bounds.{bounds_of}
 use Rattle.plane.specs.Centred.{centred}
 use Rattle.plane.proofs.Uniqueness.{one_listing_lem}
