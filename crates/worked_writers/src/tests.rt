@@ -98,7 +98,12 @@ const TEXTS: [([u64; 4], Place, bool, &str); 8] = [
     // Equal squares stand once.
     ([1; 4], Place::Alone, false, "*$\n4 1 1 1 1\n"),
     ([1, 0, 0, 1], Place::Alone, false, "*$\n4 1 0 0 1\n"),
-    ([1 << 36, 0, 0, 0], Place::Alone, false, "$$$$....*$\n4 1 0 0 0\n"),
+    (
+        [1 << 36, 0, 0, 0],
+        Place::Alone,
+        false,
+        "$$$$....*$\n4 1 0 0 0\n",
+    ),
     ([0; 4], Place::Alone, false, ""),
     // The root is the smallest square round (0,0).
     ([0, 0, 0, 1], Place::UpperLeft, false, "*$\n4 1 0 0 0\n"),
@@ -120,9 +125,7 @@ fn macrocell_texts(rt: HostRuntime) {
 }
 
 // What is answered where the first write fails, and then where none does, and how many have failed.
-fn answers_of_writers(
-    alloc: Global,
-) -> Option<(Result<(), Refusal>, Result<(), Refusal>, u64)> {
+fn answers_of_writers(alloc: Global) -> Option<(Result<(), Refusal>, Result<(), Refusal>, u64)> {
     let (Ok(rule), Ok(read), Ok(memory)) = (
         Rule::read(b"23/3"),
         RleFile::open(NO_COMMENTS),
@@ -140,5 +143,8 @@ fn answers_of_writers(
 
 #[test]
 fn a_failed_write_is_answered(rt: HostRuntime) {
-    assert_eq!(rt; answers_of_writers(rt.alloc()), Some((Err(Refusal::WriteFailed), Ok(()), 1)));
+    assert_eq!(rt;
+        answers_of_writers(rt.alloc()),
+        Some((Err(Refusal::WriteFailed), Ok(()), 1))
+    );
 }

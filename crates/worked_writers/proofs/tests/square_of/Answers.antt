@@ -1,6 +1,3 @@
-use Rattle.std.proofs.Common.{◌+◌, subst}
-use Rattle.std.proofs.lemmas.Result.{IfOk-weaker}
-use Rattle.squares.specs.Book.{IsKnown}
 use Rattle.squares.proofs.Kept.{known_kept}
 use Rattle.squares.proofs.KnownQuarters.{quarters_of_level}
 use Rattle.worked_writers.proofs.tests.square_of.Goals as goal
@@ -12,6 +9,3 @@ quad-requires-clause-known c =
     (known_kept c.leaf-4.ensures.keeps (known_kept c.leaf-3.ensures.keeps c.in_ok-ne.ensures.ok.known))
     (known_kept c.leaf-4.ensures.keeps c.in_ok-sw.ensures.ok.known)
     c.in_ok-se.ensures.ok.known
-
-pub returns : goal.returns
-returns c = IfOk-weaker c.quad.result _ _ (λ sq shown. subst (λ level. IsKnown _ (level + 1) sq) c.in_ok-nw.ensures.ok.known.at_level shown.known) c.quad.ensures.ok
