@@ -14,6 +14,7 @@ use Rattle.pattern_writers.specs.Layout.{body_text}
 use Rattle.pattern_writers.specs.Opening.{header_line, position_line}
 use Rattle.pattern_writers.specs.RowRuns.{runs_of}
 use Rattle.pattern_writers.specs.declared.rle_text.frame.Frame.{Frame}
+use Rattle.pattern_writers.specs.declared.rle_text.items.Item.{Item}
 use Rattle.pattern_writers.specs.declared.rle_text.row_run.RowRun.{RowRun}
 
 -- each comment as a line
@@ -50,3 +51,19 @@ pub record HasRuns (plane : Plane) (runs : List RowRun) : Type 0 where
   pub cells : List Cell
   pub listing : IsListing cells plane
   pub runs_is : runs ≡ runs_of cells
+
+-- the text of these items in a frame
+abbrev pub items_text : Frame → List (List ℕ) → CountRule → ℕ → List Item → List ℕ
+items_text frame comments rule generation items =
+    position_line frame.corner.x frame.corner.y generation
+    ++ comment_lines comments
+    ++ header_line frame.width frame.height (canonical_text rule)
+    ++ body_text items
+
+-- the frame and the items of the plane's cells, which have a text
+pub record HasItems (plane : Plane) (frame : Frame) (items : List Item) : Type 0 where
+  pub cells : List Cell
+  pub listing : IsListing cells plane
+  pub fits : FitsRle (bounds_of cells)
+  pub frame_is : frame ≡ frame_of (bounds_of cells)
+  pub items_is : items ≡ items_of frame.corner.x frame.corner (runs_of cells)

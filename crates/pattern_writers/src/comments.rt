@@ -1,16 +1,33 @@
-//! The lines of comments.
+//! The beginning of a text: some lines, and those of the comments.
 
-ghost use Rattle.std.specs.Prelude.{◌≡◌, OnOk, IfErr};
+ghost use Rattle.std.specs.Prelude.{◌≡◌, ◌++◌, IfOk, OnOk, IfErr};
 ghost use Rattle.std.specs.Io.KnownBytes.{Appends, append_known};
 ghost use Rattle.plane.specs.Device.{IsWriteRefusal};
 ghost use Rattle.pattern_writers.specs.RleText.{comment_lines};
 
 use crate::output_block::{OutputBlock, put};
+use arrayvec::ArrayVec;
 use plane::{Refusal, Sink};
 use rle_reader::Comments;
 
-/// Writes each comment as a line.
-pub(crate) fn write_comments<V: Sink>(
+/// Writes some lines and those of the comments, and gives the block of what waits.
+pub(crate) fn begin<V: Sink>(
+    file: &mut V,
+    opening: &str,
+    comments: Comments<'_>,
+) -> Result<OutputBlock, Refusal>
+    ensures written { IfOk result (λ block. Appends (V.taken file.old) (append_known (V.taken file.new) block.items) (opening.now ++ comment_lines comments.entry)) }
+    ensures unfailed { OnOk result (V.failure_count file.new ≡ V.failure_count file.old) }
+    ensures refused { IfErr result (IsWriteRefusal (V.failure_count file.old) (V.failure_count file.new)) }
+{
+    let mut block: OutputBlock = ArrayVec::new();
+    put(file, &mut block, opening.as_bytes())?;
+    write_comments(file, &mut block, comments)?;
+    Ok(block)
+}
+
+// Writes each comment as a line.
+fn write_comments<V: Sink>(
     file: &mut V,
     block: &mut OutputBlock,
     comments: Comments<'_>,

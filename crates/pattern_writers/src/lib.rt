@@ -6,8 +6,6 @@ mod laws;
 mod mc_text;
 mod output_block;
 mod rle_text;
-#[cfg(test)]
-mod tests;
 
 pub use laws::{distinct_texts, macrocell_read_back, rle_read_back, same_text};
 pub use mc_text::write_mc;

@@ -12,9 +12,7 @@ mod node;
 mod opening;
 mod root;
 
-use crate::comments::write_comments;
-use crate::output_block::{OutputBlock, put};
-use arrayvec::ArrayVec;
+use crate::comments::begin;
 use listing::listed_nodes;
 use node::write_nodes;
 use opening::opening_lines;
@@ -45,10 +43,8 @@ pub fn write_mc<L: Look, V: Sink>(
         ⊎ IsWriteRefusal (V.failure_count file.old) (V.failure_count file.new) refusal) }
 {
     let nodes = listed_nodes(look, alloc, sq)?;
-    let mut block: OutputBlock = ArrayVec::new();
     let opening = opening_lines(rule.text().as_str(), generation);
-    put(file, &mut block, opening.as_str().as_bytes())?;
-    write_comments(file, &mut block, comments)?;
+    let mut block = begin(file, opening.as_str(), comments)?;
     write_nodes(file, &mut block, nodes.as_slice())?;
     write_all(file, block.as_slice())
 }

@@ -4,28 +4,28 @@ ghost use Rattle.std.specs.Prelude.{◌≡◌, ◌⊎◌, ◌≤◌, OnOk, IfErr
 ghost use Rattle.plane.specs.Centred.{centred};
 ghost use Rattle.plane.specs.Device.{IsWriteRefusal};
 ghost use Rattle.squares.specs.Book.{IsKnown};
-ghost use Rattle.pattern_writers.specs.RleText.{IsTooLarge, WritesRle};
+ghost use Rattle.std.specs.Io.KnownBytes.{Appends};
+ghost use Rattle.pattern_writers.specs.RleText.{IsTooLarge, WritesRle, items_text};
 
 mod frame;
+mod framing;
 mod items;
 mod layout;
 mod opening;
 mod row_run;
 
-use crate::comments::write_comments;
-use crate::output_block::{OutputBlock, put};
-use arrayvec::ArrayVec;
+use crate::comments::begin;
+use crate::output_block::put;
 use frame::Frame;
-use items::items;
+use framing::framed_items;
+use items::Item;
 use layout::write_body;
 use opening::{header_line, position_line};
 use plane::{Refusal, Sink, write_all};
 use rle_reader::Comments;
-use row_run::row_runs;
 use rule_text::Rule;
 use squares::{Look, Sq};
 use std::alloc::Global;
-use viewport::bounds;
 
 /// Writes the cells of a square of a level up to 63, whose centre corner is (0,0), with the comments, the rule and
 /// the generation. It refuses `NoMemory`, or `BoxTooLarge` where a side of the cells' box is 2^31 or more, both
@@ -48,17 +48,27 @@ pub fn write_rle<L: Look, V: Sink>(
         ⊎ (refusal ≡ Refusal.NoMemory × file.new ≡ file.old)
         ⊎ IsWriteRefusal (V.failure_count file.old) (V.failure_count file.new) refusal) }
 {
-    let frame = Frame::round(bounds(look, alloc, sq)?)?;
-    let runs = row_runs(look, alloc, sq)?;
-    let Ok(items) = items(alloc, frame.corner, runs.as_slice()) else {
-        return Err(Refusal::NoMemory);
-    };
-    let mut block: OutputBlock = ArrayVec::new();
+    let (frame, items) = framed_items(look, alloc, sq)?;
+    write_items(file, frame, items.as_slice(), comments, rule, generation)
+}
+
+// Writes the text of these items in a frame.
+fn write_items<V: Sink>(
+    file: &mut V,
+    frame: Frame,
+    items: &[Item],
+    comments: Comments<'_>,
+    rule: &Rule,
+    generation: u64,
+) -> Result<(), Refusal>
+    ensures written { OnOk result (Appends (V.taken file.old) (V.taken file.new) (items_text frame comments.entry rule.now generation items.now)) }
+    ensures unfailed { OnOk result (V.failure_count file.new ≡ V.failure_count file.old) }
+    ensures refused { IfErr result (IsWriteRefusal (V.failure_count file.old) (V.failure_count file.new)) }
+{
     let position = position_line(frame.corner, generation);
-    put(file, &mut block, position.as_str().as_bytes())?;
-    write_comments(file, &mut block, comments)?;
+    let mut block = begin(file, position.as_str(), comments)?;
     let header = header_line(frame.width, frame.height, rule.text().as_str());
     put(file, &mut block, header.as_str().as_bytes())?;
-    write_body(file, &mut block, items.as_slice())?;
+    write_body(file, &mut block, items)?;
     write_all(file, block.as_slice())
 }

@@ -1,4 +1,5 @@
-ghost use Rattle.std.specs.Prelude.{◌≡◌, OnOk, IfErr};
+ghost use Rattle.std.specs.Prelude.{◌≡◌, ◌+◌, ◌≤◌, ◌++◌, codes, decimal, OnOk, IfErr};
+ghost use Rattle.arrayvec.specs.ArrayString.{array_string_len};
 ghost use Rattle.std.specs.Io.KnownBytes.{Appends, append_known};
 ghost use Rattle.std.specs.List.{flat_map};
 ghost use Rattle.plane.specs.Device.{IsWriteRefusal};
@@ -14,7 +15,7 @@ use plane::{Refusal, Sink};
 const LINE_ROOM: usize = 205;
 
 // A square that is listed.
-#[derive(Clone, Copy, Debug, PartialEq, Eq)]
+#[derive(Clone, Copy)]
 pub(crate) enum Node {
     // Bit 8y + x is the cell (x, y).
     Leaf(u64),
@@ -52,16 +53,22 @@ fn inner_line(level: u8, quarters: [u64; 4]) -> ArrayString<LINE_ROOM>
     let [nw, ne, sw, se] = quarters;
     let mut line = ArrayString::new();
     line.push_str(Buffer::new().format(level));
-    line.push_str(" ");
-    line.push_str(Buffer::new().format(nw));
-    line.push_str(" ");
-    line.push_str(Buffer::new().format(ne));
-    line.push_str(" ");
-    line.push_str(Buffer::new().format(sw));
-    line.push_str(" ");
-    line.push_str(Buffer::new().format(se));
+    push_number(&mut line, nw);
+    push_number(&mut line, ne);
+    push_number(&mut line, sw);
+    push_number(&mut line, se);
     line.push_str("\n");
     line
+}
+
+// Adds a blank and a number.
+fn push_number(line: &mut ArrayString<LINE_ROOM>, number: u64)
+    requires { array_string_len line.old + 41 ≤ 205 }
+    ensures text { line.new.bytes ≡ line.old.bytes ++ codes " " ++ decimal number }
+    ensures short { array_string_len line.new ≤ array_string_len line.old + 41 }
+{
+    line.push_str(" ");
+    line.push_str(Buffer::new().format(number));
 }
 
 // Writes each node as a line.

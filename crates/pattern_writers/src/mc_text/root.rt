@@ -7,7 +7,7 @@ ghost use Rattle.pattern_writers.specs.Roots.{AreKnown, HasRoot, IsRoot};
 use squares::{Look, Sq};
 
 // The quarters of a square whose centre corner is (0,0), which need not be a square that is known.
-#[derive(Clone, Copy, Debug)]
+#[derive(Clone, Copy)]
 pub(crate) struct Root {
     pub level: u8,
     pub quarters: [Sq; 4],

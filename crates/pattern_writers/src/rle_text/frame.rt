@@ -7,7 +7,7 @@ use plane::{Bounds, Cell, Refusal};
 const SIDE_LIMIT: u64 = 1 << 31;
 
 // Where a pattern lies: its upper left corner and its two sides.
-#[derive(Clone, Copy, Debug, PartialEq, Eq)]
+#[derive(Clone, Copy)]
 pub(crate) struct Frame {
     pub corner: Cell,
     pub width: u64,

@@ -12,7 +12,7 @@ use std::alloc::{AllocError, Global};
 const ITEM_ROOM: usize = 41;
 
 // So many dead cells, live cells or ends of rows.
-#[derive(Clone, Copy, Debug, PartialEq, Eq)]
+#[derive(Clone, Copy)]
 pub(crate) struct Item {
     pub count: u64,
     pub tag: Tag,

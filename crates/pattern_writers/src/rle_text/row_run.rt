@@ -12,7 +12,7 @@ use std::alloc::Global;
 use viewport::first_row;
 
 // Live cells side by side in a row.
-#[derive(Clone, Copy, Debug, PartialEq, Eq)]
+#[derive(Clone, Copy)]
 pub(crate) struct RowRun {
     pub row: i64,
     // The column of the first cell.
