@@ -1,9 +1,11 @@
-ghost use Rattle.std.specs.Prelude.{◌≡◌, ℕ, map, false, string_bytes, Option, IfOk, IfErr};
+ghost use Rattle.std.specs.Prelude.{◌≡◌, ℕ, List, [], ◌∷◌, map, string_bytes, Option, IfOk, IfErr};
 ghost use Rattle.std.specs.Option.{option_copied, option_map};
-ghost use Rattle.clap.specs.Words.{app_of, found_of, one_text, rule_of};
+ghost use Rattle.clap.specs.Words.{Text, app_of, found_of, one_text};
 ghost use Rattle.engine.specs.declared.options.Format.{Format};
 ghost use Rattle.plane.specs.declared.refusal.Refusal.TheVariants.{NoMemory};
 ghost use Rattle.batch_program.specs.declared.command_line.WordsFault.TheVariants.{Refused};
+ghost use Rattle.batch_program.specs.OptionRules.{HasRule, HaveRules, numeric, valued, valued_in_short};
+ghost use Rattle.batch_program.specs.Matched.{AreMatchesOf, AskForOptions, HasFile};
 ghost use Rattle.batch_program.specs.CommandLine.{AsksFor, IsAskedRule, IsFlag, IsFormat, IsNumber, IsRefusedRule, IsToldAs, IsWordsFault, command_form, file_argument, format_named, generation_option, output_option, quiet_option, rule_option, step_option, window_option};
 
 use crate::request::Asked;
@@ -101,28 +103,43 @@ pub fn asked<'a>(alloc: Global, words: &'a [&'a str]) -> Result<Asked, WordsFaul
     ensures faults { IfErr result (IsWordsFault (map (λ word. word.now) words.entry.now)) }
 {
     let matches = command(alloc)?.try_get_matches_from(words)?;
-    let gens = number_for(&matches, "generation")?;
-    let step = number_for(&matches, "stepsize")?;
+    asked_by(alloc, &matches)
+}
+
+// What words ask for, by the matches that clap has found in them.
+fn asked_by(alloc: Global, matches: &ArgMatches<'_>) -> Result<Asked, WordsFault>
+    ensures asks { (words : List Text) → AreMatchesOf words matches.now → IfOk result (AsksFor words) }
+    ensures faults { (words : List Text) → AreMatchesOf words matches.now → IfErr result (IsWordsFault words) }
+{
     let Some(file) = matches.get_str("file") else {
         return Err(WordsFault::Unfit);
     };
-    let output = matches.get_str("output");
-    let format = format_of(output)?;
+    let options = options_by(matches)?;
+    Ok(Asked {
+        options,
+        file: String::from_str(alloc, file)?,
+        output: copied(alloc, matches.get_str("output"))?,
+    })
+}
+
+// What a run is to do by the words, of which one names a file.
+fn options_by(matches: &ArgMatches<'_>) -> Result<Options, WordsFault>
+    ensures asks { (words : List Text) → AreMatchesOf words matches.now → IfOk result (AskForOptions words) }
+    ensures faults { (words : List Text) → AreMatchesOf words matches.now → HasFile words → IfErr result (IsWordsFault words) }
+{
+    let gens = number_for(matches, "generation")?;
+    let step = number_for(matches, "stepsize")?;
+    let format = format_of(matches.get_str("output"))?;
     let numbers = window_numbers(matches.get_str("window"))?;
     let rule = rule_asked(matches.get_str("rule"))?;
     let window = window_asked(numbers)?;
-    let quiet = is_set(&matches, "quiet");
-    Ok(Asked {
-        options: Options {
-            gens,
-            step,
-            rule,
-            window,
-            format,
-            quiet,
-        },
-        file: String::from_str(alloc, file)?,
-        output: copied(alloc, output)?,
+    Ok(Options {
+        gens,
+        step,
+        rule,
+        window,
+        format,
+        quiet: is_set(matches, "quiet"),
     })
 }
 
@@ -130,69 +147,115 @@ pub fn asked<'a>(alloc: Global, words: &'a [&'a str]) -> Result<Asked, WordsFaul
 fn command<'a>(alloc: Global) -> Result<Command<'a>, AllocError>
     ensures { IfOk result (λ command. app_of command ≡ command_form) }
 {
+    let options = options(alloc)?;
     Command::new(alloc, "lifebatch")
         .about(ABOUT)
         .after_help(EXAMPLES)
-        .arg(generation_option(alloc))?
-        .arg(step_option(alloc))?
-        .arg(output_option(alloc))?
-        .arg(rule_option(alloc))?
-        .arg(quiet_option(alloc))?
-        .arg(window_option(alloc))?
-        .arg(file_argument(alloc))
+        .args(options)
+}
+
+// The options, and FILE.
+fn options<'a>(alloc: Global) -> Result<Vec<Arg<'a>>, AllocError>
+    ensures { IfOk result (λ options. HaveRules options.items
+        (generation_option ∷ step_option ∷ output_option ∷ rule_option ∷ quiet_option ∷ window_option ∷ file_argument ∷ [])) }
+{
+    Ok(vec![in alloc;
+        generation_option(alloc),
+        step_option(alloc),
+        output_option(alloc),
+        rule_option(alloc),
+        quiet_option(alloc),
+        window_option(alloc),
+        file_argument(alloc),
+    ]?)
 }
 
 fn generation_option<'a>(alloc: Global) -> Arg<'a>
-    ensures rule { rule_of result ≡ generation_option }
-    ensures local { result.global ≡ false }
+    ensures { HasRule result generation_option }
 {
-    Arg::new(alloc, "generation")
-        .short('m')
-        .long("generation")
-        .value_name("N")
-        .value_parser(value_parser!(u64))
-        .default_value("0")
-        .help("Run N generations on from the file's own")
+    number_option(
+        alloc,
+        "generation",
+        'm',
+        "Run N generations on from the file's own",
+    )
 }
 
 fn step_option<'a>(alloc: Global) -> Arg<'a>
-    ensures rule { rule_of result ≡ step_option }
-    ensures local { result.global ≡ false }
+    ensures { HasRule result step_option }
 {
-    Arg::new(alloc, "stepsize")
-        .short('i')
-        .long("stepsize")
-        .value_name("N")
-        .value_parser(value_parser!(u64))
-        .default_value("0")
-        .help("Report every N generations")
+    number_option(alloc, "stepsize", 'i', "Report every N generations")
 }
 
 fn output_option<'a>(alloc: Global) -> Arg<'a>
-    ensures rule { rule_of result ≡ output_option }
-    ensures local { result.global ≡ false }
+    ensures { HasRule result output_option }
 {
-    Arg::new(alloc, "output")
-        .short('o')
-        .long("output")
-        .value_name("NAME")
-        .help("Write the pattern to NAME, which ends with .rle or .mc")
+    short_option(
+        alloc,
+        "output",
+        'o',
+        "NAME",
+        "Write the pattern to NAME, which ends with .rle or .mc",
+    )
 }
 
 fn rule_option<'a>(alloc: Global) -> Arg<'a>
-    ensures rule { rule_of result ≡ rule_option }
-    ensures local { result.global ≡ false }
+    ensures { HasRule result rule_option }
 {
-    Arg::new(alloc, "rule")
-        .short('r')
-        .long("rule")
-        .value_name("R")
-        .help("Run by rule R in place of the file's")
+    short_option(
+        alloc,
+        "rule",
+        'r',
+        "R",
+        "Run by rule R in place of the file's",
+    )
+}
+
+fn window_option<'a>(alloc: Global) -> Arg<'a>
+    ensures { HasRule result window_option }
+{
+    long_option(
+        alloc,
+        "window",
+        "X,Y,W,H",
+        "Draw W by H cells from (X,Y) behind the report: * live, . dead",
+    )
+}
+
+// An option with a short name that takes a number, 0 if it is left out.
+fn number_option<'a>(alloc: Global, name: &'a str, short: char, help: &'a str) -> Arg<'a>
+    ensures { HasRule result (numeric name.entry.now short) }
+{
+    short_option(alloc, name, short, "N", help)
+        .value_parser(value_parser!(u64))
+        .default_value("0")
+}
+
+// An option with a short name that takes a value.
+fn short_option<'a>(
+    alloc: Global,
+    name: &'a str,
+    short: char,
+    value_name: &'a str,
+    help: &'a str,
+) -> Arg<'a>
+    ensures { HasRule result (valued_in_short name.entry.now short) }
+{
+    long_option(alloc, name, value_name, help).short(short)
+}
+
+// An option that takes a value.
+fn long_option<'a>(alloc: Global, name: &'a str, value_name: &'a str, help: &'a str) -> Arg<'a>
+    ensures { HasRule result (valued name.entry.now) }
+{
+    Arg::new(alloc, name)
+        .long(name)
+        .value_name(value_name)
+        .help(help)
 }
 
 fn quiet_option<'a>(alloc: Global) -> Arg<'a>
-    ensures rule { rule_of result ≡ quiet_option }
-    ensures local { result.global ≡ false }
+    ensures { HasRule result quiet_option }
 {
     Arg::new(alloc, "quiet")
         .short('q')
@@ -201,19 +264,8 @@ fn quiet_option<'a>(alloc: Global) -> Arg<'a>
         .help("Report no generation")
 }
 
-fn window_option<'a>(alloc: Global) -> Arg<'a>
-    ensures rule { rule_of result ≡ window_option }
-    ensures local { result.global ≡ false }
-{
-    Arg::new(alloc, "window")
-        .long("window")
-        .value_name("X,Y,W,H")
-        .help("Draw W by H cells from (X,Y) behind the report: * live, . dead")
-}
-
 fn file_argument<'a>(alloc: Global) -> Arg<'a>
-    ensures rule { rule_of result ≡ file_argument }
-    ensures local { result.global ≡ false }
+    ensures { HasRule result file_argument }
 {
     Arg::new(alloc, "file")
         .value_name("FILE")

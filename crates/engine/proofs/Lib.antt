@@ -6,3 +6,4 @@ pub mod Reports
 pub mod Steps
 pub mod NodeSquares
 pub mod Judged
+pub mod Acceptance

@@ -1,5 +1,6 @@
 -- The text that a run writes to its file.
 use Rattle.std.specs.Prelude.{◌≡◌, ℕ, List, [], Option, None, Some, ⊤}
+use Rattle.std.specs.Io.KnownBytes.{Appends}
 use Rattle.rule_text.specs.CountRule.{CountRule}
 use Rattle.plane.specs.Bounds.{bounds_of}
 use Rattle.plane.specs.Centred.{IsSmallestLevel}
@@ -31,12 +32,14 @@ IsFileText None comments rule generation cells text = text ≡ []
 IsFileText (Some Rle) comments rule generation cells text = text ≡ rle_text comments rule generation cells
 IsFileText (Some Macrocell) comments rule generation cells text = IsMcText comments rule generation cells text
 
--- the text of the plane's cells in the format is written between the two
-abbrev pub Writes : Format → Plane → List (List ℕ) → CountRule → ℕ → Option (List ℕ) → Option (List ℕ) → Type 0
-Writes Rle = WritesRle
-Writes Macrocell = WritesMc
+-- the text of the plane's cells in the format is written between the two, and nothing where no format is asked for
+abbrev pub Writes : Option Format → Plane → List (List ℕ) → CountRule → ℕ → Option (List ℕ) → Option (List ℕ) → Type 0
+Writes None plane comments rule generation before after = Appends before after []
+Writes (Some Rle) plane comments rule generation before after = WritesRle plane comments rule generation before after
+Writes (Some Macrocell) plane comments rule generation before after = WritesMc plane comments rule generation before after
 
 -- the format can't hold the plane's cells
-abbrev pub Exceeds : Format → Plane → Type 0
-Exceeds Rle plane = writers.IsTooLarge plane
-Exceeds Macrocell plane = ⊥
+abbrev pub Exceeds : Option Format → Plane → Type 0
+Exceeds None plane = ⊥
+Exceeds (Some Rle) plane = writers.IsTooLarge plane
+Exceeds (Some Macrocell) plane = ⊥

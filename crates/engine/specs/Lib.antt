@@ -1,3 +1,4 @@
+pub mod Accepted
 pub mod Books
 pub mod Devices
 pub mod FileText

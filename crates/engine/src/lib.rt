@@ -1,6 +1,7 @@
 //! A run from a file's bytes to its report and its pattern file, without a command line.
 #![tactic(auto)]
 
+mod accepted;
 mod generations;
 mod input;
 mod laws;

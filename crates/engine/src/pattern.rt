@@ -1,6 +1,6 @@
 //! A pattern, as a square of a book.
 
-ghost use Rattle.std.specs.Prelude.{◌≡◌, ◌⊎◌, ◌^◌, ◌<◌, ◌≤◌, ◌↔◌, [], map, IfOk, IfErr, OnOk, IsOkUnless, IsTrue};
+ghost use Rattle.std.specs.Prelude.{◌≡◌, ◌⊎◌, ◌^◌, ◌<◌, ◌≤◌, ◌↔◌, [], None, map, IfOk, IfErr, OnOk, IsOkUnless, IsTrue};
 ghost use Rattle.squares.specs.Book.{IsKnown};
 ghost use Rattle.plane.specs.Square.{IsSame, empty};
 ghost use Rattle.plane.specs.Runs.{AreRuns, runs_plane};
@@ -138,19 +138,20 @@ impl Pattern {
         }
     }
 
-    // Writes the pattern in a format, with the comments, the rule and the generation. It refuses `BoxTooLarge` where
-    // RLE is asked for and a side of its box is 2^31 or more, and `NoMemory`, both before the first byte, and
-    // `WriteFailed`.
+    // Writes the pattern in the format that is asked for, if one is, with the comments, the rule and the generation. It
+    // refuses `BoxTooLarge` where RLE is asked for and a side of its box is 2^31 or more, and `NoMemory`, both before
+    // the first byte, and `WriteFailed`.
     pub(crate) fn write<V: Sink>(
         &self,
         alloc: Global,
-        format: Format,
+        format: Option<Format>,
         comments: Comments<'_>,
         rule: &Rule,
         generation: u64,
         file: &mut V,
     ) -> Result<(), Refusal>
         ensures written { OnOk result (Writes format (plane_of self.now) comments.entry rule.now generation (V.taken file.old) (V.taken file.new)) }
+        ensures no_format { format ≡ None → file.new ≡ file.old }
         ensures unfailed { OnOk result (V.failure_count file.new ≡ V.failure_count file.old) }
         ensures refused { IfErr result (λ refusal.
             (refusal ≡ Refusal.BoxTooLarge × Exceeds format (plane_of self.now) × file.new ≡ file.old)
@@ -159,8 +160,11 @@ impl Pattern {
     {
         let (book, root) = (&self.book, self.root);
         match format {
-            Format::Rle => write_rle(book, alloc, root, comments, rule, generation, file),
-            Format::Macrocell => write_mc(book, alloc, root, comments, rule, generation, file),
+            Some(Format::Rle) => write_rle(book, alloc, root, comments, rule, generation, file),
+            Some(Format::Macrocell) => write_mc(
+                book, alloc, root, comments, rule, generation, file,
+            ),
+            None => Ok(()),
         }
     }
 }

@@ -1,18 +1,17 @@
-ghost use Rattle.std.specs.Prelude.{◌≡◌, ◌⊎◌, ℕ, List, None, Some, Ok, Err, IfOk, IfErr, OnOk};
+ghost use Rattle.std.specs.Prelude.{◌≡◌, ◌⊎◌, ℕ, List, None, Ok, Err, IfOk, IfErr, IsOkUnless, OnOk};
 ghost use Rattle.std.specs.Io.KnownBytes.{Appends};
-ghost use Rattle.rule_text.specs.CountRule.{IsRule};
-ghost use Rattle.rule_text.specs.declared.fault.RuleFault.{RuleFault};
 ghost use Rattle.plane.specs.Device.{HasFailed};
-ghost use Rattle.engine.specs.Judgement.{Start, Judges, ReadsRule, placeless, rule_refusal};
-ghost use Rattle.engine.specs.PatternFile.{meaning_of};
+ghost use Rattle.engine.specs.Accepted.{SumsUp};
+ghost use Rattle.engine.specs.Judgement.{Start, Judges, placeless, rule_refusal};
+ghost use Rattle.engine.specs.Pattern.{plane_of};
 ghost use Rattle.engine.specs.Run.{Finishes, IsBegun, IsTooLarge};
 
+use crate::accepted::judge;
 use crate::options::Options;
 use crate::pattern::Pattern;
-use crate::pattern_file::PatternFile;
 use crate::reported::run_reported;
-use plane::{Bounds, Fault, Refusal, Sink, reach};
-use rule_text::{Rule, RuleFault};
+use plane::{Bounds, Fault, Refusal, Sink};
+use rule_text::RuleFault;
 use std::alloc::Global;
 
 /// What a run ends with.
@@ -25,9 +24,6 @@ pub struct Summary {
     /// The smallest box that holds them, if there are any.
     pub bounds: Option<Bounds>,
 }
-
-// The rule of a file that names none.
-const LIFE: &[u8] = b"B3/S23";
 
 /// Runs the pattern of a file's bytes: it writes a line for the first and the last generation, and for
 /// those on the way that the step asks for, to `report`, unless it is to be quiet, and behind them the picture
@@ -67,41 +63,32 @@ pub fn run<R, W: Sink, V: Sink>(
         × (HasFailed (W.failure_count report.old) (W.failure_count report.new)
         ⊎ HasFailed (V.failure_count file.old) (V.failure_count file.new)))) }
 {
-    let text = PatternFile::open(alloc, bytes)?;
-    let rule = rule_of(&text, options.rule)?;
-    let pattern = Pattern::of_file(alloc, rule, &text)?;
-    let start = text.generation();
-    reach(pattern.bounds(alloc)?, start, options.gens)?;
-    let pattern = run_reported(alloc, pattern, &rule, start, options, report)?;
-    let summary = Summary {
-        generation: start + options.gens,
-        population: pattern.population(alloc)?,
-        bounds: pattern.bounds(alloc)?,
-    };
-    pattern.draw(options.window, report)?;
-    if let Some(format) = options.format {
-        let generation = summary.generation;
-        pattern.write(alloc, format, text.comments(), &rule, generation, file)?;
-    }
+    let begun = judge(alloc, bytes, options)?;
+    let start = begun.text.generation();
+    let last = run_reported(alloc, begun.pattern, &begun.rule, start, options, report)?;
+    let summary = summary_of(alloc, &last, start + options.gens)?;
+    last.draw(options.window, report)?;
+    last.write(
+        alloc,
+        options.format,
+        begun.text.comments(),
+        &begun.rule,
+        summary.generation,
+        file,
+    )?;
     Ok(summary)
 }
 
-// The rule that is given, or else the one that the file names, or that of a file that names none.
-fn rule_of(text: &PatternFile<'_>, given: Option<Rule>) -> Result<Rule, Fault>
-    ensures ok { IfOk result (λ rule. ReadsRule given (meaning_of text.now) (Ok rule) × IsRule rule) }
-    ensures err { IfErr result (λ fault. (rule_fault : RuleFault) × ReadsRule given (meaning_of text.now) (Err rule_fault)
-        × (fault ≡ record { refusal = rule_refusal rule_fault; place = Some (meaning_of text.now).rule_place })) }
+// What a run ends with, by its last generation and the pattern of it.
+fn summary_of(alloc: Global, last: &Pattern, generation: u64) -> Result<Summary, Refusal>
+    ensures ok { IfOk result (SumsUp generation (plane_of last.now)) }
+    ensures memory { IsOkUnless result Refusal.NoMemory }
 {
-    if let Some(rule) = given {
-        return Ok(rule);
-    }
-    match Rule::read(text.rule_slice().unwrap_or(LIFE)) {
-        Ok(rule) => Ok(rule),
-        Err(fault) => Err(Fault {
-            refusal: rule_refusal(fault),
-            place: Some(text.rule_place()),
-        }),
-    }
+    Ok(Summary {
+        generation,
+        population: last.population(alloc)?,
+        bounds: last.bounds(alloc)?,
+    })
 }
 
 /// The refusal of a rule's fault: `BadRule` or `BirthOnZero`.

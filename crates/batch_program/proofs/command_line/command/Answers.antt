@@ -1,22 +1,14 @@
-use Rattle.std.proofs.Common.{◌≡◌, ◌∙◌, ap₂, codes, rules}
+use Rattle.std.proofs.Common.{◌≡◌, ◌∙◌, [], ◌∷◌, ap, codes, rules}
+use Rattle.std.specs.Prelude.{fold}
 use Rattle.std.proofs.lemmas.Result.{IfOk-weaker}
 use Rattle.clap.specs.Words.{app_of, new_app, with_rule}
+use Rattle.batch_program.specs.CommandLine.{file_argument, generation_option, output_option, quiet_option, rule_option, step_option, window_option}
+use Rattle.batch_program.proofs.AskedWords.{adds_rules}
 use Rattle.batch_program.proofs.command_line.command.Goals as goal
 
 pub returns : goal.returns
 returns c =
-    let none : app_of c.after_help.result ≡ new_app (codes "lifebatch") = search rules in
-    IfOk-weaker c.arg-7.result _ _ (λ command added.
-    added.shape (search rules) ∙ ap₂ with_rule
-    (c.in_ok-arg-6.ensures.shape (search rules) ∙ ap₂ with_rule
-    (c.in_ok-arg-5.ensures.shape (search rules) ∙ ap₂ with_rule
-    (c.in_ok-arg-4.ensures.shape (search rules) ∙ ap₂ with_rule
-    (c.in_ok-arg-3.ensures.shape (search rules) ∙ ap₂ with_rule
-    (c.in_ok-arg-2.ensures.shape (search rules) ∙ ap₂ with_rule
-    (c.in_ok-arg.ensures.shape (search rules) ∙ ap₂ with_rule none c.generation_option.ensures.rule)
-    c.step_option.ensures.rule)
-    c.output_option.ensures.rule)
-    c.rule_option.ensures.rule)
-    c.quiet_option.ensures.rule)
-    c.window_option.ensures.rule)
-    c.file_argument.ensures.rule) c.arg-7.ensures
+    let all = generation_option ∷ step_option ∷ output_option ∷ rule_option ∷ quiet_option ∷ window_option ∷ file_argument ∷ [] in
+    let bare : app_of c.after_help.result ≡ new_app (codes "lifebatch") = search rules in
+    IfOk-weaker c.args-2.result _ _ (λ command adds. adds_rules c.in_ok-options.options.items all c.after_help.result command adds c.in_ok-options.ensures ∙ ap (λ app. fold with_rule app all) bare)
+    c.args-2.ensures

@@ -95,3 +95,17 @@ loop-done-preserved g c =
         Appends-trans _ _ _ said.0 line.0 said.2 line.2,
       );
     }
+
+pub returns-clause-cells : goal.returns-clause-cells
+returns-clause-cells g c =
+    let all : c.loop-done.done ≡ c.args.options.now.gens = omega (arith, c.loop-done-test.false, c.loop-done.invariant.within) in
+    subst (λ n. IsSame (plane_of c.loop-done.pattern) (after c.args.rule.now (plane_of c.args.start) n)) all c.loop-done.invariant.cells
+
+pub returns-clause-reported : goal.returns-clause-reported
+returns-clause-reported g c =
+    let said = c.loop-done.invariant.said in
+    let all : c.loop-done.done ≡ c.args.options.now.gens = omega (arith, c.loop-done-test.false, c.loop-done.invariant.within) in (
+      said.0,
+      subst (λ n. Shows c.args.rule.now (plane_of c.args.start) c.args.generation (shown_until c.args.options.now n) said.0) all said.1,
+      said.2,
+    )

@@ -4,7 +4,7 @@ use Rattle.rule_text.specs.RuleText.{Reads}
 use Rattle.engine.specs.Judgement.{ReadsRule, rule_text_of}
 use Rattle.engine.specs.PatternFile.{meaning_of}
 use Rattle.engine.proofs.Endings.{copied_or}
-use Rattle.engine.proofs.running.rule_of.Goals as goal
+use Rattle.engine.proofs.accepted.rule_of.Goals as goal
 
 pub returns-in-Err-clause-err : goal.returns-in-Err-clause-err
 returns-in-Err-clause-err c =

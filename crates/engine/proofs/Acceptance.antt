@@ -1,0 +1,74 @@
+-- How a run is accepted, and how it is refused before its first line.
+use Rattle.std.proofs.Common.{◌≡◌, ◌⊎◌, ℕ, true, List, [], Option, Some, Ok, Err, refl, sym, ap, inl, inr}
+use Rattle.std.specs.Io.KnownBytes.{Appends}
+use Rattle.std.proofs.KnownBytes.{Appends-nil}
+use Rattle.rule_text.specs.CountRule.{CountRule, IsRule}
+use Rattle.rule_text.specs.declared.fault.RuleFault.{RuleFault}
+use Rattle.plane.specs.Plane.{Plane}
+use Rattle.plane.specs.Range.{StaysWithin}
+use Rattle.plane.specs.Square.{IsSame}
+use Rattle.plane.specs.declared.cell.Bounds.{Bounds}
+use Rattle.plane.specs.declared.fault.Fault.{Fault}
+use Rattle.plane.specs.declared.refusal.Refusal.{Refusal}
+use Rattle.plane.specs.declared.refusal.Refusal.TheVariants.{NoMemory, TooFar}
+use Rattle.viewport.specs.BoundingBox.{HasBounds}
+use Rattle.engine.specs.Accepted.{HasRoomFor, IsAccepted, LeavesRange}
+use Rattle.engine.specs.Judgement.{Judges, ReadsRule, placeless, rule_refusal}
+use Rattle.engine.specs.Meaning.{Meaning, is_macrocell, judged}
+use Rattle.engine.specs.Run.{IsBegun}
+use Rattle.engine.specs.declared.options.Options.{Options}
+use Rattle.engine.proofs.Endings.{begun_none, listing_as, stays_as}
+
+-- ---- the range
+
+module _ (meaning : Meaning) (generations : ℕ) (here : Plane) (box : Option Bounds) (start : ℕ) (bounds : HasBounds here box) (same : IsSame here meaning.live) (is : start ≡ meaning.generation) where
+  pub has_room : StaysWithin box start generations → HasRoomFor meaning generations here
+  has_room stays = record { cells = bounds.cells; listing = bounds.listing; same = same; stays = stays_as bounds.bounds is stays }
+
+  pub leaves_range : (StaysWithin box start generations → ⊥) → LeavesRange meaning generations
+  leaves_range far = record {
+    cells = bounds.cells;
+    listing = listing_as same bounds.listing;
+    outside = λ stays. far (stays_as (sym bounds.bounds) (sym is) stays);
+  }
+
+-- ---- the judgement
+
+-- the text is refused, or memory ran out while it was read
+pub text_refused : (bytes : List ℕ) (options : Options) (fault : Fault) → (judged bytes ≡ Err fault) ⊎ ((is_macrocell bytes ≡ true) × (fault ≡ placeless NoMemory)) →
+    Judges bytes options (Err fault) ⊎ ((fault ≡ placeless NoMemory) × IsBegun bytes options [])
+text_refused bytes options fault (inl refused) = inl (inl refused)
+text_refused bytes options fault (inr (macrocell, memory)) = inr (memory, inl (macrocell, refl))
+
+module _ (bytes : List ℕ) (options : Options) (meaning : Meaning) (text : judged bytes ≡ Ok meaning) where
+  pub rule_refused : (fault : Fault) → ((rule_fault : RuleFault) × ReadsRule options.rule meaning (Err rule_fault) × (fault ≡ record { refusal = rule_refusal rule_fault; place = Some meaning.rule_place })) →
+      Judges bytes options (Err fault) ⊎ ((fault ≡ placeless NoMemory) × IsBegun bytes options [])
+  rule_refused fault (rule_fault, read, is) = inl (inr (inl (record { meaning = meaning; rule_fault = rule_fault; text = text; rule = read; is = is })))
+
+  module _ (rule : CountRule) (read : ReadsRule options.rule meaning (Ok rule)) where
+    pub range_refused : (refusal : Refusal) → (refusal ≡ NoMemory) ⊎ ((refusal ≡ TooFar) × LeavesRange meaning options.gens) →
+        Judges bytes options (Err (placeless refusal)) ⊎ ((placeless refusal ≡ placeless NoMemory) × IsBegun bytes options [])
+    range_refused refusal (inl memory) = inr (ap placeless memory, begun_none bytes options meaning rule text read)
+    range_refused refusal (inr (far, leaves)) = inl (inr (inr (record {
+      start = record { meaning = meaning; rule = rule; cells = leaves.cells };
+      accepted = record { text = text; rule = read; cells = leaves.listing };
+      outside = leaves.outside;
+      is = ap placeless far;
+    })))
+
+    pub accepted : (here : Plane) → IsRule rule → HasRoomFor meaning options.gens here → IsAccepted bytes options meaning rule here
+    accepted here lawful room = record {
+      cells = room.cells;
+      listing = room.listing;
+      same = room.same;
+      lawful = lawful;
+      accepted = (record { text = text; rule = read; cells = listing_as room.same room.listing }, room.stays);
+    }
+
+-- a run that is refused before its first line has written nothing
+pub refused_at_once : (bytes : List ℕ) (options : Options) (fault : Fault) (taken : Option (List ℕ)) (ReportSame FileSame TooLarge Failed : Type 0) → ReportSame → FileSame →
+    Judges bytes options (Err fault) ⊎ ((fault ≡ placeless NoMemory) × IsBegun bytes options []) →
+    (Judges bytes options (Err fault) × ReportSame × FileSame) ⊎ TooLarge
+    ⊎ ((fault ≡ placeless NoMemory) × FileSame × ((said : List ℕ) × IsBegun bytes options said × Appends taken taken said)) ⊎ Failed
+refused_at_once bytes options fault taken ReportSame FileSame TooLarge Failed report file (inl refused) = inl (refused, report, file)
+refused_at_once bytes options fault taken ReportSame FileSame TooLarge Failed report file (inr (memory, begun)) = inr (inr (inl (memory, file, ([], begun, Appends-nil _))))

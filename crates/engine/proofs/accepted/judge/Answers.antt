@@ -1,0 +1,26 @@
+use Rattle.std.proofs.Common.{◌≡◌, Err, rules}
+use Rattle.engine.specs.Judgement.{placeless}
+use Rattle.engine.specs.Pattern.{plane_of}
+use Rattle.engine.specs.PatternFile.{meaning_of}
+use Rattle.engine.proofs.Acceptance.{accepted, range_refused, rule_refused, text_refused}
+use Rattle.engine.proofs.accepted.judge.Goals as goal
+
+pub returns-in_err-text-clause-refused : goal.returns-in_err-text-clause-refused
+returns-in_err-text-clause-refused c =
+    let is : c.from_residual.result ≡ Err c.in_err-text.field-0.0 = search rules in
+    rw is (text_refused c.args.bytes.now c.args.options.now c.in_err-text.field-0.0 c.in_err-text.ensures.refused)
+
+pub returns-in_err-rule-clause-refused : goal.returns-in_err-rule-clause-refused
+returns-in_err-rule-clause-refused c =
+    let is : c.from_residual-in_err-rule.result ≡ Err c.in_err-rule.field-0.0 = search rules in
+    rw is (rule_refused c.args.bytes.now c.args.options.now (meaning_of c.in_ok-text.text) c.in_ok-text.ensures.accepted c.in_err-rule.field-0.0 c.in_err-rule.ensures.err)
+
+pub returns-in_err-pattern-clause-refused : goal.returns-in_err-pattern-clause-refused
+returns-in_err-pattern-clause-refused c =
+    let is : c.from_residual-in_err-pattern.result ≡ Err (placeless c.in_err-pattern.field-0.0) = search rules in
+    rw is (range_refused c.args.bytes.now c.args.options.now (meaning_of c.in_ok-text.text) c.in_ok-text.ensures.accepted c.in_ok-rule.rule c.in_ok-rule.ensures.ok.0 c.in_err-pattern.field-0.0 c.in_err-pattern.ensures.refused)
+
+pub returns-clause-accepted : goal.returns-clause-accepted
+returns-clause-accepted c =
+    accepted c.args.bytes.now c.args.options.now (meaning_of c.in_ok-text.text) c.in_ok-text.ensures.accepted c.in_ok-rule.rule c.in_ok-rule.ensures.ok.0
+    (plane_of c.in_ok-pattern.pattern) c.in_ok-rule.ensures.ok.1 c.in_ok-pattern.ensures.ok
