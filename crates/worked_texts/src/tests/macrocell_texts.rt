@@ -1,6 +1,6 @@
 //! Macrocell texts, and what they are read as.
 
-use super::bytes_of;
+use super::{are_only, bytes_of};
 use macrocell_reader::{McFile, Node, NodeLine, NodeLines};
 use plane::Refusal;
 use std::alloc::{AllocError, Global};
@@ -62,12 +62,23 @@ const REFUSED: [(&str, Refusal, u64); 42] = [
     ("[M2]\n*$\n4 0 0 0 1\n#G x\n3\n", Refusal::BadGen, 18),
 ];
 
+/// The first text that is refused otherwise, and how.
+fn refused_otherwise<'a>(
+    alloc: Global,
+    rows: &[(&'a str, Refusal, u64)],
+) -> Option<(&'a str, Option<(Refusal, u64)>)> {
+    for (text, refusal, place) in rows {
+        let answer = refused(alloc, text);
+        if answer != Some((*refusal, *place)) {
+            return Some((*text, answer));
+        }
+    }
+    None
+}
+
 #[test]
 fn refuses_lines(rt: HostRuntime) {
-    for (text, refusal, place) in REFUSED {
-        let wanted = Some((refusal, place));
-        assert_eq!(rt; (text, refused(rt.alloc(), text)), (text, wanted));
-    }
+    assert_eq!(rt; refused_otherwise(rt.alloc(), &REFUSED), None);
 }
 
 const ACCEPTED: [&str; 9] = [
@@ -92,12 +103,14 @@ fn accepts(rt: HostRuntime) {
 /// What the lines of settings say: the generation, whether the rule's text is this one, and its place.
 fn settings(alloc: Global, text: &str, rule: Option<&str>) -> Option<(u64, bool, u64)> {
     match McFile::open(alloc, text.as_bytes()) {
-        Ok(file) => {
-            let is_rule = file.rule_slice() == bytes_of(rule);
-            Some((file.generation(), is_rule, file.rule_place()))
-        }
+        Ok(file) => Some(settings_of(&file, rule)),
         Err(_) => None,
     }
+}
+
+fn settings_of(file: &McFile<'_>, rule: Option<&str>) -> (u64, bool, u64) {
+    let is_rule = file.rule_slice() == bytes_of(rule);
+    (file.generation(), is_rule, file.rule_place())
 }
 
 /// Texts, each with its generation, its rule and the rule's place.
@@ -122,10 +135,7 @@ fn reads_settings(rt: HostRuntime) {
 /// Whether this comment, or none, is all that is kept of a text.
 fn keeps(alloc: Global, text: &str, comment: Option<&str>) -> bool {
     match McFile::open(alloc, text.as_bytes()) {
-        Ok(file) => {
-            let mut comments = file.comments();
-            comments.next() == bytes_of(comment) && comments.next().is_none()
-        }
+        Ok(file) => are_only(file.comments(), comment),
         Err(_) => false,
     }
 }
@@ -144,7 +154,7 @@ const COMMENTS: [(&str, Option<&str>); 8] = [
 #[test]
 fn keeps_comments(rt: HostRuntime) {
     for (text, comment) in COMMENTS {
-        assert!(rt; keeps(rt.alloc(), text, comment), "{text}");
+        assert_eq!(rt; (text, keeps(rt.alloc(), text, comment)), (text, true));
     }
 }
 
@@ -167,23 +177,30 @@ fn shown(line: Option<NodeLine<'_>>, slice: &str) -> Option<(bool, u64, Node)> {
     }
 }
 
-/// What the only node line of a text shows.
-fn only_node(alloc: Global, text: &str, slice: &str) -> Option<(bool, u64, Node)> {
+/// Whether the node lines of a text are these, each as its slice, its place and its node, and none comes
+/// behind them, however often one asks.
+fn has_lines(alloc: Global, text: &str, lines: &[(&str, u64, Node)]) -> bool {
     match nodes_of(alloc, text) {
-        Some(lines) => {
-            let mut nodes = lines;
-            let first = shown(nodes.next(), slice);
-            if nodes.next().is_none() { first } else { None }
-        }
-        None => None,
+        Some(nodes) => are_these(nodes, lines),
+        None => false,
     }
 }
 
-/// What the only node line shows, if this line is one.
-fn only_leaf(alloc: Global, line: &str) -> Option<(bool, u64, Node)> {
+fn are_these(nodes: NodeLines<'_>, lines: &[(&str, u64, Node)]) -> bool {
+    let mut rest = nodes;
+    for (slice, place, node) in lines {
+        if shown(rest.next(), slice) != Some((true, *place, *node)) {
+            return false;
+        }
+    }
+    rest.next().is_none() && rest.next().is_none()
+}
+
+/// Whether the only node line is this one, and a leaf with these cells.
+fn is_leaf(alloc: Global, line: &str, word: u64) -> bool {
     match format!(in alloc; "[M2]\n{line}\r\n") {
-        Ok(text) => only_node(alloc, text.as_str(), line),
-        Err(_) => None,
+        Ok(text) => has_lines(alloc, text.as_str(), &[(line, 5, Node::Leaf(word))]),
+        Err(_) => false,
     }
 }
 
@@ -206,50 +223,40 @@ const LEAVES: [(&str, u64); 10] = [
 #[test]
 fn reads_leaves(rt: HostRuntime) {
     for (line, word) in LEAVES {
-        let wanted = Some((true, 5, Node::Leaf(word)));
-        assert_eq!(rt; (line, only_leaf(rt.alloc(), line)), (line, wanted));
+        assert_eq!(rt; (line, is_leaf(rt.alloc(), line, word)), (line, true));
     }
 }
 
-/// Texts of three nodes, and the places of these.
-const NODES: [(&str, u64, u64, u64); 2] = [
-    (
-        "[M2]\n#C here\n*$ \n\n4 0 1 0 1\n#G 1\n005 2\t0  0 02 ",
-        13,
-        18,
-        33,
-    ),
-    (
-        "[M2]\r\n#C here\r\n*$ \r\n\r\n4 0 1 0 1\r\n#G 1\r\n005 2\t0  0 02 ",
-        15,
-        22,
-        39,
-    ),
-];
+const INNER: Node = Node::Inner {
+    level: 4,
+    kids: [0, 1, 0, 1],
+};
+
+const ROOT: Node = Node::Inner {
+    level: 5,
+    kids: [2, 0, 0, 2],
+};
 
 #[test]
 fn reads_node_lines(rt: HostRuntime) {
-    for (text, first, second, third) in NODES {
-        let mut nodes = nodes_of(rt.alloc(), text).expect(&rt, "a file");
-        assert_eq!(rt;
-            shown(nodes.next(), "*$ "),
-            Some((true, first, Node::Leaf(1)))
-        );
-        assert_eq!(rt;
-            shown(nodes.next(), "4 0 1 0 1"),
-            Some((true, second, inner(4, [0, 1, 0, 1])))
-        );
-        assert_eq!(rt;
-            shown(nodes.next(), "005 2\t0  0 02 "),
-            Some((true, third, inner(5, [2, 0, 0, 2])))
-        );
-        assert!(rt; nodes.next().is_none());
-        assert!(rt; nodes.next().is_none());
-    }
+    let text = "[M2]\n#C here\n*$ \n\n4 0 1 0 1\n#G 1\n005 2\t0  0 02 ";
+    let lines = [
+        ("*$ ", 13, Node::Leaf(1)),
+        ("4 0 1 0 1", 18, INNER),
+        ("005 2\t0  0 02 ", 33, ROOT),
+    ];
+    assert!(rt; has_lines(rt.alloc(), text, &lines));
 }
 
-fn inner(level: u8, kids: [u32; 4]) -> Node {
-    Node::Inner { level, kids }
+#[test]
+fn reads_node_lines_that_end_with_a_carriage_return(rt: HostRuntime) {
+    let text = "[M2]\r\n#C here\r\n*$ \r\n\r\n4 0 1 0 1\r\n#G 1\r\n005 2\t0  0 02 ";
+    let lines = [
+        ("*$ ", 15, Node::Leaf(1)),
+        ("4 0 1 0 1", 22, INNER),
+        ("005 2\t0  0 02 ", 39, ROOT),
+    ];
+    assert!(rt; has_lines(rt.alloc(), text, &lines));
 }
 
 /// What a text is refused with, and how many node lines it has, none if it is refused.
@@ -289,12 +296,19 @@ const CHAINS: [(&str, Option<(Refusal, u64)>, u64); 6] = [
     ),
 ];
 
+/// What comes out of a chain; nothing if there is no memory for its text.
+fn chain_outcome(alloc: Global, last: &str) -> Option<(Option<(Refusal, u64)>, u64)> {
+    match chain(alloc, last) {
+        Ok(text) => Some(outcome(alloc, text.as_str())),
+        Err(_) => None,
+    }
+}
+
 #[test]
 fn reads_a_chain_to_the_largest_level(rt: HostRuntime) {
     for (last, refusal, count) in CHAINS {
-        let text = chain(rt.alloc(), last).expect(&rt, "memory");
-        let wanted = (refusal, count);
-        assert_eq!(rt; (last, outcome(rt.alloc(), text.as_str())), (last, wanted));
+        let wanted = Some((refusal, count));
+        assert_eq!(rt; (last, chain_outcome(rt.alloc(), last)), (last, wanted));
     }
 }
 
@@ -304,16 +318,8 @@ fn pyramid(alloc: Global) -> Result<String, AllocError> {
     for word in 0..4096u32 {
         push_leaf(&mut text, word)?;
     }
-    let mut first = 1u64;
-    for (level, count) in [(4, 1024), (5, 256), (6, 64), (7, 16), (8, 4), (9, 1)] {
-        for _ in 0..count {
-            let next = first.saturating_add(1);
-            let third = first.saturating_add(2);
-            let last = first.saturating_add(3);
-            let line = format!(in alloc; "{level} {first} {next} {third} {last}\n")?;
-            text.push_str(line.as_str())?;
-            first = first.saturating_add(4);
-        }
+    for index in 0..1365u64 {
+        push_inner(alloc, &mut text, index)?;
     }
     Ok(text)
 }
@@ -328,6 +334,25 @@ fn push_leaf(text: &mut String, word: u32) -> Result<(), AllocError> {
         }
     }
     text.push_str("$\n")
+}
+
+/// Adds the line of an inner node, 1024 of them on level 4, 256 on level 5 and so on.
+fn push_inner(alloc: Global, text: &mut String, index: u64) -> Result<(), AllocError> {
+    let level = match index {
+        0..=1023 => 4,
+        1024..=1279 => 5,
+        1280..=1343 => 6,
+        1344..=1359 => 7,
+        1360..=1363 => 8,
+        _ => 9,
+    };
+    let first = index.saturating_mul(4);
+    let one = first.saturating_add(1);
+    let two = first.saturating_add(2);
+    let three = first.saturating_add(3);
+    let four = first.saturating_add(4);
+    let line = format!(in alloc; "{level} {one} {two} {three} {four}\n")?;
+    text.push_str(line.as_str())
 }
 
 #[test]

@@ -1,6 +1,6 @@
 //! RLE texts, and what they are read as.
 
-use super::bytes_of;
+use super::{are_only, bytes_of};
 use plane::{Cell, Refusal};
 use rle_reader::{RleFile, Run, Runs, Tag};
 use std::alloc::Global;
@@ -69,22 +69,6 @@ const REFUSED: [(&str, Refusal, u64); 33] = [
     ),
 ];
 
-#[test]
-fn refuses_texts(rt: HostRuntime) {
-    for (text, refusal, place) in REFUSED {
-        let wanted = Some((refusal, place));
-        assert_eq!(rt; (text, refused(text.as_bytes())), (text, wanted));
-    }
-}
-
-/// The refusal of a body behind its header, and its place.
-fn refused_body(alloc: Global, body: &str) -> Option<(Refusal, u64)> {
-    match format!(in alloc; "x = 1, y = 1\n{body}") {
-        Ok(text) => refused(text.as_bytes()),
-        Err(_) => None,
-    }
-}
-
 const REFUSED_BODIES: [(&str, Refusal, u64); 21] = [
     ("0o!", Refusal::BadCount, 13),
     ("3!", Refusal::BadCount, 13),
@@ -109,12 +93,40 @@ const REFUSED_BODIES: [(&str, Refusal, u64); 21] = [
     ("o$4611686018427387905o", Refusal::OutOfRange, 15),
 ];
 
-#[test]
-fn refuses_items(rt: HostRuntime) {
-    for (body, refusal, place) in REFUSED_BODIES {
-        let wanted = Some((refusal, place));
-        assert_eq!(rt; (body, refused_body(rt.alloc(), body)), (body, wanted));
+/// The refusal of a text of two parts, and its place.
+fn refused_behind(alloc: Global, head: &str, rest: &str) -> Option<(Refusal, u64)> {
+    match format!(in alloc; "{head}{rest}") {
+        Ok(text) => refused(text.as_bytes()),
+        Err(_) => None,
     }
+}
+
+/// The first rest that is refused otherwise behind a head, and how.
+fn refused_otherwise<'a>(
+    alloc: Global,
+    head: &str,
+    rows: &[(&'a str, Refusal, u64)],
+) -> Option<(&'a str, Option<(Refusal, u64)>)> {
+    for (rest, refusal, place) in rows {
+        let answer = refused_behind(alloc, head, rest);
+        if answer != Some((*refusal, *place)) {
+            return Some((*rest, answer));
+        }
+    }
+    None
+}
+
+#[test]
+fn refuses_texts(rt: HostRuntime) {
+    assert_eq!(rt; refused_otherwise(rt.alloc(), "", &REFUSED), None);
+}
+
+#[test]
+fn refuses_bodies(rt: HostRuntime) {
+    assert_eq!(rt;
+        refused_otherwise(rt.alloc(), "x = 1, y = 1\n", &REFUSED_BODIES),
+        None
+    );
 }
 
 const ACCEPTED: [&str; 11] = [
@@ -152,20 +164,22 @@ fn reads_every_beginning(rt: HostRuntime) {
     }
 }
 
-/// How many live cells the items of a text have; none if it is refused.
+/// How many live cells the items of a text have, if it is accepted.
 fn live_cells(text: &str) -> Option<u64> {
-    let mut cells = 0u64;
-    match RleFile::open(text.as_bytes()) {
-        Ok(file) => {
-            for run in file.runs() {
-                if run.tag == Tag::Live {
-                    cells = cells.saturating_add(run.count);
-                }
-            }
-            Some(cells)
-        }
-        Err(_) => None,
+    match runs_of(text) {
+        Some(runs) => Some(cells_of(runs)),
+        None => None,
     }
+}
+
+fn cells_of(runs: Runs<'_>) -> u64 {
+    let mut cells = 0u64;
+    for run in runs {
+        if run.tag == Tag::Live {
+            cells = cells.saturating_add(run.count);
+        }
+    }
+    cells
 }
 
 const CELLS: [(&str, u64); 4] = [
@@ -186,12 +200,14 @@ fn counts_the_cells_of_beginnings(rt: HostRuntime) {
 /// one, and the place of the header.
 fn settings(text: &str, rule: Option<&str>) -> Option<(Cell, u64, bool, u64)> {
     match RleFile::open(text.as_bytes()) {
-        Ok(file) => {
-            let is_rule = file.rule_slice() == bytes_of(rule);
-            Some((file.pos(), file.generation(), is_rule, file.rule_place()))
-        }
+        Ok(file) => Some(settings_of(&file, rule)),
         Err(_) => None,
     }
+}
+
+fn settings_of(file: &RleFile<'_>, rule: Option<&str>) -> (Cell, u64, bool, u64) {
+    let is_rule = file.rule_slice() == bytes_of(rule);
+    (file.pos(), file.generation(), is_rule, file.rule_place())
 }
 
 const LIFE: Option<&str> = Some("B3/S23");
@@ -245,21 +261,19 @@ fn reads_the_lines_before_the_body(rt: HostRuntime) {
     }
 }
 
-/// Whether this comment, or none, is all that is kept of lines before a header.
-fn keeps(alloc: Global, lines: &str, comment: Option<&str>) -> Option<bool> {
-    match format!(in alloc; "{lines}x = 1, y = 1\n#C in the body\n!") {
-        Ok(text) => keeps_of_text(text.as_bytes(), comment),
-        Err(_) => None,
+/// Whether this comment, or none, is all that is kept of a text.
+fn keeps(text: &[u8], comment: Option<&str>) -> bool {
+    match RleFile::open(text) {
+        Ok(file) => are_only(file.comments(), comment),
+        Err(_) => false,
     }
 }
 
-fn keeps_of_text(text: &[u8], comment: Option<&str>) -> Option<bool> {
-    match RleFile::open(text) {
-        Ok(file) => {
-            let mut comments = file.comments();
-            Some(comments.next() == bytes_of(comment) && comments.next().is_none())
-        }
-        Err(_) => None,
+/// Whether this comment, or none, is all that is kept of lines before a header.
+fn keeps_before(alloc: Global, lines: &str, comment: Option<&str>) -> bool {
+    match format!(in alloc; "{lines}x = 1, y = 1\n#C in the body\n!") {
+        Ok(text) => keeps(text.as_bytes(), comment),
+        Err(_) => false,
     }
 }
 
@@ -279,8 +293,8 @@ const COMMENTS: [(&str, Option<&str>); 10] = [
 #[test]
 fn keeps_comments(rt: HostRuntime) {
     for (lines, comment) in COMMENTS {
-        let kept = keeps(rt.alloc(), lines, comment);
-        assert_eq!(rt; (lines, kept), (lines, Some(true)));
+        let is_kept = keeps_before(rt.alloc(), lines, comment);
+        assert_eq!(rt; (lines, is_kept), (lines, true));
     }
 }
 
@@ -303,7 +317,25 @@ fn shown(run: Option<Run<'_>>, slice: &str) -> Option<(bool, u64, u64, Tag)> {
     }
 }
 
-/// The items of a glider.
+/// Whether the items of a text are these, each as its slice, its place, its count and its tag, and none
+/// comes behind them, however often one asks.
+fn has_items(text: &str, items: &[(&str, u64, u64, Tag)]) -> bool {
+    match runs_of(text) {
+        Some(runs) => are_these(runs, items),
+        None => false,
+    }
+}
+
+fn are_these(runs: Runs<'_>, items: &[(&str, u64, u64, Tag)]) -> bool {
+    let mut rest = runs;
+    for (slice, place, count, tag) in items {
+        if shown(rest.next(), slice) != Some((true, *place, *count, *tag)) {
+            return false;
+        }
+    }
+    rest.next().is_none() && rest.next().is_none()
+}
+
 const GLIDER: [(&str, u64, u64, Tag); 7] = [
     ("b", 13, 1, Tag::Dead),
     ("2o", 14, 2, Tag::Live),
@@ -316,24 +348,7 @@ const GLIDER: [(&str, u64, u64, Tag); 7] = [
 
 #[test]
 fn reads_items(rt: HostRuntime) {
-    let mut runs = runs_of("x = 3, y = 3\nb2o$2o$bo!").expect(&rt, "a file");
-    for (slice, place, count, tag) in GLIDER {
-        assert_eq!(rt; shown(runs.next(), slice), Some((true, place, count, tag)));
-    }
-    assert!(rt; runs.next().is_none());
-    assert!(rt; runs.next().is_none());
-}
-
-/// What the only item of a text shows.
-fn only_run(text: &str, slice: &str) -> Option<(bool, u64, u64, Tag)> {
-    match runs_of(text) {
-        Some(items) => {
-            let mut runs = items;
-            let first = shown(runs.next(), slice);
-            if runs.next().is_none() { first } else { None }
-        }
-        None => None,
-    }
+    assert!(rt; has_items("x = 3, y = 3\nb2o$2o$bo!", &GLIDER));
 }
 
 /// Texts of one item, its slice and its place.
@@ -357,11 +372,15 @@ const LONG_ITEMS: [(&str, &str, u64); 5] = [
     ),
 ];
 
+/// Whether a text keeps no comment, and its only item is this one, of twelve live cells.
+fn has_twelve_cells(text: &str, slice: &str, place: u64) -> bool {
+    has_items(text, &[(slice, place, 12, Tag::Live)]) && keeps(text.as_bytes(), None)
+}
+
 #[test]
 fn reads_a_count_over_lines_and_comments(rt: HostRuntime) {
     for (text, slice, place) in LONG_ITEMS {
-        let wanted = Some((true, place, 12, Tag::Live));
-        assert_eq!(rt; (text, only_run(text, slice)), (text, wanted));
-        assert!(rt; keeps_of_text(text.as_bytes(), None) == Some(true));
+        let is_read = has_twelve_cells(text, slice, place);
+        assert_eq!(rt; (text, is_read), (text, true));
     }
 }
