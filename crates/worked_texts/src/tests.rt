@@ -1,4 +1,6 @@
+mod macrocell_nodes;
 mod macrocell_texts;
+mod rle_items;
 mod rle_texts;
 mod rules;
 
@@ -12,8 +14,13 @@ fn bytes_of(text: Option<&str>) -> Option<&[u8]> {
     }
 }
 
-/// Whether this comment, or none, is all that is kept.
-fn are_only(comments: Comments<'_>, comment: Option<&str>) -> bool {
+/// Whether this comment is all that is kept, or nothing where it is empty.
+fn are_only(comments: Comments<'_>, comment: &str) -> bool {
     let mut kept = comments;
-    kept.next() == bytes_of(comment) && kept.next().is_none()
+    match kept.next() {
+        Some(first) => {
+            !comment.is_empty() && first == comment.as_bytes() && kept.next().is_none()
+        }
+        None => comment.is_empty() && kept.next().is_none(),
+    }
 }

@@ -1,12 +1,12 @@
 //! Macrocell texts, and what they are read as.
 
 use super::{are_only, bytes_of};
-use macrocell_reader::{McFile, Node, NodeLine, NodeLines};
+use macrocell_reader::McFile;
 use plane::Refusal;
-use std::alloc::{AllocError, Global};
+use std::alloc::Global;
 
 /// The refusal of a text, and its place.
-fn refused(alloc: Global, text: &str) -> Option<(Refusal, u64)> {
+pub(super) fn refused(alloc: Global, text: &str) -> Option<(Refusal, u64)> {
     match McFile::open(alloc, text.as_bytes()) {
         Ok(_) => None,
         Err(fault) => Some((fault.refusal, fault.place.unwrap_or(u64::MAX))),
@@ -133,28 +133,29 @@ fn reads_settings(rt: HostRuntime) {
 }
 
 /// Whether this comment, or none, is all that is kept of a text.
-fn keeps(alloc: Global, text: &str, comment: Option<&str>) -> bool {
+fn keeps(alloc: Global, text: &str, comment: &str) -> bool {
     match McFile::open(alloc, text.as_bytes()) {
         Ok(file) => are_only(file.comments(), comment),
         Err(_) => false,
     }
 }
 
-const COMMENTS: [(&str, Option<&str>); 8] = [
-    ("[M2]\n#C one\n", Some("#C one")),
-    ("[M2]\n#C one\r\n", Some("#C one")),
-    ("[M2]\n#C one\r\r\n", Some("#C one\r")),
-    ("[M2]\n#CXRLE Pos=1,2\n", None),
-    ("[M2]\n#r 23/3\n*$\n#P\n", None),
-    ("[M2]\n*$\n#N", Some("#N")),
-    ("[M2]\n#Owner\n4 0 0 0 0\n", Some("#Owner")),
-    ("[M2]\n#D\n", Some("#D")),
+/// Texts, and the comment that is kept, empty where none is.
+const COMMENTS: [(&str, &str); 8] = [
+    ("[M2]\n#C one\n", "#C one"),
+    ("[M2]\n#C one\r\n", "#C one"),
+    ("[M2]\n#C one\r\r\n", "#C one\r"),
+    ("[M2]\n#CXRLE Pos=1,2\n", ""),
+    ("[M2]\n#r 23/3\n*$\n#P\n", ""),
+    ("[M2]\n*$\n#N", "#N"),
+    ("[M2]\n#Owner\n4 0 0 0 0\n", "#Owner"),
+    ("[M2]\n#D\n", "#D"),
 ];
 
 /// The first text of which another comment is kept, or more than one.
-fn kept_otherwise<'a>(alloc: Global, rows: &[(&'a str, Option<&str>)]) -> Option<&'a str> {
+fn kept_otherwise<'a>(alloc: Global, rows: &[(&'a str, &str)]) -> Option<&'a str> {
     for (text, comment) in rows {
-        if !keeps(alloc, text, *comment) {
+        if !keeps(alloc, text, comment) {
             return Some(*text);
         }
     }
@@ -164,221 +165,6 @@ fn kept_otherwise<'a>(alloc: Global, rows: &[(&'a str, Option<&str>)]) -> Option
 #[test]
 fn keeps_comments(rt: HostRuntime) {
     assert_eq!(rt; kept_otherwise(rt.alloc(), &COMMENTS), None);
-}
-
-/// The node lines of a text, which stay when the file is gone, if it is accepted.
-fn nodes_of(alloc: Global, text: &str) -> Option<NodeLines<'_>> {
-    match McFile::open(alloc, text.as_bytes()) {
-        Ok(file) => {
-            let moved = file;
-            Some(moved.lines())
-        }
-        Err(_) => None,
-    }
-}
-
-/// Whether a node line has this slice, this place and this node.
-fn is_this(line: Option<NodeLine<'_>>, wanted: &(&str, u64, Node)) -> bool {
-    let (slice, place, node) = *wanted;
-    match line {
-        Some(line) => line.text == slice.as_bytes() && line.place == place && line.node == node,
-        None => false,
-    }
-}
-
-/// Whether the node lines of a text are these, each as its slice, its place and its node, and none comes
-/// behind them, however often one asks.
-fn has_lines(alloc: Global, text: &str, lines: &[(&str, u64, Node)]) -> bool {
-    match nodes_of(alloc, text) {
-        Some(nodes) => are_these(nodes, lines),
-        None => false,
-    }
-}
-
-fn are_these(nodes: NodeLines<'_>, lines: &[(&str, u64, Node)]) -> bool {
-    let mut rest = nodes;
-    for line in lines {
-        if !is_this(rest.next(), line) {
-            return false;
-        }
-    }
-    rest.next().is_none() && rest.next().is_none()
-}
-
-/// Whether the only node line is this one, and a leaf with these cells.
-fn is_leaf(alloc: Global, line: &str, word: u64) -> bool {
-    match format!(in alloc; "[M2]\n{line}\r\n") {
-        Ok(text) => has_lines(alloc, text.as_str(), &[(line, 5, Node::Leaf(word))]),
-        Err(_) => false,
-    }
-}
-
-const LEAVES: [(&str, u64); 10] = [
-    ("*$", 0x1),
-    (".*$..*$***$", 0x70402),
-    ("$*$", 0x100),
-    ("$*", 0x100),
-    ("$", 0),
-    (".", 0),
-    ("$$..*$...*$.***$$$$", 0xe0804 << 16),
-    ("$$..*$...*$.***$", 0xe0804 << 16),
-    ("$$$$$$$.......* \t", 1 << 63),
-    (
-        "********$********$********$********$********$********$********$********",
-        u64::MAX,
-    ),
-];
-
-/// The first line that is read as another leaf, or as none.
-fn read_otherwise<'a>(alloc: Global, rows: &[(&'a str, u64)]) -> Option<&'a str> {
-    for (line, word) in rows {
-        if !is_leaf(alloc, line, *word) {
-            return Some(*line);
-        }
-    }
-    None
-}
-
-#[test]
-fn reads_leaves(rt: HostRuntime) {
-    assert_eq!(rt; read_otherwise(rt.alloc(), &LEAVES), None);
-}
-
-const INNER: Node = Node::Inner {
-    level: 4,
-    kids: [0, 1, 0, 1],
-};
-
-const ROOT: Node = Node::Inner {
-    level: 5,
-    kids: [2, 0, 0, 2],
-};
-
-#[test]
-fn reads_node_lines(rt: HostRuntime) {
-    let text = "[M2]\n#C here\n*$ \n\n4 0 1 0 1\n#G 1\n005 2\t0  0 02 ";
-    let lines = [
-        ("*$ ", 13, Node::Leaf(1)),
-        ("4 0 1 0 1", 18, INNER),
-        ("005 2\t0  0 02 ", 33, ROOT),
-    ];
-    assert!(rt; has_lines(rt.alloc(), text, &lines));
-}
-
-#[test]
-fn reads_node_lines_that_end_with_a_carriage_return(rt: HostRuntime) {
-    let text = "[M2]\r\n#C here\r\n*$ \r\n\r\n4 0 1 0 1\r\n#G 1\r\n005 2\t0  0 02 ";
-    let lines = [
-        ("*$ ", 15, Node::Leaf(1)),
-        ("4 0 1 0 1", 22, INNER),
-        ("005 2\t0  0 02 ", 39, ROOT),
-    ];
-    assert!(rt; has_lines(rt.alloc(), text, &lines));
-}
-
-/// What a text is refused with, and how many node lines it has, none if it is refused.
-fn outcome(alloc: Global, text: &str) -> (Option<(Refusal, u64)>, u64) {
-    let mut count = 0u64;
-    if let Some(nodes) = nodes_of(alloc, text) {
-        for _line in nodes {
-            count = count.saturating_add(1);
-        }
-    }
-    (refused(alloc, text), count)
-}
-
-/// A leaf, and above it one node a level, each with the one before it as its first quadrant, up to the
-/// last line.
-fn chain(alloc: Global, last: &str) -> Result<String, AllocError> {
-    let mut text = String::from_str(alloc, "[M2]\n*$\n")?;
-    for level in 4..63u64 {
-        let line = format!(in alloc; "{level} {} 0 0 0\n", level - 3)?;
-        text.push_str(line.as_str())?;
-    }
-    text.push_str(last)?;
-    Ok(text)
-}
-
-/// The last lines of chains, and what comes out: the refusal and how many node lines there are.
-const CHAINS: [(&str, Option<(Refusal, u64)>, u64); 6] = [
-    ("63 0 0 0 60\n", None, 61),
-    ("63 60 0 0 0\n", None, 61),
-    ("63 60 0 0 59\n", Some((Refusal::BadChild, 701)), 0),
-    ("63 60 0 0 61\n", Some((Refusal::BadChild, 701)), 0),
-    ("64 60 0 0 0\n", Some((Refusal::OutOfRange, 701)), 0),
-    (
-        "63 0 0 0 60\n64 0 0 0 61\n",
-        Some((Refusal::OutOfRange, 713)),
-        0,
-    ),
-];
-
-/// The outcome of a text that was made; none if there was no memory for it.
-fn made_outcome(
-    alloc: Global,
-    text: Result<String, AllocError>,
-) -> Option<(Option<(Refusal, u64)>, u64)> {
-    match text {
-        Ok(text) => Some(outcome(alloc, text.as_str())),
-        Err(_) => None,
-    }
-}
-
-/// The first last line of a chain with another outcome, and the outcome.
-fn chain_otherwise<'a>(
-    alloc: Global,
-    rows: &[(&'a str, Option<(Refusal, u64)>, u64)],
-) -> Option<(&'a str, Option<(Option<(Refusal, u64)>, u64)>)> {
-    for (last, refusal, count) in rows {
-        let answer = made_outcome(alloc, chain(alloc, last));
-        if answer != Some((*refusal, *count)) {
-            return Some((*last, answer));
-        }
-    }
-    None
-}
-
-#[test]
-fn reads_a_chain_to_the_largest_level(rt: HostRuntime) {
-    assert_eq!(rt; chain_otherwise(rt.alloc(), &CHAINS), None);
-}
-
-/// 4096 different leaves, and above them nodes that each take the next four, up to one root.
-fn pyramid(alloc: Global) -> Result<String, AllocError> {
-    let mut text = String::from_str(alloc, "[M2]\n")?;
-    for word in 0..4096u32 {
-        push_leaf(&mut text, word)?;
-    }
-    let mut first = 1u64;
-    for (level, count) in [(4, 1024), (5, 256), (6, 64), (7, 16), (8, 4), (9, 1)] {
-        for _ in 0..count {
-            let next = first.saturating_add(1);
-            let third = first.saturating_add(2);
-            let last = first.saturating_add(3);
-            let line = format!(in alloc; "{level} {first} {next} {third} {last}\n")?;
-            text.push_str(line.as_str())?;
-            first = first.saturating_add(4);
-        }
-    }
-    Ok(text)
-}
-
-/// Adds a leaf line that has the lowest 12 bits of a word as its cells, in two rows.
-fn push_leaf(text: &mut String, word: u32) -> Result<(), AllocError> {
-    for bit in 0..12u32 {
-        let cell = if (word >> bit) & 1 == 1 { "*" } else { "." };
-        text.push_str(cell)?;
-        if bit == 5 {
-            text.push_str("$")?;
-        }
-    }
-    text.push_str("$\n")
-}
-
-#[test]
-fn reads_many_nodes(rt: HostRuntime) {
-    let answer = made_outcome(rt.alloc(), pyramid(rt.alloc()));
-    assert_eq!(rt; answer, Some((None, 5461)));
 }
 
 /// What a text is refused with, the second time if memory ran out the first time, and how often it ran

@@ -2,7 +2,7 @@
 
 use super::{are_only, bytes_of};
 use plane::{Cell, Refusal};
-use rle_reader::{RleFile, Run, Runs, Tag};
+use rle_reader::RleFile;
 use std::alloc::Global;
 
 /// The refusal of a text and its place.
@@ -164,38 +164,6 @@ fn reads_every_beginning(rt: HostRuntime) {
     }
 }
 
-/// How many live cells the items of a text have, if it is accepted.
-fn live_cells(text: &str) -> Option<u64> {
-    match runs_of(text) {
-        Some(runs) => Some(cells_of(runs)),
-        None => None,
-    }
-}
-
-fn cells_of(runs: Runs<'_>) -> u64 {
-    let mut cells = 0u64;
-    for run in runs {
-        if run.tag == Tag::Live {
-            cells = cells.saturating_add(run.count);
-        }
-    }
-    cells
-}
-
-const CELLS: [(&str, u64); 4] = [
-    ("x = 1, y = 1", 0),
-    ("x = 1, y = 1\n", 0),
-    ("x = 1, y = 1\n3o", 3),
-    ("x = 1, y = 1\n3o!", 3),
-];
-
-#[test]
-fn counts_the_cells_of_beginnings(rt: HostRuntime) {
-    for (text, cells) in CELLS {
-        assert_eq!(rt; (text, live_cells(text)), (text, Some(cells)));
-    }
-}
-
 /// What the lines before the body say: the first cell, the generation, whether the rule's text is this
 /// one, and the place of the header.
 fn settings(text: &str, rule: Option<&str>) -> Option<(Cell, u64, bool, u64)> {
@@ -262,7 +230,7 @@ fn reads_the_lines_before_the_body(rt: HostRuntime) {
 }
 
 /// Whether this comment, or none, is all that is kept of a text.
-fn keeps(text: &[u8], comment: Option<&str>) -> bool {
+pub(super) fn keeps(text: &[u8], comment: &str) -> bool {
     match RleFile::open(text) {
         Ok(file) => are_only(file.comments(), comment),
         Err(_) => false,
@@ -270,30 +238,31 @@ fn keeps(text: &[u8], comment: Option<&str>) -> bool {
 }
 
 /// Whether this comment, or none, is all that is kept of lines before a header.
-fn keeps_before(alloc: Global, lines: &str, comment: Option<&str>) -> bool {
+fn keeps_before(alloc: Global, lines: &str, comment: &str) -> bool {
     match format!(in alloc; "{lines}x = 1, y = 1\n#C in the body\n!") {
         Ok(text) => keeps(text.as_bytes(), comment),
         Err(_) => false,
     }
 }
 
-const COMMENTS: [(&str, Option<&str>); 10] = [
-    ("#C one\n", Some("#C one")),
-    ("#C one\r\n", Some("#C one")),
-    ("#C one\r\r\n", Some("#C one\r")),
-    ("#CXRLE Pos=1,2\n", None),
-    ("#CXRL\n", Some("#CXRL")),
-    ("#r 23/3\n", None),
-    ("#P 1 1\n#R x\n\n", None),
-    ("#N\n#r\n", Some("#N")),
-    ("#Owner\n", Some("#Owner")),
-    ("#D\n", Some("#D")),
+/// Lines before a header, and the comment that is kept, empty where none is.
+const COMMENTS: [(&str, &str); 10] = [
+    ("#C one\n", "#C one"),
+    ("#C one\r\n", "#C one"),
+    ("#C one\r\r\n", "#C one\r"),
+    ("#CXRLE Pos=1,2\n", ""),
+    ("#CXRL\n", "#CXRL"),
+    ("#r 23/3\n", ""),
+    ("#P 1 1\n#R x\n\n", ""),
+    ("#N\n#r\n", "#N"),
+    ("#Owner\n", "#Owner"),
+    ("#D\n", "#D"),
 ];
 
 /// The first lines of which another comment is kept, or more than one.
-fn kept_otherwise<'a>(alloc: Global, rows: &[(&'a str, Option<&str>)]) -> Option<&'a str> {
+fn kept_otherwise<'a>(alloc: Global, rows: &[(&'a str, &str)]) -> Option<&'a str> {
     for (lines, comment) in rows {
-        if !keeps_before(alloc, lines, *comment) {
+        if !keeps_before(alloc, lines, comment) {
             return Some(*lines);
         }
     }
@@ -303,104 +272,4 @@ fn kept_otherwise<'a>(alloc: Global, rows: &[(&'a str, Option<&str>)]) -> Option
 #[test]
 fn keeps_comments(rt: HostRuntime) {
     assert_eq!(rt; kept_otherwise(rt.alloc(), &COMMENTS), None);
-}
-
-/// The items of a text, which stay when the file is gone, if it is accepted.
-fn runs_of(text: &str) -> Option<Runs<'_>> {
-    match RleFile::open(text.as_bytes()) {
-        Ok(file) => {
-            let moved = file;
-            Some(moved.runs())
-        }
-        Err(_) => None,
-    }
-}
-
-/// Whether an item has this slice, this place, this count and this tag.
-fn is_this(run: Option<Run<'_>>, wanted: &(&str, u64, u64, Tag)) -> bool {
-    let (slice, place, count, tag) = *wanted;
-    match run {
-        Some(run) => {
-            run.text == slice.as_bytes()
-                && run.place == place
-                && run.count == count
-                && run.tag == tag
-        }
-        None => false,
-    }
-}
-
-/// Whether the items of a text are these, each as its slice, its place, its count and its tag, and none
-/// comes behind them, however often one asks.
-fn has_items(text: &str, items: &[(&str, u64, u64, Tag)]) -> bool {
-    match runs_of(text) {
-        Some(runs) => are_these(runs, items),
-        None => false,
-    }
-}
-
-fn are_these(runs: Runs<'_>, items: &[(&str, u64, u64, Tag)]) -> bool {
-    let mut rest = runs;
-    for item in items {
-        if !is_this(rest.next(), item) {
-            return false;
-        }
-    }
-    rest.next().is_none() && rest.next().is_none()
-}
-
-const GLIDER: [(&str, u64, u64, Tag); 7] = [
-    ("b", 13, 1, Tag::Dead),
-    ("2o", 14, 2, Tag::Live),
-    ("$", 16, 1, Tag::Row),
-    ("2o", 17, 2, Tag::Live),
-    ("$", 19, 1, Tag::Row),
-    ("b", 20, 1, Tag::Dead),
-    ("o", 21, 1, Tag::Live),
-];
-
-#[test]
-fn reads_items(rt: HostRuntime) {
-    assert!(rt; has_items("x = 3, y = 3\nb2o$2o$bo!", &GLIDER));
-}
-
-/// Texts of one item, its slice and its place.
-const LONG_ITEMS: [(&str, &str, u64); 5] = [
-    ("x = 12, y = 1\n1\n2o\n#C here\n!junk", "1\n2o", 14),
-    ("x = 12, y = 1\n1\n2o\n#C here\n", "1\n2o", 14),
-    (
-        "x = 12, y = 1\r\n1\r\n2o\r\n#C here\r\n!junk",
-        "1\r\n2o",
-        15,
-    ),
-    (
-        "x = 12, y = 1\n1\n#C 3\n 2 \t\n#\n#C here\no!junk",
-        "1\n#C 3\n 2 \t\n#\n#C here\no",
-        14,
-    ),
-    (
-        "x = 12, y = 1\r\n1\r\n#C 3b\r\n2\r\r\n#x\r\no",
-        "1\r\n#C 3b\r\n2\r\r\n#x\r\no",
-        15,
-    ),
-];
-
-/// Whether a text keeps no comment, and its only item is this one, of twelve live cells.
-fn has_twelve_cells(text: &str, slice: &str, place: u64) -> bool {
-    has_items(text, &[(slice, place, 12, Tag::Live)]) && keeps(text.as_bytes(), None)
-}
-
-/// The first text that is read otherwise.
-fn read_otherwise<'a>(rows: &[(&'a str, &str, u64)]) -> Option<&'a str> {
-    for (text, slice, place) in rows {
-        if !has_twelve_cells(text, slice, *place) {
-            return Some(*text);
-        }
-    }
-    None
-}
-
-#[test]
-fn reads_a_count_over_lines_and_comments(rt: HostRuntime) {
-    assert_eq!(rt; read_otherwise(&LONG_ITEMS), None);
 }
