@@ -1,3 +1,26 @@
+mod macrocell_nodes;
 mod macrocell_texts;
+mod rle_items;
 mod rle_texts;
 mod rules;
+
+use rle_reader::Comments;
+
+/// The bytes of a text, if there is one.
+fn bytes_of(text: Option<&str>) -> Option<&[u8]> {
+    match text {
+        Some(text) => Some(text.as_bytes()),
+        None => None,
+    }
+}
+
+/// Whether this comment is all that is kept, or nothing where it is empty.
+fn are_only(comments: Comments<'_>, comment: &str) -> bool {
+    let mut kept = comments;
+    match kept.next() {
+        Some(first) => {
+            !comment.is_empty() && first == comment.as_bytes() && kept.next().is_none()
+        }
+        None => comment.is_empty() && kept.next().is_none(),
+    }
+}

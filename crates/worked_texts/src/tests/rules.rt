@@ -1,7 +1,6 @@
 //! Texts of rules, and what they are read as.
 
 use rule_text::{Rule, RuleFault};
-use std::test::Fail;
 
 /// What a text of a rule is read as: its canonical text and its code.
 const RULES: [(&str, &str, u32); 11] = [
@@ -19,10 +18,11 @@ const RULES: [(&str, &str, u32); 11] = [
 ];
 
 /// The faults of texts that are no rules.
-const FAULTS: [(&str, RuleFault); 12] = [
+const FAULTS: [(&str, RuleFault); 13] = [
     ("", RuleFault::BadRule),
     ("B3", RuleFault::BadRule),
     ("B3/23", RuleFault::BadRule),
+    ("B3 /S23", RuleFault::BadRule),
     ("233", RuleFault::BadRule),
     ("B3/S235V", RuleFault::BadRule),
     ("B7/SH", RuleFault::BadRule),
@@ -34,61 +34,105 @@ const FAULTS: [(&str, RuleFault); 12] = [
     ("3/0", RuleFault::BirthOnZero),
 ];
 
-#[test]
-fn reads_and_writes_rules(rt: HostRuntime) -> Result<(), Fail> {
-    for (text, canonical, code) in RULES {
-        let rule = Rule::read(text.as_bytes())?;
-        let written = rule.text();
-        assert_eq!(rt; written.as_str(), canonical, "at {text}");
-        assert_eq!(rt; rule.code(), code, "at {text}");
+/// Whether the rule that a text is read as has this canonical text, and its code.
+fn read_and_written(text: &str, canonical: &str) -> Option<(bool, u32)> {
+    match Rule::read(text.as_bytes()) {
+        Ok(rule) => Some((rule.text().as_str() == canonical, rule.code())),
+        Err(_) => None,
     }
-    Ok(())
+}
+
+/// The first text that is read as another rule, and what it is read as.
+fn read_otherwise<'a>(rows: &[(&'a str, &str, u32)]) -> Option<(&'a str, Option<(bool, u32)>)> {
+    for (text, canonical, code) in rows {
+        let rule = read_and_written(text, canonical);
+        if rule != Some((true, *code)) {
+            return Some((*text, rule));
+        }
+    }
+    None
 }
 
 #[test]
-fn names_faults(rt: HostRuntime) -> Result<(), Fail> {
-    for (text, fault) in FAULTS {
-        assert_eq!(rt; Rule::read(text.as_bytes()), Err(fault), "at {text}");
+fn reads_and_writes_rules(rt: HostRuntime) {
+    assert_eq!(rt; read_otherwise(&RULES), None);
+}
+
+/// The fault of a text, if it has one.
+fn fault_of(text: &str) -> Option<RuleFault> {
+    Rule::read(text.as_bytes()).err()
+}
+
+/// The first text that has another fault, and the fault.
+fn faulty_otherwise<'a>(rows: &[(&'a str, RuleFault)]) -> Option<(&'a str, Option<RuleFault>)> {
+    for (text, fault) in rows {
+        let found = fault_of(text);
+        if found != Some(*fault) {
+            return Some((*text, found));
+        }
     }
+    None
+}
+
+#[test]
+fn names_faults(rt: HostRuntime) {
+    assert_eq!(rt; faulty_otherwise(&FAULTS), None);
+}
+
+#[test]
+fn says_faults(rt: HostRuntime) {
     let bad_rule = RuleFault::BadRule;
     let birth_on_zero = RuleFault::BirthOnZero;
-    let messages = format!(in rt.alloc(); "{bad_rule}, {birth_on_zero}")?;
+    let messages = format!(in rt.alloc(); "{bad_rule}, {birth_on_zero}").expect(&rt, "memory");
     assert_eq!(rt; messages.as_str(), "not a rule, birth on zero neighbours");
-    Ok(())
 }
 
 #[test]
 fn leaves_blanks_out(rt: HostRuntime) {
     assert_eq!(rt; Rule::read(b" \tB3/S23V\t "), Rule::read(b"23/3v"));
-    assert_eq!(rt; Rule::read(b"B3 /S23"), Err(RuleFault::BadRule));
+}
+
+/// How long the canonical text of a rule is.
+fn text_length(text: &str) -> Option<usize> {
+    match Rule::read(text.as_bytes()) {
+        Ok(rule) => Some(rule.text().len()),
+        Err(_) => None,
+    }
 }
 
 #[test]
-fn longest_text(rt: HostRuntime) -> Result<(), Fail> {
-    let text = Rule::read(b"B12345678/S012345678")?.text();
-    assert_eq!(rt; text.len(), 20);
-    Ok(())
+fn longest_text(rt: HostRuntime) {
+    assert_eq!(rt; text_length("B12345678/S012345678"), Some(20));
+}
+
+/// Whether a dead and a live cell with so many live neighbours live on by the rule of Life.
+fn fates(count: u8) -> Option<(bool, bool)> {
+    match Rule::read(b"B3/S23") {
+        Ok(life) => Some((life.lives(false, count), life.lives(true, count))),
+        Err(_) => None,
+    }
 }
 
 #[test]
-fn lives_by_its_digits(rt: HostRuntime) -> Result<(), Fail> {
-    let life = Rule::read(b"B3/S23")?;
+fn lives_by_its_digits(rt: HostRuntime) {
     for count in 0..9 {
-        assert_eq!(rt; life.lives(false, count), count == 3, "at {count}");
-        assert_eq!(rt;
-            life.lives(true, count),
-            count == 2 || count == 3,
-            "at {count}"
-        );
+        let born = count == 3;
+        let survives = count == 2 || count == 3;
+        assert_eq!(rt; (count, fates(count)), (count, Some((born, survives))));
     }
-    Ok(())
+}
+
+/// How many neighbours a cell has by the rule of a text.
+fn most_neighbours(text: &str) -> Option<u8> {
+    match Rule::read(text.as_bytes()) {
+        Ok(rule) => Some(rule.neighbourhood().neighbour_count()),
+        Err(_) => None,
+    }
 }
 
 #[test]
-fn counts_neighbours(rt: HostRuntime) -> Result<(), Fail> {
+fn counts_neighbours(rt: HostRuntime) {
     for (text, most) in [("/", 8), ("/V", 4), ("/H", 6)] {
-        let neighbourhood = Rule::read(text.as_bytes())?.neighbourhood();
-        assert_eq!(rt; neighbourhood.neighbour_count(), most, "at {text}");
+        assert_eq!(rt; (text, most_neighbours(text)), (text, Some(most)));
     }
-    Ok(())
 }
