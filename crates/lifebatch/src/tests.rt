@@ -1,5 +1,7 @@
 //! What no clause says of the program: the words of its command line with their messages and statuses,
 //! and its files.
 
+mod ended;
+mod files;
 mod folder;
 mod programs;

@@ -7,4 +7,5 @@ mod many_leaves;
 mod pictures;
 mod refused;
 mod rows;
+mod sipping;
 mod want_of_memory;

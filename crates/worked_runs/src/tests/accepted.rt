@@ -1,91 +1,87 @@
 //! Runs that are accepted: the report, and the pattern as RLE.
 
 use crate::tests::ended::Ended;
-use crate::tests::rows::{BLINKER, PLAIN, R_PENTOMINO, Row};
+use crate::tests::rows::{BLINKER, PLAIN, R_PENTOMINO, RLE, Row, assert_rows, assert_told};
 use engine::{Format, Options};
 use rule_text::Rule;
+use std::alloc::AllocError;
 use std::process::Abort;
-use std::test::Fail;
 
 const PATTERNS: [Row; 12] = [
     Row {
         file: "x = 0, y = 0, rule = B3/S23\n!\n",
         generations: 1000,
-        step: 0,
         report: "0: 0\n1000: 0\n",
-        rle: "#CXRLE Pos=0,0 Gen=1000\nx = 0, y = 0, rule = B3/S23\n!\n",
+        text: "#CXRLE Pos=0,0 Gen=1000\nx = 0, y = 0, rule = B3/S23\n!\n",
+        ..RLE
     },
     Row {
         file: "x = 3, y = 3, rule = B3/S23\nb2o$2o$bo!",
-        generations: 0,
-        step: 0,
         report: "0: 5\n",
-        rle: "#CXRLE Pos=0,0 Gen=0\nx = 3, y = 3, rule = B3/S23\nb2o$2o$bo!\n",
+        text: "#CXRLE Pos=0,0 Gen=0\nx = 3, y = 3, rule = B3/S23\nb2o$2o$bo!\n",
+        ..RLE
     },
     BLINKER,
     Row {
         file: "x = 1, y = 1, rule = B1/SV\no!",
         generations: 1,
-        step: 0,
         report: "0: 1\n1: 4\n",
-        rle: "#CXRLE Pos=-1,-1 Gen=1\nx = 3, y = 3, rule = B1/SV\nbo$obo$bo!\n",
+        text: "#CXRLE Pos=-1,-1 Gen=1\nx = 3, y = 3, rule = B1/SV\nbo$obo$bo!\n",
+        ..RLE
     },
     Row {
         file: "x = 1, y = 1, rule = B1/SV\no!",
         generations: 2,
-        step: 0,
         report: "0: 1\n2: 4\n",
-        rle: "#CXRLE Pos=-2,-2 Gen=2\nx = 5, y = 5, rule = B1/SV\n2bo2$o3bo2$2bo!\n",
+        text: "#CXRLE Pos=-2,-2 Gen=2\nx = 5, y = 5, rule = B1/SV\n2bo2$o3bo2$2bo!\n",
+        ..RLE
     },
     Row {
         file: "x = 1, y = 1, rule = B1/SH\no!",
         generations: 1,
-        step: 0,
         report: "0: 1\n1: 6\n",
-        rle: "#CXRLE Pos=-1,-1 Gen=1\nx = 3, y = 3, rule = B1/SH\n2o$obo$b2o!\n",
+        text: "#CXRLE Pos=-1,-1 Gen=1\nx = 3, y = 3, rule = B1/SH\n2o$obo$b2o!\n",
+        ..RLE
     },
     Row {
         file: "x = 3, y = 1, rule = b3s23\n3o!",
-        generations: 0,
-        step: 0,
         report: "0: 3\n",
-        rle: "#CXRLE Pos=0,0 Gen=0\nx = 3, y = 1, rule = B3/S23\n3o!\n",
+        text: "#CXRLE Pos=0,0 Gen=0\nx = 3, y = 1, rule = B3/S23\n3o!\n",
+        ..RLE
     },
     Row {
         file: "x = 12, y = 1\n1\n2o\n#C here\n!junk",
-        generations: 0,
-        step: 0,
         report: "0: 12\n",
-        rle: "#CXRLE Pos=0,0 Gen=0\nx = 12, y = 1, rule = B3/S23\n12o!\n",
+        text: "#CXRLE Pos=0,0 Gen=0\nx = 12, y = 1, rule = B3/S23\n12o!\n",
+        ..RLE
     },
     Row {
         file: "x = 12, y = 1\r\n1\r\n2o\r\n#C here\r\n",
-        generations: 0,
-        step: 0,
         report: "0: 12\n",
-        rle: "#CXRLE Pos=0,0 Gen=0\nx = 12, y = 1, rule = B3/S23\n12o!\n",
+        text: "#CXRLE Pos=0,0 Gen=0\nx = 12, y = 1, rule = B3/S23\n12o!\n",
+        ..RLE
     },
     Row {
         file: "#N Glider\n#r 23/3\nx = 3, y = 3\nbob$2bo$3o!",
         generations: 4,
-        step: 0,
         report: "0: 5\n4: 5\n",
-        rle: "#CXRLE Pos=1,1 Gen=4\n#N Glider\nx = 3, y = 3, rule = B3/S23\nbo$2bo$3o!\n",
+        text: "#CXRLE Pos=1,1 Gen=4\n#N Glider\nx = 3, y = 3, rule = B3/S23\nbo$2bo$3o!\n",
+        ..RLE
     },
     Row {
         file: "#CXRLE Gen=7\nx = 3, y = 3, rule = B3/S23\nbo$2bo$3o!",
         generations: 10,
         step: 4,
         report: "7: 5\n11: 5\n15: 5\n17: 5\n",
-        rle: "#CXRLE Pos=2,3 Gen=17\nx = 3, y = 3, rule = B3/S23\n2bo$obo$b2o!\n",
+        text: "#CXRLE Pos=2,3 Gen=17\nx = 3, y = 3, rule = B3/S23\n2bo$obo$b2o!\n",
+        ..RLE
     },
     // The first side that is too large for a file is one more.
     Row {
         file: "x = 1, y = 1\no2147483645bo!",
-        generations: 0,
-        step: 0,
         report: "0: 2\n",
-        rle: "#CXRLE Pos=0,0 Gen=0\nx = 2147483647, y = 1, rule = B3/S23\no2147483645bo!\n",
+        text: "#CXRLE Pos=0,0 Gen=0\nx = 2147483647, y = 1, rule = B3/S23\no2147483645bo!\n",
+        ..RLE
     },
 ];
 
@@ -93,39 +89,36 @@ const PATTERNS: [Row; 12] = [
 const LIMITS: [Row; 5] = [
     Row {
         file: "#CXRLE Pos=4611686018427387903,0\nx = 1, y = 1\no!",
-        generations: 0,
-        step: 0,
         report: "0: 1\n",
-        rle: "#CXRLE Pos=4611686018427387903,0 Gen=0\nx = 1, y = 1, rule = B3/S23\no!\n",
+        text: "#CXRLE Pos=4611686018427387903,0 Gen=0\nx = 1, y = 1, rule = B3/S23\no!\n",
+        ..RLE
     },
     Row {
         file: "#CXRLE Pos=-4611686018427387904,-4611686018427387904\nx = 1, y = 1\no!",
-        generations: 0,
-        step: 0,
         report: "0: 1\n",
-        rle: "#CXRLE Pos=-4611686018427387904,-4611686018427387904 Gen=0\n\
+        text: "#CXRLE Pos=-4611686018427387904,-4611686018427387904 Gen=0\n\
          x = 1, y = 1, rule = B3/S23\no!\n",
+        ..RLE
     },
     Row {
         file: "#CXRLE Gen=9223372036854775808\nx = 1, y = 1\no!",
-        generations: 0,
-        step: 0,
         report: "9223372036854775808: 1\n",
-        rle: "#CXRLE Pos=0,0 Gen=9223372036854775808\nx = 1, y = 1, rule = B3/S23\no!\n",
+        text: "#CXRLE Pos=0,0 Gen=9223372036854775808\nx = 1, y = 1, rule = B3/S23\no!\n",
+        ..RLE
     },
     Row {
         file: "#CXRLE Pos=1152921504606846975,0\nx = 1, y = 1\no!",
         generations: 1,
-        step: 0,
         report: "0: 1\n1: 0\n",
-        rle: "#CXRLE Pos=0,0 Gen=1\nx = 0, y = 0, rule = B3/S23\n!\n",
+        text: "#CXRLE Pos=0,0 Gen=1\nx = 0, y = 0, rule = B3/S23\n!\n",
+        ..RLE
     },
     Row {
         file: "x = 0, y = 0\n!",
         generations: LAST,
-        step: 0,
         report: "0: 0\n9223372036854775808: 0\n",
-        rle: NONE_LEFT,
+        text: NONE_LEFT,
+        ..RLE
     },
 ];
 
@@ -139,19 +132,17 @@ const NONE_LEFT: &str = "#CXRLE Pos=0,0 Gen=9223372036854775808\nx = 0, y = 0, r
 const LONG_ROWS: [Row; 2] = [
     Row {
         file: "x = 71, y = 1\nobobobobobobobobobobobobobobobobobobobobobobobobobobobobobobobobobobobo!",
-        generations: 0,
-        step: 0,
         report: "0: 36\n",
-        rle: "#CXRLE Pos=0,0 Gen=0\nx = 71, y = 1, rule = B3/S23\n\
+        text: "#CXRLE Pos=0,0 Gen=0\nx = 71, y = 1, rule = B3/S23\n\
          obobobobobobobobobobobobobobobobobobobobobobobobobobobobobobobobobobob\no!\n",
+        ..RLE
     },
     Row {
         file: "x = 70, y = 1\nobobobobobobobobobobobobobobobobobobobobobobobobobobobobobobobobobob2o!",
-        generations: 0,
-        step: 0,
         report: "0: 36\n",
-        rle: "#CXRLE Pos=0,0 Gen=0\nx = 70, y = 1, rule = B3/S23\n\
+        text: "#CXRLE Pos=0,0 Gen=0\nx = 70, y = 1, rule = B3/S23\n\
          obobobobobobobobobobobobobobobobobobobobobobobobobobobobobobobobobob2o\n!\n",
+        ..RLE
     },
 ];
 
@@ -165,42 +156,48 @@ const STEPS: [Row; 7] = [
         generations: 5,
         step: 2,
         report: "0: 3\n2: 3\n4: 3\n5: 3\n",
-        rle: UPRIGHT,
+        text: UPRIGHT,
+        ..RLE
     },
     Row {
         file: "x = 3, y = 1\n3o!",
         generations: 5,
         step: 5,
         report: "0: 3\n5: 3\n",
-        rle: UPRIGHT,
+        text: UPRIGHT,
+        ..RLE
     },
     Row {
         file: "x = 3, y = 1\n3o!",
         generations: 5,
         step: 6,
         report: "0: 3\n5: 3\n",
-        rle: UPRIGHT,
+        text: UPRIGHT,
+        ..RLE
     },
     Row {
         file: "x = 3, y = 1\n3o!",
         generations: 5,
         step: u64::MAX,
         report: "0: 3\n5: 3\n",
-        rle: UPRIGHT,
+        text: UPRIGHT,
+        ..RLE
     },
     Row {
         file: "x = 3, y = 1\n3o!",
         generations: 4,
         step: 2,
         report: "0: 3\n2: 3\n4: 3\n",
-        rle: FLAT,
+        text: FLAT,
+        ..RLE
     },
     Row {
         file: "x = 3, y = 1\n3o!",
         generations: 4,
         step: 1,
         report: "0: 3\n1: 3\n2: 3\n3: 3\n4: 3\n",
-        rle: FLAT,
+        text: FLAT,
+        ..RLE
     },
     // No cells take no step, so these answer at once.
     Row {
@@ -208,7 +205,8 @@ const STEPS: [Row; 7] = [
         generations: LAST,
         step: LAST / 2,
         report: "0: 0\n4611686018427387904: 0\n9223372036854775808: 0\n",
-        rle: NONE_LEFT,
+        text: NONE_LEFT,
+        ..RLE
     },
 ];
 
@@ -217,100 +215,81 @@ const FAR: [Row; 3] = [
     Row {
         file: "x = 3, y = 3, rule = B3/S23\nbob$2bo$3o!",
         generations: 1 << 40,
-        step: 0,
         report: "0: 5\n1099511627776: 5\n",
-        rle: "#CXRLE Pos=274877906944,274877906944 Gen=1099511627776\n\
+        text: "#CXRLE Pos=274877906944,274877906944 Gen=1099511627776\n\
          x = 3, y = 3, rule = B3/S23\nbo$2bo$3o!\n",
+        ..RLE
     },
     Row {
         file: "x = 3, y = 3, rule = B3/S23\nbob$2bo$3o!",
         generations: 3 << 39,
         step: 1 << 39,
         report: "0: 5\n549755813888: 5\n1099511627776: 5\n1649267441664: 5\n",
-        rle: "#CXRLE Pos=412316860416,412316860416 Gen=1649267441664\n\
+        text: "#CXRLE Pos=412316860416,412316860416 Gen=1649267441664\n\
          x = 3, y = 3, rule = B3/S23\nbo$2bo$3o!\n",
+        ..RLE
     },
     // A replicator: three of its 2097153 rows have cells.
     Row {
         file: "x = 1, y = 1, rule = B1357/S1357\no!",
         generations: 1 << 20,
-        step: 0,
         report: "0: 1\n1048576: 8\n",
-        rle: "#CXRLE Pos=-1048576,-1048576 Gen=1048576\n\
+        text: "#CXRLE Pos=-1048576,-1048576 Gen=1048576\n\
          x = 2097153, y = 2097153, rule = B1357/S1357\n\
          o1048575bo1048575bo1048576$o2097151bo1048576$o1048575bo1048575bo!\n",
+        ..RLE
     },
 ];
 
-/// Runs rows, with their reports and without, and compares what is written with what they say.
-fn assert_written<R: Abort + AllocGlobal>(rt: &R, rows: &[Row]) -> Result<(), Fail> {
-    for row in rows {
-        for quiet in [false, true] {
-            let options = Options {
-                quiet,
-                ..row.options()
-            };
-            let end = Ended::of(rt, row.file, &options)?;
-            assert!(rt; end.outcome.is_ok(), "for {}", row.file);
-            assert_eq!(rt; end.report()?, if quiet { "" } else { row.report });
-            assert_eq!(rt; end.file()?, row.rle);
-        }
-    }
-    Ok(())
+#[test]
+fn writes_patterns(rt: HostRuntime) -> Result<(), AllocError> {
+    assert_rows(&rt, &PATTERNS)
 }
 
 #[test]
-fn writes_patterns(rt: HostRuntime) -> Result<(), Fail> {
-    assert_written(&rt, &PATTERNS)
+fn runs_at_the_limits(rt: HostRuntime) -> Result<(), AllocError> {
+    assert_rows(&rt, &LIMITS)
 }
 
 #[test]
-fn runs_at_the_limits(rt: HostRuntime) -> Result<(), Fail> {
-    assert_written(&rt, &LIMITS)
+fn runs_far(rt: HostRuntime) -> Result<(), AllocError> {
+    assert_rows(&rt, &FAR)
 }
 
 #[test]
-fn runs_far(rt: HostRuntime) -> Result<(), Fail> {
-    assert_written(&rt, &FAR)
+fn wraps_lines_at_70_bytes(rt: HostRuntime) -> Result<(), AllocError> {
+    assert_rows(&rt, &LONG_ROWS)
 }
 
 #[test]
-fn wraps_lines_at_70_bytes(rt: HostRuntime) -> Result<(), Fail> {
-    assert_written(&rt, &LONG_ROWS)
+fn reports_each_step_and_the_last_generation_once(rt: HostRuntime) -> Result<(), AllocError> {
+    assert_rows(&rt, &STEPS)
 }
 
 #[test]
-fn reports_each_step_and_the_last_generation_once(rt: HostRuntime) -> Result<(), Fail> {
-    assert_written(&rt, &STEPS)
-}
-
-#[test]
-fn runs_by_another_rule(rt: HostRuntime) -> Result<(), Fail> {
+fn runs_by_another_rule(rt: HostRuntime) -> Result<(), AllocError> {
     let options = Options {
-        rule: Some(Rule::read(b"b3s23")?),
+        rule: Rule::read(b"b3s23").ok(),
         format: Some(Format::Rle),
         ..PLAIN
     };
-    let end = Ended::of(&rt, "x = 1, y = 1, rule = B03/S23\no!", &options)?;
-    assert_eq!(rt; end.report()?, "0: 1\n");
-    assert_eq!(rt;
-        end.file()?,
-        "#CXRLE Pos=0,0 Gen=0\nx = 1, y = 1, rule = B3/S23\no!\n"
-    );
+    let file = "x = 1, y = 1, rule = B03/S23\no!";
+    let end = Ended::of(&rt, file, &options)?;
+    let text = "#CXRLE Pos=0,0 Gen=0\nx = 1, y = 1, rule = B3/S23\no!\n";
+    assert_told(&rt, file, &end, (None, "0: 1\n", text));
     Ok(())
 }
 
 // The R-pentomino settles after 1103 generations.
 #[test]
-fn answers_the_last_generation_and_its_population(rt: HostRuntime) -> Result<(), Fail> {
+fn answers_the_last_generation_and_its_population(rt: HostRuntime) -> Result<(), AllocError> {
     let options = Options {
         gens: 1103,
         ..PLAIN
     };
-    let end = Ended::of(&rt, R_PENTOMINO.file, &options)?;
-    assert_eq!(rt; end.report()?, "0: 5\n1103: 116\n");
-    assert_eq!(rt; end.file()?, "");
-    let summary = end.outcome?;
-    assert_eq!(rt; (summary.generation, summary.population), (1103, 116));
+    let file = R_PENTOMINO.file;
+    let end = Ended::of(&rt, file, &options)?;
+    assert_told(&rt, file, &end, (None, "0: 5\n1103: 116\n", ""));
+    assert!(rt; end.is_summed_up_by(1103, 116));
     Ok(())
 }

@@ -1,18 +1,17 @@
 //! Devices that fail at one of their calls, or take few bytes at a time.
 
-ghost use Rattle.std.specs.Prelude.{None};
-
-use crate::tests::ended::{ROOM, text_of};
+use crate::tests::ended::Ended;
 use crate::tests::rows::{BLINKER, COMMENTED_GLIDER, R_PENTOMINO, Row};
-use engine::{load, run};
-use plane::{FailAt, Failed, Fault, Memory, Refusal, Sink};
+use engine::load;
+use plane::{FailAt, Fault, Memory, Refusal};
+use std::alloc::{AllocError, Global};
 use std::process::Abort;
 use std::test::Fail;
 
 const ROWS: [Row; 3] = [BLINKER, R_PENTOMINO, COMMENTED_GLIDER];
 
 // How many bytes a sink takes at a time.
-const SIPS: [usize; 3] = [1, 7, ROOM];
+const SIPS: [usize; 3] = [1, 7, usize::MAX];
 
 const WRITE_FAILED: Fault = Fault {
     refusal: Refusal::WriteFailed,
@@ -20,43 +19,47 @@ const WRITE_FAILED: Fault = Fault {
 };
 
 /// So many bytes, in which no part of 8192 bytes is that at the front.
-fn made_bytes<R: AllocGlobal>(rt: &R, count: usize) -> Result<Vec<u8>, Fail> {
-    let mut bytes = Vec::with_capacity(rt.alloc(), count)?;
+fn made_bytes(alloc: Global, count: usize) -> Result<Vec<u8>, AllocError> {
+    let mut bytes = Vec::with_capacity(alloc, count)?;
     for index in 0..count {
         bytes.push((index % 251) as u8)?;
     }
     Ok(bytes)
 }
 
-/// Loads bytes from a source that fails at this call, and says whether reading failed.
-fn fails_to_load<R: Abort + AllocGlobal>(rt: &R, bytes: &[u8], call: u64) -> Result<bool, Fail> {
-    let mut source = FailAt::new(Memory::holding(rt.alloc(), bytes)?, call);
-    let failed = match load(rt.alloc(), &mut source) {
-        Ok(loaded) => {
-            assert!(rt; loaded.as_slice() == bytes, "call {call}");
-            false
-        }
+/// Whether a source of these bytes that fails at this call is loaded as it should be, where so many reads
+/// load them.
+fn is_loaded_or_fails(alloc: Global, bytes: &[u8], reads: u64, call: u64) -> Result<bool, Fail> {
+    let mut source = FailAt::new(Memory::holding(alloc, bytes)?, call);
+    let is_reached = call >= 1 && call <= reads;
+    let is_right = match load(alloc, &mut source) {
+        Ok(loaded) => !is_reached && loaded.as_slice() == bytes,
         Err(Refusal::ReadFailed) => {
             // The call that failed took no byte: what is still to come ends the bytes.
-            let rest = load(rt.alloc(), &mut source)?;
-            assert!(rt; bytes.ends_with(rest.as_slice()), "call {call}");
-            assert!(rt; call > 1 || rest.len() == bytes.len());
-            true
+            let rest = load(alloc, &mut source)?;
+            let is_rest = bytes.ends_with(rest.as_slice());
+            is_reached && is_rest && (call > 1 || rest.len() == bytes.len())
         }
         Err(refusal) => return Err(Fail::from(refusal)),
     };
-    assert_eq!(rt; plane::Source::failures(&source), u64::from(failed));
-    Ok(failed)
+    Ok(is_right && plane::Source::failures(&source) == u64::from(is_reached))
+}
+
+/// The first call at which, if it fails, the bytes are not loaded as they should be.
+fn first_wrong_read(alloc: Global, bytes: &[u8], reads: u64) -> Result<Option<u64>, Fail> {
+    for call in 0..=reads.saturating_add(2) {
+        if !is_loaded_or_fails(alloc, bytes, reads, call)? {
+            return Ok(Some(call));
+        }
+    }
+    Ok(None)
 }
 
 /// Fails each read of a source in turn, and none: so many reads load the bytes, and the last one finds
 /// their end.
 fn assert_reads_fail<R: Abort + AllocGlobal>(rt: &R, bytes: &[u8], reads: u64) -> Result<(), Fail> {
-    for call in 0..=reads.saturating_add(2) {
-        let failed = fails_to_load(rt, bytes, call)?;
-        let is_reached = call >= 1 && call <= reads;
-        assert_eq!(rt; failed, is_reached, "call {call} for {} bytes", bytes.len());
-    }
+    let wrong = first_wrong_read(rt.alloc(), bytes, reads)?;
+    assert_eq!(rt; (bytes.len(), wrong), (bytes.len(), None));
     Ok(())
 }
 
@@ -67,108 +70,22 @@ fn loads_all_or_says_that_reading_failed(rt: HostRuntime) -> Result<(), Fail> {
     }
     // How many bytes there are, and in how many reads of at most 8192 they come.
     for (length, reads) in [(0, 1), (8192, 2), (8193, 3), (10000, 3), (24576, 4)] {
-        let bytes = made_bytes(&rt, length)?;
+        let bytes = made_bytes(rt.alloc(), length)?;
         assert_reads_fail(&rt, bytes.as_slice(), reads)?;
     }
     Ok(())
 }
 
-/// A sink that takes at most so many bytes at a time, and at least one, and counts its calls.
-#[derive(Drop)]
-struct Sipping {
-    inner: Memory,
-    most: usize,
-    calls: u64,
+/// How many calls of the report and of the file have failed.
+fn failures(end: &Ended) -> (u64, u64) {
+    (end.report.failures, end.file.failures)
 }
 
-impl Sink for Sipping {
-    ghost taken = { λ _. None };
-
-    ghost failure_count = { λ sink. sink.inner.failures };
-
-    fn write_some(&mut self, bytes: &[u8]) -> Result<usize, Failed> {
-        self.calls = self.calls.saturating_add(1);
-        let count = bytes.len().min(self.most.max(1));
-        self.inner.write_some(&bytes[..count])
-    }
-
-    fn failures(&self) -> u64 {
-        self.inner.failures()
-    }
-}
-
-/// A sink that takes so many bytes at a time, and fails at this call, or at none for 0.
-fn made_sink<R: AllocGlobal>(rt: &R, most: usize, call: u64) -> Result<FailAt<Sipping>, Fail> {
-    let inner = Memory::with_room(rt.alloc(), ROOM)?;
-    let sink = Sipping {
-        inner,
-        most,
-        calls: 0,
-    };
-    Ok(FailAt::new(sink, call))
-}
-
-/// Whether a run ended well, and not by a failure of a sink, and its sinks.
-#[derive(Drop)]
-struct Ended {
-    is_well: bool,
-    report: FailAt<Sipping>,
-    file: FailAt<Sipping>,
-}
-
-impl Ended {
-    fn report(&self) -> Result<&str, Fail> {
-        text_of(&self.report.inner().inner)
-    }
-
-    fn file(&self) -> Result<&str, Fail> {
-        text_of(&self.file.inner().inner)
-    }
-
-    /// How many calls of the report and of the file have failed.
-    fn failures(&self) -> (u64, u64) {
-        (self.report.failures(), self.file.failures())
-    }
-}
-
-/// Runs a row with sinks that take so many bytes at a time, of which the report and the file fail at
-/// these calls.
-fn end_of<R: AllocGlobal>(
-    rt: &R,
-    row: &Row,
-    most: usize,
-    calls: (u64, u64),
-) -> Result<Ended, Fail> {
-    let mut report = made_sink(rt, most, calls.0)?;
-    let mut file = made_sink(rt, most, calls.1)?;
-    let bytes = row.file.as_bytes();
-    let is_well = match run(
-        rt,
-        rt.alloc(),
-        bytes,
-        &row.options(),
-        &mut report,
-        &mut file,
-    ) {
-        Ok(_) => true,
-        Err(fault) if fault == WRITE_FAILED => false,
-        // No other refusal is an answer of these tests, want of memory included.
-        Err(fault) => return Err(Fail::from(fault)),
-    };
-    Ok(Ended {
-        is_well,
-        report,
-        file,
-    })
-}
-
-/// That a run ended well with the whole texts of its row, and no call failed.
-fn assert_whole<R: Abort>(rt: &R, row: &Row, end: &Ended) -> Result<(), Fail> {
-    assert!(rt; end.is_well, "for {}", row.file);
-    assert_eq!(rt; end.report()?, row.report);
-    assert_eq!(rt; end.file()?, row.rle);
-    assert_eq!(rt; end.failures(), (0, 0));
-    Ok(())
+/// Whether a run ended well with the whole texts of its row, and no call failed.
+fn is_whole(row: &Row, end: &Ended) -> bool {
+    let (fault, report, file) = end.told();
+    let is_told = fault.is_none() && report == row.report && file == row.text;
+    is_told && failures(end) == (0, 0)
 }
 
 /// The sink of which a call fails.
@@ -190,8 +107,8 @@ impl Failing {
     /// How many calls a run made of the sink.
     fn calls(self, end: &Ended) -> u64 {
         match self {
-            Failing::Report => end.report.inner().calls,
-            Failing::File => end.file.inner().calls,
+            Failing::Report => end.report.calls,
+            Failing::File => end.file.calls,
         }
     }
 
@@ -199,7 +116,7 @@ impl Failing {
     fn text(self, row: &Row) -> &'static str {
         match self {
             Failing::Report => row.report,
-            Failing::File => row.rle,
+            Failing::File => row.text,
         }
     }
 }
@@ -209,60 +126,93 @@ fn is_cut_from(text: &str, whole: &str) -> bool {
     whole.starts_with(text) && text.len() < whole.len()
 }
 
-/// That a run said that a sink failed: the report is cut off and nothing is in the file, or the report
+/// Whether a run said that a sink failed: the report is cut off and nothing is in the file, or the report
 /// stands whole and the file is cut off.
-fn assert_cut<R: Abort>(rt: &R, row: &Row, end: &Ended, failing: Failing) -> Result<(), Fail> {
-    assert!(rt; !end.is_well, "for {}", row.file);
-    assert_eq!(rt; end.failures(), failing.at(1));
-    match failing {
-        Failing::Report => {
-            assert!(rt; is_cut_from(end.report()?, row.report), "for {}", row.file);
-            assert_eq!(rt; end.file()?, "");
-        }
-        Failing::File => {
-            assert_eq!(rt; end.report()?, row.report);
-            assert!(rt; is_cut_from(end.file()?, row.rle), "for {}", row.file);
-        }
-    }
-    Ok(())
+fn is_cut(row: &Row, end: &Ended, failing: Failing) -> bool {
+    let (fault, report, file) = end.told();
+    let is_cut = match failing {
+        Failing::Report => is_cut_from(report, row.report) && file.is_empty(),
+        Failing::File => report == row.report && is_cut_from(file, row.text),
+    };
+    is_cut && fault == Some(WRITE_FAILED) && failures(end) == failing.at(1)
 }
 
-/// Fails each call of a sink in turn, and none.
-fn assert_fails<R: Abort + AllocGlobal>(
+/// Runs a row with sinks that take so many bytes at a time, of which one fails at this call.
+fn ended<R: AllocGlobal>(
     rt: &R,
     row: &Row,
     most: usize,
     failing: Failing,
-) -> Result<(), Fail> {
-    let whole = end_of(rt, row, most, (0, 0))?;
-    assert_whole(rt, row, &whole)?;
+    call: u64,
+) -> Result<Ended, AllocError> {
+    Ended::with_devices(rt, row.file, &row.options(), most, failing.at(call))
+}
+
+/// How many calls a run makes of a sink: at least one, and one for each byte where it takes one at a
+/// time.
+fn calls_of<R: Abort + AllocGlobal>(
+    rt: &R,
+    row: &Row,
+    most: usize,
+    failing: Failing,
+) -> Result<u64, AllocError> {
+    let whole = ended(rt, row, most, failing, 0)?;
     let calls = failing.calls(&whole);
     let bytes = failing.text(row).len() as u64;
     assert!(rt; calls >= 1 && (most > 1 || calls == bytes));
-    for call in 1..=calls {
-        let end = end_of(rt, row, most, failing.at(call))?;
-        assert_cut(rt, row, &end, failing)?;
-    }
-    let end = end_of(rt, row, most, failing.at(calls.saturating_add(1)))?;
-    assert_whole(rt, row, &end)
+    Ok(calls)
 }
 
-#[test]
-fn says_that_a_report_failed(rt: HostRuntime) -> Result<(), Fail> {
-    for row in &ROWS {
-        for most in SIPS {
-            assert_fails(&rt, row, most, Failing::Report)?;
+/// The first call at which, if it fails, a run with so many calls of the sink does not end as it should;
+/// call 0, and one behind the last, fail at none.
+fn first_wrong_call<R: AllocGlobal>(
+    rt: &R,
+    row: &Row,
+    most: usize,
+    failing: Failing,
+    calls: u64,
+) -> Result<Option<u64>, AllocError> {
+    for call in 0..=calls.saturating_add(1) {
+        let end = ended(rt, row, most, failing, call)?;
+        let is_reached = call >= 1 && call <= calls;
+        let is_right = if is_reached {
+            is_cut(row, &end, failing)
+        } else {
+            is_whole(row, &end)
+        };
+        if !is_right {
+            return Ok(Some(call));
         }
+    }
+    Ok(None)
+}
+
+/// Fails each call of a sink in turn, and none, for each row.
+fn assert_fails<R: Abort + AllocGlobal>(
+    rt: &R,
+    most: usize,
+    failing: Failing,
+) -> Result<(), AllocError> {
+    for row in &ROWS {
+        let calls = calls_of(rt, row, most, failing)?;
+        let wrong = first_wrong_call(rt, row, most, failing, calls)?;
+        assert_eq!(rt; (row.file, wrong), (row.file, None));
     }
     Ok(())
 }
 
 #[test]
-fn says_that_a_file_failed(rt: HostRuntime) -> Result<(), Fail> {
-    for row in &ROWS {
-        for most in SIPS {
-            assert_fails(&rt, row, most, Failing::File)?;
-        }
+fn says_that_a_report_failed(rt: HostRuntime) -> Result<(), AllocError> {
+    for most in SIPS {
+        assert_fails(&rt, most, Failing::Report)?;
+    }
+    Ok(())
+}
+
+#[test]
+fn says_that_a_file_failed(rt: HostRuntime) -> Result<(), AllocError> {
+    for most in SIPS {
+        assert_fails(&rt, most, Failing::File)?;
     }
     Ok(())
 }

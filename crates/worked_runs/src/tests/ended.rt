@@ -1,25 +1,39 @@
 //! What a run leaves behind.
 
+use crate::tests::sipping::Sipping;
 use engine::{Options, Summary, run};
-use plane::{Fault, Memory};
-use std::test::Fail;
-
-/// Room for the longest text of a test.
-pub(crate) const ROOM: usize = 4096;
+use plane::Fault;
+use std::alloc::AllocError;
 
 /// How a run ended, and what it wrote.
 #[derive(Drop)]
 pub(crate) struct Ended {
     pub outcome: Result<Summary, Fault>,
-    report: Memory,
-    file: Memory,
+    pub report: Sipping,
+    pub file: Sipping,
 }
 
 impl Ended {
-    /// Runs a file, with ample room for what it writes.
-    pub(crate) fn of<R: AllocGlobal>(rt: &R, file: &str, options: &Options) -> Result<Self, Fail> {
-        let mut report = Memory::with_room(rt.alloc(), ROOM)?;
-        let mut written = Memory::with_room(rt.alloc(), ROOM)?;
+    /// Runs a file with devices that take all that is written.
+    pub(crate) fn of<R: AllocGlobal>(
+        rt: &R,
+        file: &str,
+        options: &Options,
+    ) -> Result<Ended, AllocError> {
+        Ended::with_devices(rt, file, options, usize::MAX, (0, 0))
+    }
+
+    /// Runs a file with devices that take so many bytes at a time, of which the report and the file fail
+    /// at these calls, or at none for 0.
+    pub(crate) fn with_devices<R: AllocGlobal>(
+        rt: &R,
+        file: &str,
+        options: &Options,
+        most: usize,
+        calls: (u64, u64),
+    ) -> Result<Ended, AllocError> {
+        let mut report = Sipping::new(rt.alloc(), most, calls.0)?;
+        let mut written = Sipping::new(rt.alloc(), most, calls.1)?;
         let bytes = file.as_bytes();
         let outcome = run(rt, rt.alloc(), bytes, options, &mut report, &mut written);
         Ok(Ended {
@@ -29,16 +43,16 @@ impl Ended {
         })
     }
 
-    pub(crate) fn report(&self) -> Result<&str, Fail> {
-        text_of(&self.report)
+    /// Whether it ended well, with this last generation and so many live cells in it.
+    pub(crate) fn is_summed_up_by(&self, generation: u64, population: u128) -> bool {
+        match self.outcome {
+            Ok(summary) => summary.generation == generation && summary.population == population,
+            Err(_) => false,
+        }
     }
 
-    pub(crate) fn file(&self) -> Result<&str, Fail> {
-        text_of(&self.file)
+    /// How it was refused, if it was, and the texts of the report and of the file.
+    pub(crate) fn told(&self) -> (Option<Fault>, &str, &str) {
+        (self.outcome.err(), self.report.text(), self.file.text())
     }
-}
-
-/// The text that a sink took.
-pub(crate) fn text_of(sink: &Memory) -> Result<&str, Fail> {
-    Ok(std::str::from_utf8(sink.bytes())?)
 }

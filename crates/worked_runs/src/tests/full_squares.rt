@@ -2,68 +2,72 @@
 
 use crate::tests::ended::Ended;
 use crate::tests::macrocell::FULL;
-use crate::tests::rows::PLAIN;
-use engine::{Format, Options};
+use crate::tests::rows::{MACROCELL, RLE, Row, assert_rows};
 use plane::{Fault, Refusal};
+use std::alloc::AllocError;
 use std::process::Abort;
-use std::test::Fail;
 
-// The line behind the file of a full square, how many generations it runs, and the report. After one generation the
-// corners live, and along each side the cells outside it that have three neighbours.
-const SQUARES: [(&str, u64, &str); 3] = [
+// Where no RLE file can hold the box.
+const TOO_LARGE: Row = Row {
+    fault: Some(Fault {
+        refusal: Refusal::BoxTooLarge,
+        place: None,
+    }),
+    ..RLE
+};
+
+// The line behind the file of a full square, and how it runs. After one generation the corners live, and along each
+// side the cells outside it that have three neighbours.
+const SQUARES: [(&str, Row); 3] = [
     (
         "61 58",
-        1,
-        "0: 1329227995784915872903807060280344576\n1: 4611686018427387900\n",
+        Row {
+            generations: 1,
+            report: "0: 1329227995784915872903807060280344576\n1: 4611686018427387900\n",
+            ..TOO_LARGE
+        },
     ),
-    ("62 59", 0, "0: 5316911983139663491615228241121378304\n"),
     (
         "62 59",
-        1,
-        "0: 5316911983139663491615228241121378304\n1: 9223372036854775804\n",
+        Row {
+            report: "0: 5316911983139663491615228241121378304\n",
+            ..TOO_LARGE
+        },
+    ),
+    (
+        "62 59",
+        Row {
+            generations: 1,
+            report: "0: 5316911983139663491615228241121378304\n1: 9223372036854775804\n",
+            ..TOO_LARGE
+        },
     ),
 ];
 
 // The file up to a line.
 fn full_square(line_behind: &str) -> &'static str {
-    FULL.split_once(line_behind).map_or(FULL, |parts| parts.0)
+    match FULL.split_once(line_behind) {
+        Some((file, _)) => file,
+        None => "",
+    }
 }
 
 #[test]
-fn counts_the_cells_of_full_squares(rt: HostRuntime) -> Result<(), Fail> {
-    for (line_behind, generations, report) in SQUARES {
-        let options = Options {
-            gens: generations,
-            format: Some(Format::Rle),
-            ..PLAIN
-        };
-        let end = Ended::of(&rt, full_square(line_behind), &options)?;
-        let too_large = Fault {
-            refusal: Refusal::BoxTooLarge,
-            place: None,
-        };
-        assert!(rt; end.outcome == Err(too_large), "for {report}");
-        assert_eq!(rt; end.report()?, report);
-        assert_eq!(rt; end.file()?, "");
+fn counts_the_cells_of_full_squares(rt: HostRuntime) -> Result<(), AllocError> {
+    for (line_behind, row) in SQUARES {
+        let file = full_square(line_behind);
+        assert_rows(&rt, &[Row { file, ..row }])?;
     }
     Ok(())
 }
 
 #[test]
-fn writes_a_full_square_by_the_lines_that_it_has(rt: HostRuntime) -> Result<(), Fail> {
+fn writes_a_full_square_by_the_lines_that_it_has(rt: HostRuntime) -> Result<(), AllocError> {
     let file = full_square("62 59");
-    let options = Options {
-        format: Some(Format::Macrocell),
-        ..PLAIN
-    };
-    let end = Ended::of(&rt, file, &options)?;
-    assert!(rt; end.outcome.is_ok());
-    let nodes = file.strip_prefix("[M2]\n");
-    assert!(rt; nodes.is_some());
-    let written = end.file()?;
-    assert_eq!(rt;
-        written.strip_prefix("[M2] (lifebatch 1)\n#R B3/S23\n#G 0\n"),
-        nodes
-    );
+    let end = Ended::of(&rt, file, &MACROCELL.options())?;
+    let nodes = file.strip_prefix("[M2]\n").unwrap_or("none");
+    let header = "[M2] (lifebatch 1)\n#R B3/S23\n#G 0\n";
+    let written = end.file.text().strip_prefix(header).unwrap_or("");
+    assert!(rt; end.outcome.is_ok() && written == nodes);
     Ok(())
 }

@@ -1,21 +1,10 @@
 //! Runs of macrocell files, and runs that write them.
 
 use crate::tests::ended::Ended;
-use crate::tests::rows::PLAIN;
-use engine::{Format, Options};
+use crate::tests::rows::{MACROCELL, PLAIN, RLE, Row, assert_rows, assert_told};
+use engine::Options;
 use plane::{Fault, Refusal};
-use std::process::Abort;
-use std::test::Fail;
-
-/// A file, how many generations it runs, in which format it is written, and what is written.
-#[derive(Clone, Copy)]
-struct Row {
-    file: &'static str,
-    generations: u64,
-    format: Format,
-    report: &'static str,
-    text: &'static str,
-}
+use std::alloc::AllocError;
 
 const GLIDER: &str = "[M2] (golly 2.0)\n#R B3/S23\n$$..*$...*$.***$$$$\n4 0 0 0 1\n";
 
@@ -68,247 +57,213 @@ const ROWS: [Row; 14] = [
     Row {
         file: "[M2]",
         generations: 5,
-        format: Format::Rle,
         report: "0: 0\n5: 0\n",
         text: "#CXRLE Pos=0,0 Gen=5\nx = 0, y = 0, rule = B3/S23\n!\n",
+        ..RLE
     },
     Row {
         file: "x = 0, y = 0, rule = B3/S23\n!\n",
         generations: 1000,
-        format: Format::Macrocell,
         report: "0: 0\n1000: 0\n",
         text: "[M2] (lifebatch 1)\n#R B3/S23\n#G 1000\n",
+        ..MACROCELL
     },
     Row {
         file: "[M2]\n*$\n4 0 0 0 1\n",
-        generations: 0,
-        format: Format::Rle,
         report: "0: 1\n",
         text: "#CXRLE Pos=0,0 Gen=0\nx = 1, y = 1, rule = B3/S23\no!\n",
+        ..RLE
     },
     Row {
         file: "[M2]\n*$\n4 1 1 1 1\n",
-        generations: 0,
-        format: Format::Rle,
         report: "0: 4\n",
         text: "#CXRLE Pos=-8,-8 Gen=0\nx = 9, y = 9, rule = B3/S23\no7bo8$o7bo!\n",
+        ..RLE
     },
     Row {
         file: "[M2]\n*$\n4 1 1 1 1\n",
-        generations: 0,
-        format: Format::Macrocell,
         report: "0: 4\n",
         text: "[M2] (lifebatch 1)\n#R B3/S23\n#G 0\n*$\n4 1 1 1 1\n",
+        ..MACROCELL
     },
     // A root of side 8 covers -4 to 3.
     Row {
         file: "[M2]\n*$\n",
-        generations: 0,
-        format: Format::Rle,
         report: "0: 1\n",
         text: "#CXRLE Pos=-4,-4 Gen=0\nx = 1, y = 1, rule = B3/S23\no!\n",
+        ..RLE
     },
     Row {
         file: GLIDER,
-        generations: 0,
-        format: Format::Rle,
         report: "0: 5\n",
         text: "#CXRLE Pos=1,2 Gen=0\nx = 3, y = 3, rule = B3/S23\nbo$2bo$3o!\n",
+        ..RLE
     },
     // The last row of a leaf may lack its end.
     Row {
         file: "[M2] (golly 2.0)\n#R B3/S23\n$$..*$...*$.***$\n4 0 0 0 1\n",
-        generations: 0,
-        format: Format::Rle,
         report: "0: 5\n",
         text: "#CXRLE Pos=1,2 Gen=0\nx = 3, y = 3, rule = B3/S23\nbo$2bo$3o!\n",
+        ..RLE
     },
     Row {
         file: GLIDER,
         generations: 1 << 40,
-        format: Format::Rle,
         report: "0: 5\n1099511627776: 5\n",
         text: "#CXRLE Pos=274877906945,274877906946 Gen=1099511627776\n\
          x = 3, y = 3, rule = B3/S23\nbo$2bo$3o!\n",
+        ..RLE
     },
     Row {
         file: "#N Glider\n#r 23/3\nx = 3, y = 3\nbob$2bo$3o!",
         generations: 4,
-        format: Format::Macrocell,
         report: "0: 5\n4: 5\n",
         text: "[M2] (lifebatch 1)\n#R B3/S23\n#G 4\n#N Glider\n\
          $..*$...*$.***$\n4 0 0 0 1\n",
+        ..MACROCELL
     },
     // Comments stand anywhere; an empty square that is spelled is left out.
     Row {
         file: "[M2]\n#G 7\n#C first\n$\n*$\n#R B36/S23\n4 1 1 0 2\n#N last",
-        generations: 0,
-        format: Format::Macrocell,
         report: "7: 1\n",
         text: "[M2] (lifebatch 1)\n#R B36/S23\n#G 7\n#C first\n#N last\n*$\n4 0 0 0 1\n",
+        ..MACROCELL
     },
     // Equal squares are written once, and a root that is too large is trimmed.
     Row {
         file: "[M2]\n*$\n*$\n4 1 2 0 2\n5 0 0 0 3\n6 4 0 0 0\n",
-        generations: 0,
-        format: Format::Macrocell,
         report: "0: 3\n",
         text: "[M2] (lifebatch 1)\n#R B3/S23\n#G 0\n*$\n4 1 1 0 1\n5 2 0 0 0\n",
+        ..MACROCELL
     },
     // A box that no RLE text can hold.
     Row {
         file: "x = 1, y = 1\no2147483646bo!",
-        generations: 0,
-        format: Format::Macrocell,
         report: "0: 2\n",
         text: WIDE,
+        ..MACROCELL
     },
     Row {
         file: FULL,
-        generations: 0,
-        format: Format::Macrocell,
         report: "0: 85070591730234615865843651857942052864\n",
         text: FULL_WRITTEN,
+        ..MACROCELL
     },
 ];
 
-/// A file, how many generations it runs, how it is refused, and the report until then.
-#[derive(Clone, Copy)]
-struct Refused {
-    file: &'static str,
-    generations: u64,
-    refusal: Refusal,
-    place: Option<u64>,
-    report: &'static str,
-}
-
-const REFUSED: [Refused; 11] = [
-    Refused {
+const REFUSED: [Row; 11] = [
+    Row {
         file: "[M2]\n*$\n4 0 0 0 2\n",
-        generations: 0,
-        refusal: Refusal::BadChild,
-        place: Some(8),
-        report: "",
+        fault: Some(Fault {
+            refusal: Refusal::BadChild,
+            place: Some(8),
+        }),
+        ..RLE
     },
-    Refused {
+    Row {
         file: "[M2]\n*$\n4 0 0 0 9\n",
-        generations: 0,
-        refusal: Refusal::BadChild,
-        place: Some(8),
-        report: "",
+        fault: Some(Fault {
+            refusal: Refusal::BadChild,
+            place: Some(8),
+        }),
+        ..RLE
     },
-    Refused {
+    Row {
         file: "[M2]\n*$\n5 0 0 0 1\n",
-        generations: 0,
-        refusal: Refusal::BadChild,
-        place: Some(8),
-        report: "",
+        fault: Some(Fault {
+            refusal: Refusal::BadChild,
+            place: Some(8),
+        }),
+        ..RLE
     },
-    Refused {
+    Row {
         file: "[M2]\n*$\n3 0 0 0 0\n",
-        generations: 0,
-        refusal: Refusal::BadNodeLine,
-        place: Some(8),
-        report: "",
+        fault: Some(Fault {
+            refusal: Refusal::BadNodeLine,
+            place: Some(8),
+        }),
+        ..RLE
     },
-    Refused {
+    Row {
         file: "[M2]\n*$\n64 0 0 0 0\n",
-        generations: 0,
-        refusal: Refusal::OutOfRange,
-        place: Some(8),
-        report: "",
+        fault: Some(Fault {
+            refusal: Refusal::OutOfRange,
+            place: Some(8),
+        }),
+        ..RLE
     },
-    Refused {
+    Row {
         file: "[M2]\n*$\n#FRAMES\n",
-        generations: 0,
-        refusal: Refusal::FramesNotRead,
-        place: Some(8),
-        report: "",
+        fault: Some(Fault {
+            refusal: Refusal::FramesNotRead,
+            place: Some(8),
+        }),
+        ..RLE
     },
-    Refused {
+    Row {
         file: "[M2]\n#G 9223372036854775809\n",
-        generations: 0,
-        refusal: Refusal::BadGen,
-        place: Some(5),
-        report: "",
+        fault: Some(Fault {
+            refusal: Refusal::BadGen,
+            place: Some(5),
+        }),
+        ..RLE
     },
-    Refused {
+    Row {
         file: "[M2]\n#R B0/S\n",
-        generations: 0,
-        refusal: Refusal::BirthOnZero,
-        place: Some(5),
-        report: "",
+        fault: Some(Fault {
+            refusal: Refusal::BirthOnZero,
+            place: Some(5),
+        }),
+        ..RLE
     },
-    Refused {
+    Row {
         file: "[M2]\n*$\n#R B3/S9\n",
-        generations: 0,
-        refusal: Refusal::BadRule,
-        place: Some(8),
-        report: "",
+        fault: Some(Fault {
+            refusal: Refusal::BadRule,
+            place: Some(8),
+        }),
+        ..RLE
     },
-    Refused {
+    Row {
         file: FULL,
         generations: 1,
-        refusal: Refusal::TooFar,
-        place: None,
-        report: "",
+        fault: Some(Fault {
+            refusal: Refusal::TooFar,
+            place: None,
+        }),
+        ..RLE
     },
-    Refused {
+    Row {
         file: FULL,
-        generations: 0,
-        refusal: Refusal::BoxTooLarge,
-        place: None,
+        fault: Some(Fault {
+            refusal: Refusal::BoxTooLarge,
+            place: None,
+        }),
         report: "0: 85070591730234615865843651857942052864\n",
+        ..RLE
     },
 ];
 
 #[test]
-fn reads_and_writes_macrocell_files(rt: HostRuntime) -> Result<(), Fail> {
-    for row in &ROWS {
-        let options = Options {
-            gens: row.generations,
-            format: Some(row.format),
-            ..PLAIN
-        };
-        let end = Ended::of(&rt, row.file, &options)?;
-        assert!(rt; end.outcome.is_ok(), "for {}", row.file);
-        assert_eq!(rt; end.report()?, row.report);
-        assert_eq!(rt; end.file()?, row.text);
-    }
-    Ok(())
+fn reads_and_writes_macrocell_files(rt: HostRuntime) -> Result<(), AllocError> {
+    assert_rows(&rt, &ROWS)
 }
 
 // What was written is written again, byte for byte.
 #[test]
-fn writes_again_what_it_wrote(rt: HostRuntime) -> Result<(), Fail> {
+fn writes_again_what_it_wrote(rt: HostRuntime) -> Result<(), AllocError> {
     for row in &ROWS {
         let options = Options {
-            format: Some(row.format),
+            format: row.format,
             ..PLAIN
         };
         let end = Ended::of(&rt, row.text, &options)?;
-        assert!(rt; end.outcome.is_ok(), "for {}", row.text);
-        assert_eq!(rt; end.file()?, row.text);
+        assert_told(&rt, row.text, &end, (None, end.report.text(), row.text));
     }
     Ok(())
 }
 
 #[test]
-fn refuses_macrocell_files_by_name(rt: HostRuntime) -> Result<(), Fail> {
-    for row in &REFUSED {
-        let options = Options {
-            gens: row.generations,
-            format: Some(Format::Rle),
-            ..PLAIN
-        };
-        let end = Ended::of(&rt, row.file, &options)?;
-        let fault = Fault {
-            refusal: row.refusal,
-            place: row.place,
-        };
-        assert!(rt; end.outcome == Err(fault), "for {}", row.file);
-        assert_eq!(rt; end.report()?, row.report);
-        assert_eq!(rt; end.file()?, "");
-    }
-    Ok(())
+fn refuses_macrocell_files_by_name(rt: HostRuntime) -> Result<(), AllocError> {
+    assert_rows(&rt, &REFUSED)
 }

@@ -1,10 +1,8 @@
 //! A macrocell file of 65536 different leaves.
 
 use crate::tests::ended::Ended;
-use crate::tests::rows::PLAIN;
-use std::alloc::Global;
-use std::process::Abort;
-use std::test::Fail;
+use crate::tests::rows::{PLAIN, assert_told};
+use std::alloc::{AllocError, Global};
 
 // How many squares of four smaller ones there are of each level.
 const SQUARES: [(u8, u32); 8] = [
@@ -19,7 +17,7 @@ const SQUARES: [(u8, u32); 8] = [
 ];
 
 // The line of a leaf: bit 8y + x of the word is the cell in column x of row y.
-fn push_leaf(text: &mut String, word: u32) -> Result<(), Fail> {
+fn push_leaf(text: &mut String, word: u32) -> Result<(), AllocError> {
     for bit in 0..32u32 {
         text.push_str(if (word >> bit) & 1 == 1 { "*" } else { "." })?;
         if bit % 8 == 7 {
@@ -37,7 +35,7 @@ fn push_squares(
     level: u8,
     count: u32,
     next: u32,
-) -> Result<u32, Fail> {
+) -> Result<u32, AllocError> {
     let mut nw = next;
     for _ in 0..count {
         let (ne, sw, se) = (nw.wrapping_add(1), nw.wrapping_add(2), nw.wrapping_add(3));
@@ -49,7 +47,7 @@ fn push_squares(
 }
 
 // Leaves of the words 1 to 65536, and squares of four up to one.
-fn many_leaves(alloc: Global) -> Result<String, Fail> {
+fn many_leaves(alloc: Global) -> Result<String, AllocError> {
     let mut text = String::from_str(alloc, "[M2]\n")?;
     for word in 1..65537 {
         push_leaf(&mut text, word)?;
@@ -63,10 +61,9 @@ fn many_leaves(alloc: Global) -> Result<String, Fail> {
 
 // The words 1 to 65535 have 16 * 2^15 bits, and 65536 has one.
 #[test]
-fn counts_the_cells_of_many_leaves(rt: HostRuntime) -> Result<(), Fail> {
+fn counts_the_cells_of_many_leaves(rt: HostRuntime) -> Result<(), AllocError> {
     let file = many_leaves(rt.alloc())?;
     let end = Ended::of(&rt, file.as_str(), &PLAIN)?;
-    assert!(rt; end.outcome.is_ok());
-    assert_eq!(rt; end.report()?, "0: 524289\n");
+    assert_told(&rt, "", &end, (None, "0: 524289\n", ""));
     Ok(())
 }

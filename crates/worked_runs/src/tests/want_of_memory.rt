@@ -4,9 +4,9 @@
 //! Nth allocation of each of these tests fail, and is run for each N from 1 up to the first at which
 //! none of them prints a line of its own.
 
-use crate::tests::ended::{ROOM, text_of};
-use crate::tests::rows::{BLINKER, COMMENTED_GLIDER, R_PENTOMINO, Row};
-use engine::{load, run};
+use crate::tests::ended::Ended;
+use crate::tests::rows::{BLINKER, COMMENTED_GLIDER, R_PENTOMINO, Row, assert_told};
+use engine::load;
 use plane::{Fault, Memory, Refusal};
 use std::process::Abort;
 use std::test::Fail;
@@ -16,35 +16,25 @@ const NO_MEMORY: Fault = Fault {
     place: None,
 };
 
+/// Whether a text is the beginning of a report, up to the end of a line.
+fn is_between_lines(said: &str, report: &str) -> bool {
+    report.starts_with(said) && (said.is_empty() || said.ends_with("\n"))
+}
+
 /// Runs a row: it writes its whole texts, or is refused between two lines of the report, with nothing
 /// in the file.
 fn assert_whole_or_refused<R: Abort + AllocGlobal + Print>(rt: &R, row: &Row) -> Result<(), Fail> {
-    let Ok(mut report) = Memory::with_room(rt.alloc(), ROOM) else {
-        return Ok(println!(rt; "no report")?);
+    let Ok(end) = Ended::of(rt, row.file, &row.options()) else {
+        return Ok(println!(rt; "no devices")?);
     };
-    let Ok(mut file) = Memory::with_room(rt.alloc(), ROOM) else {
-        return Ok(println!(rt; "no file")?);
-    };
-    let bytes = row.file.as_bytes();
-    let outcome = run(
-        rt,
-        rt.alloc(),
-        bytes,
-        &row.options(),
-        &mut report,
-        &mut file,
-    );
-    let said = text_of(&report)?;
-    if let Err(fault) = outcome {
-        assert_eq!(rt; fault, NO_MEMORY);
-        assert!(rt; row.report.starts_with(said));
-        assert!(rt; said.is_empty() || said.ends_with("\n"));
-        assert!(rt; file.bytes().is_empty());
-        return Ok(println!(rt; "refused after {said:?}")?);
+    if end.outcome.is_ok() {
+        assert_told(rt, row.file, &end, (None, row.report, row.text));
+        return Ok(());
     }
-    assert_eq!(rt; said, row.report);
-    assert_eq!(rt; text_of(&file)?, row.rle);
-    Ok(())
+    let said = end.report.text();
+    assert_told(rt, row.file, &end, (Some(NO_MEMORY), said, ""));
+    assert!(rt; is_between_lines(said, row.report));
+    Ok(println!(rt; "refused")?)
 }
 
 #[test]
@@ -69,12 +59,13 @@ fn refuses_to_load_for_want_of_memory(rt: HostRuntime) -> Result<(), Fail> {
     let Ok(mut source) = Memory::holding(rt.alloc(), &bytes) else {
         return Ok(println!(rt; "no source")?);
     };
-    match load(rt.alloc(), &mut source) {
-        Ok(loaded) => assert!(rt; loaded.as_slice() == &bytes[..]),
+    let is_right = match load(rt.alloc(), &mut source) {
+        Ok(loaded) => loaded.as_slice() == &bytes[..],
         Err(refusal) => {
-            assert_eq!(rt; refusal, Refusal::NoMemory);
             println!(rt; "refused to load")?;
+            refusal == Refusal::NoMemory
         }
-    }
+    };
+    assert!(rt; is_right);
     Ok(())
 }
