@@ -38,10 +38,11 @@ fn stepped_at_desk(rt: &(impl Abort + AllocGlobal)) -> Result<(Still, Sq, Tally)
     let mut at = table.at(desk);
     assert!(rt; at.exponent() <= 62);
     let mut tally = Tally { expansions: 0 };
-    let sq = stepped(&mut at, &mut tally);
+    let made = stepped(&mut at, &mut tally);
     let desk = at.leave();
     let words = table.close(desk);
-    Ok((words, sq?, tally))
+    let sq = made?;
+    Ok((words, sq, tally))
 }
 
 #[test]
