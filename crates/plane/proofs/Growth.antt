@@ -52,15 +52,6 @@ if_some_both : {T : Type 0} (P Q R : T → Type 0) → ((x : T) → P x → Q x 
 if_some_both P Q R both None p q = tt
 if_some_both P Q R both (Some x) p q = both x p q
 
-covers_itself : (box : Bounds) → Covers box box
-covers_itself box = record { left = omega (arith, ints); top = omega (arith, ints); right = omega (arith, ints); bottom = omega (arith, ints) }
-
--- cells that have room for some generations have room for fewer
-pub HasReach-fewer : (m n : ℕ) (cells : List Cell) → m ≤ n → HasReach n cells → HasReach m cells
-HasReach-fewer m n cells less reach =
-    if_some_both IsProper (λ box. IsBoxInRange (widened n box)) (λ box. IsBoxInRange (widened m box))
-    (λ box proper range. inner_in_range m n box box less (covers_itself box) proper range) (bounds_of cells) (bounds_proper cells) reach
-
 -- the cell one step back lies in the box widened by one
 step_back : (box : Bounds) (cell : Cell) (offset : Offset) (x y : ℤ) → IsWithin box cell → IsStep offset → x +ℤ offset.right ≡ cell.x → y +ℤ offset.down ≡ cell.y → IsWithin (widened 1 box) (at x y)
 step_back box cell offset x y within one across down = record { left = omega (arith, ints); top = omega (arith, ints); right = omega (arith, ints); bottom = omega (arith, ints) }

@@ -1,5 +1,5 @@
 -- Where the cells of a square round (0,0) may lie some generations on.
-use Rattle.std.proofs.Common.{◌≡◌, ℕ, zero, suc, ◌+◌, ◌-◌, ◌^◌, ◌≤◌, min, pow_mono, ℤ, pos, ◌+ℤ◌, ◌-ℤ◌, ◌≤ℤ◌, Bool, true, false, count_by, List, [], ◌∷◌, subst, sym, ◌∙◌, ap, arith, refl}
+use Rattle.std.proofs.Common.{◌≡◌, ℕ, zero, suc, ◌+◌, ◌-◌, ◌^◌, ◌≤◌, min, pow_mono, ℤ, pos, ◌+ℤ◌, ◌-ℤ◌, Bool, true, false, count_by, List, [], ◌∷◌, subst, sym, ◌∙◌, ap, arith, refl}
 use Rattle.std.specs.Prelude.{◌&&◌}
 use Rattle.std.proofs.lemmas.Bool.{false≢true}
 use Rattle.std.proofs.lemmas.Int.{ints}
@@ -10,7 +10,6 @@ use Rattle.plane.specs.Centred.{centred, is_round, Holds}
 use Rattle.plane.specs.Laws.{IsNear, moved}
 use Rattle.plane.specs.Plane.{Plane, after}
 use Rattle.plane.specs.Square.{IsSame, IsSquare, empty, spans, centre_of, future}
-use Rattle.plane.specs.Window.{IsInWindow}
 use Rattle.plane.proofs.Cones.{light_cone_lem, next_same, translation_lem}
 use Rattle.plane.proofs.Cuts.{cut_case}
 use Rattle.plane.proofs.Ninths.{half_of}
@@ -37,21 +36,6 @@ pub both_outside : (a b c d : Bool) → (c ≡ true → a ≡ true) → (d ≡ t
 both_outside a b true true h k e = let f = ap (λ t. t && b) (h refl) ∙ k refl in absurd (false≢true (sym e ∙ f))
 both_outside a b true false h k e = refl
 both_outside a b false d h k e = refl
-
-wider_span : (size n : ℕ) (z w : ℤ) → z ≤ℤ w → w ≤ℤ (z +ℤ pos (n + n)) → spans size z ≡ true → spans (size + (n + n)) w ≡ true
-wider_span size n z w low high e = grind (arith, ints)
-
-near_window : (size n : ℕ) (from x u : ℤ) → IsNear n x u → spans size (u -ℤ from) ≡ true → spans (size + (n + n)) (x -ℤ (from -ℤ pos n)) ≡ true
-near_window size n from x u near e = wider_span size n (u -ℤ from) (x -ℤ (from -ℤ pos n)) (omega (arith, ints)) (omega (arith, ints)) e
-
--- the live cells of a window stay in the window widened by so many
-pub window_after : (rule : CountRule) → has rule.birth 0 ≡ false → (left top : ℤ) (wide tall n : ℕ) (plane : Plane) → IsInWindow left top wide tall plane →
-    IsInWindow (left -ℤ pos n) (top -ℤ pos n) (wide + (n + n)) (tall + (n + n)) (after rule plane n)
-window_after rule none left top wide tall n plane is = record {
-  dead = λ x y e. quiet rule none plane n x y (λ u v near_u near_v. is.dead u v (both_outside
-      (spans (wide + (n + n)) (x -ℤ (left -ℤ pos n))) (spans (tall + (n + n)) (y -ℤ (top -ℤ pos n))) (spans wide (u -ℤ left)) (spans tall (v -ℤ top))
-      (near_window wide n left x u near_u) (near_window tall n top y v near_v) e));
-}
 
 near_round : (side half other outer n : ℕ) (x u : ℤ) → side ≡ half + half → other ≡ outer + outer → half + n ≤ outer → IsNear n x u → spans side (u +ℤ pos half) ≡ true → spans other (x +ℤ pos outer) ≡ true
 near_round side half other outer n x u e f less near here = grind (arith, ints)

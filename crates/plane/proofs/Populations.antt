@@ -5,7 +5,7 @@ use Rattle.std.specs.Prelude.{int_lt}
 use Rattle.std.specs.List.{list_any, AllByRecursion}
 use Rattle.std.specs.List.Sorted.{IsStrictlySortedBy}
 use Rattle.std.proofs.lemmas.Int.{ints}
-use Rattle.std.proofs.lemmas.List.{length-map, map-append}
+use Rattle.std.proofs.lemmas.List.{map-append}
 use Rattle.std.proofs.lemmas.List.Elements.{filter-append}
 use Rattle.plane.specs.declared.cell.Cell.{Cell}
 use Rattle.plane.specs.Laws.{moved}
@@ -16,7 +16,6 @@ use Rattle.plane.specs.Window.{row_places, places, cells_in, square_cells, moved
 use Rattle.plane.proofs.Cells.{at}
 use Rattle.plane.proofs.Cuts.{cond_true, cond_false}
 use Rattle.plane.proofs.Turns.{AllByRecursion-append}
-use Rattle.plane.proofs.Uniqueness.{one_listing_lem}
 
 -- how many places are live
 count : Plane → List Cell → ℕ
@@ -216,10 +215,6 @@ pub empty_cells : (left top : ℤ) (wide tall : ℕ) → cells_in left top wide 
 unfolding cells_in
 empty_cells left top wide tall = none_pass (places left top wide tall)
 
-pub empty_listing : IsListing [] empty
-unfolding plane_of IsStrictlySortedBy
-empty_listing = record { rising = tt; live = λ x y. refl }
-
 is_at_moved : (x y right down : ℤ) (cell : Cell) → is_at x y (moved_cell right down cell) ≡ is_at (x -ℤ right) (y -ℤ down) cell
 is_at_moved x y right down cell = grind (arith, ints)
 
@@ -249,9 +244,3 @@ moved_listing right down cells plane is = record {
   rising = rising_moved right down cells is.rising;
   live = λ x y. any_moved x y right down cells ∙ is.live (x -ℤ right) (y -ℤ down);
 }
-
--- a plane has as many live cells as the same one moved
-pub moved_length : (right down : ℤ) (plane : Plane) (cells others : List Cell) → IsListing cells plane → IsListing others (moved right down plane) → length others ≡ length cells
-moved_length right down plane cells others is other =
-    ap length (one_listing_lem (moved right down plane) others (map (moved_cell right down) cells) other (moved_listing right down cells plane is))
-    ∙ length-map cells (moved_cell right down)

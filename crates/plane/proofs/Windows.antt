@@ -88,11 +88,6 @@ before_rows x y left top wide (suc tall) less =
     AllByRecursion-append _ (row_places left top wide) (places left (top +ℤ pos 1) wide tall) (above_row x y left top wide less)
     (before_rows x y left (top +ℤ pos 1) wide tall (omega (arith, ints)))
 
-row_rises : (left top : ℤ) (wide : ℕ) → IsStrictlySortedBy reading_order (row_places left top wide)
-unfolding row_places IsStrictlySortedBy
-row_rises left top zero = tt
-row_rises left top (suc wide) = (before_row left top (left +ℤ pos 1) wide (omega (arith, ints)), row_rises (left +ℤ pos 1) top wide)
-
 -- a row stands before the rows below it
 rises_on : (x y left top : ℤ) (wide more tall : ℕ) → y <ℤ top →
     IsStrictlySortedBy reading_order (places left top wide tall) → IsStrictlySortedBy reading_order (row_places x y more ++ places left top wide tall)

@@ -1,5 +1,5 @@
 -- Shards in each slot of which a desk has seen a word.
-use Rattle.std.proofs.Common.{◌≡◌, ◌≢◌, ℕ, zero, suc, ◌+◌, ◌-◌, ◌*◌, ◌/◌, ◌^◌, ◌<◌, ◌≤◌, true, List, [], ◌∷◌, length, sym, ◌∙◌, ap, subst, arith, refl, ⊎_elim}
+use Rattle.std.proofs.Common.{◌≡◌, ℕ, zero, suc, ◌+◌, ◌-◌, ◌*◌, ◌/◌, ◌^◌, ◌<◌, ◌≤◌, true, List, [], ◌∷◌, length, sym, ap, subst, arith, refl, ⊎_elim}
 use Rattle.std.specs.Prelude.{◌==◌, Contains, slice_index_or}
 use Rattle.std.specs.List.{list_any}
 use Rattle.std.proofs.lemmas.Bool.{false≢true, eqb-true, eq-eqb, cases_lt}
@@ -9,13 +9,11 @@ use Rattle.table_core.specs.declared.knowledge.Knowledge.{Knowledge}
 use Rattle.table_core.specs.declared.shape.Kind.{Kind}
 use Rattle.table_core.specs.declared.shape.Kind.TheVariants.{Leaf, Pair}
 use Rattle.table_core.specs.Layout.{start, slot_bits, first, way, IsInShard}
-use Rattle.table_core.specs.Blocks.{Words}
-use Rattle.table_core.specs.Knowledge.{HasSeen, IsTrueOf}
+use Rattle.table_core.specs.Knowledge.{HasSeen}
 use Rattle.table_core.specs.FullShards.{KnowsFullShard, has_seen_all, has_full_shard, knows_full_shard}
 use Rattle.table_core.specs.Laws.{FullShardIsSeen}
 use Rattle.table_core.proofs.Ways.{first_below, whole, few, way_covers}
 use Rattle.table_core.proofs.Booleans.{or_cases, or_left, or_right, and_both}
-use Rattle.table_core.proofs.Knowing.{seen_true}
 
 shard_slot : (bits : ℕ) (kind : Kind) (word slot : ℕ) → slot < 256 →
     IsInShard bits kind word (start bits kind + (256 * (first (slot_bits bits kind) word / 256) + slot))
@@ -42,12 +40,6 @@ full_shard bits known kind word big low saw = record {
       let t = way_covers bits kind word (start bits kind + (256 * (first (slot_bits bits kind) word / 256) + slot)) (shard_slot bits kind word slot less) in
       subst (λ i. (other : ℕ) × HasSeen known i other) t.2 (saw t.0 t.1);
 }
-
--- such a shard has no zero slot
-pub full_true : (bits : ℕ) (words : Words) (known : Knowledge) → IsTrueOf bits words known → (f : KnowsFullShard bits known) → (slot : ℕ) →
-    slot < 256 → words (start bits f.kind + (256 * f.shard + slot)) ≢ 0
-full_true bits words known h f slot less =
-    let t = f.full slot less in let s = seen_true bits words known (start bits f.kind + (256 * f.shard + slot)) t.0 h t.1 in λ e. s.1 (sym s.0 ∙ e)
 
 -- and stays known
 pub full_later : (bits : ℕ) (old new : Knowledge) → ((entry : ℕ × ℕ) → Contains old.words entry → Contains new.words entry) →
