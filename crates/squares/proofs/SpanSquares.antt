@@ -6,31 +6,25 @@ use Rattle.plane.proofs.Cuts.{joined_cuts, moved_to}
 use Rattle.plane.proofs.Paddings.{twice_half}
 use Rattle.plane.proofs.Same.{same_trans}
 use Rattle.squares.specs.Book.{Book, IsBook, Shows, joined_squares, numbered}
-use Rattle.squares.specs.Spans.{in_spans, marked}
+use Rattle.squares.specs.Spans.{AreQuarterSpans, in_spans, marked}
+use Rattle.squares.specs.declared.spans.QuarterSpans.{QuarterSpans}
 use Rattle.squares.specs.declared.spans.Span.{Span}
 use Rattle.squares.specs.declared.sq.Sq.{Sq}
 use Rattle.squares.proofs.Centres.{shows_as}
 use Rattle.squares.proofs.SpanCells.{cut_marked, leaf_marked, none_in}
 
-pub quarters_marked : (to new : Book) (level half : ℕ) (spans s_a s_b s_c s_d a b c d : List Span) (nw ne sw se copy : Sq) → 0 < level → half ≡ 2 ^ (level - 1) → s_a ≡ spans → s_b ≡ spans → s_c ≡ spans → s_d ≡ spans →
-    ((x y : ℕ) → x < half → y < half → in_spans a x y ≡ in_spans s_a (x + 0) (y + 0)) →
-    ((x y : ℕ) → x < half → y < half → in_spans b x y ≡ in_spans s_b (x + half) (y + 0)) →
-    ((x y : ℕ) → x < half → y < half → in_spans c x y ≡ in_spans s_c (x + 0) (y + half)) →
-    ((x y : ℕ) → x < half → y < half → in_spans d x y ≡ in_spans s_d (x + half) (y + half)) →
-    Shows to (level - 1) (cut (2 ^ (level - 1)) 0 0 (marked (in_spans a))) nw → Shows to (level - 1) (cut (2 ^ (level - 1)) 0 0 (marked (in_spans b))) ne →
-    Shows to (level - 1) (cut (2 ^ (level - 1)) 0 0 (marked (in_spans c))) sw → Shows to (level - 1) (cut (2 ^ (level - 1)) 0 0 (marked (in_spans d))) se →
+pub quarters_marked : (to new : Book) (level half : ℕ) (spans read : List Span) (quarters : QuarterSpans) (nw ne sw se copy : Sq) → 0 < level → half ≡ 2 ^ (level - 1) → read ≡ spans → AreQuarterSpans half read quarters →
+    Shows to (level - 1) (cut (2 ^ (level - 1)) 0 0 (marked (in_spans quarters.nw.items))) nw → Shows to (level - 1) (cut (2 ^ (level - 1)) 0 0 (marked (in_spans quarters.ne.items))) ne →
+    Shows to (level - 1) (cut (2 ^ (level - 1)) 0 0 (marked (in_spans quarters.sw.items))) sw → Shows to (level - 1) (cut (2 ^ (level - 1)) 0 0 (marked (in_spans quarters.se.items))) se →
     Shows new (nw.level + 1) (joined_squares to nw.level (nw ∷ ne ∷ sw ∷ se ∷ [])) copy → Shows new level (cut (2 ^ level) 0 0 (marked (in_spans spans))) copy
-quarters_marked to new level half spans s_a s_b s_c s_d a b c d nw ne sw se copy least is_half e_a e_b e_c e_d in_a in_b in_c in_d at_nw at_ne at_sw at_se made =
-    let is_a = subst (λ h. (x y : ℕ) → x < h → y < h → in_spans a x y ≡ in_spans spans (x + 0) (y + 0)) is_half (subst (λ s. (x y : ℕ) → x < half → y < half → in_spans a x y ≡ in_spans s (x + 0) (y + 0)) e_a in_a) in
-    let is_b = subst (λ h. (x y : ℕ) → x < h → y < h → in_spans b x y ≡ in_spans spans (x + h) (y + 0)) is_half (subst (λ s. (x y : ℕ) → x < half → y < half → in_spans b x y ≡ in_spans s (x + half) (y + 0)) e_b in_b) in
-    let is_c = subst (λ h. (x y : ℕ) → x < h → y < h → in_spans c x y ≡ in_spans spans (x + 0) (y + h)) is_half (subst (λ s. (x y : ℕ) → x < half → y < half → in_spans c x y ≡ in_spans s (x + 0) (y + half)) e_c in_c) in
-    let is_d = subst (λ h. (x y : ℕ) → x < h → y < h → in_spans d x y ≡ in_spans spans (x + h) (y + h)) is_half (subst (λ s. (x y : ℕ) → x < half → y < half → in_spans d x y ≡ in_spans s (x + half) (y + half)) e_d in_d) in
+quarters_marked to new level half spans read quarters nw ne sw se copy least is_half is_read parts at_nw at_ne at_sw at_se made =
     let h = 2 ^ (level - 1) in
+    let is = subst (λ n. AreQuarterSpans n spans quarters) is_half (subst (λ s. AreQuarterSpans half s quarters) is_read parts) in
     let plane = marked (in_spans spans) in
-    let one = same_trans at_nw.cells (cut_marked h 0 0 (in_spans a) (in_spans spans) is_a) in
-    let two = same_trans at_ne.cells (cut_marked h h 0 (in_spans b) (in_spans spans) is_b) in
-    let three = same_trans at_sw.cells (cut_marked h 0 h (in_spans c) (in_spans spans) is_c) in
-    let four = same_trans at_se.cells (cut_marked h h h (in_spans d) (in_spans spans) is_d) in
+    let one = same_trans at_nw.cells (cut_marked h 0 0 (in_spans quarters.nw.items) (in_spans spans) is.nw) in
+    let two = same_trans at_ne.cells (cut_marked h h 0 (in_spans quarters.ne.items) (in_spans spans) is.ne) in
+    let three = same_trans at_sw.cells (cut_marked h 0 h (in_spans quarters.sw.items) (in_spans spans) is.sw) in
+    let four = same_trans at_se.cells (cut_marked h h h (in_spans quarters.se.items) (in_spans spans) is.se) in
     let whole = joined_cuts h 0 0 plane (to.cells nw) (to.cells ne) (to.cells sw) (to.cells se) one
     (moved_to h h (0 + h) 0 0 plane (to.cells ne) (omega arith) refl two) (moved_to h 0 0 h (0 + h) plane (to.cells sw) refl (omega arith) three)
     (moved_to h h (0 + h) h (0 + h) plane (to.cells se) (omega arith) (omega arith) four) in

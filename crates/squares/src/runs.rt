@@ -10,7 +10,7 @@ ghost use Rattle.squares.specs.Rounds.{IsRound};
 ghost use Rattle.squares.specs.Spans.{FitsRound, in_spans, marked, single_run};
 
 use crate::book::Squares;
-use crate::spans::{Span, clipped, distance, half_side, leaf_bits, spans_of};
+use crate::spans::{Span, distance, half_side, leaf_bits, quartered, spans_of};
 use crate::sq::{Num, Sq};
 use plane::{Cell, CellSet, Refusal};
 use std::alloc::Global;
@@ -76,16 +76,12 @@ fn spans_to_square<S: Squares>(
     if level == 3 {
         return book.leaf(leaf_bits(&spans));
     }
-    let half = half_side(level);
-    let nw = clipped(alloc, &spans, 0, 0, half)?;
-    let ne = clipped(alloc, &spans, half, 0, half)?;
-    let sw = clipped(alloc, &spans, 0, half, half)?;
-    let se = clipped(alloc, &spans, half, half, half)?;
+    let quarters = quartered(alloc, &spans, half_side(level))?;
     drop(spans);
-    let nw = spans_to_square(alloc, book, nw, level - 1)?;
-    let ne = spans_to_square(alloc, book, ne, level - 1)?;
-    let sw = spans_to_square(alloc, book, sw, level - 1)?;
-    let se = spans_to_square(alloc, book, se, level - 1)?;
+    let nw = spans_to_square(alloc, book, quarters.nw, level - 1)?;
+    let ne = spans_to_square(alloc, book, quarters.ne, level - 1)?;
+    let sw = spans_to_square(alloc, book, quarters.sw, level - 1)?;
+    let se = spans_to_square(alloc, book, quarters.se, level - 1)?;
     book.quad([nw, ne, sw, se])
 }
 

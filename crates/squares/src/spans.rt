@@ -1,7 +1,7 @@
 ghost use Rattle.std.specs.Prelude.{◌≡◌, ℕ, ◌+◌, ◌-◌, ◌*◌, ◌^◌, ◌<◌, ◌≤◌, false, MatchOption, IfSome, IfOk, IsOkUnless, pos, ◌+ℤ◌, ◌-ℤ◌, ◌≤ℤ◌, ◌<ℤ◌, unsigned_abs, map};
 ghost use Rattle.std.specs.List.{AllByRecursion};
 ghost use Rattle.plane.specs.Square.{IsSame, bit, bits_plane, cut};
-ghost use Rattle.squares.specs.Spans.{FitsRound, HasCells, HasCellOf, in_span, in_spans, marked, span_of};
+ghost use Rattle.squares.specs.Spans.{AreQuarterSpans, FitsRound, HasCells, HasCellOf, in_span, in_spans, marked, span_of};
 
 use plane::{Cell, Refusal};
 use std::alloc::Global;
@@ -112,6 +112,29 @@ pub fn clipped(
         }
     }
     Ok(parts)
+}
+
+/// The spans of a square's quarters, each counted from the quarter's upper left corner.
+#[derive(Drop)]
+pub struct QuarterSpans {
+    pub nw: Vec<Span>,
+    pub ne: Vec<Span>,
+    pub sw: Vec<Span>,
+    pub se: Vec<Span>,
+}
+
+/// What the quarters of a square of this half side have of the spans.
+pub fn quartered(alloc: Global, spans: &[Span], half: u64) -> Result<QuarterSpans, Refusal>
+    requires half { half ≤ 2 ^ 62 }
+    ensures ok { IfOk result (AreQuarterSpans half spans.now) }
+    ensures memory { IsOkUnless result Refusal.NoMemory }
+{
+    Ok(QuarterSpans {
+        nw: clipped(alloc, spans, 0, 0, half)?,
+        ne: clipped(alloc, spans, half, 0, half)?,
+        sw: clipped(alloc, spans, 0, half, half)?,
+        se: clipped(alloc, spans, half, half, half)?,
+    })
 }
 
 /// The bits of the cells that the spans have of a leaf.

@@ -1,9 +1,10 @@
-use Rattle.std.proofs.Common.{◌<◌, sym, subst, arith}
+use Rattle.std.proofs.Common.{sym, ◌∙◌, ap, subst, arith}
+use Rattle.std.specs.Option.{option_copied}
 use Rattle.std.proofs.lemmas.Result.{IfOk-weaker}
-use Rattle.squares.specs.Book.{Shows}
+use Rattle.squares.specs.Book.{IsKnown, Shows}
 use Rattle.squares.specs.declared.sq.Sq.{Sq}
 use Rattle.squares.proofs.CopyMaps.{copies_kept, copies_known, empty_copied, leaf_copied, noted_copies, quad_copied}
-use Rattle.squares.proofs.Kept.{keeps_trans, known_kept, results_trans, shows_kept}
+use Rattle.squares.proofs.Kept.{keeps_none, keeps_trans, known_kept, results_trans, shows_kept}
 use Rattle.squares.proofs.copies.+copy_into.Goals as goal
 
 pub returns-in_err-copy-clause-copies : goal.returns-in_err-copy-clause-copies
@@ -100,3 +101,23 @@ quad-requires-clause-level g t c =
 pub returns-then-sq-eq0-clause-ok : goal.returns-then-sq-eq0-clause-ok
 returns-then-sq-eq0-clause-ok g t c =
     empty_copied (g.L.Look.book c.args.from.now) (g.S.Squares.book c.args.to.now) c.args.sq (g.met.L.Look.is_book c.args.from.now) (g.met.S.Squares.is_book c.args.to.now) c.requires.known c.if-sq-eq0.true
+
+pub returns-in-Some-clause-ok : goal.returns-in-Some-clause-ok
+returns-in-Some-clause-ok g t c = c.requires.copies.same c.args.sq c.in-Some.num.now (sym c.get.ensures.value ∙ ap option_copied c.in-Some.is)
+
+pub returns-in-Some-clause-keeps : goal.returns-in-Some-clause-keeps
+returns-in-Some-clause-keeps g t c = keeps_none _
+
+pub returns-then-sq-eq0-clause-keeps : goal.returns-then-sq-eq0-clause-keeps
+returns-then-sq-eq0-clause-keeps g t c = keeps_none _
+
+pub bits-requires : goal.bits-requires
+bits-requires g t c = subst (λ n. IsKnown (g.L.Look.book c.args.from.now) n c.args.sq) c.if-level-eq3.true c.requires.known
+
+pub returns-then-level-eq3-clause-ok : goal.returns-then-level-eq3-clause-ok
+returns-then-level-eq3-clause-ok g t c =
+    let from = g.L.Look.book c.args.from.now in
+    let to = g.S.Squares.book c.leaf.new.self in
+    let sq = c.args.sq in
+    let shown = leaf_copied from to sq c.in_ok-copy.copy c.bits.result c.if-level-eq3.true c.bits.ensures c.in_ok-copy.ensures.ok in
+    IfOk-weaker c.noted.result _ _ (λ (noted : Sq) same. subst (Shows to sq.level (from.cells sq)) (sym same) shown) c.noted.ensures.ok

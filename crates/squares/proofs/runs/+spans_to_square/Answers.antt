@@ -24,12 +24,9 @@ returns-clause-ok g t c =
     let k2 = keeps_trans c.spans_to_square-2.ensures.keeps k3 in
     let low = c.requires.level.0 in
     IfOk-weaker c.quad.result _ _
-    (λ (sq : Sq) made. quarters_marked (book c.spans_to_square-4.new.book) (book c.quad.new.self) c.args.level c.half_side-half.result c.args.spans.items
-    c.deref-2.result.now c.deref-3.result.now c.deref-4.result.now c.deref-5.result.now c.in_ok-nw.nw.items c.in_ok-ne.ne.items c.in_ok-sw.sw.items c.in_ok-se.se.items
-    c.in_ok-nw-2.nw c.in_ok-ne-2.ne c.in_ok-sw-2.sw c.in_ok-se-2.se sq (omega arith) c.half_side-half.ensures.value
-    c.deref-2.ensures.value c.deref-3.ensures.value c.deref-4.ensures.value c.deref-5.ensures.value
-    c.in_ok-nw.ensures.ok c.in_ok-ne.ensures.ok c.in_ok-sw.ensures.ok c.in_ok-se.ensures.ok
-    (shows_kept k2 c.in_ok-nw-2.ensures.ok) (shows_kept k3 c.in_ok-ne-2.ensures.ok) (shows_kept k4 c.in_ok-sw-2.ensures.ok) c.in_ok-se-2.ensures.ok made)
+    (λ (sq : Sq) made. quarters_marked (book c.spans_to_square-4.new.book) (book c.quad.new.self) c.args.level c.half_side.result c.args.spans.items c.deref-2.result.now c.in_ok-quarters.quarters
+    c.in_ok-nw.nw c.in_ok-ne.ne c.in_ok-sw.sw c.in_ok-se.se sq (omega arith) c.half_side.ensures.value c.deref-2.ensures.value c.in_ok-quarters.ensures.ok
+    (shows_kept k2 c.in_ok-nw.ensures.ok) (shows_kept k3 c.in_ok-ne.ensures.ok) (shows_kept k4 c.in_ok-sw.ensures.ok) c.in_ok-se.ensures.ok made)
     c.quad.ensures.ok
 
 pub quad-requires-clause-known : goal.quad-requires-clause-known
@@ -37,26 +34,26 @@ quad-requires-clause-known g t c =
     let k4 = c.spans_to_square-4.ensures.keeps in
     let k3 = keeps_trans c.spans_to_square-3.ensures.keeps k4 in
     let k2 = keeps_trans c.spans_to_square-2.ensures.keeps k3 in
-    quarters_of_level (g.S.Squares.book c.spans_to_square-4.new.book) (c.args.level - 1) c.in_ok-nw-2.nw c.in_ok-ne-2.ne c.in_ok-sw-2.sw c.in_ok-se-2.se
-    (known_kept k2 c.in_ok-nw-2.ensures.ok.known) (known_kept k3 c.in_ok-ne-2.ensures.ok.known) (known_kept k4 c.in_ok-sw-2.ensures.ok.known) c.in_ok-se-2.ensures.ok.known
+    quarters_of_level (g.S.Squares.book c.spans_to_square-4.new.book) (c.args.level - 1) c.in_ok-nw.nw c.in_ok-ne.ne c.in_ok-sw.sw c.in_ok-se.se
+    (known_kept k2 c.in_ok-nw.ensures.ok.known) (known_kept k3 c.in_ok-ne.ensures.ok.known) (known_kept k4 c.in_ok-sw.ensures.ok.known) c.in_ok-se.ensures.ok.known
 
-pub returns-in_err-ne-2-clause-keeps : goal.returns-in_err-ne-2-clause-keeps
-returns-in_err-ne-2-clause-keeps g t c = keeps_trans c.spans_to_square.ensures.keeps c.spans_to_square-2.ensures.keeps
+pub returns-in_err-ne-clause-keeps : goal.returns-in_err-ne-clause-keeps
+returns-in_err-ne-clause-keeps g t c = keeps_trans c.spans_to_square.ensures.keeps c.spans_to_square-2.ensures.keeps
 
-pub returns-in_err-ne-2-clause-results : goal.returns-in_err-ne-2-clause-results
-returns-in_err-ne-2-clause-results g t c = results_trans c.spans_to_square.ensures.results c.spans_to_square-2.ensures.results
+pub returns-in_err-ne-clause-results : goal.returns-in_err-ne-clause-results
+returns-in_err-ne-clause-results g t c = results_trans c.spans_to_square.ensures.results c.spans_to_square-2.ensures.results
 
-pub returns-in_err-sw-2-clause-keeps : goal.returns-in_err-sw-2-clause-keeps
-returns-in_err-sw-2-clause-keeps g t c = keeps_trans c.spans_to_square.ensures.keeps (keeps_trans c.spans_to_square-2.ensures.keeps c.spans_to_square-3.ensures.keeps)
+pub returns-in_err-sw-clause-keeps : goal.returns-in_err-sw-clause-keeps
+returns-in_err-sw-clause-keeps g t c = keeps_trans c.spans_to_square.ensures.keeps (keeps_trans c.spans_to_square-2.ensures.keeps c.spans_to_square-3.ensures.keeps)
 
-pub returns-in_err-sw-2-clause-results : goal.returns-in_err-sw-2-clause-results
-returns-in_err-sw-2-clause-results g t c = results_trans c.spans_to_square.ensures.results (results_trans c.spans_to_square-2.ensures.results c.spans_to_square-3.ensures.results)
+pub returns-in_err-sw-clause-results : goal.returns-in_err-sw-clause-results
+returns-in_err-sw-clause-results g t c = results_trans c.spans_to_square.ensures.results (results_trans c.spans_to_square-2.ensures.results c.spans_to_square-3.ensures.results)
 
-pub returns-in_err-se-2-clause-keeps : goal.returns-in_err-se-2-clause-keeps
-returns-in_err-se-2-clause-keeps g t c = keeps_trans c.spans_to_square.ensures.keeps (keeps_trans c.spans_to_square-2.ensures.keeps (keeps_trans c.spans_to_square-3.ensures.keeps c.spans_to_square-4.ensures.keeps))
+pub returns-in_err-se-clause-keeps : goal.returns-in_err-se-clause-keeps
+returns-in_err-se-clause-keeps g t c = keeps_trans c.spans_to_square.ensures.keeps (keeps_trans c.spans_to_square-2.ensures.keeps (keeps_trans c.spans_to_square-3.ensures.keeps c.spans_to_square-4.ensures.keeps))
 
-pub returns-in_err-se-2-clause-results : goal.returns-in_err-se-2-clause-results
-returns-in_err-se-2-clause-results g t c = results_trans c.spans_to_square.ensures.results (results_trans c.spans_to_square-2.ensures.results (results_trans c.spans_to_square-3.ensures.results c.spans_to_square-4.ensures.results))
+pub returns-in_err-se-clause-results : goal.returns-in_err-se-clause-results
+returns-in_err-se-clause-results g t c = results_trans c.spans_to_square.ensures.results (results_trans c.spans_to_square-2.ensures.results (results_trans c.spans_to_square-3.ensures.results c.spans_to_square-4.ensures.results))
 
 pub returns-clause-keeps : goal.returns-clause-keeps
 returns-clause-keeps g t c = keeps_trans c.spans_to_square.ensures.keeps (keeps_trans c.spans_to_square-2.ensures.keeps (keeps_trans c.spans_to_square-3.ensures.keeps (keeps_trans c.spans_to_square-4.ensures.keeps c.quad.ensures.keeps)))

@@ -1,4 +1,4 @@
-use Rattle.std.proofs.Common.{◌≡◌, ◌<◌, ◌-◌, arith}
+use Rattle.std.proofs.Common.{arith}
 use Rattle.squares.proofs.Kept.{keeps_trans, results_trans, shows_kept}
 use Rattle.squares.proofs.NineSquares.{read_kept, upper_known, left_known, middle_known, right_known, lower_known, upper_shown, left_shown, middle_shown, right_shown, lower_shown, all_nine}
 use Rattle.squares.proofs.subsquares.nine.Goals as goal

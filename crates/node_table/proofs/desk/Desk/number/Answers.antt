@@ -1,14 +1,14 @@
-use Rattle.std.proofs.Common.{◌+◌, ◌∙◌, sym, subst}
+use Rattle.std.proofs.Common.{◌+◌, ◌∙◌, arith, sym, subst}
 use Rattle.node_table.specs.Desks.{IsDeskOf}
 use Rattle.node_table.specs.declared.desk.Desk.{Desk}
-use Rattle.node_table.proofs.Searching.{Sought, still_sought, is_number, goes_on, may_claim, left_word, left_other}
+use Rattle.node_table.proofs.Searching.{Sought, all_sought, sought_start, still_grows, still_told, still_sought, is_number, goes_on, may_claim, left_word, left_other}
 use Rattle.node_table.proofs.desk.Desk.number.Goals.{then-found-eq0+else-found-eq0-2+else-found-word-2, else-found-eq0}
 use Rattle.node_table.proofs.desk.Desk.number.Goals as goal
 
 pub claim-found-requires-clause-lawful : goal.claim-found-requires-clause-lawful
 claim-found-requires-clause-lawful c =
     may_claim c.args.table.now.key c.args.self.now.seat.me.0.known c.loop-place.self.seat.me.0.known c.look-found.new.self.seat.me.0.known c.args.kind c.args.word c.loop-place.place c.way_index-index.result c.look-found.result
-    c.loop-place.invariant.sought c.way_index-index.ensures.index c.look-found.ensures.met.grows c.look-found.ensures.met.learns c.requires.some c.ranges.word.fits c.loop-place-test.true c.requires.parts
+    c.loop-place.invariant.sought c.way_index-index.ensures.index c.look-found.ensures.met.grows c.look-found.ensures.met.learns c.requires.some c.ranges.word.fits (let short = c.loop-place-test.true in omega arith) c.requires.parts
 
 pub returns-then-found-eq0-2-clause-some : goal.returns-then-found-eq0-2-clause-some
 returns-then-found-eq0-2-clause-some c =
@@ -40,3 +40,41 @@ loop-place-preserved c =
             c.loop-place.invariant.sought c.way_index-index.ensures.index c.look-found.ensures.met.grows c.look-found.ensures.met.learns w.if-found-eq0.false c.if-found-word.false);
       }
     ]
+
+pub returns-then-found-word-clause-grows : goal.returns-then-found-word-clause-grows
+returns-then-found-word-clause-grows c =
+    still_grows c.args.table.now.key c.args.self.now.seat.me.0.known c.loop-place.self.seat.me.0.known c.look-found.new.self.seat.me.0.known c.args.kind c.args.word c.loop-place.place c.way_index-index.result c.look-found.result
+    c.loop-place.invariant.sought c.way_index-index.ensures.index c.look-found.ensures.met.grows c.look-found.ensures.met.learns
+
+pub returns-then-found-word-clause-told : goal.returns-then-found-word-clause-told
+returns-then-found-word-clause-told c =
+    still_told c.args.table.now.key c.args.self.now.seat.me.0.known c.loop-place.self.seat.me.0.known c.look-found.new.self.seat.me.0.known c.args.kind c.args.word c.loop-place.place c.way_index-index.result c.look-found.result
+    c.loop-place.invariant.sought c.way_index-index.ensures.index c.look-found.ensures.met.grows c.look-found.ensures.met.learns
+
+pub returns-then-found-word-clause-some : goal.returns-then-found-word-clause-some
+returns-then-found-word-clause-some c =
+    is_number c.args.table.now.key c.args.self.now.seat.me.0.known c.loop-place.self.seat.me.0.known c.look-found.new.self.seat.me.0.known c.args.kind c.args.word c.loop-place.place c.way_index-index.result c.look-found.result
+    c.loop-place.invariant.sought c.way_index-index.ensures.index c.look-found.ensures.met.grows c.look-found.ensures.met.learns c.requires.some c.if-found-word.true
+
+pub returns-then-found-eq0-2-clause-grows : goal.returns-then-found-eq0-2-clause-grows
+returns-then-found-eq0-2-clause-grows c =
+    let sought = still_sought c.args.table.now.key c.args.self.now.seat.me.0.known c.loop-place.self.seat.me.0.known c.look-found.new.self.seat.me.0.known c.args.kind c.args.word c.loop-place.place c.way_index-index.result c.look-found.result
+    c.loop-place.invariant.sought c.way_index-index.ensures.index c.look-found.ensures.met.grows c.look-found.ensures.met.learns in
+    still_grows c.args.table.now.key c.args.self.now.seat.me.0.known c.look-found.new.self.seat.me.0.known c.claim-found.new.self.seat.me.0.known c.args.kind c.args.word c.loop-place.place c.way_index-index.result _
+    sought c.way_index-index.ensures.index c.claim-found.ensures.met.grows c.claim-found.ensures.met.learns
+
+pub returns-then-found-eq0-2-clause-told : goal.returns-then-found-eq0-2-clause-told
+returns-then-found-eq0-2-clause-told c =
+    let sought = still_sought c.args.table.now.key c.args.self.now.seat.me.0.known c.loop-place.self.seat.me.0.known c.look-found.new.self.seat.me.0.known c.args.kind c.args.word c.loop-place.place c.way_index-index.result c.look-found.result
+    c.loop-place.invariant.sought c.way_index-index.ensures.index c.look-found.ensures.met.grows c.look-found.ensures.met.learns in
+    still_told c.args.table.now.key c.args.self.now.seat.me.0.known c.look-found.new.self.seat.me.0.known c.claim-found.new.self.seat.me.0.known c.args.kind c.args.word c.loop-place.place c.way_index-index.result _
+    sought c.way_index-index.ensures.index c.claim-found.ensures.met.grows c.claim-found.ensures.met.learns
+
+pub returns-clause-none : goal.returns-clause-none
+returns-clause-none c = record {
+  some = c.requires.some;
+  way = all_sought c.args.table.now.key.shape.bits c.args.self.now.seat.me.0.known c.loop-place.self.seat.me.0.known c.args.kind c.args.word c.loop-place.place (let far = c.loop-place-test.false in omega arith) c.loop-place.invariant.sought;
+}
+
+pub loop-place-init : goal.loop-place-init
+loop-place-init c = record { at = c.requires.table; sought = sought_start c.args.table.now.key.shape.bits c.args.self.now.seat.me.0.known c.args.kind c.args.word }

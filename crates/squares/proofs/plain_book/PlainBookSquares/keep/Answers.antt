@@ -1,4 +1,6 @@
-use Rattle.std.proofs.Common.{◌≡◌, ◌-◌, ap, subst, sym, ◌∙◌}
+use Rattle.std.proofs.Common.{◌≡◌, ◌-◌, ap, inl, refl, rules, subst, sym, ◌∙◌}
+use Rattle.std.proofs.lemmas.Option.{slice_get_within}
+use Rattle.squares.proofs.Kept.{keeps_none}
 use Rattle.squares.specs.Nodes.{level_of, plain_book, HasNumbers}
 use Rattle.squares.proofs.KeptResults.{record_of_square, kept_good, kept_nodes, kept_adds, kept_keeps, kept_futures}
 use Rattle.squares.proofs.Places.{read_there}
@@ -57,3 +59,16 @@ returns-then-sq-ne0-clause-keeps c =
     let there : slice_get items (sq.num.0 - 1) ≡ Some r = found.1 ∙ ap (λ (x : Record). Some x) (sym same) in
     let level : level_of r.node ≡ sq.level = ap (λ (x : Record). level_of x.node) same ∙ found.2 in
     kept_keeps at.rule at.exponent items sq r c.args.future.num at.good c.if-sq-ne0.true there level
+
+pub index_mut-requires : goal.index_mut-requires
+index_mut-requires c =
+    let items = c.args.self.now.records.items in
+    let found = record_of_square items c.args.sq.level c.args.sq.num.0 c.requires.known.known c.if-sq-ne0.true in
+    let within = slice_get_within items (c.args.sq.num.0 - 1) found.0 found.1 in
+    search (rules, within)
+
+pub returns-else-sq-ne0-clause-ok : goal.returns-else-sq-ne0-clause-ok
+returns-else-sq-ne0-clause-ok c = record { known = inl c.if-sq-ne0.false; learned = refl; results = inl refl }
+
+pub returns-else-sq-ne0-clause-keeps : goal.returns-else-sq-ne0-clause-keeps
+returns-else-sq-ne0-clause-keeps c = keeps_none _

@@ -90,3 +90,15 @@ returns-in-Some-clause-ok c =
     let found : get nat_cmp at.leaves c.args.word ≡ Some num = search rules in
     let there = at.leaves_listed.found c.args.word num found in
     leaf_shows at.rule at.exponent at.records.items num.0 c.args.word at.good (not_zero (nodes_of at.records.items) num.0 _ there) there
+
+pub returns-in-Some-clause-keeps : goal.returns-in-Some-clause-keeps
+returns-in-Some-clause-keeps c = keeps_none _
+
+pub returns-in-Some-clause-results : goal.returns-in-Some-clause-results
+returns-in-Some-clause-results c = record { results = refl; learned = refl }
+
+pub returns-then-word-eq0-clause-keeps : goal.returns-then-word-eq0-clause-keeps
+returns-then-word-eq0-clause-keeps c = keeps_none _
+
+pub returns-then-word-eq0-clause-results : goal.returns-then-word-eq0-clause-results
+returns-then-word-eq0-clause-results c = record { results = refl; learned = refl }

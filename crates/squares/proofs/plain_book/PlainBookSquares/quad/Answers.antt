@@ -1,9 +1,9 @@
-use Rattle.std.proofs.Common.{◌≡◌, Bool, true, false, refl, ◌+◌, ◌-◌, ◌++◌, ◌∷◌, [], subst, sym, ap, ◌∙◌, rules, arith, None, Some, suc, length, take, List}
+use Rattle.std.proofs.Common.{◌≡◌, Bool, true, false, refl, ◌+◌, ◌++◌, ◌∷◌, [], subst, sym, ap, ◌∙◌, rules, None, Some, suc, length, List}
 use Rattle.std.specs.BTreeMap.{get}
 use Rattle.std.specs.List.{AllByRecursion}
 use Rattle.std.specs.Ordering.{nat_cmp}
 use Rattle.std.proofs.lemmas.Bool.{false≢true}
-use Rattle.std.proofs.lemmas.List.{length-map, take_at}
+use Rattle.std.proofs.lemmas.List.{length-map}
 use Rattle.squares.specs.declared.node.Node.TheVariants.{Leaf, Inner}
 use Rattle.squares.specs.declared.node.Quarters.{Quarters}
 use Rattle.squares.specs.declared.node.Record.{Record}
@@ -151,3 +151,15 @@ returns-clause-ok c =
     let keeps = subst (λ items. Keeps book (plain_book at.rule at.exponent items)) (sym c.in_ok-num.ensures.ok) (pushed_keeps at.rule at.exponent at.records.items (Inner c.of-node.result) at.good) in
     subst (λ (p : Quarters). Shows (plain_book at.rule at.exponent new) ((nth squares 0).level + 1) (joined_squares book (nth squares 0).level squares) (record { level = p.level; num = num })) (sym c.of-node.ensures)
     (node_shows at.rule at.exponent at.records.items squares known new num.0 good keeps (not_zero (nodes_of new) num.0 _ there) there)
+
+pub returns-in-Some-clause-keeps : goal.returns-in-Some-clause-keeps
+returns-in-Some-clause-keeps c = keeps_none _
+
+pub returns-in-Some-clause-results : goal.returns-in-Some-clause-results
+returns-in-Some-clause-results c = record { results = refl; learned = refl }
+
+pub returns-then-are_empty-clause-keeps : goal.returns-then-are_empty-clause-keeps
+returns-then-are_empty-clause-keeps c = keeps_none _
+
+pub returns-then-are_empty-clause-results : goal.returns-then-are_empty-clause-results
+returns-then-are_empty-clause-results c = record { results = refl; learned = refl }

@@ -5,6 +5,7 @@ use Rattle.squares.specs.Nodes.{nodes_of, level_of, plane_at, plain_book}
 use Rattle.plane.specs.Square.{IsSame, empty, future}
 use Rattle.plane.proofs.Same.{same_sym, same_trans}
 use Rattle.squares.proofs.EmptyFutures.{future_empty}
+use Rattle.squares.proofs.Kept.{keeps_none}
 use Rattle.squares.proofs.KeptResults.{has_result, no_result, future_is}
 use Rattle.squares.proofs.NodeLaws.{zero_plane}
 use Rattle.squares.proofs.NodeLists.{level_at}
@@ -45,3 +46,12 @@ returns-clause-results c =
       known = has_result at.records.items at.rule at.exponent c.args.sq c.record.result c.in_ok-num.num c.if-sq-eq0.false c.record.ensures.record level c.in_ok-num.was;
       told = inl (record { results = refl; learned = refl });
     }
+
+pub returns-then-sq-eq0-clause-keeps : goal.returns-then-sq-eq0-clause-keeps
+returns-then-sq-eq0-clause-keeps c = keeps_none _
+
+pub returns-in_err-num-clause-keeps : goal.returns-in_err-num-clause-keeps
+returns-in_err-num-clause-keeps c = keeps_none _
+
+pub returns-clause-keeps : goal.returns-clause-keeps
+returns-clause-keeps c = keeps_none _
