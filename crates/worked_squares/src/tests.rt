@@ -4,5 +4,6 @@ mod futures;
 mod leaves;
 mod numbered_squares;
 mod places;
+mod rows;
 mod table_words;
 mod views;

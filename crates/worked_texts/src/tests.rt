@@ -5,6 +5,13 @@ mod rle_texts;
 mod rules;
 
 use rle_reader::Comments;
+use std::fmt::Debug;
+use std::process::Abort;
+
+/// Fails where there is a first row that is otherwise, and says what it is.
+fn assert_none<R: Abort, T: Copy + PartialEq + Debug>(rt: &R, first: Option<T>) {
+    assert_eq!(rt; first, None);
+}
 
 /// The bytes of a text, if there is one.
 fn bytes_of(text: Option<&str>) -> Option<&[u8]> {

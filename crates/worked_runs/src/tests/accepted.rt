@@ -7,7 +7,7 @@ use rule_text::Rule;
 use std::alloc::AllocError;
 use std::process::Abort;
 
-const PATTERNS: [Row; 12] = [
+const PATTERNS: &[Row] = &[
     Row {
         file: "x = 0, y = 0, rule = B3/S23\n!\n",
         generations: 1000,
@@ -86,7 +86,7 @@ const PATTERNS: [Row; 12] = [
 ];
 
 // The ends of the range and of the generations, and the position that was the last one of a smaller range.
-const LIMITS: [Row; 5] = [
+const LIMITS: &[Row] = &[
     Row {
         file: "#CXRLE Pos=4611686018427387903,0\nx = 1, y = 1\no!",
         report: "0: 1\n",
@@ -129,7 +129,7 @@ const NONE_LEFT: &str = "#CXRLE Pos=0,0 Gen=9223372036854775808\nx = 0, y = 0, r
 
 // The 36 cells at (0,0), (2,0), .. (70,0), and the 34 cells at (0,0), .. (66,0) with (68,0), (69,0):
 // a body line takes an item, or the `!`, where it then has at most 70 bytes.
-const LONG_ROWS: [Row; 2] = [
+const LONG_ROWS: &[Row] = &[
     Row {
         file: "x = 71, y = 1\nobobobobobobobobobobobobobobobobobobobobobobobobobobobobobobobobobobobo!",
         report: "0: 36\n",
@@ -150,7 +150,7 @@ const UPRIGHT: &str = "#CXRLE Pos=1,-1 Gen=5\nx = 1, y = 3, rule = B3/S23\no$o$o
 
 const FLAT: &str = "#CXRLE Pos=0,0 Gen=4\nx = 3, y = 1, rule = B3/S23\n3o!\n";
 
-const STEPS: [Row; 7] = [
+const STEPS: &[Row] = &[
     Row {
         file: "x = 3, y = 1\n3o!",
         generations: 5,
@@ -211,7 +211,7 @@ const STEPS: [Row; 7] = [
 ];
 
 // Runs that no engine comes through cell by cell.
-const FAR: [Row; 3] = [
+const FAR: &[Row] = &[
     Row {
         file: "x = 3, y = 3, rule = B3/S23\nbob$2bo$3o!",
         generations: 1 << 40,
@@ -243,27 +243,27 @@ const FAR: [Row; 3] = [
 
 #[test]
 fn writes_patterns(rt: HostRuntime) -> Result<(), AllocError> {
-    assert_rows(&rt, &PATTERNS)
+    assert_rows(&rt, PATTERNS)
 }
 
 #[test]
 fn runs_at_the_limits(rt: HostRuntime) -> Result<(), AllocError> {
-    assert_rows(&rt, &LIMITS)
+    assert_rows(&rt, LIMITS)
 }
 
 #[test]
 fn runs_far(rt: HostRuntime) -> Result<(), AllocError> {
-    assert_rows(&rt, &FAR)
+    assert_rows(&rt, FAR)
 }
 
 #[test]
 fn wraps_lines_at_70_bytes(rt: HostRuntime) -> Result<(), AllocError> {
-    assert_rows(&rt, &LONG_ROWS)
+    assert_rows(&rt, LONG_ROWS)
 }
 
 #[test]
 fn reports_each_step_and_the_last_generation_once(rt: HostRuntime) -> Result<(), AllocError> {
-    assert_rows(&rt, &STEPS)
+    assert_rows(&rt, STEPS)
 }
 
 #[test]

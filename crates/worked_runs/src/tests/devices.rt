@@ -8,7 +8,7 @@ use std::alloc::{AllocError, Global};
 use std::process::Abort;
 use std::test::Fail;
 
-const ROWS: [Row; 3] = [BLINKER, R_PENTOMINO, COMMENTED_GLIDER];
+const ROWS: &[Row] = &[BLINKER, R_PENTOMINO, COMMENTED_GLIDER];
 
 // How many bytes a sink takes at a time.
 const SIPS: [usize; 3] = [1, 7, usize::MAX];
@@ -65,7 +65,7 @@ fn assert_reads_fail<R: Abort + AllocGlobal>(rt: &R, bytes: &[u8], reads: u64) -
 
 #[test]
 fn loads_all_or_says_that_reading_failed(rt: HostRuntime) -> Result<(), Fail> {
-    for row in &ROWS {
+    for row in ROWS {
         assert_reads_fail(&rt, row.file.as_bytes(), 2)?;
     }
     // How many bytes there are, and in how many reads of at most 8192 they come.
@@ -193,7 +193,7 @@ fn assert_fails<R: Abort + AllocGlobal>(
     most: usize,
     failing: Failing,
 ) -> Result<(), AllocError> {
-    for row in &ROWS {
+    for row in ROWS {
         let calls = calls_of(rt, row, most, failing)?;
         let wrong = first_wrong_call(rt, row, most, failing, calls)?;
         assert_eq!(rt; (row.file, wrong), (row.file, None));

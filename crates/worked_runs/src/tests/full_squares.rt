@@ -18,7 +18,7 @@ const TOO_LARGE: Row = Row {
 
 // The line behind the file of a full square, and how it runs. After one generation the corners live, and along each
 // side the cells outside it that have three neighbours.
-const SQUARES: [(&str, Row); 3] = [
+const SQUARES: &[(&str, Row)] = &[
     (
         "61 58",
         Row {
@@ -56,7 +56,7 @@ fn full_square(line_behind: &str) -> &'static str {
 fn counts_the_cells_of_full_squares(rt: HostRuntime) -> Result<(), AllocError> {
     for (line_behind, row) in SQUARES {
         let file = full_square(line_behind);
-        assert_rows(&rt, &[Row { file, ..row }])?;
+        assert_rows(&rt, &[Row { file, ..*row }])?;
     }
     Ok(())
 }

@@ -53,7 +53,7 @@ const WIDE: &str =
      25 0 50 0 0\n26 0 51 0 0\n27 0 52 0 0\n28 0 53 0 0\n29 0 54 0 0\n30 0 55 0 0\n\
      31 28 56 0 0\n32 0 0 0 57\n";
 
-const ROWS: [Row; 14] = [
+const ROWS: &[Row] = &[
     Row {
         file: "[M2]",
         generations: 5,
@@ -151,7 +151,7 @@ const ROWS: [Row; 14] = [
     },
 ];
 
-const REFUSED: [Row; 11] = [
+const REFUSED: &[Row] = &[
     Row {
         file: "[M2]\n*$\n4 0 0 0 2\n",
         fault: Some(Fault {
@@ -246,13 +246,13 @@ const REFUSED: [Row; 11] = [
 
 #[test]
 fn reads_and_writes_macrocell_files(rt: HostRuntime) -> Result<(), AllocError> {
-    assert_rows(&rt, &ROWS)
+    assert_rows(&rt, ROWS)
 }
 
 // What was written is written again, byte for byte.
 #[test]
 fn writes_again_what_it_wrote(rt: HostRuntime) -> Result<(), AllocError> {
-    for row in &ROWS {
+    for row in ROWS {
         let options = Options {
             format: row.format,
             ..PLAIN
@@ -265,5 +265,5 @@ fn writes_again_what_it_wrote(rt: HostRuntime) -> Result<(), AllocError> {
 
 #[test]
 fn refuses_macrocell_files_by_name(rt: HostRuntime) -> Result<(), AllocError> {
-    assert_rows(&rt, &REFUSED)
+    assert_rows(&rt, REFUSED)
 }

@@ -16,7 +16,7 @@ struct Pictured {
     picture: &'static str,
 }
 
-const PICTURES: [Pictured; 7] = [
+const PICTURES: &[Pictured] = &[
     Pictured {
         file: "x = 3, y = 1\n3o!",
         generations: 1,
@@ -91,7 +91,7 @@ fn assert_pictured<R: Abort + AllocGlobal>(rt: &R, row: &Pictured) -> Result<(),
 
 #[test]
 fn draws_the_window_behind_the_lines(rt: HostRuntime) -> Result<(), Fail> {
-    for row in &PICTURES {
+    for row in PICTURES {
         assert_pictured(&rt, row)?;
     }
     Ok(())

@@ -4,7 +4,7 @@ use crate::tests::rows::{RLE, Row, assert_rows};
 use plane::{Fault, Refusal};
 use std::alloc::AllocError;
 
-const ROWS: [Row; 18] = [
+const ROWS: &[Row] = &[
     Row {
         file: "x = 1, y = 1\n0o!",
         fault: Some(Fault {
@@ -158,5 +158,5 @@ const ROWS: [Row; 18] = [
 
 #[test]
 fn names_what_is_wrong(rt: HostRuntime) -> Result<(), AllocError> {
-    assert_rows(&rt, &ROWS)
+    assert_rows(&rt, ROWS)
 }

@@ -2,6 +2,7 @@
 
 use crate::tests::books::rule_of;
 use crate::tests::places::{Place, cell_at, cells_at};
+use crate::tests::rows::assert_no_row;
 use plane::{
     Bounds, COORDINATE_LIMIT, Cell, CellSet, Counted, FailAt, Failed, Fault, GENERATION_LIMIT,
     Memory, Refusal, Sink, Source, Window, reach,
@@ -31,7 +32,7 @@ fn next(alloc: Global, text: &str, places: &[Place]) -> Result<Vec<(i64, i64)>, 
 }
 
 // A rule's text, some cells, and the cells of the next generation, in the order of reading.
-const NEXT: [(&str, &[Place], &[(i64, i64)]); 6] = [
+const NEXT: &[(&str, &[Place], &[(i64, i64)])] = &[
     ("B3/S23", &[], &[]),
     // A blinker, a glider and its neighbour phase.
     (
@@ -54,11 +55,18 @@ const NEXT: [(&str, &[Place], &[(i64, i64)]); 6] = [
     ("B/S012345678", &[(5, 5), (-5, -5)], &[(-5, -5), (5, 5)]),
 ];
 
+fn first_wrong_next(alloc: Global, rows: &[(&str, &[Place], &[(i64, i64)])]) -> Option<usize> {
+    for (row, (text, before, after)) in rows.iter().enumerate() {
+        if next(alloc, text, before).as_deref() != Ok(*after) {
+            return Some(row);
+        }
+    }
+    None
+}
+
 #[test]
 fn next_generations(rt: HostRuntime) {
-    for (text, before, after) in NEXT {
-        assert_eq!(rt; next(rt.alloc(), text, before).as_deref(), Ok(after));
-    }
+    assert_no_row(&rt, first_wrong_next(rt.alloc(), NEXT));
 }
 
 // The cells at these places as they are listed, whether (3, 1) and (1, 3) are among them, and their box.
@@ -106,7 +114,9 @@ const FIRST: Bounds = Bounds {
 };
 
 // A box, the generation that a run begins with, how many it takes, and where it stays.
-const REACHES: [(Option<Bounds>, u64, u64, Result<Option<Bounds>, Refusal>); 7] = [
+type Reach = (Option<Bounds>, u64, u64, Result<Option<Bounds>, Refusal>);
+
+const REACHES: &[Reach] = &[
     (Some(LAST), 0, 0, Ok(Some(LAST))),
     (Some(LAST), 0, 1, Err(Refusal::TooFar)),
     (Some(FIRST), 0, 0, Ok(Some(FIRST))),
@@ -116,15 +126,25 @@ const REACHES: [(Option<Bounds>, u64, u64, Result<Option<Bounds>, Refusal>); 7] 
     (None, u64::MAX, u64::MAX, Err(Refusal::TooFar)),
 ];
 
-#[test]
-fn reaches(rt: HostRuntime) {
-    for (bounds, start, generations, reached) in REACHES {
-        assert_eq!(rt; reach(bounds, start, generations), reached);
+fn first_wrong_reach(rows: &[Reach]) -> Option<usize> {
+    for (row, (bounds, start, generations, reached)) in rows.iter().enumerate() {
+        if reach(*bounds, *start, *generations) != *reached {
+            return Some(row);
+        }
     }
+    None
 }
 
-// A corner, how many columns and rows, and whether there is such a window.
-const WINDOWS: [((i64, i64, u32, u32), bool); 13] = [
+#[test]
+fn reaches(rt: HostRuntime) {
+    assert_no_row(&rt, first_wrong_reach(REACHES));
+}
+
+// A corner, and how many columns and rows.
+type Sides = (i64, i64, u32, u32);
+
+// The sides of a window, and whether there is such a window.
+const WINDOWS: &[(Sides, bool)] = &[
     ((0, -1, 3, 3), true),
     ((-COORDINATE_LIMIT, COORDINATE_LIMIT, 1, 1024), true),
     ((COORDINATE_LIMIT, -COORDINATE_LIMIT, 1024, 1), true),
@@ -141,21 +161,28 @@ const WINDOWS: [((i64, i64, u32, u32), bool); 13] = [
 ];
 
 // The sides of the window of these sides.
-fn window_sides(sides: (i64, i64, u32, u32)) -> Result<(i64, i64, u32, u32), Refusal> {
+fn window_sides(sides: Sides) -> Result<Sides, Refusal> {
     let window = Window::new(sides.0, sides.1, sides.2, sides.3)?;
     Ok((window.x(), window.y(), window.width(), window.height()))
 }
 
-#[test]
-fn windows(rt: HostRuntime) {
-    for (sides, is_window) in WINDOWS {
-        let wanted = if is_window {
-            Ok(sides)
+fn first_wrong_window(rows: &[(Sides, bool)]) -> Option<usize> {
+    for (row, (sides, is_window)) in rows.iter().enumerate() {
+        let wanted = if *is_window {
+            Ok(*sides)
         } else {
             Err(Refusal::WindowTooLarge)
         };
-        assert_eq!(rt; (sides, window_sides(sides)), (sides, wanted));
+        if window_sides(*sides) != wanted {
+            return Some(row);
+        }
     }
+    None
+}
+
+#[test]
+fn windows(rt: HostRuntime) {
+    assert_no_row(&rt, first_wrong_window(WINDOWS));
 }
 
 // What two reads and two writes answer.

@@ -5,6 +5,7 @@ ghost use Rattle.squares.specs.Book.{IsKnown};
 
 use crate::tests::books::{book_of, rule_of, square_of, square_round};
 use crate::tests::places::cell_at;
+use crate::tests::rows::assert_no_row;
 use hashlife_step::{Tally, future, pad, plan, step, trim};
 use plane::{CellSet, Refusal, reach};
 use rule_text::Rule;
@@ -12,7 +13,7 @@ use squares::{Look, PlainBook, Sq, Squares};
 use std::alloc::Global;
 
 // A number of generations, and the exponents of its steps.
-const PLANS: [(u64, &[u8]); 6] = [
+const PLANS: &[(u64, &[u8])] = &[
     (0, &[]),
     (1, &[0]),
     (10, &[1, 3]),
@@ -28,15 +29,22 @@ const PLANS: [(u64, &[u8]); 6] = [
     ),
 ];
 
+fn first_wrong_plan(rows: &[(u64, &[u8])]) -> Option<usize> {
+    for (row, (generations, exponents)) in rows.iter().enumerate() {
+        if plan(*generations).as_slice() != *exponents {
+            return Some(row);
+        }
+    }
+    None
+}
+
 #[test]
 fn plans_of_worked_numbers(rt: HostRuntime) {
-    for (generations, exponents) in PLANS {
-        assert_eq!(rt; plan(generations).as_slice(), exponents);
-    }
+    assert_no_row(&rt, first_wrong_plan(PLANS));
 }
 
 // The level of a root, an exponent, and the level that the root is padded to.
-const PADDINGS: [(u8, u8, u8); 7] = [
+const PADDINGS: &[(u8, u8, u8)] = &[
     (4, 0, 6),
     (4, 3, 6),
     (4, 4, 7),
@@ -76,16 +84,23 @@ fn levels(alloc: Global, level: u8, exponent: u8) -> Result<(u8, u8), Refusal> {
     padded_and_trimmed(&mut book, root, exponent)
 }
 
+fn first_wrong_padding(alloc: Global, rows: &[(u8, u8, u8)]) -> Option<usize> {
+    for (row, (level, exponent, padded)) in rows.iter().enumerate() {
+        if levels(alloc, *level, *exponent) != Ok((*padded, 4)) {
+            return Some(row);
+        }
+    }
+    None
+}
+
 #[test]
 fn levels_of_worked_paddings(rt: HostRuntime) {
-    for (level, exponent, padded) in PADDINGS {
-        assert_eq!(rt; levels(rt.alloc(), level, exponent), Ok((padded, 4)));
-    }
+    assert_no_row(&rt, first_wrong_padding(rt.alloc(), PADDINGS));
 }
 
 // A leaf, and the four leaves of the square of level 4 that has it in its middle: each corner of the
 // leaf, a glider, a row, all cells, and none.
-const SURROUNDED: [(u64, [u64; 4]); 8] = [
+const SURROUNDED: &[(u64, [u64; 4])] = &[
     (1, [1 << 36, 0, 0, 0]),
     (1 << 7, [0, 1 << 35, 0, 0]),
     (1 << 56, [0, 0, 1 << 28, 0]),
@@ -125,12 +140,19 @@ fn trimmed_leaf(alloc: Global, word: u64) -> Result<(u8, bool, [u64; 4]), Refusa
     Ok((trimmed.level, trimmed.num.0 == 0, leaves))
 }
 
+fn first_wrong_leaf(alloc: Global, rows: &[(u64, [u64; 4])]) -> Option<usize> {
+    for (row, (word, leaves)) in rows.iter().enumerate() {
+        if trimmed_leaf(alloc, *word) != Ok((4, *word == 0, *leaves)) {
+            return Some(row);
+        }
+    }
+    None
+}
+
 // A leaf's corner (0,0) comes to (4,4), so that its centre stays the centre.
 #[test]
 fn leaves_in_the_middle(rt: HostRuntime) {
-    for (word, leaves) in SURROUNDED {
-        assert_eq!(rt; trimmed_leaf(rt.alloc(), word), Ok((4, word == 0, leaves)));
-    }
+    assert_no_row(&rt, first_wrong_leaf(rt.alloc(), SURROUNDED));
 }
 
 // The cells of the future of a square of level 4.
@@ -156,7 +178,7 @@ fn future_twice(alloc: Global, exponent: u8, leaves: [u64; 4]) -> Result<(u64, u
 const BLINKER: [u64; 4] = [0x8000000000000000, 0x0300000000000000, 0, 0];
 
 // An exponent, a square of level 4, and the cells of its future and the tally after each time.
-const FUTURES: [(u8, [u64; 4], (u64, u64, u64)); 5] = [
+const FUTURES: &[(u8, [u64; 4], (u64, u64, u64))] = &[
     (0, BLINKER, (0x1010100000, 1, 1)),
     (1, BLINKER, (0x38000000, 1, 1)),
     (2, BLINKER, (0x38000000, 1, 1)),
@@ -164,11 +186,18 @@ const FUTURES: [(u8, [u64; 4], (u64, u64, u64)); 5] = [
     (0, [0; 4], (0, 0, 0)),
 ];
 
+fn first_wrong_future(alloc: Global, rows: &[(u8, [u64; 4], (u64, u64, u64))]) -> Option<usize> {
+    for (row, (exponent, leaves, wanted)) in rows.iter().enumerate() {
+        if future_twice(alloc, *exponent, *leaves) != Ok(*wanted) {
+            return Some(row);
+        }
+    }
+    None
+}
+
 #[test]
 fn futures_are_made_once(rt: HostRuntime) {
-    for (exponent, leaves, wanted) in FUTURES {
-        assert_eq!(rt; future_twice(rt.alloc(), exponent, leaves), Ok(wanted));
-    }
+    assert_no_row(&rt, first_wrong_future(rt.alloc(), FUTURES));
 }
 
 // The root after a step of the book.
@@ -188,12 +217,22 @@ fn level_of_stepped_glider(alloc: Global, exponent: u8) -> Result<u8, Refusal> {
     Ok(stepped(&mut book, root)?.level)
 }
 
+// An exponent, and the level of the glider's square after a step.
+const FAR: &[(u8, u8)] = &[(0, 4), (4, 4), (5, 5), (6, 6), (40, 40), (62, 62)];
+
+fn first_wrong_level(alloc: Global, rows: &[(u8, u8)]) -> Option<usize> {
+    for (row, (exponent, level)) in rows.iter().enumerate() {
+        if level_of_stepped_glider(alloc, *exponent) != Ok(*level) {
+            return Some(row);
+        }
+    }
+    None
+}
+
 // A glider goes one cell right and down in four generations.
 #[test]
 fn a_glider_goes_far(rt: HostRuntime) {
-    for (exponent, level) in [(0, 4), (4, 4), (5, 5), (6, 6), (40, 40), (62, 62)] {
-        assert_eq!(rt; level_of_stepped_glider(rt.alloc(), exponent), Ok(level));
-    }
+    assert_no_row(&rt, first_wrong_level(rt.alloc(), FAR));
 }
 
 // About a quarter of the cells of a square of 8 by 8 at (-4, -4), by a linear congruential generator.
@@ -241,7 +280,7 @@ fn step_agrees(alloc: Global, text: &str, exponent: u8, generations: u64) -> Res
 }
 
 // Rules of the three neighbourhoods, and exponents with their powers of two.
-const SOUPS: [(&str, u8, u64); 8] = [
+const SOUPS: &[(&str, u8, u64)] = &[
     ("B3/S23", 0, 1),
     ("B3/S23", 3, 8),
     ("B3/S23", 6, 64),
@@ -252,10 +291,16 @@ const SOUPS: [(&str, u8, u64); 8] = [
     ("B1357/S1357", 3, 8),
 ];
 
+fn first_wrong_soup(alloc: Global, rows: &[(&str, u8, u64)]) -> Option<usize> {
+    for (row, (text, exponent, generations)) in rows.iter().enumerate() {
+        if step_agrees(alloc, text, *exponent, *generations) != Ok(true) {
+            return Some(row);
+        }
+    }
+    None
+}
+
 #[test]
 fn steps_of_soups(rt: HostRuntime) {
-    for (text, exponent, generations) in SOUPS {
-        let agrees = step_agrees(rt.alloc(), text, exponent, generations);
-        assert_eq!(rt; (text, exponent, agrees), (text, exponent, Ok(true)));
-    }
+    assert_no_row(&rt, first_wrong_soup(rt.alloc(), SOUPS));
 }

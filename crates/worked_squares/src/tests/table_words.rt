@@ -4,6 +4,7 @@ ghost use Rattle.std.specs.Prelude.{◌≡◌};
 ghost use Rattle.table_core.specs.Events.{index_of};
 
 use crate::tests::books::rule_of;
+use crate::tests::rows::assert_no_row;
 use plane::Refusal;
 use table_core::{
     Event, Key, Kind, LARGEST_PAIR_COUNT, SHARD_LEN, Shape, pair_word, parts, result_word, step,
@@ -15,7 +16,7 @@ const PAIRS: u32 = 1024;
 const WORDS: usize = 2305;
 
 // A kind, a word, a place of its way, and the slot and the index there in the smallest table.
-const PLACES: [(Kind, u64, u32, u32, u32); 8] = [
+const PLACES: &[(Kind, u64, u32, u32, u32)] = &[
     (Kind::Leaf, 1, 0, 158, 159),
     (Kind::Leaf, 1, 97, 255, 256),
     (Kind::Leaf, 1, 98, 0, 1),
@@ -64,11 +65,18 @@ fn slot_and_index(kind: Kind, word: u64, place: u32) -> Option<(u32, u32)> {
     Some((slot, shape.index(kind, slot)))
 }
 
+fn first_wrong_place(rows: &[(Kind, u64, u32, u32, u32)]) -> Option<usize> {
+    for (row, (kind, word, place, slot, index)) in rows.iter().enumerate() {
+        if slot_and_index(*kind, *word, *place) != Some((*slot, *index)) {
+            return Some(row);
+        }
+    }
+    None
+}
+
 #[test]
 fn words_have_their_slots_and_indices(rt: HostRuntime) {
-    for (kind, word, place, slot, index) in PLACES {
-        assert_eq!(rt; slot_and_index(kind, word, place), Some((slot, index)));
-    }
+    assert_no_row(&rt, first_wrong_place(PLACES));
 }
 
 // In the smallest table the index of a pair's result, and how many words there are.
@@ -90,23 +98,33 @@ fn smallest_and_largest_table(rt: HostRuntime) {
     assert_eq!(rt; first_slots_of_largest(), Some((41_475_558, 165_902_235)));
 }
 
+// A number, and whether a table has so many pair slots.
+const PAIR_COUNTS: &[(u32, bool)] = &[
+    (0, false),
+    (512, false),
+    (1023, false),
+    (1024, true),
+    (1025, false),
+    (1536, false),
+    (2048, true),
+    (268_435_456, true),
+    (402_653_184, false),
+    (536_870_912, false),
+    (u32::MAX, false),
+];
+
+fn first_wrong_pair_count(rows: &[(u32, bool)]) -> Option<usize> {
+    for (row, (pairs, is)) in rows.iter().enumerate() {
+        if Shape::is_pair_count(*pairs) != *is {
+            return Some(row);
+        }
+    }
+    None
+}
+
 #[test]
 fn a_table_has_a_power_of_two_of_pair_slots(rt: HostRuntime) {
-    for (pairs, is) in [
-        (0, false),
-        (512, false),
-        (1023, false),
-        (1024, true),
-        (1025, false),
-        (1536, false),
-        (2048, true),
-        (268_435_456, true),
-        (402_653_184, false),
-        (536_870_912, false),
-        (u32::MAX, false),
-    ] {
-        assert_eq!(rt; (pairs, Shape::is_pair_count(pairs)), (pairs, is));
-    }
+    assert_no_row(&rt, first_wrong_pair_count(PAIR_COUNTS));
 }
 
 // The head of the smallest table for the rule and exponent 5.
@@ -157,11 +175,20 @@ fn count_written(words: &[u64; WORDS]) -> usize {
     words.iter().filter(|word| **word != 0).count()
 }
 
+fn first_wrong_step(words: &mut [u64; WORDS], rows: &[(Event, u64)]) -> Option<usize> {
+    for (row, (event, found)) in rows.iter().enumerate() {
+        if found_by(words, *event) != Some(*found) {
+            return Some(row);
+        }
+    }
+    None
+}
+
 #[test]
 fn steps_of_two_desks(rt: HostRuntime) {
     let mut words = [0; WORDS];
     // Events of two desks, one after another, and the word that each finds.
-    for (event, found) in [
+    let steps = [
         (look(0, 159), 0),
         (look(1, 159), 0),
         (claim(1, 159, 1), 0),
@@ -177,9 +204,8 @@ fn steps_of_two_desks(rt: HostRuntime) {
         (tell(0, 1857, 159), 0x1_0000_0000),
         (ask(0, 1857), 0x1_0000_0000),
         (look(0, 160), 0),
-    ] {
-        assert_eq!(rt; (event, found_by(&mut words, event)), (event, Some(found)));
-    }
+    ];
+    assert_no_row(&rt, first_wrong_step(&mut words, &steps));
     assert_eq!(rt;
         (words[159], words[833], words[1857], count_written(&words)),
         (1, 0x9F_0000_0000, 0x1_0000_0000, 3)

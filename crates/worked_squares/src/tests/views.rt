@@ -5,6 +5,7 @@ ghost use Rattle.squares.specs.Book.{IsKnown};
 
 use crate::tests::books::{book_of, square_round};
 use crate::tests::places::{Place, cells_at};
+use crate::tests::rows::assert_no_row;
 use plane::{Bounds, FailAt, Memory, Refusal, Sink, Window};
 use squares::{Look, PlainBook, Sq, Squares};
 use std::alloc::Global;
@@ -63,7 +64,9 @@ const HIGH: i64 = 4611686018427387903;
 
 // A leaf, the level of the square that has it everywhere, how many cells that has, and the sides of
 // their box. The last is the largest square, 2^63 cells on each side.
-const SIZES: [(u64, u8, u128, Option<[i64; 4]>); 9] = [
+type Size = (u64, u8, u128, Option<[i64; 4]>);
+
+const SIZES: &[Size] = &[
     (0, 3, 0, None),
     (0, 4, 0, None),
     (0, 63, 0, None),
@@ -80,11 +83,18 @@ const SIZES: [(u64, u8, u128, Option<[i64; 4]>); 9] = [
     ),
 ];
 
+fn first_wrong_size(alloc: Global, rows: &[Size]) -> Option<usize> {
+    for (row, (word, level, count, sides)) in rows.iter().enumerate() {
+        if size_of(alloc, *word, *level) != Ok((*count, *sides)) {
+            return Some(row);
+        }
+    }
+    None
+}
+
 #[test]
 fn populations_and_boxes(rt: HostRuntime) {
-    for (word, level, count, sides) in SIZES {
-        assert_eq!(rt; size_of(rt.alloc(), word, level), Ok((count, sides)));
-    }
+    assert_no_row(&rt, first_wrong_size(rt.alloc(), SIZES));
 }
 
 // The runs of a row, and the first live row from it on.
@@ -101,7 +111,9 @@ fn row_of(
 
 // A leaf, the level of the square that has it everywhere, a row, its runs, and the first live row
 // from it on.
-const ROWS: [(u64, u8, i64, &[(i64, u64)], Option<i64>); 9] = [
+type Runs = (u64, u8, i64, &'static [(i64, u64)], Option<i64>);
+
+const ROWS: &[Runs] = &[
     (0, 3, 0, &[], None),
     (0, 63, -1, &[], None),
     (1, 3, -4, &[(-4, 1)], Some(-4)),
@@ -115,12 +127,19 @@ const ROWS: [(u64, u8, i64, &[(i64, u64)], Option<i64>); 9] = [
     (FULL, 5, 15, &[(-16, 32)], Some(15)),
 ];
 
+fn first_wrong_runs(alloc: Global, rows: &[Runs]) -> Result<Option<usize>, Refusal> {
+    for (row, (word, level, y, wanted, wanted_first)) in rows.iter().enumerate() {
+        let (runs, first) = row_of(alloc, *word, *level, *y)?;
+        if runs.as_slice() != *wanted || first != *wanted_first {
+            return Ok(Some(row));
+        }
+    }
+    Ok(None)
+}
+
 #[test]
 fn rows(rt: HostRuntime) -> Result<(), Fail> {
-    for (word, level, y, runs, first) in ROWS {
-        let row = row_of(rt.alloc(), word, level, y)?;
-        assert_eq!(rt; (row.0.as_slice(), row.1), (runs, first));
-    }
+    assert_no_row(&rt, first_wrong_runs(rt.alloc(), ROWS)?);
     Ok(())
 }
 
@@ -189,7 +208,7 @@ const SPREAD: [Place; 5] = [(-8, -8), (-1, -1), (0, 0), (-2, 1), (7, 7)];
 const FAR: i64 = 1 << 62;
 
 // Some cells, a window, and its picture.
-const PICTURES: [(&[Place], Sides, &str); 11] = [
+const PICTURES: &[(&[Place], Sides, &str)] = &[
     (&BLINKER, (0, -1, 3, 3), ".*.\n.*.\n.*.\n"),
     (&BLINKER, (1, 0, 2, 3), "*.\n*.\n..\n"),
     (&[], (-1, -1, 2, 2), "..\n..\n"),
@@ -211,12 +230,21 @@ fn drawing_of(alloc: Global, places: &[Place], sides: Sides) -> Result<Memory, R
     Ok(drawn)
 }
 
+fn first_wrong_picture(
+    alloc: Global,
+    rows: &[(&[Place], Sides, &str)],
+) -> Result<Option<usize>, Refusal> {
+    for (row, (places, sides, text)) in rows.iter().enumerate() {
+        if drawing_of(alloc, places, *sides)?.bytes() != text.as_bytes() {
+            return Ok(Some(row));
+        }
+    }
+    Ok(None)
+}
+
 #[test]
 fn pictures(rt: HostRuntime) -> Result<(), Fail> {
-    for (places, sides, text) in PICTURES {
-        let drawn = drawing_of(rt.alloc(), places, sides)?;
-        assert_eq!(rt; drawn.bytes(), text.as_bytes());
-    }
+    assert_no_row(&rt, first_wrong_picture(rt.alloc(), PICTURES)?);
     Ok(())
 }
 

@@ -1,5 +1,6 @@
 //! The nodes of macrocell texts.
 
+use super::assert_none;
 use super::macrocell_texts::refused;
 use macrocell_reader::{McFile, Node, NodeLine, NodeLines};
 use plane::Refusal;
@@ -53,7 +54,7 @@ fn is_leaf(alloc: Global, line: &str, word: u64) -> bool {
     }
 }
 
-const LEAVES: [(&str, u64); 10] = [
+const LEAVES: &[(&str, u64)] = &[
     ("*$", 0x1),
     (".*$..*$***$", 0x70402),
     ("$*$", 0x100),
@@ -81,7 +82,7 @@ fn read_otherwise<'a>(alloc: Global, rows: &[(&'a str, u64)]) -> Option<&'a str>
 
 #[test]
 fn reads_leaves(rt: HostRuntime) {
-    assert_eq!(rt; read_otherwise(rt.alloc(), &LEAVES), None);
+    assert_none(&rt, read_otherwise(rt.alloc(), LEAVES));
 }
 
 const INNER: Node = Node::Inner {
@@ -140,7 +141,7 @@ fn chain(alloc: Global, last: &str) -> Result<String, AllocError> {
 }
 
 /// The last lines of chains, and what comes out: the refusal and how many node lines there are.
-const CHAINS: [(&str, Option<(Refusal, u64)>, u64); 6] = [
+const CHAINS: &[(&str, Option<(Refusal, u64)>, u64)] = &[
     ("63 0 0 0 60\n", None, 61),
     ("63 60 0 0 0\n", None, 61),
     ("63 60 0 0 59\n", Some((Refusal::BadChild, 701)), 0),
@@ -180,8 +181,32 @@ fn chain_otherwise<'a>(
 
 #[test]
 fn reads_a_chain_to_the_largest_level(rt: HostRuntime) {
-    assert_eq!(rt; chain_otherwise(rt.alloc(), &CHAINS), None);
+    assert_none(&rt, chain_otherwise(rt.alloc(), CHAINS));
 }
+
+/// Adds so many lines of nodes of a level, each of the next four nodes from the first on, and answers the
+/// node that comes next.
+fn push_nodes(
+    alloc: Global,
+    text: &mut String,
+    level: u8,
+    count: u32,
+    first: u64,
+) -> Result<u64, AllocError> {
+    let mut first = first;
+    for _ in 0..count {
+        let next = first.saturating_add(1);
+        let third = first.saturating_add(2);
+        let last = first.saturating_add(3);
+        let line = format!(in alloc; "{level} {first} {next} {third} {last}\n")?;
+        text.push_str(line.as_str())?;
+        first = first.saturating_add(4);
+    }
+    Ok(first)
+}
+
+/// How many nodes there are of each level above 4096 leaves.
+const PYRAMID: &[(u8, u32)] = &[(4, 1024), (5, 256), (6, 64), (7, 16), (8, 4), (9, 1)];
 
 /// 4096 different leaves, and above them nodes that each take the next four, up to one root.
 fn pyramid(alloc: Global) -> Result<String, AllocError> {
@@ -190,15 +215,8 @@ fn pyramid(alloc: Global) -> Result<String, AllocError> {
         push_leaf(&mut text, word)?;
     }
     let mut first = 1u64;
-    for (level, count) in [(4, 1024), (5, 256), (6, 64), (7, 16), (8, 4), (9, 1)] {
-        for _ in 0..count {
-            let next = first.saturating_add(1);
-            let third = first.saturating_add(2);
-            let last = first.saturating_add(3);
-            let line = format!(in alloc; "{level} {first} {next} {third} {last}\n")?;
-            text.push_str(line.as_str())?;
-            first = first.saturating_add(4);
-        }
+    for (level, count) in PYRAMID {
+        first = push_nodes(alloc, &mut text, *level, *count, first)?;
     }
     Ok(text)
 }

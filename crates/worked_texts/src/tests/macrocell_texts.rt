@@ -1,6 +1,6 @@
 //! Macrocell texts, and what they are read as.
 
-use super::{are_only, bytes_of};
+use super::{are_only, assert_none, bytes_of};
 use macrocell_reader::McFile;
 use plane::Refusal;
 use std::alloc::Global;
@@ -13,7 +13,7 @@ pub(super) fn refused(alloc: Global, text: &str) -> Option<(Refusal, u64)> {
     }
 }
 
-const REFUSED: [(&str, Refusal, u64); 42] = [
+const REFUSED: &[(&str, Refusal, u64)] = &[
     ("", Refusal::NotAPattern, 0),
     ("[M2", Refusal::NotAPattern, 0),
     ("\n[M2]\n", Refusal::NotAPattern, 0),
@@ -78,10 +78,10 @@ fn refused_otherwise<'a>(
 
 #[test]
 fn refuses_lines(rt: HostRuntime) {
-    assert_eq!(rt; refused_otherwise(rt.alloc(), &REFUSED), None);
+    assert_none(&rt, refused_otherwise(rt.alloc(), REFUSED));
 }
 
-const ACCEPTED: [&str; 9] = [
+const ACCEPTED: &[&str] = &[
     "[M2]",
     "[M2] (golly 2.0)\r\n",
     "[M2]x = 1, y = 1\n",
@@ -93,11 +93,19 @@ const ACCEPTED: [&str; 9] = [
     "[M2]\n#R nothing of a rule\n#G 9223372036854775808\n#x\n#",
 ];
 
+/// The first text that is refused, and how.
+fn first_refused<'a>(alloc: Global, texts: &[&'a str]) -> Option<(&'a str, (Refusal, u64))> {
+    for text in texts {
+        if let Some(refusal) = refused(alloc, text) {
+            return Some((*text, refusal));
+        }
+    }
+    None
+}
+
 #[test]
 fn accepts(rt: HostRuntime) {
-    for text in ACCEPTED {
-        assert_eq!(rt; (text, refused(rt.alloc(), text)), (text, None));
-    }
+    assert_none(&rt, first_refused(rt.alloc(), ACCEPTED));
 }
 
 /// What the lines of settings say: the generation, whether the rule's text is this one, and its place.
@@ -114,7 +122,7 @@ fn settings_of(file: &McFile<'_>, rule: Option<&str>) -> (u64, bool, u64) {
 }
 
 /// Texts, each with its generation, its rule and the rule's place.
-const SETTINGS: [(&str, u64, Option<&str>, u64); 7] = [
+const SETTINGS: &[(&str, u64, Option<&str>, u64)] = &[
     ("[M2]\n*$\n", 0, None, 0),
     ("[M2] (golly 2.0)\n#R B3/S23\n", 0, Some("B3/S23"), 17),
     ("[M2]\n#R\t B3/S23 \t\r\n#G 007 \r\n", 7, Some("B3/S23"), 5),
@@ -124,12 +132,19 @@ const SETTINGS: [(&str, u64, Option<&str>, u64); 7] = [
     ("[M2]#R a\n#Rb\n", 0, Some("b"), 9),
 ];
 
+/// The first text whose settings are read otherwise.
+fn set_otherwise<'a>(alloc: Global, rows: &[(&'a str, u64, Option<&str>, u64)]) -> Option<&'a str> {
+    for (text, generation, rule, place) in rows {
+        if settings(alloc, text, *rule) != Some((*generation, true, *place)) {
+            return Some(*text);
+        }
+    }
+    None
+}
+
 #[test]
 fn reads_settings(rt: HostRuntime) {
-    for (text, generation, rule, place) in SETTINGS {
-        let wanted = Some((generation, true, place));
-        assert_eq!(rt; (text, settings(rt.alloc(), text, rule)), (text, wanted));
-    }
+    assert_none(&rt, set_otherwise(rt.alloc(), SETTINGS));
 }
 
 /// Whether this comment, or none, is all that is kept of a text.
@@ -141,7 +156,7 @@ fn keeps(alloc: Global, text: &str, comment: &str) -> bool {
 }
 
 /// Texts, and the comment that is kept, empty where none is.
-const COMMENTS: [(&str, &str); 8] = [
+const COMMENTS: &[(&str, &str)] = &[
     ("[M2]\n#C one\n", "#C one"),
     ("[M2]\n#C one\r\n", "#C one"),
     ("[M2]\n#C one\r\r\n", "#C one\r"),
@@ -164,7 +179,7 @@ fn kept_otherwise<'a>(alloc: Global, rows: &[(&'a str, &str)]) -> Option<&'a str
 
 #[test]
 fn keeps_comments(rt: HostRuntime) {
-    assert_eq!(rt; kept_otherwise(rt.alloc(), &COMMENTS), None);
+    assert_none(&rt, kept_otherwise(rt.alloc(), COMMENTS));
 }
 
 /// What a text is refused with, the second time if memory ran out the first time, and how often it ran
@@ -195,7 +210,7 @@ fn first_and_misses<'a>(
 }
 
 /// Texts whose reading takes memory, and what they are refused with.
-const GROWING: [(&str, Option<(Refusal, u64)>); 4] = [
+const GROWING: &[(&str, Option<(Refusal, u64)>)] = &[
     ("[M2]\n*$\n4 0 0 0 1\n5 0 0 0 2\n", None),
     ("[M2]\n*$\n3\n", Some((Refusal::BadNodeLine, 8))),
     (
@@ -210,7 +225,7 @@ const GROWING: [(&str, Option<(Refusal, u64)>); 4] = [
 /// with memory the next time.
 #[test]
 fn says_when_memory_runs_out(rt: HostRuntime) {
-    let (first, misses) = first_and_misses(rt.alloc(), &GROWING);
-    assert_eq!(rt; first, None);
+    let (first, misses) = first_and_misses(rt.alloc(), GROWING);
+    assert_none(&rt, first);
     assert!(rt; misses <= 1);
 }

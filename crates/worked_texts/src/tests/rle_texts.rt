@@ -1,6 +1,6 @@
 //! RLE texts, and what they are read as.
 
-use super::{are_only, bytes_of};
+use super::{are_only, assert_none, bytes_of};
 use plane::{Cell, Refusal};
 use rle_reader::RleFile;
 use std::alloc::Global;
@@ -13,7 +13,7 @@ fn refused(text: &[u8]) -> Option<(Refusal, u64)> {
     }
 }
 
-const REFUSED: [(&str, Refusal, u64); 33] = [
+const REFUSED: &[(&str, Refusal, u64)] = &[
     ("", Refusal::NotAPattern, 0),
     ("\n \t\r\n#C only\n", Refusal::NotAPattern, 13),
     ("[M2] (golly 2.0)\n", Refusal::NotAPattern, 0),
@@ -69,7 +69,7 @@ const REFUSED: [(&str, Refusal, u64); 33] = [
     ),
 ];
 
-const REFUSED_BODIES: [(&str, Refusal, u64); 21] = [
+const REFUSED_BODIES: &[(&str, Refusal, u64)] = &[
     ("0o!", Refusal::BadCount, 13),
     ("3!", Refusal::BadCount, 13),
     ("o \n3\r", Refusal::BadCount, 16),
@@ -118,18 +118,16 @@ fn refused_otherwise<'a>(
 
 #[test]
 fn refuses_texts(rt: HostRuntime) {
-    assert_eq!(rt; refused_otherwise(rt.alloc(), "", &REFUSED), None);
+    assert_none(&rt, refused_otherwise(rt.alloc(), "", REFUSED));
 }
 
 #[test]
 fn refuses_bodies(rt: HostRuntime) {
-    assert_eq!(rt;
-        refused_otherwise(rt.alloc(), "x = 1, y = 1\n", &REFUSED_BODIES),
-        None
-    );
+    let head = "x = 1, y = 1\n";
+    assert_none(&rt, refused_otherwise(rt.alloc(), head, REFUSED_BODIES));
 }
 
-const ACCEPTED: [&str; 11] = [
+const ACCEPTED: &[&str] = &[
     "x = 0, y = 0, rule = B3/S23\n!\n",
     "x = 3, y = 3, rule = B3/S23\nb2o$2o$bo!",
     "#CXRLE Pos=4611686018427387903,0\nx = 1, y = 1\no!",
@@ -143,11 +141,19 @@ const ACCEPTED: [&str; 11] = [
     "x = 1, y = 1\n00268435456A$0000000000000000000000001.!",
 ];
 
+/// The first text that is refused, and how.
+fn first_refused<'a>(texts: &[&'a str]) -> Option<(&'a str, (Refusal, u64))> {
+    for text in texts {
+        if let Some(refusal) = refused(text.as_bytes()) {
+            return Some((*text, refusal));
+        }
+    }
+    None
+}
+
 #[test]
 fn accepts(rt: HostRuntime) {
-    for text in ACCEPTED {
-        assert_eq!(rt; (text, refused(text.as_bytes())), (text, None));
-    }
+    assert_none(&rt, first_refused(ACCEPTED));
 }
 
 #[test]
@@ -181,7 +187,9 @@ fn settings_of(file: &RleFile<'_>, rule: Option<&str>) -> (Cell, u64, bool, u64)
 const LIFE: Option<&str> = Some("B3/S23");
 
 /// Texts, each with x and y of the first cell, its generation, its rule and the header's place.
-const SETTINGS: [(&str, i64, i64, u64, Option<&str>, u64); 9] = [
+type Settings = (&'static str, i64, i64, u64, Option<&'static str>, u64);
+
+const SETTINGS: &[Settings] = &[
     ("x = 1, y = 1\n!", 0, 0, 0, None, 0),
     ("x=1,y=1,rule=B3/S23\n!", 0, 0, 0, LIFE, 0),
     (
@@ -221,12 +229,20 @@ const SETTINGS: [(&str, i64, i64, u64, Option<&str>, u64); 9] = [
     ),
 ];
 
+/// The first text whose lines before the body are read otherwise.
+fn set_otherwise(rows: &[Settings]) -> Option<&'static str> {
+    for (text, x, y, generation, rule, place) in rows {
+        let first = Cell { x: *x, y: *y };
+        if settings(text, *rule) != Some((first, *generation, true, *place)) {
+            return Some(*text);
+        }
+    }
+    None
+}
+
 #[test]
 fn reads_the_lines_before_the_body(rt: HostRuntime) {
-    for (text, x, y, generation, rule, place) in SETTINGS {
-        let wanted = Some((Cell { x, y }, generation, true, place));
-        assert_eq!(rt; (text, settings(text, rule)), (text, wanted));
-    }
+    assert_none(&rt, set_otherwise(SETTINGS));
 }
 
 /// Whether this comment, or none, is all that is kept of a text.
@@ -246,7 +262,7 @@ fn keeps_before(alloc: Global, lines: &str, comment: &str) -> bool {
 }
 
 /// Lines before a header, and the comment that is kept, empty where none is.
-const COMMENTS: [(&str, &str); 10] = [
+const COMMENTS: &[(&str, &str)] = &[
     ("#C one\n", "#C one"),
     ("#C one\r\n", "#C one"),
     ("#C one\r\r\n", "#C one\r"),
@@ -271,5 +287,5 @@ fn kept_otherwise<'a>(alloc: Global, rows: &[(&'a str, &str)]) -> Option<&'a str
 
 #[test]
 fn keeps_comments(rt: HostRuntime) {
-    assert_eq!(rt; kept_otherwise(rt.alloc(), &COMMENTS), None);
+    assert_none(&rt, kept_otherwise(rt.alloc(), COMMENTS));
 }

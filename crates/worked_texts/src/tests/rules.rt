@@ -1,9 +1,10 @@
 //! Texts of rules, and what they are read as.
 
+use super::assert_none;
 use rule_text::{Rule, RuleFault};
 
 /// What a text of a rule is read as: its canonical text and its code.
-const RULES: [(&str, &str, u32); 11] = [
+const RULES: &[(&str, &str, u32)] = &[
     ("B3/S23", "B3/S23", 6152),
     ("b3s23", "B3/S23", 6152),
     ("23/3", "B3/S23", 6152),
@@ -18,7 +19,7 @@ const RULES: [(&str, &str, u32); 11] = [
 ];
 
 /// The faults of texts that are no rules.
-const FAULTS: [(&str, RuleFault); 13] = [
+const FAULTS: &[(&str, RuleFault)] = &[
     ("", RuleFault::BadRule),
     ("B3", RuleFault::BadRule),
     ("B3/23", RuleFault::BadRule),
@@ -55,7 +56,7 @@ fn read_otherwise<'a>(rows: &[(&'a str, &str, u32)]) -> Option<(&'a str, Option<
 
 #[test]
 fn reads_and_writes_rules(rt: HostRuntime) {
-    assert_eq!(rt; read_otherwise(&RULES), None);
+    assert_none(&rt, read_otherwise(RULES));
 }
 
 /// The fault of a text, if it has one.
@@ -76,7 +77,7 @@ fn faulty_otherwise<'a>(rows: &[(&'a str, RuleFault)]) -> Option<(&'a str, Optio
 
 #[test]
 fn names_faults(rt: HostRuntime) {
-    assert_eq!(rt; faulty_otherwise(&FAULTS), None);
+    assert_none(&rt, faulty_otherwise(FAULTS));
 }
 
 #[test]
