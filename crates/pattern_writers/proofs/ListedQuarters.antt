@@ -12,7 +12,7 @@ use Rattle.squares.specs.Book.{Book, IsBook, IsKnown, Shows, AreQuarters, nth}
 use Rattle.squares.specs.declared.sq.Sq.{Sq}
 use Rattle.viewport.specs.Population.{is_same_key, value_of}
 use Rattle.pattern_writers.specs.LeafText.{leaf_text}
-use Rattle.pattern_writers.specs.ListedNodes.{AreListed, HasNumber, Lists, listed_with, square_of}
+use Rattle.pattern_writers.specs.ListedNodes.{AreListed, HasNumber, Lists, ListsFour, listed_with, square_of}
 use Rattle.pattern_writers.specs.McText.{inner_text, square_text}
 use Rattle.pattern_writers.specs.NodeLines.{node_text}
 use Rattle.pattern_writers.specs.Subsquares.{Square, if_alive, is_dead, is_listed, is_same_square, nw_of, ne_of, sw_of, se_of, number_in, squares_in, with_new}
@@ -192,11 +192,11 @@ module _ (book : Book) (laws : IsBook book) where
       record { lists = λ listed are. (made listed are).0; numbers = λ listed are. (made listed are).1 }
 
   -- a larger square that is new, after its quarters
-  pub inner_lists : (l0 l1 l2 l3 l4 new : NodeList) (sq nw ne sw se : Sq) (a b c d number : ℕ) → IsKnown book sq.level sq → (sq.num.0 ≡ 0 → ⊥) → 3 < sq.level → value_of l0.numbers sq ≡ None →
+  inner_lists_each : (l0 l1 l2 l3 l4 new : NodeList) (sq nw ne sw se : Sq) (a b c d number : ℕ) → IsKnown book sq.level sq → (sq.num.0 ≡ 0 → ⊥) → 3 < sq.level → value_of l0.numbers sq ≡ None →
       HasParts book sq.level (book.cells sq) nw ne sw se → Lists book nw l0 l1 a → Lists book ne l1 l2 b → Lists book sw l2 l3 c → Lists book se l3 l4 d →
       number ≡ length l4.nodes.items + 1 → new.nodes.items ≡ l4.nodes.items ++ Inner sq.level (a ∷ b ∷ c ∷ d ∷ []) ∷ [] →
       Updates is_same_key l4.numbers new.numbers (sq.level, sq.num.0) (Some number) → Lists book sq l0 new number
-  inner_lists l0 l1 l2 l3 l4 new sq nw ne sw se a b c d number known some above none parts is_a is_b is_c is_d next grown up =
+  inner_lists_each l0 l1 l2 l3 l4 new sq nw ne sw se a b c d number known some above none parts is_a is_b is_c is_d next grown up =
       let made = λ (listed : List Square) (are : AreListed book listed l0).
       let are_1 = is_a.lists listed are in
       let are_2 = is_b.lists _ are_1 in
@@ -207,3 +207,12 @@ module _ (book : Book) (laws : IsBook book) where
       (text_behind_parts book listed (square_of book sq) nw ne sw se a b c d above parts (is_a.numbers listed are) (is_b.numbers _ are_1) (is_c.numbers _ are_2) (is_d.numbers _ are_3))
       (added_by_parts book listed sq.level (book.cells sq) nw ne sw se above parts ∙ ap (with_new _) (alive_itself (square_of book sq) (alive_known book laws sq known some)) ∙ with_one-new _ (square_of book sq) fresh) in
       record { lists = λ listed are. (made listed are).0; numbers = λ listed are. (made listed are).1 }
+
+  pub inner_lists : (old behind new : NodeList) (sq : Sq) (parts : List Sq) (quarters : List ℕ) (number : ℕ) → IsKnown book sq.level sq → (sq.num.0 ≡ 0 → ⊥) → 3 < sq.level → value_of old.numbers sq ≡ None →
+      AreQuarters book sq.level (book.cells sq) parts → ListsFour book parts old behind quarters →
+      number ≡ length behind.nodes.items + 1 → new.nodes.items ≡ behind.nodes.items ++ Inner sq.level quarters ∷ [] →
+      Updates is_same_key behind.numbers new.numbers (sq.level, sq.num.0) (Some number) → Lists book sq old new number
+  inner_lists old behind new sq parts quarters number known some above none are four next grown up =
+      inner_lists_each old four.with_nw four.with_ne four.with_sw behind new sq (nth parts 0) (nth parts 1) (nth parts 2) (nth parts 3)
+      four.number_nw four.number_ne four.number_sw four.number_se number known some above none (has_parts book sq.level (book.cells sq) parts are)
+      four.nw four.ne four.sw four.se next (grown ∙ ap (λ q. behind.nodes.items ++ Inner sq.level q ∷ []) four.are) up

@@ -16,7 +16,7 @@ use Rattle.squares.specs.Book.{Book, IsBook, nth}
 use Rattle.squares.specs.declared.sq.Sq.{Sq}
 use Rattle.viewport.specs.Population.{value_of}
 use Rattle.viewport.proofs.Counts.{by_cases}
-use Rattle.pattern_writers.specs.ListedNodes.{AreListed, AreNodes, HasNumber, Lists, are_zero, listed_with, root_node, square_of}
+use Rattle.pattern_writers.specs.ListedNodes.{AreListed, AreNodes, HasNumber, Lists, ListsFour, are_zero, listed_with, root_node, square_of}
 use Rattle.pattern_writers.specs.McText.{from_corner, node_lines, square_text}
 use Rattle.pattern_writers.specs.NodeLines.{node_line, node_text}
 use Rattle.pattern_writers.specs.Roots.{IsRoot}
@@ -103,8 +103,8 @@ dead_adds listed square dead = ap (λ t. with_new listed (cond t [] (square ∷ 
 module _ (book : Book) (laws : IsBook book) (plane : Plane) (root : Root) (is : IsRoot book plane root) (l0 l1 l2 l3 l4 : NodeList) (a b c d : ℕ)
     (none : l0.nodes.items ≡ []) (unknown : (sq : Sq) → value_of l0.numbers sq ≡ None)
     (is_a : Lists book (nth root.quarters 0) l0 l1 a) (is_b : Lists book (nth root.quarters 1) l1 l2 b) (is_c : Lists book (nth root.quarters 2) l2 l3 c) (is_d : Lists book (nth root.quarters 3) l3 l4 d) where
-  pub nodes_of_root : (nodes : List Node) → nodes ≡ l4.nodes.items ++ root_node root.level (a ∷ b ∷ c ∷ d ∷ []) → AreNodes plane nodes
-  nodes_of_root nodes grown =
+  nodes_of_each : (nodes : List Node) → nodes ≡ l4.nodes.items ++ root_node root.level (a ∷ b ∷ c ∷ d ∷ []) → AreNodes plane nodes
+  nodes_of_each nodes grown =
       let level : ℕ = root.level in
       let whole : Square = record { level = level; plane = from_corner level plane } in
       let nw = nth root.quarters 0 in let ne = nth root.quarters 1 in let sw = nth root.quarters 2 in let se = nth root.quarters 3 in
@@ -145,3 +145,9 @@ module _ (book : Book) (laws : IsBook book) (plane : Plane) (root : Root) (is : 
       let all_texts = texts_after listed l4.nodes.items nodes whole (Inner level (a ∷ b ∷ c ∷ d ∷ [])) are_4.texts more (text_behind_parts book [] whole nw ne sw se a b c d (omega arith) parts has_a has_b has_c has_d) [] in
       lines_from (listed ++ whole ∷ []) nodes (ap (λ l. map (square_text l) (listed ++ whole ∷ [])) (sym (append-nil (listed ++ whole ∷ []))) ∙ all_texts) ∙ ap node_lines (sym one)) in
       record { level = level; smallest = is.smallest; lines = lines }
+
+pub nodes_of_root : (book : Book) (laws : IsBook book) (plane : Plane) (root : Root) (old new : NodeList) (quarters : List ℕ) (nodes : List Node) → IsRoot book plane root → old.nodes.items ≡ [] →
+    ((sq : Sq) → value_of old.numbers sq ≡ None) → ListsFour book root.quarters old new quarters → nodes ≡ new.nodes.items ++ root_node root.level quarters → AreNodes plane nodes
+nodes_of_root book laws plane root old new quarters nodes is none unknown four grown =
+    nodes_of_each book laws plane root is old four.with_nw four.with_ne four.with_sw new four.number_nw four.number_ne four.number_sw four.number_se none unknown
+    four.nw four.ne four.sw four.se nodes (grown ∙ ap (λ q. new.nodes.items ++ root_node root.level q) four.are)

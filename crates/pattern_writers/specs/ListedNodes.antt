@@ -4,7 +4,7 @@ use Rattle.std.specs.Cmp.Lexicographic.{pointwise}
 use Rattle.std.specs.List.{flat_map}
 use Rattle.plane.specs.Centred.{IsSmallestLevel}
 use Rattle.plane.specs.Plane.{Plane}
-use Rattle.squares.specs.Book.{Book}
+use Rattle.squares.specs.Book.{Book, nth}
 use Rattle.squares.specs.declared.sq.Sq.{Sq}
 use Rattle.viewport.specs.Population.{value_of}
 use Rattle.pattern_writers.specs.McText.{from_corner, node_lines, square_text}
@@ -41,6 +41,21 @@ pub record AreListed (book : Book) (listed : List Square) (list : NodeList) : Ty
 pub record Lists (book : Book) (sq : Sq) (old new : NodeList) (number : ℕ) : Type 0 where
   pub lists : (listed : List Square) → AreListed book listed old → AreListed book (listed_with book listed sq) new
   pub numbers : (listed : List Square) → AreListed book listed old → HasNumber (listed_with book listed sq) (square_of book sq) number
+
+-- the new list has the squares of these four, too, which have these numbers
+pub record ListsFour (book : Book) (squares : List Sq) (old new : NodeList) (numbers : List ℕ) : Type 0 where
+  pub number_nw : ℕ
+  pub number_ne : ℕ
+  pub number_sw : ℕ
+  pub number_se : ℕ
+  pub are : numbers ≡ number_nw ∷ number_ne ∷ number_sw ∷ number_se ∷ []
+  pub with_nw : NodeList
+  pub with_ne : NodeList
+  pub with_sw : NodeList
+  pub nw : Lists book (nth squares 0) old with_nw number_nw
+  pub ne : Lists book (nth squares 1) with_nw with_ne number_ne
+  pub sw : Lists book (nth squares 2) with_ne with_sw number_sw
+  pub se : Lists book (nth squares 3) with_sw new number_se
 
 -- the nodes of the plane's squares
 pub record AreNodes (plane : Plane) (nodes : List Node) : Type 0 where

@@ -1,29 +1,27 @@
 //! The beginning of a text: some lines, and those of the comments.
 
-ghost use Rattle.std.specs.Prelude.{◌≡◌, ◌++◌, IfOk, OnOk, IfErr};
+ghost use Rattle.std.specs.Prelude.{◌≡◌, ◌++◌, OnOk, IfErr};
 ghost use Rattle.std.specs.Io.KnownBytes.{Appends, append_known};
 ghost use Rattle.plane.specs.Device.{IsWriteRefusal};
 ghost use Rattle.pattern_writers.specs.RleText.{comment_lines};
 
 use crate::output_block::{OutputBlock, put};
-use arrayvec::ArrayVec;
 use plane::{Refusal, Sink};
 use rle_reader::Comments;
 
-/// Writes some lines and those of the comments, and gives the block of what waits.
+/// Writes some lines and those of the comments.
 pub(crate) fn begin<V: Sink>(
     file: &mut V,
+    block: &mut OutputBlock,
     opening: &str,
     comments: Comments<'_>,
-) -> Result<OutputBlock, Refusal>
-    ensures written { IfOk result (λ block. Appends (V.taken file.old) (append_known (V.taken file.new) block.items) (opening.now ++ comment_lines comments.entry)) }
+) -> Result<(), Refusal>
+    ensures written { OnOk result (Appends (append_known (V.taken file.old) block.old.items) (append_known (V.taken file.new) block.new.items) (opening.now ++ comment_lines comments.entry)) }
     ensures unfailed { OnOk result (V.failure_count file.new ≡ V.failure_count file.old) }
     ensures refused { IfErr result (IsWriteRefusal (V.failure_count file.old) (V.failure_count file.new)) }
 {
-    let mut block: OutputBlock = ArrayVec::new();
-    put(file, &mut block, opening.as_bytes())?;
-    write_comments(file, &mut block, comments)?;
-    Ok(block)
+    put(file, block, opening.as_bytes())?;
+    write_comments(file, block, comments)
 }
 
 // Writes each comment as a line.

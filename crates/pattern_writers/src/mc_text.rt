@@ -13,6 +13,7 @@ mod opening;
 mod root;
 
 use crate::comments::begin;
+use arrayvec::ArrayVec;
 use listing::listed_nodes;
 use node::write_nodes;
 use opening::opening_lines;
@@ -44,7 +45,8 @@ pub fn write_mc<L: Look, V: Sink>(
 {
     let nodes = listed_nodes(look, alloc, sq)?;
     let opening = opening_lines(rule.text().as_str(), generation);
-    let mut block = begin(file, opening.as_str(), comments)?;
+    let mut block = ArrayVec::new();
+    begin(file, &mut block, opening.as_str(), comments)?;
     write_nodes(file, &mut block, nodes.as_slice())?;
     write_all(file, block.as_slice())
 }

@@ -16,6 +16,7 @@ mod row_run;
 
 use crate::comments::begin;
 use crate::output_block::put;
+use arrayvec::ArrayVec;
 use frame::Frame;
 use framing::framed_items;
 use items::Item;
@@ -66,7 +67,8 @@ fn write_items<V: Sink>(
     ensures refused { IfErr result (IsWriteRefusal (V.failure_count file.old) (V.failure_count file.new)) }
 {
     let position = position_line(frame.corner, generation);
-    let mut block = begin(file, position.as_str(), comments)?;
+    let mut block = ArrayVec::new();
+    begin(file, &mut block, position.as_str(), comments)?;
     let header = header_line(frame.width, frame.height, rule.text().as_str());
     put(file, &mut block, header.as_str().as_bytes())?;
     write_body(file, &mut block, items)?;

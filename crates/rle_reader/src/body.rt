@@ -6,7 +6,7 @@ ghost use Rattle.rle_reader.specs.Body.{is_skipped, struck_from};
 use text_lines::{is_blank, line_length};
 
 /// A byte and its place.
-#[derive(Clone, Copy, Debug)]
+#[derive(Clone, Copy)]
 pub(crate) struct Placed {
     pub(crate) place: usize,
     pub(crate) byte: u8,

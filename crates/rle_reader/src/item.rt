@@ -37,7 +37,7 @@ pub struct Run<'a> {
 }
 
 /// The digits at the front of a body.
-#[derive(Clone, Copy, Debug)]
+#[derive(Clone, Copy)]
 struct Count {
     /// Their value, or the largest `u64` if it is larger; 1 where there is no digit.
     value: u64,

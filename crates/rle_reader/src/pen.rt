@@ -10,7 +10,7 @@ use crate::item::{Run, Tag};
 use plane::{COORDINATE_LIMIT, Cell, LIVE_CELL_LIMIT, Refusal};
 
 /// The column and the row of the next item, and the number of live cells before it.
-#[derive(Clone, Copy, Debug)]
+#[derive(Clone, Copy)]
 pub(crate) struct Pen {
     left: i64,
     column: i64,

@@ -26,7 +26,7 @@ pub(crate) struct Settings {
 }
 
 /// What one word says.
-#[derive(Clone, Copy, Debug)]
+#[derive(Clone, Copy)]
 pub(crate) enum Word {
     Pos(Cell),
     Gen(u64),

@@ -1,9 +1,10 @@
 ghost use Rattle.std.specs.Prelude.{◌≡◌, ◌+◌, ◌≤◌, [], ◌∷◌, ◌++◌, length, IfOk, OnOk, IsOkUnless, Some};
 ghost use Rattle.std.specs.HashMap.{Updates};
 ghost use Rattle.plane.specs.Centred.{centred};
-ghost use Rattle.squares.specs.Book.{IsKnown};
+ghost use Rattle.squares.specs.Book.{IsKnown, nth};
 ghost use Rattle.viewport.specs.Population.{is_same_key};
-ghost use Rattle.pattern_writers.specs.ListedNodes.{AreNodes, Lists, root_node};
+ghost use Rattle.pattern_writers.specs.ListedNodes.{AreNodes, Lists, ListsFour, root_node};
+ghost use Rattle.pattern_writers.specs.Roots.{AreKnown};
 
 use super::node::Node;
 use super::root::Root;
@@ -51,12 +52,8 @@ pub(crate) fn listed_nodes<L: Look>(look: &L, alloc: Global, sq: Sq) -> Result<V
         numbers: HashMap::new(alloc),
     };
     let root = Root::of(look, sq);
-    let [nw, ne, sw, se] = root.quarters;
-    let nw = number(look, nw, &mut list)?;
-    let ne = number(look, ne, &mut list)?;
-    let sw = number(look, sw, &mut list)?;
-    let se = number(look, se, &mut list)?;
-    with_root(list.nodes, root.level, [nw, ne, sw, se])
+    let quarters = numbers(look, root.quarters, &mut list)?;
+    with_root(list.nodes, root.level, quarters)
 }
 
 // The nodes with that of the root, unless it is empty.
@@ -74,6 +71,7 @@ fn with_root(mut nodes: Vec<Node>, level: u8, quarters: [u64; 4]) -> Result<Vec<
 }
 
 // The number of a square among the nodes. It adds the nodes of its squares that are not among them.
+#[cycle(number)]
 fn number<L: Look>(look: &L, sq: Sq, list: &mut NodeList) -> Result<u64, Refusal>
     requires known { IsKnown (L.book look.now) sq.level sq }
     ensures ok { IfOk result (Lists (L.book look.now) sq list.old list.new) }
@@ -88,16 +86,28 @@ fn number<L: Look>(look: &L, sq: Sq, list: &mut NodeList) -> Result<u64, Refusal
     if sq.level == 3 {
         return list.add(sq, Node::Leaf(look.bits(sq)));
     }
-    let [nw, ne, sw, se] = look.parts(sq);
-    let nw = number(look, nw, list)?;
-    let ne = number(look, ne, list)?;
-    let sw = number(look, sw, list)?;
-    let se = number(look, se, list)?;
+    let quarters = numbers(look, look.parts(sq), list)?;
     list.add(
         sq,
         Node::Inner {
             level: sq.level,
-            quarters: [nw, ne, sw, se],
+            quarters,
         },
     )
+}
+
+// The numbers of four squares of one level.
+#[cycle(number)]
+fn numbers<L: Look>(look: &L, squares: [Sq; 4], list: &mut NodeList) -> Result<[u64; 4], Refusal>
+    requires known { AreKnown (L.book look.now) (nth squares 0).level squares }
+    ensures ok { IfOk result (ListsFour (L.book look.now) squares list.old list.new) }
+    ensures memory { IsOkUnless result Refusal.NoMemory }
+{
+    let [nw, ne, sw, se] = squares;
+    Ok([
+        number(look, nw, list)?,
+        number(look, ne, list)?,
+        number(look, sw, list)?,
+        number(look, se, list)?,
+    ])
 }

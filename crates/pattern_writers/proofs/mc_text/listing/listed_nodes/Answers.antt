@@ -13,9 +13,6 @@ returns-clause-ok g c =
     let plane = centred c.args.sq.level (book.cells c.args.sq) in
     IfOk-weaker c.with_root.result _ _
     (λ nodes grown.
-    nodes_of_root book (g.met.L.Look.is_book c.args.look.now) plane c.of-root.result c.of-root.ensures (record { nodes = c.new.result; numbers = c.new-2.result })
-    c.number.new.list c.number-2.new.list c.number-3.new.list c.number-4.new.list c.in_ok-nw.nw c.in_ok-ne.ne c.in_ok-sw.sw c.in_ok-se.se
-    c.new.ensures.items
-    (λ (sq : Sq). ap (λ entries. lookup (is_same_key (sq.level, sq.num.0)) entries) c.new-2.ensures.empty)
-    c.in_ok-nw.ensures.ok c.in_ok-ne.ensures.ok c.in_ok-sw.ensures.ok c.in_ok-se.ensures.ok nodes.items grown)
+    nodes_of_root book (g.met.L.Look.is_book c.args.look.now) plane c.of-root.result (record { nodes = c.new.result; numbers = c.new-2.result }) c.numbers.new.list c.in_ok-quarters.quarters nodes.items
+    c.of-root.ensures c.new.ensures.items (λ (sq : Sq). ap (λ entries. lookup (is_same_key (sq.level, sq.num.0)) entries) c.new-2.ensures.empty) c.in_ok-quarters.ensures.ok grown)
     c.with_root.ensures.ok
