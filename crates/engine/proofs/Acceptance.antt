@@ -12,7 +12,7 @@ use Rattle.plane.specs.declared.fault.Fault.{Fault}
 use Rattle.plane.specs.declared.refusal.Refusal.{Refusal}
 use Rattle.plane.specs.declared.refusal.Refusal.TheVariants.{NoMemory, TooFar}
 use Rattle.viewport.specs.BoundingBox.{HasBounds}
-use Rattle.engine.specs.Accepted.{HasRoomFor, IsAccepted, LeavesRange}
+use Rattle.engine.specs.Accepted.{HasRoomFor, IsAccepted, IsRefused, LeavesRange}
 use Rattle.engine.specs.Judgement.{Judges, ReadsRule, placeless, rule_refusal}
 use Rattle.engine.specs.Meaning.{Meaning, is_macrocell, judged}
 use Rattle.engine.specs.Run.{IsBegun}
@@ -36,18 +36,21 @@ module _ (meaning : Meaning) (generations : ℕ) (here : Plane) (box : Option Bo
 
 -- the text is refused, or memory ran out while it was read
 pub text_refused : (bytes : List ℕ) (options : Options) (fault : Fault) → (judged bytes ≡ Err fault) ⊎ ((is_macrocell bytes ≡ true) × (fault ≡ placeless NoMemory)) →
-    Judges bytes options (Err fault) ⊎ ((fault ≡ placeless NoMemory) × IsBegun bytes options [])
+    IsRefused bytes options fault
+unfolding IsRefused
 text_refused bytes options fault (inl refused) = inl (inl refused)
 text_refused bytes options fault (inr (macrocell, memory)) = inr (memory, inl (macrocell, refl))
 
 module _ (bytes : List ℕ) (options : Options) (meaning : Meaning) (text : judged bytes ≡ Ok meaning) where
   pub rule_refused : (fault : Fault) → ((rule_fault : RuleFault) × ReadsRule options.rule meaning (Err rule_fault) × (fault ≡ record { refusal = rule_refusal rule_fault; place = Some meaning.rule_place })) →
-      Judges bytes options (Err fault) ⊎ ((fault ≡ placeless NoMemory) × IsBegun bytes options [])
+      IsRefused bytes options fault
+  unfolding IsRefused
   rule_refused fault (rule_fault, read, is) = inl (inr (inl (record { meaning = meaning; rule_fault = rule_fault; text = text; rule = read; is = is })))
 
   module _ (rule : CountRule) (read : ReadsRule options.rule meaning (Ok rule)) where
     pub range_refused : (refusal : Refusal) → (refusal ≡ NoMemory) ⊎ ((refusal ≡ TooFar) × LeavesRange meaning options.gens) →
-        Judges bytes options (Err (placeless refusal)) ⊎ ((placeless refusal ≡ placeless NoMemory) × IsBegun bytes options [])
+        IsRefused bytes options (placeless refusal)
+    unfolding IsRefused
     range_refused refusal (inl memory) = inr (ap placeless memory, begun_none bytes options meaning rule text read)
     range_refused refusal (inr (far, leaves)) = inl (inr (inr (record {
       start = record { meaning = meaning; rule = rule; cells = leaves.cells };
@@ -67,8 +70,9 @@ module _ (bytes : List ℕ) (options : Options) (meaning : Meaning) (text : judg
 
 -- a run that is refused before its first line has written nothing
 pub refused_at_once : (bytes : List ℕ) (options : Options) (fault : Fault) (taken : Option (List ℕ)) (ReportSame FileSame TooLarge Failed : Type 0) → ReportSame → FileSame →
-    Judges bytes options (Err fault) ⊎ ((fault ≡ placeless NoMemory) × IsBegun bytes options []) →
+    IsRefused bytes options fault →
     (Judges bytes options (Err fault) × ReportSame × FileSame) ⊎ TooLarge
     ⊎ ((fault ≡ placeless NoMemory) × FileSame × ((said : List ℕ) × IsBegun bytes options said × Appends taken taken said)) ⊎ Failed
+unfolding IsRefused
 refused_at_once bytes options fault taken ReportSame FileSame TooLarge Failed report file (inl refused) = inl (refused, report, file)
 refused_at_once bytes options fault taken ReportSame FileSame TooLarge Failed report file (inr (memory, begun)) = inr (inr (inl (memory, file, ([], begun, Appends-nil _))))

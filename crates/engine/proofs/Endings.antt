@@ -181,9 +181,8 @@ module _ (bytes : List ℕ) (options : Options) (meaning : Meaning) (rule : Coun
     shows_all = subst (λ (n : ℕ). Shows rule here n (shown options) reported.0) is_from reported.1
 
     -- memory ran out before the picture
-    pub refused_viewing : (Unaccepted TooLarge FileSame Failed : Type 0) → FileSame →
-        Unaccepted ⊎ TooLarge ⊎ ((placeless NoMemory ≡ placeless NoMemory) × FileSame × ((said : List ℕ) × IsBegun bytes options said × Appends old new said)) ⊎ Failed
-    refused_viewing Unaccepted TooLarge FileSame Failed unchanged = inr (inr (inl (refl, unchanged, (reported.0, begun_all reported.0 shows_all, reported.2))))
+    pub begun_lines : (said : List ℕ) × IsBegun bytes options said × Appends old new said
+    begun_lines = (reported.0, begun_all reported.0 shows_all, reported.2)
 
     module _ (drawn : Option (List ℕ)) (draws : Appends new drawn (picture_of options.window last)) where
       said_all : Appends old drawn (reported.0 ++ picture_of options.window last)

@@ -1,5 +1,5 @@
 -- What stands between the parts of a run.
-use Rattle.std.specs.Prelude.{◌≡◌, ℕ, List, Ok}
+use Rattle.std.specs.Prelude.{◌≡◌, ◌⊎◌, ℕ, List, [], Ok, Err}
 use Rattle.rule_text.specs.CountRule.{CountRule, IsRule}
 use Rattle.plane.specs.Bounds.{bounds_of}
 use Rattle.plane.specs.Listing.{IsListing}
@@ -9,8 +9,11 @@ use Rattle.plane.specs.Square.{IsSame}
 use Rattle.plane.specs.declared.cell.Cell.{Cell}
 use Rattle.viewport.specs.BoundingBox.{HasBounds}
 use Rattle.viewport.specs.Population.{HasPopulation}
-use Rattle.engine.specs.Judgement.{Judges}
+use Rattle.plane.specs.declared.fault.Fault.{Fault}
+use Rattle.plane.specs.declared.refusal.Refusal.TheVariants.{NoMemory}
+use Rattle.engine.specs.Judgement.{Judges, placeless}
 use Rattle.engine.specs.Meaning.{Meaning}
+use Rattle.engine.specs.Run.{IsBegun}
 use Rattle.engine.specs.declared.options.Options.{Options}
 use Rattle.engine.specs.declared.running.Summary.{Summary}
 
@@ -34,6 +37,10 @@ pub record IsAccepted (bytes : List ℕ) (options : Options) (meaning : Meaning)
   pub same : IsSame here meaning.live
   pub lawful : IsRule rule
   pub accepted : Judges bytes options (Ok (record { meaning = meaning; rule = rule; cells = cells }))
+
+-- the run is refused before its first line: by its judgement, or since memory ran out
+unfoldable pub IsRefused : List ℕ → Options → Fault → Type 0
+IsRefused bytes options fault = Judges bytes options (Err fault) ⊎ ((fault ≡ placeless NoMemory) × IsBegun bytes options [])
 
 -- the answer of a run whose last generation has this number and these cells
 pub record SumsUp (generation : ℕ) (plane : Plane) (answer : Summary) : Type 0 where

@@ -1,13 +1,12 @@
 //! A run up to its judgement.
 
-ghost use Rattle.std.specs.Prelude.{◌≡◌, ◌⊎◌, [], Some, Ok, Err, IfOk, IfErr};
+ghost use Rattle.std.specs.Prelude.{◌≡◌, ◌⊎◌, Some, Ok, Err, IfOk, IfErr};
 ghost use Rattle.rule_text.specs.CountRule.{IsRule};
 ghost use Rattle.rule_text.specs.declared.fault.RuleFault.{RuleFault};
-ghost use Rattle.engine.specs.Accepted.{HasRoomFor, IsAccepted, LeavesRange};
-ghost use Rattle.engine.specs.Judgement.{Judges, ReadsRule, placeless, rule_refusal};
+ghost use Rattle.engine.specs.Accepted.{HasRoomFor, IsAccepted, IsRefused, LeavesRange};
+ghost use Rattle.engine.specs.Judgement.{ReadsRule, rule_refusal};
 ghost use Rattle.engine.specs.Pattern.{plane_of};
 ghost use Rattle.engine.specs.PatternFile.{meaning_of};
-ghost use Rattle.engine.specs.Run.{IsBegun};
 
 use crate::options::Options;
 use crate::pattern::Pattern;
@@ -35,8 +34,7 @@ pub(crate) fn judge<'a>(
     options: &Options,
 ) -> Result<Accepted<'a>, Fault>
     ensures accepted { IfOk result (λ run. IsAccepted bytes.now options.now (meaning_of run.text) run.rule (plane_of run.pattern)) }
-    ensures refused { IfErr result (λ fault. Judges bytes.now options.now (Err fault)
-        ⊎ ((fault ≡ placeless Refusal.NoMemory) × IsBegun bytes.now options.now [])) }
+    ensures refused { IfErr result (IsRefused bytes.now options.now) }
 {
     let text = PatternFile::open(alloc, bytes)?;
     let rule = rule_of(&text, options.rule)?;

@@ -1,11 +1,12 @@
-use Rattle.std.proofs.Common.{◌≡◌, ◌+◌, ◌≤◌, Err, rules, refl, sym, subst}
+use Rattle.std.proofs.Common.{◌≡◌, ◌+◌, ◌≤◌, Err, rules, refl, sym, ◌∙◌, ap, subst, inl, inr}
 use Rattle.plane.specs.declared.range.TheConstants.{GENERATION_LIMIT}
 use Rattle.plane.specs.declared.refusal.Refusal.TheVariants.{NoMemory}
+use Rattle.plane.specs.Device.{HasFailed}
 use Rattle.engine.specs.Judgement.{placeless}
 use Rattle.engine.specs.Pattern.{plane_of}
 use Rattle.engine.specs.PatternFile.{meaning_of}
 use Rattle.engine.proofs.Acceptance.{refused_at_once}
-use Rattle.engine.proofs.Endings.{ends_well, refused_reporting, refused_viewing, refused_writing}
+use Rattle.engine.proofs.Endings.{begun_lines, ends_well, refused_reporting, refused_writing}
 use Rattle.engine.proofs.Held.{held, short_run}
 use Rattle.engine.proofs.running.run.Goals as goal
 
@@ -37,8 +38,18 @@ returns-in_err-last-clause-refused g c =
 pub returns-in_err-summary-clause-refused : goal.returns-in_err-summary-clause-refused
 returns-in_err-summary-clause-refused g c =
     let is : c.from_residual-in_err-summary.result ≡ Err (placeless NoMemory) = search rules in
-    rw is (refused_viewing c.args.bytes.now c.args.options.now (meaning_of c.in_ok-begun.begun.text) c.in_ok-begun.begun.rule (plane_of c.in_ok-begun.begun.pattern) c.in_ok-begun.ensures.accepted
-    c.generation-start.result (plane_of c.in_ok-last.last) _ _ c.generation-start.ensures c.in_ok-last.ensures.cells c.in_ok-last.ensures.reported _ _ _ _ refl)
+    rw is (inr (inr (inl (
+      refl,
+      refl,
+      begun_lines c.args.bytes.now c.args.options.now (meaning_of c.in_ok-begun.begun.text) c.in_ok-begun.begun.rule (plane_of c.in_ok-begun.begun.pattern) c.in_ok-begun.ensures.accepted
+          c.generation-start.result (plane_of c.in_ok-last.last) _ _ c.generation-start.ensures c.in_ok-last.ensures.cells c.in_ok-last.ensures.reported,
+    ))))
+
+pub returns-in_err-draw-clause-refused : goal.returns-in_err-draw-clause-refused
+returns-in_err-draw-clause-refused g c =
+    let is : c.from_residual-in_err-draw.result ≡ Err (placeless c.in_err-draw.field-0.0) = search rules in
+    let refused = c.in_err-draw.ensures.refused in
+    rw is (inr (inr (inr (ap placeless refused.0, inl (subst (λ n. HasFailed n (g.W.Sink.failure_count c.draw.new.report)) c.in_ok-last.ensures.unfailed refused.1)))))
 
 pub returns-in_err-write-clause-refused : goal.returns-in_err-write-clause-refused
 returns-in_err-write-clause-refused g c =
@@ -52,3 +63,12 @@ returns-clause-finished g c =
     ends_well c.args.bytes.now c.args.options.now (meaning_of c.in_ok-begun.begun.text) c.in_ok-begun.begun.rule (plane_of c.in_ok-begun.begun.pattern) c.in_ok-begun.ensures.accepted
     c.generation-start.result (plane_of c.in_ok-last.last) _ _ c.generation-start.ensures c.in_ok-last.ensures.cells c.in_ok-last.ensures.reported _ c.in_ok-draw.ensures.drawn
     c.comments.result c.in_ok-summary.summary _ _ c.comments.ensures c.in_ok-summary.ensures.ok c.in_ok-write.ensures.written
+
+pub returns-in_err-write-clause-no_format : goal.returns-in_err-write-clause-no_format
+returns-in_err-write-clause-no_format g c = c.in_err-write.ensures.no_format
+
+pub returns-clause-no_format : goal.returns-clause-no_format
+returns-clause-no_format g c = c.in_ok-write.ensures.no_format
+
+pub returns-clause-unfailed : goal.returns-clause-unfailed
+returns-clause-unfailed g c = (c.in_ok-write.ensures.unfailed, c.in_ok-draw.ensures.unfailed ∙ c.in_ok-last.ensures.unfailed)
