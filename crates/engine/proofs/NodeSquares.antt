@@ -88,9 +88,6 @@ all_kept : (old new : Book) (squares : List Sq) → Keeps old new → AreKnown o
 all_kept old new [] keeps known = tt
 all_kept old new (sq ∷ squares) keeps known = (known_kept keeps known.0, all_kept old new squares keeps known.1)
 
-pub none_shown : (book : Book) → ShowNodes book [] []
-none_shown book = record { known = tt; levels = refl; planes = refl }
-
 pub one_more_shown : (old new : Book) (nodes : List Node) (squares : List Sq) (node : Node) (sq : Sq) → Keeps old new → ShowNodes old nodes squares →
     Shows new (level_of node) (node_plane (shown_planes old squares) node) sq → ShowNodes new (nodes ++ node ∷ []) (squares ++ sq ∷ [])
 one_more_shown old new nodes squares node sq keeps shown is = record {
@@ -145,16 +142,9 @@ pub record HaveRead (book : Book) (all rest : List Node) (squares : List Sq) : T
   pub shown : ShowNodes book done squares
   pub order : StandInOrder (map level_of done) rest
 
-pub none_read : (book : Book) (all : List Node) → StandInOrder [] all → HaveRead book all all []
-none_read book all order = record { done = []; whole = refl; shown = none_shown book; order = order }
-
 pub all_read : (book : Book) (all rest : List Node) (squares : List Sq) → rest ≡ [] → HaveRead book all rest squares → ShowNodes book all squares
 all_read book all rest squares none read =
     subst (λ (nodes : List Node). ShowNodes book nodes squares) (sym (read.whole ∙ ap (λ (l : List Node). read.done ++ l) none ∙ append-nil read.done)) read.shown
-
--- the next node is without fault after the squares so far
-pub next_lawful : (book : Book) (all rest : List Node) (node : Node) (squares : List Sq) → HaveRead book all (node ∷ rest) squares → fault_among (levels_of squares) (Some node) ≡ None
-next_lawful book all rest node squares read = subst (λ (levels : List ℕ). fault_among levels (Some node) ≡ None) (sym read.shown.levels) read.order.0
 
 pub next_read : (old new : Book) (all rest : List Node) (node : Node) (squares : List Sq) (sq : Sq) → Keeps old new → HaveRead old all (node ∷ rest) squares →
     Shows new (level_of node) (node_plane (shown_planes old squares) node) sq → HaveRead new all rest (squares ++ sq ∷ [])

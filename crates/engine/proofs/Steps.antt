@@ -1,5 +1,5 @@
 -- Multiples of a step, and what is shown at them and between them.
-use Rattle.std.proofs.Common.{◌≡◌, ℕ, ◌+◌, ◌-◌, ◌*◌, ◌/◌, ◌%◌, ◌<◌, ◌==◌, ◌^◌, false, not, ◌∙◌, ap, arith, add-mul, one-mul, div-le_self, mod-lt}
+use Rattle.std.proofs.Common.{◌≡◌, ℕ, ◌+◌, ◌-◌, ◌*◌, ◌/◌, ◌%◌, ◌<◌, ◌==◌, ◌^◌, false, not, ◌∙◌, ap, arith, add-mul, one-mul, div-le_self}
 use Rattle.std.proofs.lemmas.Bool.Decides.{nat_tests}
 use Rattle.std.proofs.lemmas.Nat.{div-add-mod', mod-mul-add}
 use Rattle.engine.specs.Report.{is_shown}
@@ -29,14 +29,6 @@ none_between options done n later before below =
     let above : done / options.step * options.step < n = omega (arith, whole, later) in
     let none = no_multiple options.step (done / options.step) n above below in
     grind (arith, nat_tests)
-
--- the next multiple is later
-pub next_later : (done step : ℕ) → 0 < step → done < (done / step + 1) * step
-next_later done step some =
-    let whole = div-add-mod' done step in
-    let next = mul_next (done / step) step in
-    let rest : done % step < step = mod-lt done some in
-    omega (arith, whole, next, rest)
 
 -- a multiple is shown, unless nothing is
 pub multiple_shown : (options : Options) (q : ℕ) → 0 < options.step → is_shown options (q * options.step) ≡ not options.quiet

@@ -3,7 +3,7 @@ use Rattle.std.proofs.Common.{◌≡◌, ℕ, zero, suc, ◌+◌, ◌-◌, ◌^�
 use Rattle.squares.specs.Accounts.{Accounts}
 use Rattle.squares.specs.Book.{Book, KeepsResults, Learns, AddsResult, HasResult}
 use Rattle.squares.specs.declared.sq.Sq.{Sq}
-use Rattle.squares.proofs.Results.{accounts_added, accounts_kept, accounts_learned, accounts_trans, not_new, raised}
+use Rattle.squares.proofs.Results.{accounts_added, accounts_kept, accounts_learned, accounts_trans, not_new}
 use Rattle.hashlife_step.specs.Tallies.{counted, Tallies}
 
 counted_sum : (n a b : ℕ) → counted (counted n a) b ≡ counted n (a + b)
@@ -42,9 +42,6 @@ tallies_trans old now new low top k m n le first second = record {
   told = let e = first.told in let f = second.told in omega arith;
   count = second.count ∙ ap (λ c. counted c second.made) first.count ∙ counted_sum k first.made second.made;
 }
-
-pub tallies_raised : (old new : Book) (low top k n : ℕ) → low ≤ top → Tallies old new low k n → Tallies old new top k n
-tallies_raised old new low top k n le is = record { made = is.made; accounts = raised old new low top 0 is.made le is.accounts; told = is.told; count = is.count }
 
 -- one more result, of a square that had none
 pub tallies_added : (old new : Book) (sq : Sq) (n : ℕ) → ¬ HasResult old sq → AddsResult old new sq → Tallies old new sq.level n (min (2 ^ 64 - 1) (n + 1))

@@ -34,9 +34,6 @@ rising_push xs y rising below k less =
     let old = rising k in let low = below k 0 in
     grind arith
 
-pub planned_none : (number : ℕ) → IsPlanned number 0 []
-planned_none number = record { short = omega arith; rising = λ k less. absurd (omega arith); below = λ k d less. absurd (omega arith); sum = omega arith }
-
 pub planned_more : (number place : ℕ) (exponents : List ℕ) → bit_and (number / 2 ^ place) 1 ≡ 1 → IsPlanned number place exponents → IsPlanned number (place + 1) (exponents ++ place ∷ [])
 planned_more number place exponents one is = record {
   short = omega (arith, length_push exponents place, is.short);

@@ -3,9 +3,9 @@ use Rattle.std.proofs.Common.{◌≡◌, ◌≢◌, ℕ, ◌+◌, ◌-◌, ◌<�
 use Rattle.plane.specs.Plane.{Plane}
 use borrow.Author.Count.{below_more}
 use Rattle.std.proofs.lemmas.List.{get_or-set_same, get_or-set_other, length-set}
-use Rattle.plane.specs.Square.{centre_of, future}
+use Rattle.plane.specs.Square.{future}
 use Rattle.plane.proofs.Same.{plane_equal, same_sym}
-use Rattle.hashlife_step.specs.Futures.{AreCentres, AreFutures}
+use Rattle.hashlife_step.specs.Futures.{AreFutures}
 use Rattle.squares.specs.Book.{Book, IsFuture, IsKnown, Shows, Keeps, nth, numbered}
 use Rattle.squares.specs.declared.sq.Sq.{Sq}
 use Rattle.squares.proofs.Kept.{keeps_trans, keeps_none, known_kept, shows_kept}
@@ -54,14 +54,6 @@ pub next_made : (make : Plane → Plane) (old now new : Book) (level i : ℕ) (b
 next_made make old now new level i before squares next is inside known shown =
     let one : Shows new (level - 1) (make (now.cells (nth before i))) next = subst (λ sq. Shows new (level - 1) (make (now.cells sq)) next) (is.others i (omega arith)) shown in
     subst (λ plane. Shows new (level - 1) (make plane) next) (plane_equal _ _ (is.keeps.cells (nth before i) (known i (numbered 0 0) inside).known)) one
-
--- all of them
-pub all_centres : (old new : Book) (level : ℕ) (before now : List Sq) → IsReplaced (centre_of level) old new level (length before) before now → All (IsKnown old level) before →
-    AreCentres new level before now
-all_centres old new level before now is known = record {
-  each = λ k less. subst (λ plane. Shows new (level - 1) (centre_of level plane) (nth now k))
-      (plane_equal _ _ (same_sym (is.keeps.cells (nth before k) (known k (numbered 0 0) less).known))) (is.made k less less);
-}
 
 pub all_futures : (old new : Book) (level : ℕ) (before now : List Sq) → IsReplaced (future old.rule old.exponent level) old new level (length before) before now → All (IsKnown old level) before →
     AreFutures new level before now

@@ -1,13 +1,13 @@
 -- Squares with the same cells round (0,0), from one book to the next.
-use Rattle.std.proofs.Common.{◌≡◌, ℕ, ◌+◌, ◌-◌, ◌^◌, ◌<◌, ◌≤◌, max, arith, refl}
+use Rattle.std.proofs.Common.{◌≡◌, ℕ, ◌+◌, ◌-◌, ◌^◌, ◌<◌, ◌≤◌, max, arith}
 use Rattle.plane.specs.Centred.{centred, Holds}
 use Rattle.plane.specs.Plane.{Plane, after}
 use Rattle.plane.specs.Square.{IsSame}
 use Rattle.plane.proofs.Paddings.{padded_after, square_held}
-use Rattle.plane.proofs.Same.{same_trans, same_refl}
+use Rattle.plane.proofs.Same.{same_trans}
 use Rattle.squares.specs.Book.{Book, IsBook, IsKnown, Keeps, KeepsResults}
 use Rattle.squares.specs.declared.sq.Sq.{Sq}
-use Rattle.squares.proofs.Kept.{keeps_trans, keeps_none, results_trans}
+use Rattle.squares.proofs.Kept.{keeps_trans, results_trans}
 use Rattle.hashlife_step.specs.Round.{ShowsRound}
 
 -- a square of some level that has the cells, in a book that has only grown
@@ -20,16 +20,6 @@ pub record IsReached (old new : Book) (plane : Plane) (low high : ℕ) (sq : Sq)
 
 pub round_as : {book : Book} {plane other : Plane} {sq : Sq} → ShowsRound book plane sq → IsSame plane other → ShowsRound book other sq
 round_as is same = record { known = is.known; cells = same_trans is.cells same }
-
-pub reached_first : (book : Book) (low high : ℕ) (sq : Sq) → IsKnown book sq.level sq → low ≤ sq.level → sq.level ≤ high →
-    IsReached book book (centred sq.level (book.cells sq)) low high sq
-reached_first book low high sq known above below = record {
-  keeps = keeps_none book;
-  results = record { results = refl; learned = refl };
-  shown = record { known = known; cells = same_refl _ };
-  above = above;
-  below = below;
-}
 
 -- one step on
 pub reached_next : (old now new : Book) (plane : Plane) (low high : ℕ) (sq next : Sq) → IsReached old now plane low high sq → Keeps now new → KeepsResults now new →

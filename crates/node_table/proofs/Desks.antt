@@ -1,12 +1,12 @@
 -- What desks of one table know, from one call to the next.
-use Rattle.std.proofs.Common.{◌≡◌, ◌≢◌, ℕ, zero, suc, ◌+◌, ◌-◌, ◌*◌, ◌/◌, ◌%◌, ◌^◌, ◌<◌, ◌≤◌, ◌⊎◌, Bool, true, false, cond, eqb, List, [], ◌∷◌, length, sym, ◌∙◌, ap, subst, arith, refl, inl, inr, ⊎_elim}
+use Rattle.std.proofs.Common.{◌≡◌, ◌≢◌, ℕ, zero, suc, ◌-◌, ◌^◌, ◌<◌, sym, subst, arith, ⊎_elim}
 use Rattle.std.specs.Prelude.{IsTrue}
 use Rattle.std.proofs.Math.Logic.{∥∥₁_elim}
 use Rattle.std.proofs.Props.{props}
 use Rattle.plane.specs.Plane.{Plane}
 use Rattle.plane.specs.Square.{IsSame, bits_plane}
 use Rattle.squares.specs.declared.sq.Sq.{Sq}
-use Rattle.squares.specs.Book.{Keeps, KeepsResults}
+use Rattle.squares.specs.Book.{Keeps}
 use Rattle.table_core.specs.declared.key.Key.{Key}
 use Rattle.table_core.specs.declared.knowledge.Knowledge.{Knowledge}
 use Rattle.table_core.specs.declared.shape.Kind.{Kind}
@@ -23,9 +23,9 @@ use Rattle.table_core.proofs.Knowing.{knows_grown}
 use Rattle.table_core.proofs.Ways.{slot_below, size_fits}
 use Rattle.node_table.specs.declared.desk.Desk.{Desk}
 use Rattle.node_table.specs.declared.table.NodeTable.{NodeTable}
-use Rattle.node_table.specs.Books.{book_of, knows_in, cells_in, IsCoherent}
+use Rattle.node_table.specs.Books.{knows_in, cells_in, IsCoherent}
 use Rattle.node_table.specs.Desks.{IsDeskOf, store_of, book_at}
-use Rattle.node_table.specs.Numbers.{KeepsTold, KnowsFullWay}
+use Rattle.node_table.specs.Numbers.{KnowsFullWay}
 use Rattle.node_table.proofs.Books.{alike, grows_keeps}
 use Rattle.node_table.proofs.Entries.{block_of}
 
@@ -35,9 +35,6 @@ coherent_at table desk d = (desk.sound table.key d.same_key).coherent
 -- a desk that learns keeps its book
 pub keeps_at : (table : NodeTable) (old new : Desk) → IsDeskOf table new → Grows old.seat.me.0.known new.seat.me.0.known → Keeps (book_at table old) (book_at table new)
 keeps_at table old new d grows = grows_keeps (store_of table) table.key old.seat.me.0.known new.seat.me.0.known (coherent_at table new d) grows
-
-pub told_results : (store : List ℕ) (key : Key) (old new : Knowledge) → KeepsTold old new → KeepsResults (book_of store key old) (book_of store key new)
-told_results store key old new t = record { results = ap (λ (k : List _). Rattle.std.proofs.Common.map Rattle.node_table.specs.Books.square_of k) t.results; learned = t.learned }
 
 slot_prop : (bits : ℕ) (kind : Kind) (n : ℕ) → IsProp (IsSlot bits kind n)
 slot_prop bits kind n = hlevel props

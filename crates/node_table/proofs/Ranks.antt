@@ -14,9 +14,6 @@ pub record Descends (bits : ℕ) (words : Words) (from now steps : ℕ) : Type 0
   pub go : (rank : ℕ) → rank ≤ largest_rank → from ≢ 0 → IsBlock bits words rank from →
       (steps ≤ rank) × (now ≢ 0) × IsBlock bits words (rank - steps) now
 
-pub descends_start : (bits : ℕ) (words : Words) (from : ℕ) → Descends bits words from from 0
-descends_start bits words from = record { go = λ rank low some block. (omega arith, some, (let e : rank ≡ rank - 0 = omega arith in subst (λ r. IsBlock bits words r from) e block)) }
-
 block_in : (bits : ℕ) (words : Words) (rank n : ℕ) → n ≢ 0 → IsBlock bits words rank n → n < size bits
 block_in bits words zero zero some b = absurd (some refl)
 block_in bits words zero (suc i) some b = slot_below bits Leaf (suc i) b.0
@@ -78,10 +75,6 @@ leaf_reached bits words from now steps d end rank low some block =
     let before = g.0 in
     ⊎_elim (λ short. let none : rank - steps ≡ 0 = low_block bits words (rank - steps) now g.1 short g.2 in omega arith)
     (λ far. let near = block_in bits words (rank - steps) now g.1 g.2 in absurd (omega arith)) end
-
-pub never_so_far : (bits : ℕ) (words : Words) (from now steps : ℕ) → Descends bits words from now steps → 125 ≤ steps →
-    (rank : ℕ) → rank ≤ largest_rank → from ≢ 0 → IsBlock bits words rank from → steps ≡ rank
-never_so_far bits words from now steps d many rank low some block = let g = d.go rank low some block in let before = g.0 in absurd (omega arith)
 
 pub taken_second : (word first second : ℕ) → first ≡ first_part word → second ≡ second_part word → first ≡ 0 → second ≡ part_taken word
 taken_second word first second e f z = f ∙ sym (taken_zero word (sym e ∙ z))

@@ -200,9 +200,6 @@ in_span n low = grind (arith, ints)
 below_span : (n : ℕ) → spans 8 (pos n) ≡ true → n < 8
 below_span n is = grind (arith, ints)
 
-no_span : (n : ℕ) → spans 8 (negsuc n) ≡ false
-no_span n = refl
-
 cell_same : (plane : Plane) → (x y : ℤ) → (spans 8 x && spans 8 y) ≡ true → (bit_at (leaf_bits (rows_written plane)) (8 * unsigned_abs y + unsigned_abs x) == 1) ≡ plane x y
 cell_same plane (pos x) (pos y) inside = read_bit plane x y (below_span x (and_left _ _ inside)) (below_span y (and_right _ _ inside))
 cell_same plane (pos x) (negsuc y) inside = absurd (false≢true (and_right (spans 8 (pos x)) false inside))

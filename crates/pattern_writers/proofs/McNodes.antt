@@ -10,16 +10,13 @@ use Rattle.plane.specs.Plane.{Plane}
 use Rattle.plane.specs.Square.{IsSquare, empty}
 use Rattle.plane.proofs.Same.{plane_equal}
 use Rattle.viewport.proofs.Counts.{by_cases}
-use Rattle.macrocell_reader.specs.Leaf.{leaf_bits}
 use Rattle.macrocell_reader.specs.NodeFaults.{StandInOrder, fault_among, is_child}
 use Rattle.macrocell_reader.specs.Nodes.{level_of, node_of}
 use Rattle.macrocell_reader.specs.Planes.{node_plane, plane_at, planes_after, planes_of}
 use Rattle.macrocell_reader.specs.declared.node.Node.{Node}
-use Rattle.macrocell_reader.specs.declared.node.Node.TheVariants.{Leaf, Inner}
 use Rattle.pattern_writers.specs.McText.{square_text}
 use Rattle.pattern_writers.specs.Subsquares.{Square, is_dead, is_listed, is_same_square, number_in, nw_of, ne_of, sw_of, se_of}
 use Rattle.pattern_writers.proofs.ListedSquares.{number_listed, number_of_empty}
-use Rattle.pattern_writers.proofs.McLeaves.{rows_written}
 use Rattle.pattern_writers.proofs.Repeats.{still_listed}
 use Rattle.pattern_writers.proofs.Subsquares.{dead_empty, same_square}
 
@@ -150,13 +147,6 @@ pub record HasQuarters (listed : List Square) (square : Square) : Type 0 where
   pub ne : IsThere listed (ne_of (square.level - 1) square.plane)
   pub sw : IsThere listed (sw_of (square.level - 1) square.plane)
   pub se : IsThere listed (se_of (square.level - 1) square.plane)
-
--- the node that the line of a square among these writes
-abbrev pub node_in : List Square → Square → Node
-node_in listed square =
-    cond (square.level == 3) (Leaf (leaf_bits (rows_written square.plane)))
-    (Inner square.level (number_in listed (nw_of (square.level - 1) square.plane) ∷ number_in listed (ne_of (square.level - 1) square.plane)
-    ∷ number_in listed (sw_of (square.level - 1) square.plane) ∷ number_in listed (se_of (square.level - 1) square.plane) ∷ []))
 
 -- these squares are read back from their lines
 pub record AreRead (listed : List Square) : Type 0 where

@@ -114,9 +114,6 @@ or_swap false b true = refl
 or_swap false true false = refl
 or_swap false false false = refl
 
-or_drop : (b c : Bool) → ((false || b) || c) ≡ (b || c)
-or_drop b c = refl
-
 -- a live item is a run of the range
 run_in_range : (column row : ℤ) (live count : ℕ) → IsWithinReach column → IsWithinReach row → leaves_range (state_at column row live) Live count ≡ false → 0 < count → IsRun (record { y = row; x = column }, count)
 run_in_range column row live count across down stays some =

@@ -1,6 +1,6 @@
 -- Maps of copies, and what a copy shows.
 use Rattle.std.proofs.Common.{◌≡◌, ℕ, ◌+◌, ◌-◌, ◌^◌, ◌<◌, List, [], ◌∷◌, sym, ◌∙◌, ap, subst, arith, refl}
-use Rattle.std.specs.Prelude.{IsTrue, Some, None, Result, Ok, Err, OnOk, OnErr}
+use Rattle.std.specs.Prelude.{IsTrue, Some, Result, Ok, Err, OnOk, OnErr}
 use Rattle.std.specs.BTreeMap.{BTreeMap, get, is_at, Updates, IsUnchanged}
 use Rattle.std.specs.List.{AllByRecursion}
 use Rattle.std.specs.Map.{lookup}
@@ -30,11 +30,6 @@ exact_sq a b h =
 
 pub copies_kept : {from old new : Book} {copies : BTreeMap Sq Num} → Keeps old new → AreCopies from old copies → AreCopies from new copies
 copies_kept keeps h = record { same = λ sq num at. shows_kept keeps (h.same sq num at) }
-
-pub copies_none : (from to : Book) (copies : BTreeMap Sq Num) → copies.entries ≡ [] → AreCopies from to copies
-copies_none from to copies e = record {
-  same = λ sq num at. let none : None ≡ Some num = sym (ap (λ es. lookup (is_at (sq_order sq)) es) e) ∙ at in let no : ⊥ = cc in absurd no;
-}
 
 pub copies_same : (from to : Book) (old new : BTreeMap Sq Num) → new.entries ≡ old.entries → AreCopies from to old → AreCopies from to new
 copies_same from to old new e h = record { same = λ sq num at. h.same sq num (sym (ap (λ es. lookup (is_at (sq_order sq)) es) e) ∙ at) }

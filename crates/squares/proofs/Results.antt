@@ -53,7 +53,3 @@ not_new a b sq top k n above h none s = ⊎_elim (λ e. none (inl e)) (λ c. ⊎
 
 pub raised : (a b : Book) (low top k n : ℕ) → low ≤ top → Accounts a b low k n → Accounts a b top k n
 raised a b low top k n le h = record { count = h.count; below = λ q s. ⊎_elim (λ t. inl t) (λ t. inr (omega arith)) (h.below q s) }
-
--- a result that is known stays known
-pub result_kept : (a b : Book) (sq : Sq) → Keeps a b → HasResult a sq → HasResult b sq
-result_kept a b sq keeps h = ⊎_elim (λ t. inl t) (λ t. inr (keeps.results sq t)) h

@@ -91,12 +91,6 @@ span_bit row first last end x y h f l hx hy = ⊎_elim
     (cases_lt (8 * y + x) (8 * row + first + (last - first))))
     (cases_lt (8 * y + x) (8 * row + first))
 
-pub no_bit_row : (row first end x y : ℕ) → 8 ≤ row → y < 8 → false ≡ ((y == row) && (nat_le first x && nat_lt x end))
-no_bit_row row first end x y h hy = sym (in_false_row row first end x y (omega arith))
-
-pub no_bit_end : (row first end x y : ℕ) → min end 8 ≤ first → x < 8 → false ≡ ((y == row) && (nat_le first x && nat_lt x end))
-no_bit_end row first end x y h hx = ⊎_elim (λ l. sym (in_false_left row first end x y l)) (λ r. sym (in_false_right row first end x y (omega arith))) (cases_lt x first)
-
 -- the word that the shifts make
 pub ones_shifted : (k s : ℕ) → k ≤ 8 → s + k ≤ 64 → (((1 * 2 ^ k) % 2 ^ 64 - 1) * 2 ^ s) % 2 ^ 64 ≡ (2 ^ k - 1) * 2 ^ s
 ones_shifted k s h f =

@@ -1,7 +1,7 @@
 -- The square of some spans, made of the squares of its quarters.
-use Rattle.std.proofs.Common.{◌≡◌, ℕ, ◌+◌, ◌-◌, ◌*◌, ◌^◌, ◌<◌, ◌≤◌, ℤ, pos, ◌+ℤ◌, Bool, true, false, List, [], ◌∷◌, sym, ◌∙◌, ap, subst, arith, refl}
+use Rattle.std.proofs.Common.{◌≡◌, ℕ, ◌+◌, ◌-◌, ◌^◌, ◌<◌, ◌≤◌, ℤ, pos, ◌+ℤ◌, Bool, true, false, List, [], ◌∷◌, sym, ◌∙◌, ap, subst, arith, refl}
 use Rattle.std.specs.Prelude.{◌&&◌, int_le, unsigned_abs}
-use Rattle.plane.specs.Square.{IsSame, spans as spans_at, bits_plane, bit, cut, joined}
+use Rattle.plane.specs.Square.{IsSame, spans as spans_at, cut, joined}
 use Rattle.plane.proofs.Cuts.{joined_cuts, moved_to}
 use Rattle.plane.proofs.Paddings.{twice_half}
 use Rattle.plane.proofs.Same.{same_trans}
@@ -11,7 +11,7 @@ use Rattle.squares.specs.declared.spans.QuarterSpans.{QuarterSpans}
 use Rattle.squares.specs.declared.spans.Span.{Span}
 use Rattle.squares.specs.declared.sq.Sq.{Sq}
 use Rattle.squares.proofs.Centres.{shows_as}
-use Rattle.squares.proofs.SpanCells.{cut_marked, leaf_marked, none_in}
+use Rattle.squares.proofs.SpanCells.{cut_marked, none_in}
 
 pub quarters_marked : (to new : Book) (level half : ℕ) (spans read : List Span) (quarters : QuarterSpans) (nw ne sw se copy : Sq) → 0 < level → half ≡ 2 ^ (level - 1) → read ≡ spans → AreQuarterSpans half read quarters →
     Shows to (level - 1) (cut (2 ^ (level - 1)) 0 0 (marked (in_spans quarters.nw.items))) nw → Shows to (level - 1) (cut (2 ^ (level - 1)) 0 0 (marked (in_spans quarters.ne.items))) ne →
@@ -30,12 +30,6 @@ quarters_marked to new level half spans read quarters nw ne sw se copy least is_
     (moved_to h h (0 + h) h (0 + h) plane (to.cells se) (omega arith) (omega arith) four) in
     let same : IsSame (joined h (to.cells nw) (to.cells ne) (to.cells sw) (to.cells se)) (cut (2 ^ level) 0 0 plane) = subst (λ side. IsSame (joined h (to.cells nw) (to.cells ne) (to.cells sw) (to.cells se)) (cut side 0 0 plane)) (sym (twice_half level (omega arith))) whole in
     shows_as new (level - 1 + 1) level _ _ copy (omega arith) same (subst (λ n. Shows new (n + 1) (joined_squares to n (nw ∷ ne ∷ sw ∷ se ∷ [])) copy) at_nw.known.at_level made)
-
--- a leaf of the spans' bits
-pub leaf_spans : (book : Book) (level word : ℕ) (spans : List Span) (sq : Sq) → level ≡ 3 → ((x y : ℕ) → x < 8 → y < 8 → bit word (8 * y + x) ≡ in_spans spans x y) → Shows book 3 (bits_plane word) sq → Shows book level (cut (2 ^ level) 0 0 (marked (in_spans spans))) sq
-leaf_spans book level word spans sq e is made =
-    shows_as book 3 level (bits_plane word) _ sq (sym e)
-    (subst (λ l. IsSame (bits_plane word) (cut (2 ^ l) 0 0 (marked (in_spans spans)))) (sym e) (leaf_marked word (in_spans spans) is)) made
 
 -- no spans, no live cells
 pub no_spans : (book : Book) (level : ℕ) (spans : List Span) → IsBook book → 3 ≤ level → level ≤ 65 → spans ≡ [] → Shows book level (cut (2 ^ level) 0 0 (marked (in_spans spans))) (numbered level 0)
