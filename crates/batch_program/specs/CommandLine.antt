@@ -18,8 +18,8 @@ use Rattle.batch_program.specs.declared.command_line.WordsFault.{WordsFault}
 use Rattle.batch_program.specs.declared.command_line.WordsFault.TheVariants.{Clap, Unfit, Refused}
 use Rattle.batch_program.specs.WindowText.{IsUnsigned, WritesWindow}
 use Rattle.batch_program.specs.declared.request.Asked.{Asked}
-use Rattle.engine.specs.declared.options.Format.{Format}
-use Rattle.engine.specs.declared.options.Format.TheVariants.{Rle, Macrocell}
+use Rattle.patterns.specs.declared.format.Format.{Format}
+use Rattle.patterns.specs.declared.format.Format.TheVariants.{Rle, Macrocell}
 
 -- `-m N`, `--generation N`: a number below 2^64, 0 if it is left out
 abbrev pub generation_option : Rule

@@ -8,7 +8,8 @@ use Rattle.plane.specs.declared.fault.Fault.{Fault}
 use Rattle.plane.specs.declared.refusal.Refusal.{Refusal}
 use Rattle.plane.specs.declared.refusal.Refusal.TheVariants.{BoxTooLarge, NoMemory, ReadFailed, WriteFailed}
 use Rattle.batch_program.specs.CommandLine.{AsksFor, IsFit, RefusesWords, command_form}
-use Rattle.engine.specs.Judgement.{Start, Judges, placeless}
+use Rattle.engine.specs.Judgement.{Start, Judges}
+use Rattle.patterns.specs.Meaning.{placeless}
 use Rattle.engine.specs.Run.{Finishes, IsBegun, IsTooLarge}
 use Rattle.engine.specs.declared.running.Summary.{Summary}
 use Rattle.batch_program.specs.declared.request.Asked.{Asked}

@@ -1,7 +1,7 @@
 ghost use Rattle.std.specs.Prelude.{◌≡◌, ℕ, List, [], ◌∷◌, map, string_bytes, Option, IfOk, IfErr};
 ghost use Rattle.std.specs.Option.{option_copied, option_map};
 ghost use Rattle.clap.specs.Words.{Text, app_of, found_of, one_text};
-ghost use Rattle.engine.specs.declared.options.Format.{Format};
+ghost use Rattle.patterns.specs.declared.format.Format.{Format};
 ghost use Rattle.plane.specs.declared.refusal.Refusal.TheVariants.{NoMemory};
 ghost use Rattle.batch_program.specs.declared.command_line.WordsFault.TheVariants.{Refused};
 ghost use Rattle.batch_program.specs.OptionRules.{HasRule, HaveRules, numeric, valued, valued_in_short};

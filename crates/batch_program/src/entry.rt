@@ -2,7 +2,7 @@ ghost use Rattle.std.specs.Prelude.{◌≡◌, ◌≤◌, ◌⊎◌, ℕ, List, 
 ghost use Rattle.std.specs.Io.KnownBytes.{Appends};
 ghost use Rattle.plane.specs.Device.{HasFailed};
 ghost use Rattle.plane.specs.declared.fault.Fault.{Fault};
-ghost use Rattle.engine.specs.Judgement.{placeless};
+ghost use Rattle.patterns.specs.Meaning.{placeless};
 ghost use Rattle.batch_program.specs.Messages.{bad_words_text, fault_line};
 ghost use Rattle.batch_program.specs.Status.{AskForHelp, AskForNothing, HasRun, HasStopped, IsDone, IsRefused, refused_status};
 ghost use Rattle.batch_program.specs.Stops.{IsStop};

@@ -13,8 +13,8 @@ use Rattle.plane.specs.declared.refusal.Refusal.{Refusal}
 use Rattle.plane.specs.declared.refusal.Refusal.TheVariants.{NoMemory, TooFar}
 use Rattle.viewport.specs.BoundingBox.{HasBounds}
 use Rattle.engine.specs.Accepted.{HasRoomFor, IsAccepted, IsRefused, LeavesRange}
-use Rattle.engine.specs.Judgement.{Judges, ReadsRule, placeless, rule_refusal}
-use Rattle.engine.specs.Meaning.{Meaning, is_macrocell, judged}
+use Rattle.engine.specs.Judgement.{Judges, ReadsRule, rule_refusal}
+use Rattle.patterns.specs.Meaning.{placeless, Meaning, is_macrocell, judged}
 use Rattle.engine.specs.Run.{IsBegun}
 use Rattle.engine.specs.declared.options.Options.{Options}
 use Rattle.engine.proofs.Endings.{begun_none, listing_as, stays_as}

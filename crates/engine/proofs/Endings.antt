@@ -16,17 +16,18 @@ use Rattle.plane.specs.declared.cell.Bounds.{Bounds}
 use Rattle.plane.specs.declared.cell.Cell.{Cell}
 use Rattle.plane.specs.declared.refusal.Refusal.{Refusal}
 use Rattle.plane.specs.declared.refusal.Refusal.TheVariants.{BoxTooLarge, NoMemory, WriteFailed}
-use Rattle.engine.specs.Meaning.{Meaning, judged}
+use Rattle.patterns.specs.Meaning.{Meaning, judged, placeless}
 use Rattle.plane.specs.Device.{IsWriteRefusal}
 use Rattle.plane.proofs.Uniqueness.{one_listing_lem}
-use Rattle.engine.specs.FileText.{HasText, IsFileText, Exceeds, Writes}
+use Rattle.patterns.specs.FileText.{HasText, IsFileText, Exceeds, Writes}
 use Rattle.engine.specs.Accepted.{IsAccepted, SumsUp}
-use Rattle.engine.specs.Judgement.{Start, Judges, ReadsRule, placeless}
-use Rattle.engine.specs.Report.{Shows, picture_of, shown}
+use Rattle.engine.specs.Judgement.{Start, Judges, ReadsRule}
+use Rattle.engine.specs.Report.{Shows, shown}
+use Rattle.patterns.specs.Drawing.{picture_of}
 use Rattle.engine.specs.Run.{IsLast, IsReport, Finishes, IsBegun, IsTooLarge, last_generation}
 use Rattle.engine.specs.declared.running.Summary.{Summary}
-use Rattle.engine.specs.declared.options.Format.{Format}
-use Rattle.engine.specs.declared.options.Format.TheVariants.{Rle, Macrocell}
+use Rattle.patterns.specs.declared.format.Format.{Format}
+use Rattle.patterns.specs.declared.format.Format.TheVariants.{Rle, Macrocell}
 use Rattle.pattern_writers.specs.McText.{mc_text}
 use Rattle.pattern_writers.specs.RleText.{rle_text}
 use Rattle.plane.specs.Listing.{plane_of}

@@ -1,5 +1,5 @@
 -- A run that stays in the range is held by the square of level 63 round (0,0), generation by generation.
-use Rattle.std.proofs.Common.{◌≡◌, ◌≢◌, ℕ, ◌^◌, ◌<◌, ◌≤◌, ℤ, pos, ◌+ℤ◌, ◌-ℤ◌, ◌≤ℤ◌, Bool, true, false, ◌&&◌, Option, None, Some, List, [], ◌∷◌, IfSome, refl, sym, ◌∙◌, arith}
+use Rattle.std.proofs.Common.{◌≡◌, ◌≢◌, ℕ, ◌^◌, ◌<◌, ◌≤◌, ℤ, pos, ◌+ℤ◌, ◌-ℤ◌, ◌≤ℤ◌, true, false, Option, None, Some, List, [], ◌∷◌, IfSome, refl, sym, ◌∙◌, arith}
 use Rattle.std.specs.List.{AllByRecursion}
 use Rattle.std.proofs.lemmas.Bool.{false≢true}
 use Rattle.std.proofs.lemmas.Int.{ints}
@@ -10,13 +10,14 @@ use Rattle.plane.specs.Laws.{IsNear}
 use Rattle.plane.specs.Listing.{IsListing, plane_of}
 use Rattle.plane.specs.Plane.{Plane, after}
 use Rattle.plane.specs.Range.{IsBoxInRange, IsCoordinate, widened}
-use Rattle.plane.specs.Square.{IsSame, empty, spans}
+use Rattle.plane.specs.Square.{IsSame, empty}
 use Rattle.plane.specs.declared.cell.Bounds.{Bounds}
 use Rattle.plane.specs.declared.cell.Cell.{Cell}
 use Rattle.plane.proofs.Around.{live_cell}
 use Rattle.plane.proofs.Boxes.{box_at, coordinate_between, some_box, within_bounds}
 use Rattle.plane.proofs.Paddings.{quiet}
 use Rattle.plane.proofs.Turns.{AllByRecursion-weaker}
+use Rattle.patterns.proofs.Patterns.{both, in_square}
 
 -- so many cells on each side of the cell lie in the range
 record HasRoom (far : ℕ) (cell : Cell) : Type 0 where
@@ -45,13 +46,6 @@ room_by_box far (Some box) cells within range some = AllByRecursion-weaker (IsWi
 rooms : (far : ℕ) (cells : List Cell) → HasReach far cells → AllByRecursion (HasRoom far) cells
 rooms far [] reach = tt
 rooms far (cell ∷ cells) reach = room_by_box far (bounds_of (cell ∷ cells)) (cell ∷ cells) (within_bounds (cell ∷ cells)) reach (some_box (box_at cell) cells)
-
-in_square : (z : ℤ) → IsCoordinate z → spans (2 ^ 63) (z +ℤ pos (2 ^ 62)) ≡ true
-in_square z at = grind (arith, ints, at.low, at.high)
-
-both : (a b : Bool) → a ≡ true → b ≡ true → (a && b) ≡ true
-both true b h k = k
-both false b h k = cc
 
 near_in_range : (far n : ℕ) (z u w : ℤ) → n ≤ far → IsNear n z u → u ≡ w → IsCoordinate (w -ℤ pos far) → IsCoordinate (w +ℤ pos far) → IsCoordinate z
 near_in_range far n z u w less near same low high =

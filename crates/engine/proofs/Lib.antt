@@ -1,9 +1,7 @@
+pub mod Acceptance
 pub mod Endings
 pub mod Held
+pub mod Later
 pub mod OneRun
-pub mod Patterns
 pub mod Reports
 pub mod Steps
-pub mod NodeSquares
-pub mod Judged
-pub mod Acceptance

@@ -11,8 +11,8 @@ use Rattle.viewport.specs.BoundingBox.{HasBounds}
 use Rattle.viewport.specs.Population.{HasPopulation}
 use Rattle.plane.specs.declared.fault.Fault.{Fault}
 use Rattle.plane.specs.declared.refusal.Refusal.TheVariants.{NoMemory}
-use Rattle.engine.specs.Judgement.{Judges, placeless}
-use Rattle.engine.specs.Meaning.{Meaning}
+use Rattle.engine.specs.Judgement.{Judges}
+use Rattle.patterns.specs.Meaning.{Meaning, placeless}
 use Rattle.engine.specs.Run.{IsBegun}
 use Rattle.engine.specs.declared.options.Options.{Options}
 use Rattle.engine.specs.declared.running.Summary.{Summary}

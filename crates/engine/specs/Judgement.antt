@@ -12,12 +12,8 @@ use Rattle.plane.specs.declared.cell.Cell.{Cell}
 use Rattle.plane.specs.declared.fault.Fault.{Fault}
 use Rattle.plane.specs.declared.refusal.Refusal.{Refusal}
 use Rattle.plane.specs.declared.refusal.Refusal.TheVariants.{BadRule, BirthOnZero, TooFar}
-use Rattle.engine.specs.Meaning.{Meaning, judged}
+use Rattle.patterns.specs.Meaning.{Meaning, judged, placeless}
 use Rattle.engine.specs.declared.options.Options.{Options}
-
--- a refusal that no line or item of a file is to blame for
-abbrev pub placeless : Refusal → Fault
-placeless refusal = record { refusal = refusal; place = None }
 
 -- the text of the file's rule: that of Life where it names none
 abbrev pub rule_text_of : Meaning → List ℕ

@@ -1,11 +1,6 @@
 pub mod Accepted
-pub mod Books
 pub mod Devices
-pub mod FileText
+pub mod Held
 pub mod Judgement
-pub mod Meaning
-pub mod NodeSquares
-pub mod Pattern
-pub mod PatternFile
 pub mod Report
 pub mod Run

@@ -1,12 +1,10 @@
 -- The report of a run.
-use Rattle.std.specs.Prelude.{◌≡◌, ℕ, Option, None, Some, ◌+◌, ◌%◌, ◌==◌, nat_lt, ◌&&◌, ◌||◌, not, Bool, true, false, List, [], ◌++◌, length, filter, codes, decimal}
+use Rattle.std.specs.Prelude.{◌≡◌, ℕ, ◌+◌, ◌%◌, ◌==◌, nat_lt, ◌&&◌, ◌||◌, not, Bool, true, false, List, [], ◌++◌, length, filter, codes, decimal}
 use Rattle.std.specs.List.{AllZip, concat, range_with_len}
 use Rattle.rule_text.specs.CountRule.{CountRule}
 use Rattle.plane.specs.Listing.{IsListing}
 use Rattle.plane.specs.Plane.{Plane, after}
-use Rattle.plane.specs.Window.{Rectangle}
 use Rattle.plane.specs.declared.cell.Cell.{Cell}
-use Rattle.viewport.specs.Picture.{picture_text}
 use Rattle.engine.specs.declared.options.Options.{Options}
 
 -- the line of one generation: its number and how many cells are live
@@ -40,8 +38,3 @@ Shows rule plane start numbers text =
 abbrev pub IsSaid : Bool → ℕ → Plane → List ℕ → Type 0
 IsSaid true generation plane said = said ≡ []
 IsSaid false generation plane said = (cells : List Cell) × IsListing cells plane × (said ≡ report_line generation (length cells))
-
--- the picture of the window, where one is asked for
-abbrev pub picture_of : Option Rectangle → Plane → List ℕ
-picture_of None plane = []
-picture_of (Some window) plane = picture_text plane window

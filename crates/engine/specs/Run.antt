@@ -5,10 +5,11 @@ use Rattle.plane.specs.Bounds.{bounds_of}
 use Rattle.plane.specs.Listing.{IsListing}
 use Rattle.plane.specs.Plane.{after}
 use Rattle.plane.specs.declared.cell.Cell.{Cell}
-use Rattle.engine.specs.Meaning.{Meaning, is_macrocell, judged}
-use Rattle.engine.specs.FileText.{HasText, IsFileText}
+use Rattle.patterns.specs.Meaning.{Meaning, is_macrocell, judged}
+use Rattle.patterns.specs.FileText.{HasText, IsFileText}
 use Rattle.engine.specs.Judgement.{Start, Judges, ReadsRule}
-use Rattle.engine.specs.Report.{Shows, picture_of, shown}
+use Rattle.engine.specs.Report.{Shows, shown}
+use Rattle.patterns.specs.Drawing.{picture_of}
 use Rattle.engine.specs.declared.running.Summary.{Summary}
 use Rattle.engine.specs.declared.options.Options.{Options}
 

@@ -5,13 +5,12 @@ ghost use Rattle.rule_text.specs.CountRule.{IsRule};
 ghost use Rattle.rule_text.specs.declared.fault.RuleFault.{RuleFault};
 ghost use Rattle.engine.specs.Accepted.{HasRoomFor, IsAccepted, IsRefused, LeavesRange};
 ghost use Rattle.engine.specs.Judgement.{ReadsRule, rule_refusal};
-ghost use Rattle.engine.specs.Pattern.{plane_of};
-ghost use Rattle.engine.specs.PatternFile.{meaning_of};
+ghost use Rattle.patterns.specs.Pattern.{plane_of};
+ghost use Rattle.patterns.specs.PatternFile.{meaning_of};
 
 use crate::options::Options;
-use crate::pattern::Pattern;
-use crate::pattern_file::PatternFile;
 use crate::running::rule_refusal;
+use patterns::{Pattern, PatternFile};
 use plane::{Fault, Refusal, reach};
 use rule_text::Rule;
 use std::alloc::Global;

@@ -2,10 +2,11 @@ ghost use Rattle.std.specs.Prelude.{ℕ, ◌<◌, ◌≤◌, ◌^◌, IfOk, IsOk
 ghost use Rattle.rule_text.specs.CountRule.{IsRule};
 ghost use Rattle.plane.specs.Plane.{after};
 ghost use Rattle.plane.specs.Square.{IsSame, empty};
-ghost use Rattle.engine.specs.Pattern.{StaysHeld, plane_of};
+ghost use Rattle.engine.specs.Held.{StaysHeld};
+ghost use Rattle.patterns.specs.Pattern.{plane_of};
 
-use crate::pattern::Pattern;
 use hashlife_step::plan;
+use patterns::Pattern;
 use plane::Refusal;
 use rule_text::Rule;
 use std::alloc::Global;

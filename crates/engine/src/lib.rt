@@ -5,15 +5,13 @@ mod accepted;
 mod generations;
 mod input;
 mod laws;
-mod nodes;
 mod options;
-mod pattern;
-mod pattern_file;
 mod report;
 mod reported;
 mod running;
 
 pub use input::load;
 pub use laws::{one_ending, one_judgement};
-pub use options::{Format, Options};
+pub use options::Options;
+pub use patterns::Format;
 pub use running::{Summary, rule_refusal, run};

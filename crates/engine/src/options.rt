@@ -1,3 +1,4 @@
+use patterns::Format;
 use plane::Window;
 use rule_text::Rule;
 
@@ -17,13 +18,4 @@ pub struct Options {
     pub format: Option<Format>,
     /// Whether the lines of the report are left out.
     pub quiet: bool,
-}
-
-/// A format of pattern files.
-#[derive(Clone, Copy, Debug, PartialEq, Eq)]
-pub enum Format {
-    /// Run length encoded, with a `#CXRLE` line.
-    Rle,
-    /// Macrocell, `[M2]`: a quadtree whose equal squares are written once.
-    Macrocell,
 }

@@ -1,12 +1,12 @@
 ghost use Rattle.std.specs.Prelude.{◌≡◌, ◌⊎◌, ℕ, List, OnOk, IfErr};
 ghost use Rattle.std.specs.Io.KnownBytes.{Appends};
 ghost use Rattle.plane.specs.Device.{IsWriteRefusal};
-ghost use Rattle.engine.specs.Pattern.{plane_of};
+ghost use Rattle.patterns.specs.Pattern.{plane_of};
 ghost use Rattle.engine.specs.Report.{IsSaid, report_line};
 
-use crate::pattern::Pattern;
 use arrayvec::ArrayString;
 use itoa::Buffer;
+use patterns::Pattern;
 use plane::{Refusal, Sink, write_all};
 use std::alloc::Global;
 

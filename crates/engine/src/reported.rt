@@ -5,13 +5,14 @@ ghost use Rattle.plane.specs.Plane.{after};
 ghost use Rattle.plane.specs.Square.{IsSame, empty};
 ghost use Rattle.plane.specs.declared.range.TheConstants.{GENERATION_LIMIT};
 ghost use Rattle.plane.specs.Device.{IsWriteRefusal};
-ghost use Rattle.engine.specs.Pattern.{StaysHeld, plane_of};
+ghost use Rattle.engine.specs.Held.{StaysHeld};
+ghost use Rattle.patterns.specs.Pattern.{plane_of};
 ghost use Rattle.engine.specs.Report.{Shows, is_shown, shown};
 
 use crate::generations::after;
 use crate::options::Options;
-use crate::pattern::Pattern;
 use crate::report::report_generation;
+use patterns::Pattern;
 use plane::{Refusal, Sink};
 use rule_text::Rule;
 use std::alloc::Global;

@@ -2,14 +2,15 @@ ghost use Rattle.std.specs.Prelude.{◌≡◌, ◌⊎◌, ℕ, List, None, Ok, E
 ghost use Rattle.std.specs.Io.KnownBytes.{Appends};
 ghost use Rattle.plane.specs.Device.{HasFailed};
 ghost use Rattle.engine.specs.Accepted.{SumsUp};
-ghost use Rattle.engine.specs.Judgement.{Start, Judges, placeless, rule_refusal};
-ghost use Rattle.engine.specs.Pattern.{plane_of};
+ghost use Rattle.engine.specs.Judgement.{Start, Judges, rule_refusal};
+ghost use Rattle.patterns.specs.Meaning.{placeless};
+ghost use Rattle.patterns.specs.Pattern.{plane_of};
 ghost use Rattle.engine.specs.Run.{Finishes, IsBegun, IsTooLarge};
 
 use crate::accepted::judge;
 use crate::options::Options;
-use crate::pattern::Pattern;
 use crate::reported::run_reported;
+use patterns::Pattern;
 use plane::{Bounds, Fault, Refusal, Sink};
 use rule_text::RuleFault;
 use std::alloc::Global;

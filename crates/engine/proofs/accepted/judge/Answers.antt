@@ -1,7 +1,7 @@
 use Rattle.std.proofs.Common.{◌≡◌, Err, rules}
-use Rattle.engine.specs.Judgement.{placeless}
-use Rattle.engine.specs.Pattern.{plane_of}
-use Rattle.engine.specs.PatternFile.{meaning_of}
+use Rattle.patterns.specs.Meaning.{placeless}
+use Rattle.patterns.specs.Pattern.{plane_of}
+use Rattle.patterns.specs.PatternFile.{meaning_of}
 use Rattle.engine.proofs.Acceptance.{accepted, range_refused, rule_refused, text_refused}
 use Rattle.engine.proofs.accepted.judge.Goals as goal
 

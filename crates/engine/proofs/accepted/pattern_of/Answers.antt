@@ -1,7 +1,7 @@
 use Rattle.std.proofs.Common.{◌≡◌, Err, rules, refl, inr}
 use Rattle.plane.specs.declared.refusal.Refusal.TheVariants.{TooFar}
-use Rattle.engine.specs.Pattern.{plane_of}
-use Rattle.engine.specs.PatternFile.{meaning_of}
+use Rattle.patterns.specs.Pattern.{plane_of}
+use Rattle.patterns.specs.PatternFile.{meaning_of}
 use Rattle.engine.proofs.Acceptance.{has_room, leaves_range}
 use Rattle.engine.proofs.accepted.pattern_of.Goals as goal
 

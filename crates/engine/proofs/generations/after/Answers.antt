@@ -6,8 +6,8 @@ use Rattle.std.proofs.lemmas.List.Sums.{sum_by_more}
 use Rattle.plane.specs.Plane.{after}
 use Rattle.plane.specs.Square.{IsSame, empty}
 use Rattle.plane.proofs.Same.{same_refl}
-use Rattle.engine.specs.Pattern.{plane_of}
-use Rattle.engine.proofs.Patterns.{after_step, empty_stays, held_later, low_exponent, next_within}
+use Rattle.patterns.specs.Pattern.{plane_of}
+use Rattle.engine.proofs.Later.{after_step, empty_stays, held_later, low_exponent, next_within}
 use Rattle.engine.proofs.generations.after.Goals as goal
 
 pub returns-then-is_empty-clause-ok : goal.returns-then-is_empty-clause-ok

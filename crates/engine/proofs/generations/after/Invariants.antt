@@ -2,7 +2,7 @@ use Rattle.std.proofs.Common.{◌^◌, take}
 use Rattle.std.specs.Prelude.{sum_by}
 use Rattle.plane.specs.Plane.{after}
 use Rattle.plane.specs.Square.{IsSame}
-use Rattle.engine.specs.Pattern.{plane_of}
+use Rattle.patterns.specs.Pattern.{plane_of}
 use Rattle.engine.proofs.generations.after.Given as goal
 
 -- the plane after the steps so far

@@ -4,9 +4,9 @@ use Rattle.plane.specs.Plane.{after}
 use Rattle.plane.specs.Square.{IsSame}
 use Rattle.plane.specs.declared.refusal.Refusal.TheVariants.{NoMemory}
 use Rattle.plane.proofs.Same.{same_refl}
-use Rattle.engine.specs.Pattern.{plane_of}
+use Rattle.patterns.specs.Pattern.{plane_of}
 use Rattle.engine.specs.Report.{IsSaid, Shows, shown_until}
-use Rattle.engine.proofs.Patterns.{after_step, held_later, empty_later}
+use Rattle.engine.proofs.Later.{after_step, held_later, empty_later}
 use Rattle.engine.proofs.Reports.{first_lines, shown_next, shows_next, shows_none, start_shown, stopped}
 use Rattle.engine.proofs.reported.run_reported.Goals as goal
 

@@ -2,7 +2,7 @@ use Rattle.std.proofs.Common.{◌≡◌, ◌≤◌, ℕ, ◌-◌, List}
 use Rattle.std.specs.Io.KnownBytes.{Appends}
 use Rattle.plane.specs.Plane.{after}
 use Rattle.plane.specs.Square.{IsSame}
-use Rattle.engine.specs.Pattern.{plane_of}
+use Rattle.patterns.specs.Pattern.{plane_of}
 use Rattle.engine.specs.Report.{Shows, shown_until}
 use Rattle.engine.proofs.reported.run_reported.Given as goal
 

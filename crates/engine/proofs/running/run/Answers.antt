@@ -2,9 +2,9 @@ use Rattle.std.proofs.Common.{◌≡◌, ◌+◌, ◌≤◌, Err, rules, refl, s
 use Rattle.plane.specs.declared.range.TheConstants.{GENERATION_LIMIT}
 use Rattle.plane.specs.declared.refusal.Refusal.TheVariants.{NoMemory}
 use Rattle.plane.specs.Device.{HasFailed}
-use Rattle.engine.specs.Judgement.{placeless}
-use Rattle.engine.specs.Pattern.{plane_of}
-use Rattle.engine.specs.PatternFile.{meaning_of}
+use Rattle.patterns.specs.Meaning.{placeless}
+use Rattle.patterns.specs.Pattern.{plane_of}
+use Rattle.patterns.specs.PatternFile.{meaning_of}
 use Rattle.engine.proofs.Acceptance.{refused_at_once}
 use Rattle.engine.proofs.Endings.{begun_lines, ends_well, refused_reporting, refused_writing}
 use Rattle.engine.proofs.Held.{held, short_run}

@@ -1,0 +1,31 @@
+use Rattle.std.proofs.Common.{◌≡◌, true, false, Ok, Err, rules, ◌∙◌, ap, inl}
+use Rattle.patterns.specs.Meaning.{is_macrocell, of_macrocell, of_rle, seen_as}
+use Rattle.macrocell_reader.specs.Meaning as macrocell
+use Rattle.rle_reader.specs.Meaning as rle
+use Rattle.patterns.proofs.Judged.{judged_macrocell, judged_rle, macrocell_refused}
+use Rattle.patterns.proofs.pattern_file.PatternFile.open.Goals as goal
+
+pub returns-in_err-open-clause-refused : goal.returns-in_err-open-clause-refused
+returns-in_err-open-clause-refused c =
+    let is : is_macrocell c.args.bytes.now ≡ true = search rules in
+    let fault : c.from_residual.result ≡ Err c.in_err-open.field-0.0 = search rules in
+    rw fault (macrocell_refused c.args.bytes.now c.in_err-open.field-0.0 _ is c.in_err-open.ensures.refused)
+
+pub returns-then-begins_with-clause-accepted : goal.returns-then-begins_with-clause-accepted
+returns-then-begins_with-clause-accepted c =
+    let is : is_macrocell c.args.bytes.now ≡ true = search rules in
+    let read : macrocell.judged c.args.bytes.now ≡ Ok c.in_ok-open.field-0 = search rules in
+    judged_macrocell c.args.bytes.now is ∙ ap (seen_as of_macrocell) read
+
+pub returns-in_err-open-2-clause-refused : goal.returns-in_err-open-2-clause-refused
+returns-in_err-open-2-clause-refused c =
+    let is : is_macrocell c.args.bytes.now ≡ false = search rules in
+    let fault : c.from_residual-in_err-open-2.result ≡ Err c.in_err-open-2.field-0.0 = search rules in
+    let refused : rle.judged c.args.bytes.now ≡ Err c.in_err-open-2.field-0.0 = search rules in
+    rw fault (inl (judged_rle c.args.bytes.now is ∙ ap (seen_as of_rle) refused))
+
+pub returns-clause-accepted : goal.returns-clause-accepted
+returns-clause-accepted c =
+    let is : is_macrocell c.args.bytes.now ≡ false = search rules in
+    let read : rle.judged c.args.bytes.now ≡ Ok c.in_ok-open-2.field-0 = search rules in
+    judged_rle c.args.bytes.now is ∙ ap (seen_as of_rle) read

@@ -1,0 +1,7 @@
+pub mod Books
+pub mod Drawing
+pub mod FileText
+pub mod Meaning
+pub mod NodeSquares
+pub mod Pattern
+pub mod PatternFile
