@@ -1,5 +1,6 @@
 -- Maps of copies, and what a copy shows.
-use Rattle.std.proofs.Common.{◌≡◌, ℕ, ◌+◌, ◌-◌, ◌^◌, ◌<◌, List, [], ◌∷◌, sym, ◌∙◌, ap, subst, arith, refl}
+use Rattle.std.proofs.Common.{◌≡◌, ◌≢◌, ℕ, zero, suc, ◌+◌, ◌-◌, ◌^◌, ◌<◌, ◌≤◌, List, length, sym, ◌∙◌, ap, subst, arith, refl, below_more, get_or-set_other, get_or-set_same}
+use Rattle.std.proofs.Math.ListN.{set}
 use Rattle.std.specs.Prelude.{IsTrue, Some, Result, Ok, Err, OnOk, OnErr}
 use Rattle.std.specs.BTreeMap.{BTreeMap, get, is_at, Updates, IsUnchanged}
 use Rattle.std.specs.List.{AllByRecursion}
@@ -18,7 +19,7 @@ use Rattle.squares.specs.declared.sq.Num.{Num}
 use Rattle.squares.specs.declared.sq.Sq.{Sq}
 use Rattle.squares.proofs.Centres.{shows_as}
 use Rattle.squares.proofs.Kept.{shows_kept}
-use Rattle.squares.proofs.KnownQuarters.{quarters_of_level}
+use Rattle.squares.proofs.KnownQuarters.{from_four}
 use Rattle.squares.proofs.NumberMaps.{both_equal, equal_from, by_cases}
 
 pub exact_sq : CmpEqualImpliesEq sq_order
@@ -65,24 +66,49 @@ leaf_copied from to sq copy word e is made = shows_as to 3 sq.level (bits_plane 
 copied_part : (from to : Book) (level : ℕ) (plane : Plane) (part copy : Sq) → Shows from level plane part → Shows to part.level (from.cells part) copy → IsSame (to.cells copy) plane
 copied_part from to level plane part copy is copied = same_trans copied.cells is.cells
 
+-- the first of the quarters are copied, and the others are still themselves
+pub record AreCopied (from to : Book) (parts : List Sq) (copied : ℕ) (squares : List Sq) : Type 0 where
+  pub made : (k : ℕ) → k < copied → Shows to (nth parts k).level (from.cells (nth parts k)) (nth squares k)
+  pub left : (k : ℕ) → copied ≤ k → nth squares k ≡ nth parts k
+
+pub none_copied : (from to : Book) (parts : List Sq) → AreCopied from to parts 0 parts
+none_copied from to parts = record { made = λ k below. absurd (omega arith); left = λ k above. refl }
+
+-- one quarter more is copied
+pub one_copied : (from old new : Book) (parts : List Sq) (copied : ℕ) (squares : List Sq) (copy : Sq) → Keeps old new → copied < length squares → AreCopied from old parts copied squares →
+    Shows new (nth parts copied).level (from.cells (nth parts copied)) copy → AreCopied from new parts (copied + 1) (set squares copied copy)
+one_copied from old new parts copied squares copy keeps within h shown = record {
+  made = below_more (λ k. Shows new (nth parts k).level (from.cells (nth parts k)) (nth (set squares copied copy) k)) copied
+      (λ k below. let ne : k ≢ copied = omega arith in rw get_or-set_other (shows_kept keeps (h.made k below)))
+      (rw get_or-set_same shown);
+  left = λ k above. let ne : k ≢ copied = omega arith in rw get_or-set_other (h.left k (omega arith));
+}
+
+-- a quarter is a known square of the level below
+pub part_known : (book : Book) (level : ℕ) (plane : Plane) (parts : List Sq) (k : ℕ) → k < 4 → AreQuarters book level plane parts → IsKnown book (level - 1) (nth parts k)
+part_known book level plane parts zero below is = is.nw.known
+part_known book level plane parts (suc zero) below is = is.ne.known
+part_known book level plane parts (suc (suc zero)) below is = is.sw.known
+part_known book level plane parts (suc (suc (suc zero))) below is = is.se.known
+part_known book level plane parts (suc (suc (suc (suc k)))) below is = absurd (omega arith)
+
 -- four copies of the quarters make a copy of the whole
-pub quad_copied : (from to new : Book) (level : ℕ) (plane : Plane) (parts : List Sq) (nw ne sw se copy : Sq) → 3 < level → IsSquare (2 ^ level) plane → AreQuarters from level plane parts →
-    Shows to (nth parts 0).level (from.cells (nth parts 0)) nw → Shows to (nth parts 1).level (from.cells (nth parts 1)) ne → Shows to (nth parts 2).level (from.cells (nth parts 2)) sw → Shows to (nth parts 3).level (from.cells (nth parts 3)) se →
-    Shows new (nw.level + 1) (joined_squares to nw.level (nw ∷ ne ∷ sw ∷ se ∷ [])) copy → Shows new level plane copy
-quad_copied from to new level plane parts nw ne sw se copy above square is is_nw is_ne is_sw is_se made =
-    let low : nw.level ≡ level - 1 = is_nw.known.at_level ∙ is.nw.known.at_level in
+pub quad_copied : (from to new : Book) (level : ℕ) (plane : Plane) (parts copies : List Sq) (copy : Sq) → 3 < level → IsSquare (2 ^ level) plane → AreQuarters from level plane parts → AreCopied from to parts 4 copies →
+    Shows new ((nth copies 0).level + 1) (joined_squares to (nth copies 0).level copies) copy → Shows new level plane copy
+quad_copied from to new level plane parts copies copy above square is h made =
+    let low : (nth copies 0).level ≡ level - 1 = (h.made 0 (omega arith)).known.at_level ∙ is.nw.known.at_level in
     let whole : IsSquare (2 ^ (level - 1) + 2 ^ (level - 1)) plane = subst (λ side. IsSquare side plane) (twice_half level (omega arith)) square in
-    let same = whole_joined (2 ^ (level - 1)) plane (to.cells nw) (to.cells ne) (to.cells sw) (to.cells se) whole
-    (copied_part from to (level - 1) _ (nth parts 0) nw is.nw is_nw) (copied_part from to (level - 1) _ (nth parts 1) ne is.ne is_ne)
-    (copied_part from to (level - 1) _ (nth parts 2) sw is.sw is_sw) (copied_part from to (level - 1) _ (nth parts 3) se is.se is_se) in
-    shows_as new (level - 1 + 1) level _ plane copy (omega arith) same (subst (λ n. Shows new (n + 1) (joined_squares to n (nw ∷ ne ∷ sw ∷ se ∷ [])) copy) low made)
+    let same = whole_joined (2 ^ (level - 1)) plane (to.cells (nth copies 0)) (to.cells (nth copies 1)) (to.cells (nth copies 2)) (to.cells (nth copies 3)) whole
+    (copied_part from to (level - 1) _ (nth parts 0) (nth copies 0) is.nw (h.made 0 (omega arith))) (copied_part from to (level - 1) _ (nth parts 1) (nth copies 1) is.ne (h.made 1 (omega arith)))
+    (copied_part from to (level - 1) _ (nth parts 2) (nth copies 2) is.sw (h.made 2 (omega arith))) (copied_part from to (level - 1) _ (nth parts 3) (nth copies 3) is.se (h.made 3 (omega arith))) in
+    shows_as new (level - 1 + 1) level _ plane copy (omega arith) same (subst (λ n. Shows new (n + 1) (joined_squares to n copies) copy) low made)
 
 -- the copies of the quarters are known squares of one level
-pub copies_known : (from to : Book) (level : ℕ) (plane : Plane) (parts : List Sq) (nw ne sw se : Sq) → AreQuarters from level plane parts →
-    IsKnown to (nth parts 0).level nw → IsKnown to (nth parts 1).level ne → IsKnown to (nth parts 2).level sw → IsKnown to (nth parts 3).level se → AllByRecursion (IsKnown to nw.level) (nw ∷ ne ∷ sw ∷ se ∷ [])
-copies_known from to level plane parts nw ne sw se is k0 k1 k2 k3 =
-    quarters_of_level to (level - 1) nw ne sw se (subst (λ n. IsKnown to n nw) is.nw.known.at_level k0) (subst (λ n. IsKnown to n ne) is.ne.known.at_level k1)
-    (subst (λ n. IsKnown to n sw) is.sw.known.at_level k2) (subst (λ n. IsKnown to n se) is.se.known.at_level k3)
+pub copies_known : (from to : Book) (level : ℕ) (plane : Plane) (parts copies : List Sq) → length copies ≡ 4 → AreQuarters from level plane parts → AreCopied from to parts 4 copies → AllByRecursion (IsKnown to (nth copies 0).level) copies
+copies_known from to level plane parts copies size is h =
+    let first : (nth copies 0).level ≡ level - 1 = (h.made 0 (omega arith)).known.at_level ∙ is.nw.known.at_level in
+    let known = λ (k : ℕ) (below : k < 4). subst (λ n. IsKnown to n (nth copies k)) ((part_known from level plane parts k below is).at_level ∙ sym first) (h.made k below).known in
+    from_four (IsKnown to (nth copies 0).level) copies size (known 0 (omega arith)) (known 1 (omega arith)) (known 2 (omega arith)) (known 3 (omega arith))
 
 -- what is noted of a copy
 pub noted_copies : (from to : Book) (old new : BTreeMap Sq Num) (sq copy : Sq) (r : Result Sq Refusal) → OnOk r (Updates sq_order old new sq (Some copy.num)) → OnErr r (IsUnchanged old new) →

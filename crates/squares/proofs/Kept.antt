@@ -42,3 +42,6 @@ keeps_none a = record {
 
 pub results_trans : {a b c : Book} → KeepsResults a b → KeepsResults b c → KeepsResults a c
 results_trans h k = record { results = k.results ∙ h.results; learned = k.learned ∙ h.learned }
+
+pub results_none : (a : Book) → KeepsResults a a
+results_none a = record { results = refl; learned = refl }

@@ -48,12 +48,11 @@ fn copy_into<L: Look, S: Squares>(
         let copy = to.leaf(from.bits(sq))?;
         return noted(copies, sq, copy);
     }
-    let [nw, ne, sw, se] = from.parts(sq);
-    let nw = copy_into(from, nw, to, copies)?;
-    let ne = copy_into(from, ne, to, copies)?;
-    let sw = copy_into(from, sw, to, copies)?;
-    let se = copy_into(from, se, to, copies)?;
-    let copy = to.quad([nw, ne, sw, se])?;
+    let mut quarters = from.parts(sq);
+    for quarter in quarters.iter_mut() {
+        *quarter = copy_into(from, *quarter, to, copies)?;
+    }
+    let copy = to.quad(quarters)?;
     noted(copies, sq, copy)
 }
 

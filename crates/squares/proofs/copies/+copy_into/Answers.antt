@@ -1,10 +1,11 @@
-use Rattle.std.proofs.Common.{sym, ◌∙◌, ap, subst, arith}
+use Rattle.std.proofs.Common.{◌≡◌, ◌-◌, ◌<◌, length, sym, ◌∙◌, ap, subst, arith, rules}
+use Rattle.std.proofs.Math.ListN.{length-set}
 use Rattle.std.specs.Option.{option_copied}
 use Rattle.std.proofs.lemmas.Result.{IfOk-weaker}
-use Rattle.squares.specs.Book.{IsKnown, Shows}
+use Rattle.squares.specs.Book.{IsKnown, Shows, nth}
 use Rattle.squares.specs.declared.sq.Sq.{Sq}
-use Rattle.squares.proofs.CopyMaps.{copies_kept, copies_known, empty_copied, leaf_copied, noted_copies, quad_copied}
-use Rattle.squares.proofs.Kept.{keeps_none, keeps_trans, known_kept, results_trans, shows_kept}
+use Rattle.squares.proofs.CopyMaps.{AreCopied, copies_kept, copies_known, empty_copied, leaf_copied, none_copied, noted_copies, one_copied, part_known, quad_copied}
+use Rattle.squares.proofs.Kept.{keeps_none, keeps_trans, results_none, results_trans}
 use Rattle.squares.proofs.copies.+copy_into.Goals as goal
 
 pub returns-in_err-copy-clause-copies : goal.returns-in_err-copy-clause-copies
@@ -16,87 +17,6 @@ returns-then-level-eq3-clause-copies g t c =
     let to = g.S.Squares.book c.leaf.new.self in
     noted_copies from to c.args.copies.now c.noted.new.copies c.args.sq c.in_ok-copy.copy c.noted.result c.noted.ensures.updates c.noted.ensures.err
     (leaf_copied from to c.args.sq c.in_ok-copy.copy c.bits.result c.if-level-eq3.true c.bits.ensures c.in_ok-copy.ensures.ok) (copies_kept c.leaf.ensures.keeps c.requires.copies)
-
-pub returns-in_err-copy-2-clause-copies : goal.returns-in_err-copy-2-clause-copies
-returns-in_err-copy-2-clause-copies g t c = copies_kept c.quad.ensures.keeps c.copy_into-4.ensures.copies
-
-pub returns-clause-ok : goal.returns-clause-ok
-returns-clause-ok g t c =
-    let book = g.S.Squares.book in
-    let from = g.L.Look.book c.args.from.now in
-    let sq = c.args.sq in
-    let k4 = c.copy_into-4.ensures.keeps in
-    let k3 = keeps_trans c.copy_into-3.ensures.keeps k4 in
-    let k2 = keeps_trans c.copy_into-2.ensures.keeps k3 in
-    let low = c.requires.known.low in
-    let more = c.if-level-eq3.false in
-    let shown = quad_copied from (book c.copy_into-4.new.to) (book c.quad.new.self) sq.level (from.cells sq) c.parts.result c.in_ok-nw.nw c.in_ok-ne.ne c.in_ok-sw.sw c.in_ok-se.se c.in_ok-copy-2.copy (omega arith)
-    ((g.met.L.Look.is_book c.args.from.now).square sq c.requires.known.known) c.parts.ensures
-    (shows_kept k2 c.in_ok-nw.ensures.ok) (shows_kept k3 c.in_ok-ne.ensures.ok) (shows_kept k4 c.in_ok-sw.ensures.ok) c.in_ok-se.ensures.ok c.in_ok-copy-2.ensures.ok in
-    IfOk-weaker c.noted-2.result _ _ (λ (noted : Sq) same. subst (Shows (book c.quad.new.self) sq.level (from.cells sq)) (sym same) shown) c.noted-2.ensures.ok
-
-pub returns-clause-copies : goal.returns-clause-copies
-returns-clause-copies g t c =
-    let book = g.S.Squares.book in
-    let from = g.L.Look.book c.args.from.now in
-    let sq = c.args.sq in
-    let k4 = c.copy_into-4.ensures.keeps in
-    let k3 = keeps_trans c.copy_into-3.ensures.keeps k4 in
-    let k2 = keeps_trans c.copy_into-2.ensures.keeps k3 in
-    let low = c.requires.known.low in
-    let more = c.if-level-eq3.false in
-    let shown = quad_copied from (book c.copy_into-4.new.to) (book c.quad.new.self) sq.level (from.cells sq) c.parts.result c.in_ok-nw.nw c.in_ok-ne.ne c.in_ok-sw.sw c.in_ok-se.se c.in_ok-copy-2.copy (omega arith)
-    ((g.met.L.Look.is_book c.args.from.now).square sq c.requires.known.known) c.parts.ensures
-    (shows_kept k2 c.in_ok-nw.ensures.ok) (shows_kept k3 c.in_ok-ne.ensures.ok) (shows_kept k4 c.in_ok-sw.ensures.ok) c.in_ok-se.ensures.ok c.in_ok-copy-2.ensures.ok in
-    noted_copies from (book c.quad.new.self) c.copy_into-4.new.copies c.noted-2.new.copies sq c.in_ok-copy-2.copy c.noted-2.result c.noted-2.ensures.updates c.noted-2.ensures.err shown (copies_kept c.quad.ensures.keeps c.copy_into-4.ensures.copies)
-
-pub returns-in_err-ne-clause-keeps : goal.returns-in_err-ne-clause-keeps
-returns-in_err-ne-clause-keeps g t c = keeps_trans c.copy_into.ensures.keeps c.copy_into-2.ensures.keeps
-
-pub returns-in_err-ne-clause-results : goal.returns-in_err-ne-clause-results
-returns-in_err-ne-clause-results g t c = results_trans c.copy_into.ensures.results c.copy_into-2.ensures.results
-
-pub returns-in_err-sw-clause-keeps : goal.returns-in_err-sw-clause-keeps
-returns-in_err-sw-clause-keeps g t c = keeps_trans c.copy_into.ensures.keeps (keeps_trans c.copy_into-2.ensures.keeps c.copy_into-3.ensures.keeps)
-
-pub returns-in_err-sw-clause-results : goal.returns-in_err-sw-clause-results
-returns-in_err-sw-clause-results g t c = results_trans c.copy_into.ensures.results (results_trans c.copy_into-2.ensures.results c.copy_into-3.ensures.results)
-
-pub returns-in_err-se-clause-keeps : goal.returns-in_err-se-clause-keeps
-returns-in_err-se-clause-keeps g t c = keeps_trans c.copy_into.ensures.keeps (keeps_trans c.copy_into-2.ensures.keeps (keeps_trans c.copy_into-3.ensures.keeps c.copy_into-4.ensures.keeps))
-
-pub returns-in_err-se-clause-results : goal.returns-in_err-se-clause-results
-returns-in_err-se-clause-results g t c = results_trans c.copy_into.ensures.results (results_trans c.copy_into-2.ensures.results (results_trans c.copy_into-3.ensures.results c.copy_into-4.ensures.results))
-
-pub returns-in_err-copy-2-clause-keeps : goal.returns-in_err-copy-2-clause-keeps
-returns-in_err-copy-2-clause-keeps g t c = keeps_trans c.copy_into.ensures.keeps (keeps_trans c.copy_into-2.ensures.keeps (keeps_trans c.copy_into-3.ensures.keeps (keeps_trans c.copy_into-4.ensures.keeps c.quad.ensures.keeps)))
-
-pub returns-in_err-copy-2-clause-results : goal.returns-in_err-copy-2-clause-results
-returns-in_err-copy-2-clause-results g t c = results_trans c.copy_into.ensures.results (results_trans c.copy_into-2.ensures.results (results_trans c.copy_into-3.ensures.results (results_trans c.copy_into-4.ensures.results c.quad.ensures.results)))
-
-pub returns-clause-keeps : goal.returns-clause-keeps
-returns-clause-keeps g t c = keeps_trans c.copy_into.ensures.keeps (keeps_trans c.copy_into-2.ensures.keeps (keeps_trans c.copy_into-3.ensures.keeps (keeps_trans c.copy_into-4.ensures.keeps c.quad.ensures.keeps)))
-
-pub returns-clause-results : goal.returns-clause-results
-returns-clause-results g t c = results_trans c.copy_into.ensures.results (results_trans c.copy_into-2.ensures.results (results_trans c.copy_into-3.ensures.results (results_trans c.copy_into-4.ensures.results c.quad.ensures.results)))
-
-pub quad-requires-clause-known : goal.quad-requires-clause-known
-quad-requires-clause-known g t c =
-    let from = g.L.Look.book c.args.from.now in
-    let sq = c.args.sq in
-    let k4 = c.copy_into-4.ensures.keeps in
-    let k3 = keeps_trans c.copy_into-3.ensures.keeps k4 in
-    let k2 = keeps_trans c.copy_into-2.ensures.keeps k3 in
-    copies_known from (g.S.Squares.book c.copy_into-4.new.to) sq.level (from.cells sq) c.parts.result c.in_ok-nw.nw c.in_ok-ne.ne c.in_ok-sw.sw c.in_ok-se.se c.parts.ensures
-    (known_kept k2 c.in_ok-nw.ensures.ok.known) (known_kept k3 c.in_ok-ne.ensures.ok.known) (known_kept k4 c.in_ok-sw.ensures.ok.known) c.in_ok-se.ensures.ok.known
-
-pub quad-requires-clause-level : goal.quad-requires-clause-level
-quad-requires-clause-level g t c =
-    let copy = c.in_ok-nw.ensures.ok.known.at_level in
-    let part = c.parts.ensures.nw.known.at_level in
-    let low = c.requires.known.low in
-    let high = c.requires.known.high in
-    omega arith
 
 pub returns-then-sq-eq0-clause-ok : goal.returns-then-sq-eq0-clause-ok
 returns-then-sq-eq0-clause-ok g t c =
@@ -121,3 +41,106 @@ returns-then-level-eq3-clause-ok g t c =
     let sq = c.args.sq in
     let shown = leaf_copied from to sq c.in_ok-copy.copy c.bits.result c.if-level-eq3.true c.bits.ensures c.in_ok-copy.ensures.ok in
     IfOk-weaker c.noted.result _ _ (λ (noted : Sq) same. subst (Shows to sq.level (from.cells sq)) (sym same) shown) c.noted.ensures.ok
+
+pub loop-quarter-init : goal.loop-quarter-init
+loop-quarter-init g t c = record {
+  size = search rules;
+  copied = none_copied _ _ _;
+  copies = c.requires.copies;
+  keeps = keeps_none _;
+  results = results_none _;
+}
+
+pub loop-quarter-preserved : goal.loop-quarter-preserved
+loop-quarter-preserved g t c =
+    let from = g.L.Look.book c.args.from.now in
+    let h = c.loop-quarter.invariant in
+    let made = c.copy_into.ensures in
+    let size = h.size in
+    let below : c.loop-quarter.quarter-index < 4 = c.loop-quarter-test.true in
+    let within : c.loop-quarter.quarter-index < length c.loop-quarter.quarter-items = omega arith in
+    let square = h.copied.left c.loop-quarter.quarter-index (omega arith) in
+    record {
+      size = length-set c.loop-quarter.quarter-items c.loop-quarter.quarter-index c.in_ok-quarter.field-0 ∙ h.size;
+      copied = one_copied from _ _ c.parts-quarters.result c.loop-quarter.quarter-index c.loop-quarter.quarter-items c.in_ok-quarter.field-0 made.keeps within h.copied
+          (subst (λ (sq : Sq). Shows (g.S.Squares.book c.copy_into.new.to) sq.level (from.cells sq) c.in_ok-quarter.field-0) square c.in_ok-quarter.ensures.ok);
+      copies = made.copies;
+      keeps = keeps_trans h.keeps made.keeps;
+      results = results_trans h.results made.results;
+    }
+
+pub copy_into-requires : goal.copy_into-requires
+copy_into-requires g t c κs within =
+    let book = g.L.Look.book c.args.from.now in
+    let next = nth c.loop-quarter.quarter-items c.loop-quarter.quarter-index in
+    let below : c.loop-quarter.quarter-index < 4 = c.loop-quarter-test.true in
+    let part = part_known book c.args.sq.level (book.cells c.args.sq) c.parts-quarters.result c.loop-quarter.quarter-index below c.parts-quarters.ensures in
+    let same = c.loop-quarter.invariant.copied.left c.loop-quarter.quarter-index (omega arith) in
+    let known : IsKnown book (c.args.sq.level - 1) next = subst (IsKnown book (c.args.sq.level - 1)) (sym same) part in
+    let own : IsKnown book next.level next = subst (λ n. IsKnown book n next) (sym known.at_level) known in
+    let at_level = known.at_level in
+    let low = c.requires.known.low in
+    (search rules, (search rules, (search rules, (own, c.loop-quarter.invariant.copies))))
+
+pub quad-requires-clause-known : goal.quad-requires-clause-known
+quad-requires-clause-known g t c =
+    let from = g.L.Look.book c.args.from.now in
+    let to = g.S.Squares.book c.loop-quarter.to in
+    let all : c.loop-quarter.quarter-index ≡ 4 = omega arith in
+    let copied : AreCopied from to c.parts-quarters.result 4 c.loop-quarter.quarter-items = subst (λ n. AreCopied from to c.parts-quarters.result n c.loop-quarter.quarter-items) all c.loop-quarter.invariant.copied in
+    copies_known from to c.args.sq.level (from.cells c.args.sq) c.parts-quarters.result c.loop-quarter.quarter-items c.loop-quarter.invariant.size c.parts-quarters.ensures copied
+
+pub quad-requires-clause-level : goal.quad-requires-clause-level
+quad-requires-clause-level g t c =
+    let copy = (c.loop-quarter.invariant.copied.made 0 (omega arith)).known.at_level in
+    let part = c.parts-quarters.ensures.nw.known.at_level in
+    let low = c.requires.known.low in
+    let high = c.requires.known.high in
+    omega arith
+
+pub returns-clause-ok : goal.returns-clause-ok
+returns-clause-ok g t c =
+    let from = g.L.Look.book c.args.from.now in
+    let to = g.S.Squares.book c.loop-quarter.to in
+    let all : c.loop-quarter.quarter-index ≡ 4 = omega arith in
+    let copied : AreCopied from to c.parts-quarters.result 4 c.loop-quarter.quarter-items = subst (λ n. AreCopied from to c.parts-quarters.result n c.loop-quarter.quarter-items) all c.loop-quarter.invariant.copied in
+    let sq = c.args.sq in
+    let low = c.requires.known.low in
+    let more = c.if-level-eq3.false in
+    let shown = quad_copied from to (g.S.Squares.book c.quad.new.self) sq.level (from.cells sq) c.parts-quarters.result c.loop-quarter.quarter-items c.in_ok-copy-2.copy (omega arith)
+    ((g.met.L.Look.is_book c.args.from.now).square sq c.requires.known.known) c.parts-quarters.ensures copied c.in_ok-copy-2.ensures.ok in
+    IfOk-weaker c.noted-2.result _ _ (λ (noted : Sq) same. subst (Shows (g.S.Squares.book c.quad.new.self) sq.level (from.cells sq)) (sym same) shown) c.noted-2.ensures.ok
+
+pub returns-clause-copies : goal.returns-clause-copies
+returns-clause-copies g t c =
+    let from = g.L.Look.book c.args.from.now in
+    let to = g.S.Squares.book c.loop-quarter.to in
+    let all : c.loop-quarter.quarter-index ≡ 4 = omega arith in
+    let copied : AreCopied from to c.parts-quarters.result 4 c.loop-quarter.quarter-items = subst (λ n. AreCopied from to c.parts-quarters.result n c.loop-quarter.quarter-items) all c.loop-quarter.invariant.copied in
+    let sq = c.args.sq in
+    let low = c.requires.known.low in
+    let more = c.if-level-eq3.false in
+    let shown = quad_copied from to (g.S.Squares.book c.quad.new.self) sq.level (from.cells sq) c.parts-quarters.result c.loop-quarter.quarter-items c.in_ok-copy-2.copy (omega arith)
+    ((g.met.L.Look.is_book c.args.from.now).square sq c.requires.known.known) c.parts-quarters.ensures copied c.in_ok-copy-2.ensures.ok in
+    noted_copies from (g.S.Squares.book c.quad.new.self) c.loop-quarter.copies c.noted-2.new.copies sq c.in_ok-copy-2.copy c.noted-2.result c.noted-2.ensures.updates c.noted-2.ensures.err shown (copies_kept c.quad.ensures.keeps c.loop-quarter.invariant.copies)
+
+pub returns-clause-keeps : goal.returns-clause-keeps
+returns-clause-keeps g t c = keeps_trans c.loop-quarter.invariant.keeps c.quad.ensures.keeps
+
+pub returns-clause-results : goal.returns-clause-results
+returns-clause-results g t c = results_trans c.loop-quarter.invariant.results c.quad.ensures.results
+
+pub returns-in_err-copy-2-clause-copies : goal.returns-in_err-copy-2-clause-copies
+returns-in_err-copy-2-clause-copies g t c = copies_kept c.quad.ensures.keeps c.loop-quarter.invariant.copies
+
+pub returns-in_err-copy-2-clause-keeps : goal.returns-in_err-copy-2-clause-keeps
+returns-in_err-copy-2-clause-keeps g t c = keeps_trans c.loop-quarter.invariant.keeps c.quad.ensures.keeps
+
+pub returns-in_err-copy-2-clause-results : goal.returns-in_err-copy-2-clause-results
+returns-in_err-copy-2-clause-results g t c = results_trans c.loop-quarter.invariant.results c.quad.ensures.results
+
+pub returns-in_err-quarter-clause-keeps : goal.returns-in_err-quarter-clause-keeps
+returns-in_err-quarter-clause-keeps g t c = keeps_trans c.loop-quarter.invariant.keeps c.copy_into.ensures.keeps
+
+pub returns-in_err-quarter-clause-results : goal.returns-in_err-quarter-clause-results
+returns-in_err-quarter-clause-results g t c = results_trans c.loop-quarter.invariant.results c.copy_into.ensures.results
