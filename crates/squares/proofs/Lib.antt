@@ -1,3 +1,4 @@
+pub mod Added
 pub mod Centres
 pub mod CopyMaps
 pub mod EmptyFutures

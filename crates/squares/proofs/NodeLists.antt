@@ -24,6 +24,10 @@ node_later nodes more (suc i) node h = get_later nodes more i node h
 pub node_last : (nodes : List Node) (node : Node) → node_at (nodes ++ node ∷ []) (suc (length nodes)) ≡ Some node
 node_last nodes node = get_last nodes node
 
+-- the node that came last has the last number
+pub node_pushed : (nodes new : List Node) (node : Node) (n : ℕ) → new ≡ nodes ++ node ∷ [] → suc (length nodes) ≡ n → node_at new n ≡ Some node
+node_pushed nodes new node n all is = subst (λ ns. node_at ns n ≡ Some node) (sym all) (subst (λ m. node_at (nodes ++ node ∷ []) m ≡ Some node) is (node_last nodes node))
+
 pub node_snoc : (nodes : List Node) (last node : Node) (n : ℕ) → node_at (nodes ++ last ∷ []) n ≡ Some node → (node_at nodes n ≡ Some node) ⊎ ((n ≡ suc (length nodes)) × (last ≡ node))
 node_snoc nodes last node zero h = inl h
 node_snoc nodes last node (suc i) h = ⊎_elim (λ t. inl t) (λ t. inr (ap suc t.0, t.1)) (get_push nodes last node i h)

@@ -1,6 +1,8 @@
 -- A book with one node more.
 use Rattle.std.proofs.Common.{◌≡◌, ◌≢◌, ℕ, suc, ◌-◌, ◌^◌, ◌<◌, List, [], ◌∷◌, ◌++◌, length, take, sym, ◌∙◌, ap, subst, arith, refl, ⊎_elim}
 use Rattle.std.specs.Prelude.{Some, None, slice_get, Contains}
+use Rattle.std.specs.BTreeMap.{BTreeMap, get}
+use Rattle.std.specs.Ordering.{nat_cmp}
 use Rattle.std.proofs.lemmas.List.{take_at}
 use Rattle.rule_text.specs.CountRule.{CountRule}
 use Rattle.squares.specs.Book.{IsFuture, Keeps, KeepsResults, numbered}
@@ -9,8 +11,9 @@ use Rattle.squares.specs.declared.node.Node.TheVariants.{Leaf, Inner}
 use Rattle.squares.specs.declared.node.Quarters.{Quarters}
 use Rattle.squares.specs.declared.node.Record.{Record}
 use Rattle.squares.specs.declared.sq.Num.{Num}
-use Rattle.squares.specs.Nodes.{nodes_of, node_at, level_of, plain_book, future_at, AreKnown, AreFutures, IsGood}
+use Rattle.squares.specs.Nodes.{nodes_of, node_at, level_of, plain_book, future_at, AreKnown, AreFutures, HasNumbers, IsGood}
 use Rattle.squares.proofs.NodeLists.{known_later, node_snoc}
+use Rattle.squares.proofs.NumberMaps.{leaves_apart, no_inner, not_there}
 use Rattle.squares.proofs.Places.{get_push}
 use Rattle.squares.proofs.PlainLaws.{keeps_more, later_future, nodes_pushed}
 use Rattle.squares.proofs.RecordLists.{push_results, node_of_record, record_of_node, future_of_record}
@@ -37,6 +40,11 @@ good_pushed nodes last new leaf inner h = record {
       (λ t. ⊎_elim (λ u. absurd (new m (u ∙ ap (λ x. Some x) (sym t.1)))) (λ u. t.0 ∙ sym u.0) (node_snoc nodes last node m at_m))
       (node_snoc nodes last node n at_n);
 }
+
+-- a leaf that had no number
+pub good_leaf : (nodes : List Node) (leaves : BTreeMap ℕ Num) (word : ℕ) → word ≢ 0 → word < 2 ^ 64 → HasNumbers nat_cmp Leaf nodes leaves → get nat_cmp leaves word ≡ None → IsGood nodes → IsGood (nodes ++ Leaf word ∷ [])
+good_leaf nodes leaves word some fits listed none good = good_pushed nodes (Leaf word) (not_there nat_cmp Leaf nodes leaves word listed none)
+    (λ w e. subst (λ v. (v ≢ 0) × (v < 2 ^ 64)) (leaves_apart word w e) (some, fits)) (λ q e. absurd (no_inner word q e)) good
 
 -- what is left when the last record is taken off again
 pub popped : (records : List Record) (last : Record) (pushed rest : List Record) (number len : ℕ) → pushed ≡ records ++ last ∷ [] → number ≡ suc (length records) → len ≡ number → rest ≡ take (len - 1) pushed → rest ≡ records

@@ -1,4 +1,5 @@
 ghost use Rattle.std.specs.Prelude.{◌≡◌, ◌-◌, ◌++◌, ◌∷◌, suc, length, vec_len, [], IsTrue, is_some, slice_get, Some, IfOk, OnErr, IsOkUnless};
+ghost use Rattle.std.specs.BTreeMap.{IsUnchanged, Updates};
 ghost use Rattle.squares.specs.Book.{IsBook, IsFresh, numbered};
 ghost use Rattle.squares.specs.Nodes.{AreFutures, HasNumbers, IsGood, node_at, nodes_of, plain_book, quarters_order};
 ghost use Rattle.squares.specs.declared.node.Node.TheVariants.{Leaf, Inner};
@@ -51,6 +52,28 @@ fn push_node(records: &mut Vec<Record>, node: Node) -> Result<Num, Refusal>
         return Err(Refusal::NoMemory);
     }
     Ok(Num(count as u32 + 1))
+}
+
+// Gives a new node the next number, and notes the number under the node's key.
+fn add_node<K: Ord + Drop>(
+    records: &mut Vec<Record>,
+    numbers: &mut BTreeMap<K, Num>,
+    node: Node,
+    key: K,
+) -> Result<Num, Refusal>
+    ensures number { IfOk result (λ num. num.0 ≡ suc (length records.old.items)) }
+    ensures ok { IfOk result (λ num. records.new.items ≡ records.old.items ++ record { node = node; future = None } ∷ []) }
+    ensures noted { IfOk result (λ num. Updates K.cmp numbers.old numbers.new key (Some num)) }
+    ensures err { OnErr result (records.new.items ≡ records.old.items) }
+    ensures same { OnErr result (IsUnchanged numbers.old numbers.new) }
+    ensures memory { IsOkUnless result Refusal.NoMemory }
+{
+    let num = push_node(records, node)?;
+    if numbers.insert(key, num).is_err() {
+        let _ = records.pop();
+        return Err(Refusal::NoMemory);
+    }
+    Ok(num)
 }
 
 impl PlainBook {
@@ -150,11 +173,7 @@ impl Squares for PlainBook {
                 num: *num,
             });
         }
-        let num = push_node(&mut self.records, Node::Leaf(word))?;
-        if self.leaves.insert(word, num).is_err() {
-            let _ = self.records.pop();
-            return Err(Refusal::NoMemory);
-        }
+        let num = add_node(&mut self.records, &mut self.leaves, Node::Leaf(word), word)?;
         Ok(Sq { level: 3, num })
     }
 
@@ -167,11 +186,7 @@ impl Squares for PlainBook {
         if let Some(num) = self.inner.get(&node) {
             return Ok(Sq { level, num: *num });
         }
-        let num = push_node(&mut self.records, Node::Inner(node))?;
-        if self.inner.insert(node, num).is_err() {
-            let _ = self.records.pop();
-            return Err(Refusal::NoMemory);
-        }
+        let num = add_node(&mut self.records, &mut self.inner, Node::Inner(node), node)?;
         Ok(Sq { level, num })
     }
 

@@ -1,22 +1,21 @@
 use Rattle.std.proofs.Common.{◌≡◌, Bool, true, false, refl, ◌+◌, ◌++◌, ◌∷◌, [], subst, sym, ap, ◌∙◌, rules, None, Some, suc, length, List}
 use Rattle.std.specs.BTreeMap.{get}
 use Rattle.std.specs.List.{AllByRecursion}
-use Rattle.std.specs.Ordering.{nat_cmp}
 use Rattle.std.proofs.lemmas.Bool.{false≢true}
 use Rattle.std.proofs.lemmas.List.{length-map}
-use Rattle.squares.specs.declared.node.Node.TheVariants.{Leaf, Inner}
+use Rattle.squares.specs.declared.node.Node.TheVariants.{Inner}
 use Rattle.squares.specs.declared.node.Quarters.{Quarters}
 use Rattle.squares.specs.declared.node.Record.{Record}
 use Rattle.squares.specs.declared.sq.Sq.{Sq}
-use Rattle.squares.specs.Book.{IsBook, IsEmpty, IsKnown, Keeps, KeepsResults, Shows, joined_squares, numbered, nth}
-use Rattle.squares.specs.Nodes.{node_at, nodes_of, plain_book, quarters_order, AreFutures, AreKnown, HasNumbers, IsGood}
+use Rattle.squares.specs.Book.{IsEmpty, IsKnown, Keeps, KeepsResults, Shows, joined_squares, numbered, nth}
+use Rattle.squares.specs.Nodes.{node_at, nodes_of, plain_book, quarters_order, AreKnown, IsGood}
 use Rattle.squares.specs.Quarters.{quarters_of}
+use Rattle.squares.proofs.Added.{quad_added}
 use Rattle.squares.proofs.Kept.{keeps_none}
-use Rattle.squares.proofs.NodeLists.{node_last, not_zero}
-use Rattle.squares.proofs.NumberMaps.{exact_quarters, numbers_added, numbers_kept, numbers_same, inner_apart, no_leaf, inserted, refused}
+use Rattle.squares.proofs.NodeLists.{node_pushed, not_zero}
 use Rattle.squares.proofs.PlainLaws.{book_good, nodes_pushed}
 use Rattle.squares.proofs.PlainQuads.{all_four, empty_shows, good_quad, sum_of_empty, quarters_known, node_shows}
-use Rattle.squares.proofs.Pushed.{popped, pushed_futures, pushed_keeps, pushed_results}
+use Rattle.squares.proofs.Pushed.{pushed_keeps, pushed_results}
 use Rattle.squares.proofs.plain_book.PlainBookSquares.quad.Goals as goal
 
 -- squares that are not all empty, by the test of their quarters
@@ -39,9 +38,6 @@ returns-then-are_empty-clause-ok c =
 pub returns-in_err-num-clause-empty : goal.returns-in_err-num-clause-empty
 returns-in_err-num-clause-empty c = λ all. absurd (some_cell c.args.quarters c.of-node.result c.are_empty.result (search rules) c.of-node.ensures c.are_empty.ensures.1 c.if-are_empty.false all)
 
-pub returns-then-is_err-clause-empty : goal.returns-then-is_err-clause-empty
-returns-then-is_err-clause-empty c = λ all. absurd (some_cell c.args.quarters c.of-node.result c.are_empty.result (search rules) c.of-node.ensures c.are_empty.ensures.1 c.if-are_empty.false all)
-
 pub returns-in_err-num-clause-keeps : goal.returns-in_err-num-clause-keeps
 returns-in_err-num-clause-keeps c =
     let at = c.args.self.now in
@@ -52,19 +48,6 @@ pub returns-in_err-num-clause-results : goal.returns-in_err-num-clause-results
 returns-in_err-num-clause-results c =
     let at = c.args.self.now in
     subst (λ items. KeepsResults (plain_book at.rule at.exponent at.records.items) (plain_book at.rule at.exponent items)) (sym c.in_err-num.ensures.err) (record { results = refl; learned = refl })
-
-pub returns-then-is_err-clause-keeps : goal.returns-then-is_err-clause-keeps
-returns-then-is_err-clause-keeps c =
-    let at = c.args.self.now in
-    let book = plain_book at.rule at.exponent at.records.items in
-    let same = popped at.records.items _ c.push_node.new.records.items c.pop.new.self.items _ _ c.in_ok-num.ensures.ok c.in_ok-num.ensures.number c.in_ok-num.ensures.len c.pop.ensures.rest in
-    subst (λ items. Keeps book (plain_book at.rule at.exponent items)) (sym same) (keeps_none book)
-
-pub returns-then-is_err-clause-results : goal.returns-then-is_err-clause-results
-returns-then-is_err-clause-results c =
-    let at = c.args.self.now in
-    let same = popped at.records.items _ c.push_node.new.records.items c.pop.new.self.items _ _ c.in_ok-num.ensures.ok c.in_ok-num.ensures.number c.in_ok-num.ensures.len c.pop.ensures.rest in
-    subst (λ items. KeepsResults (plain_book at.rule at.exponent at.records.items) (plain_book at.rule at.exponent items)) (sym same) (record { results = refl; learned = refl })
 
 pub returns-in-Some-clause-ok : goal.returns-in-Some-clause-ok
 returns-in-Some-clause-ok c =
@@ -79,44 +62,27 @@ returns-in-Some-clause-ok c =
     subst (λ (p : Quarters). Shows book ((nth squares 0).level + 1) (joined_squares book (nth squares 0).level squares) (record { level = p.level; num = num })) (sym c.of-node.ensures)
     (node_shows at.rule at.exponent at.records.items squares known at.records.items num.0 at.good (keeps_none book) (not_zero (nodes_of at.records.items) num.0 _ there) there)
 
-pub invariant_of-self-then-is_err : goal.invariant_of-self-then-is_err
-invariant_of-self-then-is_err c =
-    let at = c.args.self.now in
-    let same = popped at.records.items _ c.push_node.new.records.items c.pop.new.self.items _ _ c.in_ok-num.ensures.ok c.in_ok-num.ensures.number c.in_ok-num.ensures.len c.pop.ensures.rest in
-    record {
-      good = subst (λ (items : List Record). IsGood (nodes_of items)) (sym same) at.good;
-      leaves_listed = subst (λ (items : List Record). HasNumbers nat_cmp Leaf (nodes_of items) at.leaves) (sym same) at.leaves_listed;
-      inner_listed = subst (λ (items : List Record). HasNumbers quarters_order Inner (nodes_of items) c.insert.new.self) (sym same)
-          (numbers_same quarters_order Inner (nodes_of at.records.items) at.inner c.insert.new.self (refused c.insert.result c.if-is_err.ensures.value c.insert.ensures.err) at.inner_listed);
-      futures = subst (AreFutures at.rule at.exponent) (sym same) at.futures;
-      is_book = subst (λ (items : List Record). IsBook (plain_book at.rule at.exponent items)) (sym same) at.is_book;
-    }
-
-pub invariant_of-self-else-is_err : goal.invariant_of-self-else-is_err
-invariant_of-self-else-is_err c =
+pub invariant_of-self : goal.invariant_of-self
+invariant_of-self c =
     let at = c.args.self.now in
     let squares = c.args.quarters in
     let book = plain_book at.rule at.exponent at.records.items in
     let known = all_four (IsKnown book (nth squares 0).level) squares (search rules) c.requires.known in
     let q = c.of-node.result in
-    let items = c.in_ok-num.ensures.ok in
-    let nodes = nodes_of at.records.items in
-    let all : nodes_of c.push_node.new.records.items ≡ nodes ++ Inner q ∷ [] = ap nodes_of items ∙ nodes_pushed at.records.items _ in
+    let new = c.add_node.new.records.items in
+    let made = c.add_node.ensures in
     let none : get quarters_order at.inner q ≡ None = search rules in
-    let number : c.in_ok-num.num.0 ≡ suc (length nodes) = c.in_ok-num.ensures.number ∙ ap suc (sym (length-map at.records.items (λ (r : Record). r.node))) in
-    let up = inserted c.insert.result c.if-is_err.ensures.value c.insert.ensures.updates in
     let some = λ (e : q.nw.0 + q.ne.0 + q.sw.0 + q.se.0 ≡ 0). false≢true (sym c.if-are_empty.false ∙ c.are_empty.ensures.1 e) in
-    let quarters : AreKnown nodes q = subst (AreKnown nodes) (sym c.of-node.ensures)
+    let quarters : AreKnown (nodes_of at.records.items) q = subst (AreKnown (nodes_of at.records.items)) (sym c.of-node.ensures)
     (quarters_known at.rule at.exponent at.records.items squares known c.requires.level (λ e. some (ap (λ (p : Quarters). p.nw.0 + p.ne.0 + p.sw.0 + p.se.0) c.of-node.ensures ∙ e))) in
-    let good = good_quad nodes at.inner q quarters at.inner_listed none at.good in
-    let futures = pushed_futures at.rule at.exponent at.records.items (Inner q) at.good at.futures in
+    let sound = quad_added at.rule at.exponent at.records.items new at.leaves at.inner (record { good = at.good; leaves_listed = at.leaves_listed; inner_listed = at.inner_listed; futures = at.futures })
+    c.add_node.result q c.add_node.new.numbers quarters none made.number made.ok made.noted made.err made.same in
     record {
-      good = subst IsGood (sym all) good;
-      leaves_listed = subst (λ ns. HasNumbers nat_cmp Leaf ns at.leaves) (sym all) (numbers_kept nat_cmp Leaf nodes at.leaves (Inner q) (no_leaf q) at.leaves_listed);
-      inner_listed = subst (λ ns. HasNumbers quarters_order Inner ns c.insert.new.self) (sym all)
-          (numbers_added quarters_order exact_quarters Inner inner_apart nodes at.inner c.insert.new.self q c.in_ok-num.num number at.inner_listed none up);
-      futures = subst (AreFutures at.rule at.exponent) (sym items) futures;
-      is_book = book_good at.rule at.exponent c.push_node.new.records.items at.is_book.rule (subst IsGood (sym all) good) (subst (AreFutures at.rule at.exponent) (sym items) futures);
+      good = sound.good;
+      leaves_listed = sound.leaves_listed;
+      inner_listed = sound.inner_listed;
+      futures = sound.futures;
+      is_book = book_good at.rule at.exponent new at.is_book.rule sound.good sound.futures;
     }
 
 pub returns-clause-keeps : goal.returns-clause-keeps
@@ -135,14 +101,12 @@ returns-clause-ok c =
     let squares = c.args.quarters in
     let book = plain_book at.rule at.exponent at.records.items in
     let known = all_four (IsKnown book (nth squares 0).level) squares (search rules) c.requires.known in
-    let new = c.push_node.new.records.items in
+    let new = c.add_node.new.records.items in
     let num = c.in_ok-num.num in
     let nodes = nodes_of at.records.items in
     let all : nodes_of new ≡ nodes ++ Inner c.of-node.result ∷ [] = ap nodes_of c.in_ok-num.ensures.ok ∙ nodes_pushed at.records.items _ in
     let number : suc (length nodes) ≡ num.0 = sym (c.in_ok-num.ensures.number ∙ ap suc (sym (length-map at.records.items (λ (r : Record). r.node)))) in
-    let last : node_at (nodes_of new) num.0 ≡ Some (Inner c.of-node.result) = subst (λ ns. node_at ns num.0 ≡ Some (Inner c.of-node.result)) (sym all)
-    (subst (λ n. node_at (nodes ++ Inner c.of-node.result ∷ []) n ≡ Some (Inner c.of-node.result)) number (node_last nodes (Inner c.of-node.result))) in
-    let there : node_at (nodes_of new) num.0 ≡ Some (Inner (quarters_of squares)) = last ∙ ap (λ (p : Quarters). Some (Inner p)) c.of-node.ensures in
+    let there : node_at (nodes_of new) num.0 ≡ Some (Inner (quarters_of squares)) = node_pushed nodes (nodes_of new) (Inner c.of-node.result) num.0 all number ∙ ap (λ (p : Quarters). Some (Inner p)) c.of-node.ensures in
     let none : get quarters_order at.inner c.of-node.result ≡ None = search rules in
     let some = λ (e : c.of-node.result.nw.0 + c.of-node.result.ne.0 + c.of-node.result.sw.0 + c.of-node.result.se.0 ≡ 0). false≢true (sym c.if-are_empty.false ∙ c.are_empty.ensures.1 e) in
     let quarters : AreKnown nodes c.of-node.result = subst (AreKnown nodes) (sym c.of-node.ensures)
