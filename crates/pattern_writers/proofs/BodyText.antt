@@ -1,11 +1,12 @@
 -- How the body of an RLE text grows item by item.
-use Rattle.std.proofs.Common.{◌≡◌, ℕ, ◌+◌, ◌<◌, List, [], ◌∷◌, ◌++◌, length, map, take, drop, get_or, codes, ap, sym, ◌∙◌, refl, append_assoc, add-one, drop-cons}
+use Rattle.std.proofs.Common.{◌≡◌, ℕ, ◌+◌, ◌<◌, ◌≤◌, List, [], ◌∷◌, ◌++◌, length, map, take, drop, get_or, codes, ap, sym, ◌∙◌, refl, append_assoc, add-one, drop-cons}
 use Rattle.std.proofs.Common.{arith}
 use Rattle.std.specs.Bool.{Decides}
+use Rattle.std.proofs.lemmas.Bool.{cond-true, cond-false, le-leb, lt-leb}
 use Rattle.std.proofs.lemmas.Bool.Decides.{Decides-int_eq}
 use Rattle.std.proofs.lemmas.List.{take_more, map-append}
 use Rattle.plane.specs.declared.cell.Cell.{Cell}
-use Rattle.std.specs.Prelude.{ℤ, if◌then◌else◌}
+use Rattle.std.specs.Prelude.{ℤ, if◌then◌else◌, nat_le}
 use Rattle.std.specs.Ordering.{int_eq}
 use Rattle.rle_reader.specs.declared.item.Tag.TheVariants.{Dead, Live, Row}
 use Rattle.pattern_writers.specs.declared.rle_text.items.Item.{Item}
@@ -29,6 +30,17 @@ pub LaysOut-more : (items : List Item) (i : ℕ) (d : Item) (text line next out 
 LaysOut-more items i d text line next out more h is first second = λ rest.
     ap (λ pieces. laid_out [] (pieces ++ rest)) (texts_more items i d h ∙ ap (λ t. map item_text (take i items) ++ t ∷ []) (sym is))
     ∙ LaysOut-trans [] line next (map item_text (take i items)) (text ∷ []) out more first second rest
+
+-- a piece that fits goes on the line
+pub LaysOut-on : (line piece next : List ℕ) → length line + length piece ≤ 70 → next ≡ line ++ piece → LaysOut line (piece ∷ []) next []
+LaysOut-on line piece next fits is = λ rest.
+    cond-true (nat_le (length line + length piece) 70) _ _ (le-leb (length line + length piece) 70 fits) ∙ ap (λ l. laid_out l rest) (sym is)
+
+-- one that doesn't begins a line
+pub LaysOut-off : (line piece next : List ℕ) → 70 < length line + length piece → next ≡ piece → LaysOut line (piece ∷ []) next (line ++ codes "\n")
+LaysOut-off line piece next long is = λ rest.
+    cond-false (nat_le (length line + length piece) 70) _ _ (lt-leb (length line + length piece) 70 long)
+    ∙ ap (λ l. line ++ codes "\n" ++ laid_out l rest) (sym is)
 
 -- after all items and the `!` the last line is left
 pub body_text-ends : (items : List Item) (line last out more : List ℕ) → LaysOut [] (map item_text items) line out → LaysOut line (codes "!" ∷ []) last more

@@ -3,7 +3,9 @@ use Rattle.std.proofs.Common.{◌≡◌, ℕ, ◌+◌, ◌-◌, ◌<◌, ◌≤�
 use Rattle.std.specs.Prelude.{Some, None, IsTrue, ◌==◌}
 use Rattle.std.specs.HashMap.{Updates}
 use Rattle.std.specs.List.{AllByRecursion}
+use Rattle.std.proofs.lemmas.Bool.{cond-true, cond-false, false≢true}
 use Rattle.std.proofs.lemmas.Bool.Decides.{Decides-eqb}
+use Rattle.std.proofs.lemmas.Option.{none-some, same_Some}
 use Rattle.plane.specs.Plane.{Plane}
 use Rattle.plane.specs.Square.{IsSame, bits_plane}
 use Rattle.plane.proofs.Same.{plane_equal}
@@ -11,8 +13,9 @@ use Rattle.plane.proofs.Turns.{AllByRecursion-weaker}
 use Rattle.squares.specs.Book.{Book, IsBook, IsKnown, Shows, AreQuarters, nth}
 use Rattle.squares.specs.declared.sq.Sq.{Sq}
 use Rattle.viewport.specs.Population.{is_same_key, value_of}
+use Rattle.viewport.proofs.Counts.{by_cases}
 use Rattle.pattern_writers.specs.LeafText.{leaf_text}
-use Rattle.pattern_writers.specs.ListedNodes.{AreListed, HasNumber, Lists, ListsFour, listed_with, square_of}
+use Rattle.pattern_writers.specs.ListedNodes.{AreListed, HasNumber, Lists, ListsFour, listed_with, number_of, square_of}
 use Rattle.pattern_writers.specs.McText.{inner_text, square_text}
 use Rattle.pattern_writers.specs.NodeLines.{node_text}
 use Rattle.pattern_writers.specs.Subsquares.{Square, if_alive, is_dead, is_listed, is_same_square, nw_of, ne_of, sw_of, se_of, number_in, squares_in, with_new}
@@ -160,14 +163,14 @@ module _ (book : Book) (laws : IsBook book) where
   fresh_square listed old sq are known none = not_found listed (square_of book sq) (sym (are.numbers sq known) ∙ none)
 
   -- an empty square adds nothing
-  pub empty_lists : (list : NodeList) (sq : Sq) → sq.num.0 ≡ 0 → Lists book sq list list 0
+  empty_lists : (list : NodeList) (sq : Sq) → sq.num.0 ≡ 0 → Lists book sq list list 0
   empty_lists list sq zero = record {
     lists = λ listed are. let P : List Square → Type 0 = λ l. AreListed book l list in subst P (sym (empty_adds book laws listed sq zero)) are;
     numbers = λ listed are. subst (λ l. HasNumber l (square_of book sq) 0) (sym (empty_adds book laws listed sq zero)) (empty_number book laws listed sq zero);
   }
 
   -- nor does one that has a number
-  pub known_lists : (list : NodeList) (sq : Sq) (number : ℕ) → IsTrue (book.knows sq) → value_of list.numbers sq ≡ Some number → Lists book sq list list number
+  known_lists : (list : NodeList) (sq : Sq) (number : ℕ) → IsTrue (book.knows sq) → value_of list.numbers sq ≡ Some number → Lists book sq list list number
   known_lists list sq number known is =
       let found = λ (listed : List Square) (are : AreListed book listed list). found_number listed (square_of book sq) number (sym (are.numbers sq known) ∙ is) in
       let same = λ (listed : List Square) (are : AreListed book listed list).
@@ -178,6 +181,23 @@ module _ (book : Book) (laws : IsBook book) where
             subst (λ l. HasNumber l (square_of book sq) number) (sym (same listed are))
             (subst (HasNumber listed (square_of book sq)) (found listed are).1 (number_listed listed (square_of book sq) (found listed are).0));
       }
+
+  -- a square for which no node has to be added has its number
+  pub number_lists : (list : NodeList) (sq : Sq) (number : ℕ) → IsTrue (book.knows sq) → number_of list sq ≡ Some number → Lists book sq list list number
+  number_lists list sq number known =
+      by_cases (sq.num.0 == 0)
+      (λ zero is. subst (Lists book sq list list) (same_Some 0 number (sym (cond-true (sq.num.0 == 0) (Some 0) (value_of list.numbers sq) zero) ∙ is)) (empty_lists list sq ((Decides-eqb sq.num.0 0).0 zero)))
+      (λ not_zero is. known_lists list sq number known (sym (cond-false (sq.num.0 == 0) (Some 0) (value_of list.numbers sq) not_zero) ∙ is))
+
+  -- one for which a node has to be added is not empty, and has none
+  pub no_number : (list : NodeList) (sq : Sq) → number_of list sq ≡ None → (sq.num.0 ≡ 0 → ⊥) × (value_of list.numbers sq ≡ None)
+  no_number list sq none =
+      by_cases (sq.num.0 == 0)
+      (λ zero. absurd (none-some 0 (sym none ∙ cond-true (sq.num.0 == 0) (Some 0) (value_of list.numbers sq) zero)))
+      (λ not_zero. (
+        λ zero. false≢true (sym not_zero ∙ (Decides-eqb sq.num.0 0).1 zero),
+        sym (cond-false (sq.num.0 == 0) (Some 0) (value_of list.numbers sq) not_zero) ∙ none,
+      ))
 
   -- a leaf that is new
   pub leaf_lists : (old new : NodeList) (sq : Sq) (word number : ℕ) → IsKnown book sq.level sq → (sq.num.0 ≡ 0 → ⊥) → sq.level ≡ 3 → value_of old.numbers sq ≡ None →

@@ -1,5 +1,5 @@
 -- The list of nodes while it is made, by the squares of a book.
-use Rattle.std.specs.Prelude.{◌≡◌, ℕ, ◌-◌, nat_eq, Bool, true, if◌then◌else◌, List, [], ◌∷◌, ◌++◌, map, Option, None, Some, IsTrue}
+use Rattle.std.specs.Prelude.{◌≡◌, ℕ, ◌-◌, ◌==◌, nat_eq, Bool, true, if◌then◌else◌, List, [], ◌∷◌, ◌++◌, map, Option, None, Some, IsTrue}
 use Rattle.std.specs.Cmp.Lexicographic.{pointwise}
 use Rattle.std.specs.List.{flat_map}
 use Rattle.plane.specs.Centred.{IsSmallestLevel}
@@ -25,6 +25,10 @@ listed_with book listed sq = with_new listed (squares_in (sq.level - 3) (book.ce
 -- the number of a square among these, if it is one of them
 abbrev pub found_in : List Square → Square → Option ℕ
 found_in listed square = if is_listed listed square then Some (number_in listed square) else None
+
+-- the number of a square for which no node has to be added: 0 of an empty one, else that of its node
+abbrev pub number_of : NodeList → Sq → Option ℕ
+number_of list sq = if sq.num.0 == 0 then Some 0 else value_of list.numbers sq
 
 -- this is the number of a square among these squares, whatever squares follow them
 pub record HasNumber (listed : List Square) (square : Square) (number : ℕ) : Type 0 where

@@ -3,7 +3,7 @@ ghost use Rattle.std.specs.HashMap.{Updates};
 ghost use Rattle.plane.specs.Centred.{centred};
 ghost use Rattle.squares.specs.Book.{IsKnown, nth};
 ghost use Rattle.viewport.specs.Population.{is_same_key};
-ghost use Rattle.pattern_writers.specs.ListedNodes.{AreNodes, Lists, ListsFour, root_node};
+ghost use Rattle.pattern_writers.specs.ListedNodes.{AreNodes, Lists, ListsFour, number_of, root_node};
 ghost use Rattle.pattern_writers.specs.Roots.{AreKnown};
 
 use super::node::Node;
@@ -21,6 +21,16 @@ struct NodeList {
 }
 
 impl NodeList {
+    // The number of a square for which no node has to be added: 0 of an empty one, else that of its node.
+    fn number_of(&self, sq: Sq) -> Option<u64>
+        ensures { result ≡ number_of self.now sq }
+    {
+        if sq.num.0 == 0 {
+            return Some(0);
+        }
+        self.numbers.get(&(sq.level, sq.num.0)).copied()
+    }
+
     // Adds the node of a square, and gives its number.
     fn add(&mut self, sq: Sq, node: Node) -> Result<u64, Refusal>
         ensures node { OnOk result (self.new.nodes.items ≡ self.old.nodes.items ++ node ∷ []) }
@@ -77,11 +87,8 @@ fn number<L: Look>(look: &L, sq: Sq, list: &mut NodeList) -> Result<u64, Refusal
     ensures ok { IfOk result (Lists (L.book look.now) sq list.old list.new) }
     ensures memory { IsOkUnless result Refusal.NoMemory }
 {
-    if sq.num.0 == 0 {
-        return Ok(0);
-    }
-    if let Some(number) = list.numbers.get(&(sq.level, sq.num.0)) {
-        return Ok(*number);
+    if let Some(number) = list.number_of(sq) {
+        return Ok(number);
     }
     if sq.level == 3 {
         return list.add(sq, Node::Leaf(look.bits(sq)));
@@ -104,10 +111,9 @@ fn numbers<L: Look>(look: &L, squares: [Sq; 4], list: &mut NodeList) -> Result<[
     ensures memory { IsOkUnless result Refusal.NoMemory }
 {
     let [nw, ne, sw, se] = squares;
-    Ok([
-        number(look, nw, list)?,
-        number(look, ne, list)?,
-        number(look, sw, list)?,
-        number(look, se, list)?,
-    ])
+    let nw = number(look, nw, list)?;
+    let ne = number(look, ne, list)?;
+    let sw = number(look, sw, list)?;
+    let se = number(look, se, list)?;
+    Ok([nw, ne, sw, se])
 }

@@ -1,4 +1,4 @@
-ghost use Rattle.std.specs.Prelude.{◌≡◌, ℕ, ◌≤◌, List, [], ◌∷◌, length, OnOk, IfErr};
+ghost use Rattle.std.specs.Prelude.{◌≡◌, ℕ, ◌≤◌, List, [], ◌∷◌, ◌++◌, codes, length, OnOk, IfErr};
 ghost use Rattle.std.specs.Io.KnownBytes.{Appends, append_known};
 ghost use Rattle.arrayvec.specs.ArrayString.{array_string_len};
 ghost use Rattle.plane.specs.Device.{IsWriteRefusal};
@@ -30,8 +30,7 @@ pub(crate) fn write_body<V: Sink>(
         lay(file, block, &mut line, item.text().as_str())?;
     }
     lay(file, block, &mut line, "!")?;
-    line.push_str("\n");
-    put(file, block, line.as_str().as_bytes())
+    end_line(file, block, &mut line)
 }
 
 // Puts a piece on the line, or writes the line out and begins a new one with the piece.
@@ -51,10 +50,26 @@ fn lay<V: Sink>(
     ensures refused { IfErr result (IsWriteRefusal (V.failure_count file.old) (V.failure_count file.new)) }
 {
     if line.len() + piece.len() > LINE_LENGTH {
-        line.push_str("\n");
-        put(file, block, line.as_str().as_bytes())?;
-        line.clear();
+        end_line(file, block, line)?;
     }
     line.push_str(piece);
+    Ok(())
+}
+
+// Writes the line out, and empties it.
+fn end_line<V: Sink>(
+    file: &mut V,
+    block: &mut OutputBlock,
+    line: &mut ArrayString<LINE_ROOM>,
+) -> Result<(), Refusal>
+    requires { array_string_len line.old ≤ 70 }
+    ensures written { OnOk result (Appends (append_known (V.taken file.old) block.old.items) (append_known (V.taken file.new) block.new.items) (line.old.bytes ++ codes "\n")) }
+    ensures emptied { OnOk result (line.new.bytes ≡ []) }
+    ensures unfailed { OnOk result (V.failure_count file.new ≡ V.failure_count file.old) }
+    ensures refused { IfErr result (IsWriteRefusal (V.failure_count file.old) (V.failure_count file.new)) }
+{
+    line.push_str("\n");
+    put(file, block, line.as_str().as_bytes())?;
+    line.clear();
     Ok(())
 }

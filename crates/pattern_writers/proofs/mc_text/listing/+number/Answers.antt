@@ -1,6 +1,7 @@
 use Rattle.std.proofs.Common.{refl, sym, arith}
 use Rattle.std.specs.Prelude.{Result, Ok, Err, IfOk, OnOk}
-use Rattle.pattern_writers.proofs.ListedQuarters.{empty_lists, inner_lists, known_lists, leaf_lists}
+use Rattle.pattern_writers.specs.ListedNodes.{number_of}
+use Rattle.pattern_writers.proofs.ListedQuarters.{inner_lists, leaf_lists, no_number, number_lists}
 use Rattle.pattern_writers.proofs.mc_text.listing.+number.Goals as goal
 
 -- three facts of a result that is Ok give a fourth
@@ -8,43 +9,42 @@ from_three : {T E : Type 0} (r : Result T E) (A : Type 0) (B C P : T → Type 0)
 from_three (Ok x) A B C P make a b c = make x a b c
 from_three (Err e) A B C P make a b c = tt
 
-pub number-returns-then-sq-eq0-clause-ok : goal.number-returns-then-sq-eq0-clause-ok
-number-returns-then-sq-eq0-clause-ok g t c = empty_lists (g.L.Look.book c.args.look.now) (g.met.L.Look.is_book c.args.look.now) c.args.list.now c.args.sq c.if-sq-eq0.true
-
 pub number-returns-in-Some-clause-ok : goal.number-returns-in-Some-clause-ok
 number-returns-in-Some-clause-ok g t c =
-    known_lists (g.L.Look.book c.args.look.now) (g.met.L.Look.is_book c.args.look.now) c.args.list.now c.args.sq c.in-Some.number.now c.requires.known.known (sym c.in-Some.ensures.value)
+    number_lists (g.L.Look.book c.args.look.now) (g.met.L.Look.is_book c.args.look.now) c.args.list.now c.args.sq c.in-Some.number c.requires.known.known (sym c.in-Some.ensures)
 
 pub number-returns-then-sq-eq3-clause-ok : goal.number-returns-then-sq-eq3-clause-ok
 number-returns-then-sq-eq3-clause-ok g t c =
     let book = g.L.Look.book c.args.look.now in
+    let new = no_number book (g.met.L.Look.is_book c.args.look.now) c.args.list.now c.args.sq (sym {b = number_of c.args.list.now c.args.sq} c.in_default.ensures) in
     from_three c.add.result _ _ _ _
     (λ number grown next up.
-    leaf_lists book (g.met.L.Look.is_book c.args.look.now) c.args.list.now c.add.new.self c.args.sq c.bits.result number c.requires.known c.if-sq-eq0.false c.if-sq-eq3.true
-    (sym c.in_default.ensures.value) c.bits.ensures next grown up)
+    leaf_lists book (g.met.L.Look.is_book c.args.look.now) c.args.list.now c.add.new.self c.args.sq c.bits.result number c.requires.known new.0 c.if-sq-eq3.true
+    new.1 c.bits.ensures next grown up)
     c.add.ensures.node c.add.ensures.number c.add.ensures.noted
 
 pub number-returns-clause-ok : goal.number-returns-clause-ok
 number-returns-clause-ok g t c =
     let book = g.L.Look.book c.args.look.now in
+    let new = no_number book (g.met.L.Look.is_book c.args.look.now) c.args.list.now c.args.sq (sym {b = number_of c.args.list.now c.args.sq} c.in_default.ensures) in
     from_three c.add-2.result _ _ _ _
     (λ number grown next up.
-    inner_lists book (g.met.L.Look.is_book c.args.look.now) c.args.list.now c.numbers.new.list c.add-2.new.self c.args.sq c.parts.result c.in_ok-quarters.quarters number c.requires.known c.if-sq-eq0.false (omega arith)
-    (sym c.in_default.ensures.value) c.parts.ensures c.in_ok-quarters.ensures.ok next grown up)
+    inner_lists book (g.met.L.Look.is_book c.args.look.now) c.args.list.now c.numbers.new.list c.add-2.new.self c.args.sq c.parts.result c.in_ok-quarters.quarters number c.requires.known new.0 (omega arith)
+    new.1 c.parts.ensures c.in_ok-quarters.ensures.ok next grown up)
     c.add-2.ensures.node c.add-2.ensures.number c.add-2.ensures.noted
 
 pub numbers-returns-clause-ok : goal.numbers-returns-clause-ok
 numbers-returns-clause-ok g t c = record {
-  number_nw = c.in_ok-number.field-0;
-  number_ne = c.in_ok-number-2.field-0;
-  number_sw = c.in_ok-number-3.field-0;
-  number_se = c.in_ok-number-4.field-0;
+  number_nw = c.in_ok-nw.nw;
+  number_ne = c.in_ok-ne.ne;
+  number_sw = c.in_ok-sw.sw;
+  number_se = c.in_ok-se.se;
   are = refl;
   with_nw = c.number.new.list;
   with_ne = c.number-2.new.list;
   with_sw = c.number-3.new.list;
-  nw = c.in_ok-number.ensures.ok;
-  ne = c.in_ok-number-2.ensures.ok;
-  sw = c.in_ok-number-3.ensures.ok;
-  se = c.in_ok-number-4.ensures.ok;
+  nw = c.in_ok-nw.ensures.ok;
+  ne = c.in_ok-ne.ensures.ok;
+  sw = c.in_ok-sw.ensures.ok;
+  se = c.in_ok-se.ensures.ok;
 }

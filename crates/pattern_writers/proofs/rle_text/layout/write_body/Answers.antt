@@ -26,7 +26,6 @@ returns-clause-written g c =
     let put = c.in_ok-lay-2.ensures.laid in
     let last = c.lay-2.new.line.bytes in
     let whole : body_text items ≡ (before.0 ++ put.0) ++ (last ++ codes "\n") = body_text-ends items _ last before.0 put.0 before.2 put.2 in
-    let line : c.as_bytes.result.now ≡ last ++ codes "\n" = search rules in
-    on_ok_weaker c.put.result
-    (λ wrote. rw (whole, ← line) (Appends-trans _ _ _ (before.0 ++ put.0) c.as_bytes.result.now (Appends-trans _ _ _ before.0 put.0 before.1 put.1) wrote))
-    c.put.ensures.written
+    on_ok_weaker c.end_line.result
+    (λ wrote. rw whole (Appends-trans _ _ _ (before.0 ++ put.0) (last ++ codes "\n") (Appends-trans _ _ _ before.0 put.0 before.1 put.1) wrote))
+    c.end_line.ensures.written

@@ -1,0 +1,34 @@
+use Rattle.std.proofs.Common.{◌≡◌, ◌+◌, ◌<◌, ◌≤◌, [], ◌++◌, codes, length, ap, sym, subst, ◌∙◌, length-append}
+use Rattle.std.proofs.KnownBytes.{Appends-nil}
+use Rattle.pattern_writers.proofs.BodyText.{LaysOut-off, LaysOut-on}
+use Rattle.pattern_writers.proofs.rle_text.layout.lay.Goals as goal
+use Rattle.pattern_writers.proofs.rle_text.layout.lay.Goals.{then-len-piece-gt-LINE_LENGTH+in_ok-end_line, else-len-piece-gt-LINE_LENGTH}
+
+pub returns-clause-line : goal.returns-clause-line
+returns-clause-line g c =
+    let line = c.args.line.now.bytes in
+    let piece = c.args.piece.now in
+    elim c.if-len-piece-gt-LINE_LENGTH.branch [
+      | then-len-piece-gt-LINE_LENGTH+in_ok-end_line w ↦
+          let next : c.push_str.new.self.bytes ≡ piece = c.push_str.ensures.bytes ∙ ap (λ l. l.bytes ++ piece) w.line-is ∙ ap (λ l. l ++ piece) w.in_ok-end_line.ensures.emptied in
+          subst (λ l. length l ≤ 70) (sym next) c.requires.piece
+      | else-len-piece-gt-LINE_LENGTH w ↦
+          let next : c.push_str.new.self.bytes ≡ line ++ piece = c.push_str.ensures.bytes ∙ ap (λ l. l.bytes ++ piece) w.line-is in
+          let fits : length line + length piece ≤ 70 = subst (λ n. n + length piece ≤ 70) c.len.ensures.value w.if-len-piece-gt-LINE_LENGTH.false in
+          subst (λ n. n ≤ 70) (sym (ap length next ∙ length-append line piece)) fits
+    ]
+
+pub returns-clause-laid : goal.returns-clause-laid
+returns-clause-laid g c =
+    let line = c.args.line.now.bytes in
+    let piece = c.args.piece.now in
+    elim c.if-len-piece-gt-LINE_LENGTH.branch [
+      | then-len-piece-gt-LINE_LENGTH+in_ok-end_line w ↦
+          let next : c.push_str.new.self.bytes ≡ piece = c.push_str.ensures.bytes ∙ ap (λ l. l.bytes ++ piece) w.line-is ∙ ap (λ l. l ++ piece) w.in_ok-end_line.ensures.emptied in
+          let long : 70 < length line + length piece = subst (λ n. 70 < n + length piece) c.len.ensures.value w.if-len-piece-gt-LINE_LENGTH.true in
+          (line ++ codes "\n", rw (w.file-is, w.block-is) w.in_ok-end_line.ensures.written, LaysOut-off line piece _ long next)
+      | else-len-piece-gt-LINE_LENGTH w ↦
+          let next : c.push_str.new.self.bytes ≡ line ++ piece = c.push_str.ensures.bytes ∙ ap (λ l. l.bytes ++ piece) w.line-is in
+          let fits : length line + length piece ≤ 70 = subst (λ n. n + length piece ≤ 70) c.len.ensures.value w.if-len-piece-gt-LINE_LENGTH.false in
+          ([], rw (w.file-is, w.block-is) (Appends-nil _), LaysOut-on line piece _ fits next)
+    ]
