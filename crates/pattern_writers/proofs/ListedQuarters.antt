@@ -146,6 +146,10 @@ itself_again : (listed before squares : List Square) (square : Square) → with_
     with_new ((before ++ square ∷ []) ++ more) squares ≡ (before ++ square ∷ []) ++ more
 itself_again listed before squares square whole more = subst (λ l. with_new (l ++ more) squares ≡ l ++ more) whole (nothing_again listed squares more)
 
+-- the number of a square that is not empty
+pub number_noted : (list : NodeList) (sq : Sq) → (sq.num.0 ≡ 0 → ⊥) → number_of list sq ≡ value_of list.numbers sq
+number_noted list sq some = cond-false (sq.num.0 == 0) (Some 0) (value_of list.numbers sq) (by_cases (sq.num.0 == 0) (λ zero. absurd (some ((Decides-eqb sq.num.0 0).0 zero))) (λ not_zero. not_zero))
+
 module _ (book : Book) (laws : IsBook book) where
   -- the list after a square was added behind others
   added : (listed before : List Square) (old new : NodeList) (sq : Sq) (node : Node) (number : ℕ) → IsKnown book sq.level sq → (sq.num.0 ≡ 0 → ⊥) → AreListed book before old →

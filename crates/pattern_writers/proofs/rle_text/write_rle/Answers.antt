@@ -1,4 +1,4 @@
-use Rattle.std.proofs.Common.{subst}
+use Rattle.std.proofs.Common.{rules, subst}
 use Rattle.std.specs.Io.KnownBytes.{Appends}
 use Rattle.std.proofs.lemmas.Result.{on_ok_weaker}
 use Rattle.pattern_writers.proofs.WholeText.{whole_text}
@@ -15,3 +15,6 @@ returns-clause-written g c =
       appends = subst (Appends (g.V.Sink.taken c.args.file.now) (g.V.Sink.taken c.write_items.new.file)) (whole_text _ _ _ framed.cells _ _ framed.frame_is framed.items_is) wrote;
     })
     (rw c.as_slice.ensures.value at c.write_items.ensures.written)
+
+pub returns-in_err-frame-clause-refused : goal.returns-in_err-frame-clause-refused
+returns-in_err-frame-clause-refused g c = search rules
