@@ -67,6 +67,10 @@ pub run_items-pushed : (before one two three : List Item) (left : ℤ) (next : C
 run_items-pushed before one two three left next run start rows dead live is_rows is_start is_dead is_live first second third =
     third ∙ rw (second, first, is_rows, is_dead, is_start, is_live) (simp append_assoc)
 
+-- the choice of the same value
+pub chosen_same : (a b x y start : ℤ) → a ≡ b → start ≡ x → start ≡ (if int_eq a b then x else y)
+chosen_same a b x y start same is = is ∙ sym (cond-true (int_eq a b) x y ((Decides-int_eq a b).1 same))
+
 -- the choice of another value
 pub chosen_other : (a b x y start : ℤ) → (a ≡ b → ⊥) → start ≡ y → start ≡ (if int_eq a b then x else y)
 chosen_other a b x y start other is =

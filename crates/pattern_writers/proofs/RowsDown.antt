@@ -190,6 +190,13 @@ live_in_range plane x y is live =
     by_test (λ b. b ≡ true) (spans (2 ^ 63) (x +ℤ pos (2 ^ 62)) && spans (2 ^ 63) (y +ℤ pos (2 ^ 62))) (λ _. refl) (λ outside. let dead = is.dead x y outside in cc) in
     let parts = both_true _ _ inside in (in_range x parts.0, in_range y parts.1)
 
+-- a coordinate, and the next one, have numbers of 64 bits
+pub coordinate_fits : (z : ℤ) → IsCoordinate z → SFits w64 z
+coordinate_fits z at = grind (arith, ints, at.low, at.high)
+
+pub next_fits : (z : ℤ) → IsCoordinate z → SFits w64 (z +ℤ pos 1)
+next_fits z at = grind (arith, ints, at.low, at.high)
+
 -- how many rows there may be from the next one on
 abbrev pub rows_left : Option ℤ → ℕ
 rows_left None = 0
@@ -230,9 +237,6 @@ first_in run some = grind (arith, ints)
 last_in : (run : ℤ × ℕ) → 0 < run.1 → row.is_in_run (row.end_of run -ℤ pos 1) run ≡ true
 last_in run some = grind (arith, ints)
 
-first_fits : (first : ℤ) → IsCoordinate first → SFits w64 first
-first_fits first at = grind (arith, ints, at.low, at.high)
-
 end_fits : (first : ℤ) (count : ℕ) → IsCoordinate ((first +ℤ pos count) -ℤ pos 1) → SFits w64 (first +ℤ pos count)
 end_fits first count last = grind (arith, ints, last.low, last.high)
 
@@ -246,7 +250,7 @@ runs_fit_from plane y [] is apart live = tt
 runs_fit_from plane y (run ∷ runs) is apart live =
     let first = live run.0 (some_of run.0 run runs (first_in run apart.0)) in
     let last = live (row.end_of run -ℤ pos 1) (some_of (row.end_of run -ℤ pos 1) run runs (last_in run apart.0)) in (
-      record { first = first_fits run.0 (live_in_range plane run.0 y is first).0; end = end_fits run.0 run.1 (live_in_range plane (row.end_of run -ℤ pos 1) y is last).0 },
+      record { first = coordinate_fits run.0 (live_in_range plane run.0 y is first).0; end = end_fits run.0 run.1 (live_in_range plane (row.end_of run -ℤ pos 1) y is last).0 },
       runs_fit_from plane y runs is apart.2 (λ x there. live x (others_of x run runs there)),
     )
 

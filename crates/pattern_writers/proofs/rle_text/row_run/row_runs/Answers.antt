@@ -2,7 +2,7 @@ use Rattle.std.proofs.Common.{◌≡◌, ◌+ℤ◌, pos, negsuc, ◌<◌, ℤ, 
 use Rattle.std.proofs.lemmas.Int.{to_z-of_z, ints}
 use Rattle.plane.specs.Centred.{centred}
 use Rattle.pattern_writers.proofs.ItemReading.{run_cells}
-use Rattle.pattern_writers.proofs.RowsDown.{AreRunsSoFar, all_runs, fewer_rows, live_in_range, next_row, no_runs, row_added, rows_left, square_in_range}
+use Rattle.pattern_writers.proofs.RowsDown.{AreRunsSoFar, all_runs, coordinate_fits, fewer_rows, live_in_range, next_fits, next_row, no_runs, row_added, rows_left, square_in_range}
 use Rattle.pattern_writers.proofs.rle_text.row_run.row_runs.Goals as goal
 
 pub rows-init : goal.rows-init
@@ -20,8 +20,8 @@ overflow_add-row g c =
     let held = square_in_range book c.args.sq (g.met.L.Look.is_book c.args.look.now) c.requires.known c.requires.level in
     let far = subst (λ o. AreRunsSoFar plane o c.rows.runs.items) c.in-Some.is c.rows.invariant in
     let here = live_in_range plane far.1.x c.in-Some.row held far.1.live in
-    let row_fits : SFits w64 c.in-Some.row = grind (arith, ints, here.1.low, here.1.high) in
-    let fits : SFits w64 (c.in-Some.row +ℤ pos 1) = grind (arith, ints, here.1.low, here.1.high) in
+    let fits_here : SFits w64 c.in-Some.row = coordinate_fits c.in-Some.row here.1 in
+    let fits : SFits w64 (c.in-Some.row +ℤ pos 1) = next_fits c.in-Some.row here.1 in
     simp to_z-of_z fits
 
 pub rows-preserved : goal.rows-preserved
@@ -31,8 +31,8 @@ rows-preserved g c =
     let held = square_in_range book c.args.sq (g.met.L.Look.is_book c.args.look.now) c.requires.known c.requires.level in
     let far = subst (λ o. AreRunsSoFar plane o c.rows.runs.items) c.in-Some.is c.rows.invariant in
     let here = live_in_range plane far.1.x c.in-Some.row held far.1.live in
-    let row_fits : SFits w64 c.in-Some.row = grind (arith, ints, here.1.low, here.1.high) in
-    let fits : SFits w64 (c.in-Some.row +ℤ pos 1) = grind (arith, ints, here.1.low, here.1.high) in
+    let fits_here : SFits w64 c.in-Some.row = coordinate_fits c.in-Some.row here.1 in
+    let fits : SFits w64 (c.in-Some.row +ℤ pos 1) = next_fits c.in-Some.row here.1 in
     next_row plane (c.in-Some.row +ℤ pos 1) c.first_row-next-in-Some.result c.add_row.new.runs.items
     (row_added plane c.in-Some.row c.rows.runs.items c.add_row.new.runs.items far.0 (simp to_z-of_z at c.in_ok-add_row.ensures.ok))
     (simp to_z-of_z at c.first_row-next-in-Some.ensures)
@@ -44,8 +44,8 @@ rows-smaller g c =
     let held = square_in_range book c.args.sq (g.met.L.Look.is_book c.args.look.now) c.requires.known c.requires.level in
     let far = subst (λ o. AreRunsSoFar plane o c.rows.runs.items) c.in-Some.is c.rows.invariant in
     let here = live_in_range plane far.1.x c.in-Some.row held far.1.live in
-    let row_fits : SFits w64 c.in-Some.row = grind (arith, ints, here.1.low, here.1.high) in
-    let fits : SFits w64 (c.in-Some.row +ℤ pos 1) = grind (arith, ints, here.1.low, here.1.high) in
+    let fits_here : SFits w64 c.in-Some.row = coordinate_fits c.in-Some.row here.1 in
+    let fits : SFits w64 (c.in-Some.row +ℤ pos 1) = next_fits c.in-Some.row here.1 in
     let fewer = fewer_rows plane c.in-Some.row c.first_row-next-in-Some.result held far.1 (simp to_z-of_z at c.first_row-next-in-Some.ensures) in
     subst (λ (o : Option ℤ). rows_left c.first_row-next-in-Some.result < rows_left o) (sym c.in-Some.is) fewer
 
