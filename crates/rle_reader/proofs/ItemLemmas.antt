@@ -83,6 +83,35 @@ kept_as source place count end at (Ok tag) =
     let same : (capped count == 0) ≡ (count == 0) = grind (arith, nat_tests) in
     ap (λ b. seen_some (cond b (Err BadCount) (Ok (kept run))) at) same ∙ kept_if (count == 0) run at
 
+-- ---- what is drawn from a place to a tag
+
+module _ (source : List ℕ) (place count : ℕ) (spot : Spot) where
+  abbrev said_of : Result Tag Refusal → Result (Option Drawn) Fault
+  said_of reading = result_map_both (λ run. Some run) (λ refusal. fault_at refusal place) (drawn_as source place count (spot.place + 1) reading)
+
+  abbrev said : Result (Option Drawn) Fault
+  said = result_map_both (λ run. Some run) (λ refusal. fault_at refusal place) (drawn_from source place count spot)
+
+  pub drawn-no_tag : (refusal : Refusal) (fault : Fault) → Err refusal ≡ tag_of spot.byte → fault ≡ fault_at refusal place → Err fault ≡ said
+  unfolding drawn_from
+  drawn-no_tag refusal fault reading is = ap Err is ∙ ap said_of reading
+
+  pub drawn-no_count : (tag : Tag) (fault : Fault) → Ok tag ≡ tag_of spot.byte → count ≡ 0 → fault ≡ fault_at BadCount place → Err fault ≡ said
+  unfolding drawn_from
+  drawn-no_count tag fault reading none is =
+      ap Err is
+      ∙ ap (λ b. result_map_both (λ run. Some run) (λ refusal. fault_at refusal place) (cond {A = Result Drawn Refusal} b (Err BadCount) (Ok (record { text = slice_range source place (spot.place + 1); place = place; count = count; tag = tag })))) (sym (ap (λ n. n == 0) none))
+      ∙ ap said_of reading
+
+  pub drawn-counted : (tag : Tag) (text : List ℕ) → Ok tag ≡ tag_of spot.byte → (count ≡ 0 → ⊥) → text ≡ slice_range source place (spot.place + 1) →
+      Ok (Some (record { text = text; place = place; count = count; tag = tag })) ≡ said
+  unfolding drawn_from
+  drawn-counted tag text reading some text_is =
+      let counted : (count == 0) ≡ false = grind (arith, nat_tests) in
+      ap (λ (t : List ℕ). Ok (Some (record { text = t; place = place; count = count; tag = tag }))) text_is
+      ∙ ap (λ b. result_map_both (λ run. Some run) (λ refusal. fault_at refusal place) (cond {A = Result Drawn Refusal} b (Err BadCount) (Ok (record { text = slice_range source place (spot.place + 1); place = place; count = count; tag = tag })))) (sym counted)
+      ∙ ap said_of reading
+
 -- capping the count before or after makes no difference
 kept-drawn_from : (source : List ℕ) (place count : ℕ) (tag : Spot) → seen_some (drawn_from source place (capped count) tag) place ≡ as_kept (seen_some (drawn_from source place count tag) place)
 unfolding seen_some as_kept drawn_from

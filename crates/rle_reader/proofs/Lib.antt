@@ -6,6 +6,7 @@ mod OpeningLemmas
 mod HeaderPlace
 mod BodyLemmas
 mod ItemLemmas
+mod MotionLemmas
 mod FaultLemmas
 mod MeaningLemmas
 mod RunLemmas

@@ -9,7 +9,7 @@ use Rattle.std.proofs.lemmas.List.Folds.{list_any-append}
 use Rattle.plane.specs.declared.cell.Cell.{Cell}
 use Rattle.plane.specs.declared.range.TheConstants.{COORDINATE_LIMIT}
 use Rattle.plane.specs.declared.refusal.Refusal.{Refusal}
-use Rattle.plane.specs.declared.refusal.Refusal.TheVariants.{BadCount, OutOfRange, TooManyCells}
+use Rattle.plane.specs.declared.refusal.Refusal.TheVariants.{BadCount}
 use Rattle.plane.specs.Runs.{AreRising, AreRuns, IsRun, Precedes, is_in_run, runs_plane}
 use Rattle.plane.specs.Square.{IsSame}
 use Rattle.plane.proofs.Turns.{AllByRecursion-append, AllByRecursion-weaker}
@@ -17,10 +17,11 @@ use Rattle.rle_reader.specs.Items.{Drawn, Item, drawn_as, drawn_from, run_of, ta
 use Rattle.rle_reader.specs.LiveRuns.{live_run}
 use Rattle.rle_reader.specs.Meaning.{Meaning, StayInRange, is_covered, live_plane}
 use Rattle.rle_reader.specs.Range.{IsWithinReach}
-use Rattle.rle_reader.specs.State.{State, state_at, start_at, after_item, leaves_range, passes_limit, passes_cells, motion_fault, first_fault, when}
+use Rattle.rle_reader.specs.State.{State, state_at, start_at, after_item, leaves_range, passes_limit, motion_fault}
 use Rattle.rle_reader.specs.declared.item.Tag.{Tag}
 use Rattle.rle_reader.specs.declared.item.Tag.TheVariants.{Dead, Live, Row}
 use Rattle.rle_reader.proofs.FaultLemmas.{either_false}
+use Rattle.rle_reader.proofs.MotionLemmas.{stays-no_fault}
 
 -- ---- each item counts at least one
 
@@ -185,17 +186,11 @@ listed_more meaning left column row left' column' row' live live' run all rest r
 
 -- ---- no item of a checked file is refused
 
-no_motion_fault : (state : State) (tag : Tag) (count : ℕ) → leaves_range state tag count ≡ false → passes_cells state tag count ≡ false → motion_fault state tag count ≡ None
-unfolding motion_fault
-no_motion_fault state tag count stays few =
-    ap (λ b. first_fault (when b OutOfRange ++ when (passes_cells state tag count) TooManyCells)) stays
-    ∙ ap (λ b. first_fault (when false OutOfRange ++ when b TooManyCells)) few
-
 pub passes_well : (meaning : Meaning) (left column row : ℤ) (live : ℕ) (run : Drawn) (all rest : List Drawn) (runs : List (Cell × ℕ)) → all ≡ run ∷ rest →
     IsListed meaning left column row live all runs → motion_fault (state_at column row live) run.tag run.count ≡ None
 passes_well meaning left column row live run all rest runs first before =
     let listed = subst (λ items. IsListed meaning left column row live items runs) first before in
-    no_motion_fault (state_at column row live) run.tag run.count listed.stay.0 listed.stay.1
+    stays-no_fault (state_at column row live) run.tag run.count listed.stay.0 listed.stay.1
 
 pub no_refusal : (result : Result (Unit {0}) Refusal) (fault : Option Refusal) → fault ≡ None → IfErr result (λ refusal. fault ≡ Some refusal) → is_err result ≡ true → ⊥
 no_refusal (Ok done) fault none refused is = cc

@@ -75,7 +75,6 @@ pub(crate) fn next_run<'a>(body: &mut Body<'a>) -> Result<Option<Run<'a>>, Fault
 }
 
 /// The item from a place to its tag.
-#[tactic(auto, unfolding(crate::specs::Items::drawn_from))]
 fn tagged_run<'a>(
     source: &'a [u8],
     place: usize,

@@ -1,6 +1,6 @@
 //! Where the next item begins, and how many cells are live so far.
 
-ghost use Rattle.std.specs.Prelude.{◌≡◌, pos, ◌+ℤ◌, ◌≤◌, int_le, not, OnOk, IfErr, IsTrue};
+ghost use Rattle.std.specs.Prelude.{◌≡◌, true, false, pos, ◌+ℤ◌, ◌≤◌, int_le, MatchOption, OnOk, IfErr};
 ghost use Rattle.rle_reader.specs.State.{state_at, start_at, after_item, motion_fault, passes_limit};
 ghost use Rattle.plane.specs.declared.range.TheConstants.{LIVE_CELL_LIMIT};
 ghost use Rattle.rle_reader.specs.Range.{IsWithinReach};
@@ -62,7 +62,6 @@ impl Pen {
         }
     }
 
-    #[tactic(auto, unfolding(crate::specs::State::motion_fault))]
     fn pass_rows(&mut self, count: u64) -> Result<(), Refusal>
         ensures ok { OnOk result ((motion_fault (state_at self.old.column self.old.row self.old.live) Tag.Row count ≡ None)
             × (state_at self.new.column self.new.row self.new.live
@@ -70,19 +69,18 @@ impl Pen {
             × (self.new.left ≡ self.old.left)) }
         ensures err { IfErr result (λ refusal. motion_fault (state_at self.old.column self.old.row self.old.live) Tag.Row count ≡ Some refusal) }
     {
-        if !can_move(self.row, count) {
+        let Some(row) = moved(self.row, count) else {
             return Err(Refusal::OutOfRange);
-        }
+        };
         *self = Pen {
             left: self.left,
             column: self.left,
-            row: moved(self.row, count),
+            row,
             live: self.live,
         };
         Ok(())
     }
 
-    #[tactic(auto, unfolding(crate::specs::State::motion_fault))]
     fn pass_dead(&mut self, count: u64) -> Result<(), Refusal>
         ensures ok { OnOk result ((motion_fault (state_at self.old.column self.old.row self.old.live) Tag.Dead count ≡ None)
             × (state_at self.new.column self.new.row self.new.live
@@ -90,19 +88,18 @@ impl Pen {
             × (self.new.left ≡ self.old.left)) }
         ensures err { IfErr result (λ refusal. motion_fault (state_at self.old.column self.old.row self.old.live) Tag.Dead count ≡ Some refusal) }
     {
-        if !can_move(self.column, count) {
+        let Some(column) = moved(self.column, count) else {
             return Err(Refusal::OutOfRange);
-        }
+        };
         *self = Pen {
             left: self.left,
-            column: moved(self.column, count),
+            column,
             row: self.row,
             live: self.live,
         };
         Ok(())
     }
 
-    #[tactic(auto, unfolding(crate::specs::State::motion_fault))]
     fn pass_live(&mut self, count: u64) -> Result<(), Refusal>
         ensures ok { OnOk result ((motion_fault (state_at self.old.column self.old.row self.old.live) Tag.Live count ≡ None)
             × (state_at self.new.column self.new.row self.new.live
@@ -110,15 +107,18 @@ impl Pen {
             × (self.new.left ≡ self.old.left)) }
         ensures err { IfErr result (λ refusal. motion_fault (state_at self.old.column self.old.row self.old.live) Tag.Live count ≡ Some refusal) }
     {
-        if !can_move(self.column, count) || is_at_limit(self.row) {
+        if is_at_limit(self.row) {
             return Err(Refusal::OutOfRange);
         }
+        let Some(column) = moved(self.column, count) else {
+            return Err(Refusal::OutOfRange);
+        };
         if count > LIVE_CELL_LIMIT - self.live {
             return Err(Refusal::TooManyCells);
         }
         *self = Pen {
             left: self.left,
-            column: moved(self.column, count),
+            column,
             row: self.row,
             live: self.live + count,
         };
@@ -133,21 +133,14 @@ fn is_at_limit(row: i64) -> bool
     row >= COORDINATE_LIMIT
 }
 
-/// The coordinate moved on by a count.
-fn moved(coordinate: i64, count: u64) -> i64
-    requires before { IsWithinReach coordinate }
-    requires after { IsWithinReach (coordinate +ℤ pos count) }
-    ensures value { result ≡ coordinate +ℤ pos count }
-    ensures in_reach { IsWithinReach result }
-{
-    coordinate.saturating_add_unsigned(count)
-}
-
-/// Whether the coordinate moved on by a count is not above the limit.
-fn can_move(coordinate: i64, count: u64) -> bool
+/// The coordinate moved on by a count, unless it is then above the limit.
+fn moved(coordinate: i64, count: u64) -> Option<i64>
     requires { IsWithinReach coordinate }
-    ensures value { result ≡ not (passes_limit coordinate count) }
-    ensures next { IsTrue result → IsWithinReach (coordinate +ℤ pos count) }
+    ensures { MatchOption result (passes_limit coordinate count ≡ true)
+        (λ next. (passes_limit coordinate count ≡ false) × (next ≡ coordinate +ℤ pos count) × IsWithinReach next) }
 {
-    count <= COORDINATE_LIMIT.abs_diff(coordinate)
+    if count > COORDINATE_LIMIT.abs_diff(coordinate) {
+        return None;
+    }
+    Some(coordinate.saturating_add_unsigned(count))
 }
