@@ -1,5 +1,5 @@
 -- A position that is read lies in the range.
-use Rattle.std.proofs.Common.{◌≡◌, ℕ, Bool, true, false, cond, List, [], ◌∷◌, map, fold, Option, None, Some, Result, Ok, Err, IfOk, refl, arith, ℤ, pos, neg_ℤ, int_le, int_lt, ◌&&◌, drop, codes}
+use Rattle.std.proofs.Common.{◌≡◌, ℕ, Bool, true, false, cond, List, [], ◌∷◌, map, fold, Option, None, Some, Result, Ok, Err, IfOk, refl, arith, ℤ, pos, neg_ℤ, int_le, int_lt, ◌&&◌, drop, codes, length, subst, sym}
 use Rattle.std.specs.List.{AllByRecursion, filter_map, before_first, after_first}
 use Rattle.std.specs.Result.{result_ok, result_err, result_map_both}
 use Rattle.std.proofs.lemmas.Int.{ints}
@@ -13,14 +13,16 @@ use Rattle.rle_reader.specs.Bytes.{words}
 use Rattle.text_lines.specs.Bytes.{begins_with, is_byte}
 use Rattle.text_lines.specs.Faults.{at_place, ◌>>=◌}
 use Rattle.rle_reader.specs.Header.{header_rule}
-use Rattle.text_lines.specs.Lines.{Line}
+use Rattle.text_lines.specs.Lines.{Line, lines_from}
 use Rattle.rle_reader.specs.Numbers.{integer_of}
 use Rattle.text_lines.specs.Numbers.{number_of}
 use Rattle.rle_reader.specs.Opening.{Opening, opening_of, after_lines, with_header, before_header, from_header}
 use Rattle.text_lines.specs.Comments.{comments_of}
 use Rattle.rle_reader.specs.Settings.{nothing_said, after_word, after_readings, after_line, unless_refused, lowest}
 use Rattle.text_lines.specs.Comments.{is_settings_line}
-use Rattle.rle_reader.specs.Words.{GivesCellInRange, is_coordinate, cell_at, position_of, generation_at, word_of}
+use Rattle.rle_reader.specs.Words.{is_coordinate, cell_at, position_of, generation_at, word_of}
+use Rattle.rle_reader.specs.Seen.{opening_seen}
+use Rattle.rle_reader.specs.declared.preamble.Preamble.{Preamble}
 use Rattle.rle_reader.specs.declared.settings.Settings.{Settings}
 use Rattle.rle_reader.specs.declared.settings.Word.{Word}
 use Rattle.rle_reader.specs.declared.settings.Word.TheVariants.{Pos, Gen, Other}
@@ -44,6 +46,12 @@ cell_at-in_range (Some x) (Some y) = cell_if-in_range (is_coordinate x && is_coo
 position-in_range : (text : List ℕ) → IfOk (position_of text) IsInRange
 unfolding position_of
 position-in_range text = cell_at-in_range (integer_of (before_first (is_byte 44) text)) (integer_of (after_first (is_byte 44) text))
+
+-- a position that the word gives is in the range
+abbrev GivesCellInRange : Word → Type 0
+GivesCellInRange (Pos cell) = IsInRange cell
+GivesCellInRange (Gen generation) = Unit {0}
+GivesCellInRange Other = Unit {0}
 
 position_word : (found : Result Cell Refusal) → IfOk found IsInRange → IfOk (result_map_both (λ cell. Pos cell) (λ (refusal : Refusal). refusal) found) GivesCellInRange
 position_word (Ok cell) range = range
@@ -138,3 +146,8 @@ opening_of-in_range end all =
     then_header (after_lines nothing_said (before_header all)) (λ settings. with_header end (comments_of (before_header all)) settings (from_header all))
     (after_lines-in_range nothing_said (before_header all) start-in_range)
     (λ settings range. with_header-in_range end (comments_of (before_header all)) settings (from_header all) range)
+
+-- so does the position that was read
+pub read-in_range : (source : List ℕ) (preamble : Preamble) → Ok (opening_seen source preamble) ≡ opening_of (length source) (lines_from source 0) → IsInRange preamble.settings.pos
+read-in_range source preamble is =
+    subst (λ found. IfOk found (λ (o : Opening). IsInRange o.settings.pos)) (sym is) (opening_of-in_range (length source) (lines_from source 0))

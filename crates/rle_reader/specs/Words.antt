@@ -11,7 +11,6 @@ use Rattle.plane.specs.declared.range.TheConstants.{COORDINATE_LIMIT, GENERATION
 use Rattle.text_lines.specs.Bytes.{begins_with, is_byte}
 use Rattle.rle_reader.specs.Numbers.{integer_of}
 use Rattle.text_lines.specs.Numbers.{number_of}
-use Rattle.plane.specs.Range.{IsInRange}
 use Rattle.rle_reader.specs.declared.settings.Word.{Word}
 use Rattle.rle_reader.specs.declared.settings.Word.TheVariants.{Pos, Gen, Other}
 
@@ -42,9 +41,3 @@ word_of text =
     if begins_with (codes "Pos=") text then result_map_both (λ cell. Pos cell) (λ refusal. refusal) (position_of (drop 4 text))
     else (if begins_with (codes "Gen=") text then result_map_both (λ number. Gen number) (λ refusal. refusal) (generation_at (number_of (drop 4 text)))
     else Ok Other)
-
--- a position that the word gives is in the range
-abbrev pub GivesCellInRange : Word → Type 0
-GivesCellInRange (Pos cell) = IsInRange cell
-GivesCellInRange (Gen generation) = Unit {0}
-GivesCellInRange Other = Unit {0}

@@ -5,7 +5,6 @@ ghost use Rattle.std.specs.Option.{option_copied};
 ghost use Rattle.text_lines.specs.Faults.{at_place};
 ghost use Rattle.rle_reader.specs.Header.{header_rule};
 ghost use Rattle.text_lines.specs.Lines.{lines_from};
-ghost use Rattle.plane.specs.Range.{IsInRange};
 ghost use Rattle.rle_reader.specs.Seen.{seen_opening};
 ghost use Rattle.rle_reader.specs.Opening.{stands_before_header, opening_of};
 
@@ -31,7 +30,6 @@ impl<'a> Preamble<'a> {
     pub(crate) fn read(source: &'a [u8]) -> Result<Preamble<'a>, Fault>
         ensures opening { seen_opening source.now result ≡ opening_of (length source.now) (lines_from source.now 0) }
         ensures body { IfOk result (λ read. read.body ≤ length source.now) }
-        ensures in_range { IfOk result (λ read. IsInRange read.settings.pos) }
     {
         let mut lines = Lines::new(source);
         let mut settings = Settings::new();

@@ -1,14 +1,13 @@
 //! The words of the `#CXRLE` lines.
 
-ghost use Rattle.std.specs.Prelude.{◌≡◌, ◌↔◌, ◌∷◌, ◌<◌, length, map, IfOk, IfSome, IsTrue};
+ghost use Rattle.std.specs.Prelude.{◌≡◌, ◌∷◌, ◌<◌, length, map, IfSome};
 ghost use Rattle.std.specs.List.{position};
 ghost use Rattle.std.specs.Option.{option_copied};
 ghost use Rattle.rle_reader.specs.Bytes.{words};
 ghost use Rattle.text_lines.specs.Bytes.{is_blank};
 ghost use Rattle.text_lines.specs.Faults.{at_place};
 ghost use Rattle.text_lines.specs.Numbers.{number_of};
-ghost use Rattle.plane.specs.Range.{IsInRange, IsCoordinate};
-ghost use Rattle.rle_reader.specs.Words.{GivesCellInRange, word_of, position_of, generation_at, cell_at, is_coordinate};
+ghost use Rattle.rle_reader.specs.Words.{word_of, position_of, generation_at, cell_at, is_coordinate};
 ghost use Rattle.rle_reader.specs.Settings.{nothing_said, after_word, after_readings, after_line, lower, words_left};
 ghost use Rattle.text_lines.specs.Comments.{is_settings_line};
 
@@ -36,8 +35,7 @@ pub(crate) enum Word {
 impl Settings {
     /// What holds where no word says otherwise.
     pub(crate) fn new() -> Self
-        ensures value { result ≡ nothing_said }
-        ensures in_range { IsInRange result.pos }
+        ensures { result ≡ nothing_said }
     {
         Settings {
             pos: Cell { y: 0, x: 0 },
@@ -48,9 +46,7 @@ impl Settings {
     /// These settings after a line before the header.
     #[tactic(auto, unfolding(crate::specs::Settings::after_line))]
     pub(crate) fn after_line(self, line: Line<'_>) -> Result<Settings, Fault>
-        requires { IsInRange self.pos }
-        ensures value { result ≡ at_place line.entry.place (after_line self line.entry.text.now) }
-        ensures in_range { IfOk result (λ settings. IsInRange settings.pos) }
+        ensures { result ≡ at_place line.entry.place (after_line self line.entry.text.now) }
     {
         if !is_settings_line(line.text) {
             return Ok(self);
@@ -63,9 +59,7 @@ impl Settings {
 
     /// These settings after the words of a line, or the lowest fault of a word.
     fn after_words(self, line: &[u8]) -> Result<Settings, Refusal>
-        requires { IsInRange self.pos }
-        ensures value { result ≡ after_readings self (map word_of (words line.now)) }
-        ensures in_range { IfOk result (λ settings. IsInRange settings.pos) }
+        ensures { result ≡ after_readings self (map word_of (words line.now)) }
     {
         let mut settings = self;
         let mut worst = None;
@@ -86,10 +80,7 @@ impl Settings {
 
     /// These settings after a word.
     fn after_word(self, word: Word) -> Settings
-        requires word { GivesCellInRange word }
-        requires in_range { IsInRange self.pos }
-        ensures value { result ≡ after_word self word }
-        ensures in_range { IsInRange result.pos }
+        ensures { result ≡ after_word self word }
     {
         match word {
             Word::Pos(pos) => Settings {
@@ -136,8 +127,7 @@ fn lower(worst: Option<Refusal>, refusal: Refusal) -> Option<Refusal>
 /// What a word says.
 #[tactic(auto, unfolding(crate::specs::Words::word_of))]
 fn read_word(text: &[u8]) -> Result<Word, Refusal>
-    ensures value { result ≡ word_of text.now }
-    ensures in_range { IfOk result GivesCellInRange }
+    ensures { result ≡ word_of text.now }
 {
     if let Some(value) = text.strip_prefix(b"Pos=") {
         return Ok(Word::Pos(position(value)?));
@@ -150,8 +140,7 @@ fn read_word(text: &[u8]) -> Result<Word, Refusal>
 
 /// Two whole numbers and a comma between them, both in the range of coordinates.
 fn position(text: &[u8]) -> Result<Cell, Refusal>
-    ensures value { result ≡ position_of text.now }
-    ensures in_range { IfOk result IsInRange }
+    ensures { result ≡ position_of text.now }
 {
     match split_at_byte(text, b',') {
         Some((x, y)) => cell(integer(x), integer(y)),
@@ -162,8 +151,7 @@ fn position(text: &[u8]) -> Result<Cell, Refusal>
 /// The cell of two coordinates: first of all both have to be numbers, and then both in the range.
 #[tactic(auto, unfolding(crate::specs::Words::cell_at))]
 fn cell(x: Option<i64>, y: Option<i64>) -> Result<Cell, Refusal>
-    ensures value { result ≡ cell_at x y }
-    ensures in_range { IfOk result IsInRange }
+    ensures { result ≡ cell_at x y }
 {
     match (x, y) {
         (Some(x), Some(y)) => {
@@ -178,8 +166,7 @@ fn cell(x: Option<i64>, y: Option<i64>) -> Result<Cell, Refusal>
 }
 
 fn is_coordinate(number: i64) -> bool
-    ensures value { result ≡ is_coordinate number }
-    ensures meaning { IsTrue result ↔ IsCoordinate number }
+    ensures { result ≡ is_coordinate number }
 {
     -COORDINATE_LIMIT <= number && number < COORDINATE_LIMIT
 }

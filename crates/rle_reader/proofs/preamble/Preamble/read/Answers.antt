@@ -13,8 +13,7 @@ loop-line-init c =
     let source = c.args.source.now in
     let comments = comments_of (before_header (lines_from source 0)) in (
       c.new-lines.ensures.source,
-      c.new-settings.ensures.in_range,
-      ap (λ s. opening_on (length source) comments s (lines_from source c.new-lines.result.at)) c.new-settings.ensures.value
+      ap (λ s. opening_on (length source) comments s (lines_from source c.new-lines.result.at)) c.new-settings.ensures
           ∙ ap (λ at. opening_on (length source) comments _ (lines_from source at)) c.new-lines.ensures.start
           ∙ opening_on-start (length source) (lines_from source 0),
     )
@@ -31,7 +30,7 @@ returns-then-not-stands_before_header-clause-opening c =
     ∙ ap (λ body. with_header (length source) comments settings (line ∷ lines_from source body)) c.place.ensures.place
     ∙ sym (opening_on-header (length source) comments settings line (lines_from source at) (sym c.stands_before_header.ensures ∙ c.if-not-stands_before_header.true))
     ∙ ap (opening_on (length source) comments settings) (sym left)
-    ∙ c.loop-line.invariant.2
+    ∙ c.loop-line.invariant.1
 
 pub returns-in_err-settings-clause-opening : goal.returns-in_err-settings-clause-opening
 returns-in_err-settings-clause-opening c =
@@ -43,9 +42,9 @@ returns-in_err-settings-clause-opening c =
     let left = lines_of_source source _ _ c.loop-line.lines.at at line c.loop-line.invariant.0 c.in-Some.ensures.source c.in-Some.ensures.line in
     let p = err_from_is_err_and c.from_residual.result c.from_residual.ensures.1 in
     ap (seen_opening source) p.1 ∙ ap Err p.2
-    ∙ opening_on-fault (length source) comments settings line (lines_from source at) c.in_err-settings.field-0.0 (sym c.stands_before_header.ensures ∙ c.if-not-stands_before_header.false) c.in_err-settings.ensures.value
+    ∙ opening_on-fault (length source) comments settings line (lines_from source at) c.in_err-settings.field-0.0 (sym c.stands_before_header.ensures ∙ c.if-not-stands_before_header.false) c.in_err-settings.ensures
     ∙ ap (opening_on (length source) comments settings) (sym left)
-    ∙ c.loop-line.invariant.2
+    ∙ c.loop-line.invariant.1
 
 pub loop-line-preserved : goal.loop-line-preserved
 loop-line-preserved c =
@@ -56,10 +55,9 @@ loop-line-preserved c =
     let line : Line = record { place = c.in-Some.line.place; text = c.in-Some.line.text.now } in
     let left = lines_of_source source _ _ c.loop-line.lines.at at line c.loop-line.invariant.0 c.in-Some.ensures.source c.in-Some.ensures.line in (
       c.in-Some.ensures.source ∙ c.loop-line.invariant.0,
-      c.in_ok-settings.ensures.in_range,
-      opening_on-line (length source) comments settings line (lines_from source at) c.in_ok-settings.settings (sym c.stands_before_header.ensures ∙ c.if-not-stands_before_header.false) c.in_ok-settings.ensures.value
+      opening_on-line (length source) comments settings line (lines_from source at) c.in_ok-settings.settings (sym c.stands_before_header.ensures ∙ c.if-not-stands_before_header.false) c.in_ok-settings.ensures
           ∙ ap (opening_on (length source) comments settings) (sym left)
-          ∙ c.loop-line.invariant.2,
+          ∙ c.loop-line.invariant.1,
     )
 
 pub returns-clause-opening : goal.returns-clause-opening
@@ -71,4 +69,4 @@ returns-clause-opening c =
     ap Err c.fault_at.ensures
     ∙ sym (opening_on-nil (length source) comments settings)
     ∙ ap (opening_on (length source) comments settings) (sym left)
-    ∙ c.loop-line.invariant.2
+    ∙ c.loop-line.invariant.1

@@ -1,5 +1,6 @@
 use Rattle.std.proofs.lemmas.Result.{err_from_is_err_and}
 use Rattle.rle_reader.proofs.MeaningLemmas.{judged-opening_fault, judged-body_fault, judged-accepted}
+use Rattle.rle_reader.proofs.PositionLemmas.{read-in_range}
 use Rattle.rle_reader.proofs.rle_file.RleFile.open.Goals as goal
 
 pub returns-in_err-preamble : goal.returns-in_err-preamble
@@ -14,3 +15,15 @@ returns-in_err-check_body c =
 
 pub returns : goal.returns
 returns c = judged-accepted c.args.source.now c.in_ok-preamble.preamble c.in_ok-preamble.ensures.opening c.in_ok-check_body.ensures.ok
+
+pub check_body-requires-clause-in_range : goal.check_body-requires-clause-in_range
+check_body-requires-clause-in_range c = read-in_range c.args.source.now c.in_ok-preamble.preamble c.in_ok-preamble.ensures.opening
+
+pub invariant_of-result : goal.invariant_of-result
+invariant_of-result c =
+    let preamble = c.in_ok-preamble.preamble in (
+      c.in_ok-preamble.ensures.body,
+      read-in_range c.args.source.now preamble c.in_ok-preamble.ensures.opening,
+      c.in_ok-check_body.ensures.ok,
+      c.in_ok-preamble.ensures.opening,
+    )

@@ -7,38 +7,34 @@ use Rattle.rle_reader.proofs.SettingsLemmas.{reading_on, reading_on-start, readi
 use Rattle.rle_reader.proofs.settings.Settings.after_words.Goals as goal
 
 pub loop-rest-init : goal.loop-rest-init
-loop-rest-init c = (reading_on-start c.args.self (map word_of (words c.args.line.now)), c.requires)
+loop-rest-init c = reading_on-start c.args.self (map word_of (words c.args.line.now))
 
 pub loop-rest-preserved-in-Ok : goal.loop-rest-preserved-in-Ok
-loop-rest-preserved-in-Ok c = (
-  reading_on-word c.loop-rest.settings c.after_word-settings.result c.loop-rest.worst c.in-Some.text.now
-      c.first_word.result.0.now (words_left (option_copied c.first_word.result.1)) c.in-Ok.word
-      c.first_word.ensures.words c.in-Ok.ensures.value c.after_word-settings.ensures.value
-      ∙ ap (λ rest. reading_on c.loop-rest.settings c.loop-rest.worst (map word_of (words_left (option_copied rest)))) (sym c.in-Some.is)
-      ∙ c.loop-rest.invariant.0,
-  c.after_word-settings.ensures.in_range,
-)
+loop-rest-preserved-in-Ok c =
+    reading_on-word c.loop-rest.settings c.after_word-settings.result c.loop-rest.worst c.in-Some.text.now
+    c.first_word.result.0.now (words_left (option_copied c.first_word.result.1)) c.in-Ok.word
+    c.first_word.ensures.words c.in-Ok.ensures c.after_word-settings.ensures
+    ∙ ap (λ rest. reading_on c.loop-rest.settings c.loop-rest.worst (map word_of (words_left (option_copied rest)))) (sym c.in-Some.is)
+    ∙ c.loop-rest.invariant
 
 pub loop-rest-preserved : goal.loop-rest-preserved
-loop-rest-preserved c = (
-  reading_on-refused c.loop-rest.settings c.loop-rest.worst c.lower-worst.result c.in-Some.text.now
-      c.first_word.result.0.now (words_left (option_copied c.first_word.result.1)) c.in-Err.refusal
-      c.first_word.ensures.words c.in-Err.ensures.value c.lower-worst.ensures
-      ∙ ap (λ rest. reading_on c.loop-rest.settings c.loop-rest.worst (map word_of (words_left (option_copied rest)))) (sym c.in-Some.is)
-      ∙ c.loop-rest.invariant.0,
-  c.loop-rest.invariant.1,
-)
+loop-rest-preserved c =
+    reading_on-refused c.loop-rest.settings c.loop-rest.worst c.lower-worst.result c.in-Some.text.now
+    c.first_word.result.0.now (words_left (option_copied c.first_word.result.1)) c.in-Err.refusal
+    c.first_word.ensures.words c.in-Err.ensures c.lower-worst.ensures
+    ∙ ap (λ rest. reading_on c.loop-rest.settings c.loop-rest.worst (map word_of (words_left (option_copied rest)))) (sym c.in-Some.is)
+    ∙ c.loop-rest.invariant
 
-pub returns-in-Some-worst-clause-value : goal.returns-in-Some-worst-clause-value
-returns-in-Some-worst-clause-value c =
+pub returns-in-Some-worst : goal.returns-in-Some-worst
+returns-in-Some-worst c =
     ap (λ worst. unless_refused worst c.loop-rest.settings) (sym c.in-Some-worst.is)
     ∙ sym (reading_on-end c.loop-rest.settings c.loop-rest.worst)
     ∙ ap (λ rest. reading_on c.loop-rest.settings c.loop-rest.worst (map word_of (words_left (option_copied rest)))) (sym c.in_default.is)
-    ∙ c.loop-rest.invariant.0
+    ∙ c.loop-rest.invariant
 
-pub returns-in-None-clause-value : goal.returns-in-None-clause-value
-returns-in-None-clause-value c =
+pub returns-in-None : goal.returns-in-None
+returns-in-None c =
     ap (λ worst. unless_refused worst c.loop-rest.settings) (sym c.in-None.is)
     ∙ sym (reading_on-end c.loop-rest.settings c.loop-rest.worst)
     ∙ ap (λ rest. reading_on c.loop-rest.settings c.loop-rest.worst (map word_of (words_left (option_copied rest)))) (sym c.in_default.is)
-    ∙ c.loop-rest.invariant.0
+    ∙ c.loop-rest.invariant
