@@ -3,29 +3,13 @@
 use crate::tests::ended::Ended;
 use crate::tests::rows::{MACROCELL, PLAIN, RLE, Row, assert_rows, assert_told};
 use engine::Options;
-use plane::{Fault, Refusal};
+use plane::Refusal;
 use std::alloc::AllocError;
 
 const GLIDER: &str = "[M2] (golly 2.0)\n#R B3/S23\n$$..*$...*$.***$$$$\n4 0 0 0 1\n";
 
 // All 2^126 cells of the range.
-pub(crate) const FULL: &str =
-    "[M2]\n********$********$********$********$********$********$********$********$\n\
-     4 1 1 1 1\n5 2 2 2 2\n6 3 3 3 3\n7 4 4 4 4\n8 5 5 5 5\n9 6 6 6 6\n10 7 7 7 7\n\
-     11 8 8 8 8\n12 9 9 9 9\n13 10 10 10 10\n14 11 11 11 11\n15 12 12 12 12\n16 13 13 13 13\n\
-     17 14 14 14 14\n18 15 15 15 15\n19 16 16 16 16\n20 17 17 17 17\n21 18 18 18 18\n\
-     22 19 19 19 19\n23 20 20 20 20\n24 21 21 21 21\n25 22 22 22 22\n26 23 23 23 23\n\
-     27 24 24 24 24\n28 25 25 25 25\n29 26 26 26 26\n30 27 27 27 27\n31 28 28 28 28\n\
-     32 29 29 29 29\n33 30 30 30 30\n34 31 31 31 31\n35 32 32 32 32\n36 33 33 33 33\n\
-     37 34 34 34 34\n38 35 35 35 35\n39 36 36 36 36\n40 37 37 37 37\n41 38 38 38 38\n\
-     42 39 39 39 39\n43 40 40 40 40\n44 41 41 41 41\n45 42 42 42 42\n46 43 43 43 43\n\
-     47 44 44 44 44\n48 45 45 45 45\n49 46 46 46 46\n50 47 47 47 47\n51 48 48 48 48\n\
-     52 49 49 49 49\n53 50 50 50 50\n54 51 51 51 51\n55 52 52 52 52\n56 53 53 53 53\n\
-     57 54 54 54 54\n58 55 55 55 55\n59 56 56 56 56\n60 57 57 57 57\n61 58 58 58 58\n\
-     62 59 59 59 59\n63 60 60 60 60\n";
-
-// The same, as it is written.
-const FULL_WRITTEN: &str = "[M2] (lifebatch 1)\n#R B3/S23\n#G 0\n\
+pub(crate) const FULL: &str = "[M2] (lifebatch 1)\n#R B3/S23\n#G 0\n\
      ********$********$********$********$********$********$********$********$\n4 1 1 1 1\n\
      5 2 2 2 2\n6 3 3 3 3\n7 4 4 4 4\n8 5 5 5 5\n9 6 6 6 6\n10 7 7 7 7\n11 8 8 8 8\n\
      12 9 9 9 9\n13 10 10 10 10\n14 11 11 11 11\n15 12 12 12 12\n16 13 13 13 13\n\
@@ -146,7 +130,7 @@ const ROWS: &[Row] = &[
     Row {
         file: FULL,
         report: "0: 85070591730234615865843651857942052864\n",
-        text: FULL_WRITTEN,
+        text: FULL,
         ..MACROCELL
     },
 ];
@@ -154,91 +138,67 @@ const ROWS: &[Row] = &[
 const REFUSED: &[Row] = &[
     Row {
         file: "[M2]\n*$\n4 0 0 0 2\n",
-        fault: Some(Fault {
-            refusal: Refusal::BadChild,
-            place: Some(8),
-        }),
+        refusal: Some(Refusal::BadChild),
+        place: Some(8),
         ..RLE
     },
     Row {
         file: "[M2]\n*$\n4 0 0 0 9\n",
-        fault: Some(Fault {
-            refusal: Refusal::BadChild,
-            place: Some(8),
-        }),
+        refusal: Some(Refusal::BadChild),
+        place: Some(8),
         ..RLE
     },
     Row {
         file: "[M2]\n*$\n5 0 0 0 1\n",
-        fault: Some(Fault {
-            refusal: Refusal::BadChild,
-            place: Some(8),
-        }),
+        refusal: Some(Refusal::BadChild),
+        place: Some(8),
         ..RLE
     },
     Row {
         file: "[M2]\n*$\n3 0 0 0 0\n",
-        fault: Some(Fault {
-            refusal: Refusal::BadNodeLine,
-            place: Some(8),
-        }),
+        refusal: Some(Refusal::BadNodeLine),
+        place: Some(8),
         ..RLE
     },
     Row {
         file: "[M2]\n*$\n64 0 0 0 0\n",
-        fault: Some(Fault {
-            refusal: Refusal::OutOfRange,
-            place: Some(8),
-        }),
+        refusal: Some(Refusal::OutOfRange),
+        place: Some(8),
         ..RLE
     },
     Row {
         file: "[M2]\n*$\n#FRAMES\n",
-        fault: Some(Fault {
-            refusal: Refusal::FramesNotRead,
-            place: Some(8),
-        }),
+        refusal: Some(Refusal::FramesNotRead),
+        place: Some(8),
         ..RLE
     },
     Row {
         file: "[M2]\n#G 9223372036854775809\n",
-        fault: Some(Fault {
-            refusal: Refusal::BadGen,
-            place: Some(5),
-        }),
+        refusal: Some(Refusal::BadGen),
+        place: Some(5),
         ..RLE
     },
     Row {
         file: "[M2]\n#R B0/S\n",
-        fault: Some(Fault {
-            refusal: Refusal::BirthOnZero,
-            place: Some(5),
-        }),
+        refusal: Some(Refusal::BirthOnZero),
+        place: Some(5),
         ..RLE
     },
     Row {
         file: "[M2]\n*$\n#R B3/S9\n",
-        fault: Some(Fault {
-            refusal: Refusal::BadRule,
-            place: Some(8),
-        }),
+        refusal: Some(Refusal::BadRule),
+        place: Some(8),
         ..RLE
     },
     Row {
         file: FULL,
         generations: 1,
-        fault: Some(Fault {
-            refusal: Refusal::TooFar,
-            place: None,
-        }),
+        refusal: Some(Refusal::TooFar),
         ..RLE
     },
     Row {
         file: FULL,
-        fault: Some(Fault {
-            refusal: Refusal::BoxTooLarge,
-            place: None,
-        }),
+        refusal: Some(Refusal::BoxTooLarge),
         report: "0: 85070591730234615865843651857942052864\n",
         ..RLE
     },

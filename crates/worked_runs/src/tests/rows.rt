@@ -2,7 +2,7 @@
 
 use crate::tests::ended::Ended;
 use engine::{Format, Options};
-use plane::Fault;
+use plane::{Fault, Refusal};
 use std::alloc::AllocError;
 use std::process::Abort;
 
@@ -16,14 +16,15 @@ pub(crate) const PLAIN: Options = Options {
     quiet: false,
 };
 
-/// A file, what is asked for, whether it is refused, and what is written.
+/// A file, what is asked for, whether it is refused and at which place, and what is written.
 #[derive(Clone, Copy)]
 pub(crate) struct Row {
     pub file: &'static str,
     pub generations: u64,
     pub step: u64,
     pub format: Option<Format>,
-    pub fault: Option<Fault>,
+    pub refusal: Option<Refusal>,
+    pub place: Option<u64>,
     pub report: &'static str,
     pub text: &'static str,
 }
@@ -37,6 +38,11 @@ impl Row {
             ..PLAIN
         }
     }
+
+    fn fault(&self) -> Option<Fault> {
+        let place = self.place;
+        self.refusal.map(|refusal| Fault { refusal, place })
+    }
 }
 
 /// A run of no generations that asks for RLE.
@@ -45,7 +51,8 @@ pub(crate) const RLE: Row = Row {
     generations: 0,
     step: 0,
     format: Some(Format::Rle),
-    fault: None,
+    refusal: None,
+    place: None,
     report: "",
     text: "",
 };
@@ -104,7 +111,7 @@ pub(crate) fn assert_rows<R: Abort + AllocGlobal>(rt: &R, rows: &[Row]) -> Resul
                 ..row.options()
             };
             let end = Ended::of(rt, row.file, &options)?;
-            assert_told(rt, row.file, &end, (row.fault, report, row.text));
+            assert_told(rt, row.file, &end, (row.fault(), report, row.text));
         }
     }
     Ok(())
