@@ -3,6 +3,7 @@ mod macrocell_texts;
 mod rle_items;
 mod rle_texts;
 mod rules;
+mod written_texts;
 
 use rle_reader::Comments;
 use std::fmt::Debug;

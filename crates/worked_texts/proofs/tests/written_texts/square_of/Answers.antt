@@ -1,6 +1,6 @@
 use Rattle.squares.proofs.Kept.{known_kept}
 use Rattle.squares.proofs.KnownQuarters.{quarters_of_level}
-use Rattle.worked_writers.proofs.tests.square_of.Goals as goal
+use Rattle.worked_texts.proofs.tests.written_texts.square_of.Goals as goal
 
 pub quad-requires-clause-known : goal.quad-requires-clause-known
 quad-requires-clause-known c =

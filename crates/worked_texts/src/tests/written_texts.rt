@@ -1,3 +1,5 @@
+//! Written patterns, and a sink that fails.
+
 ghost use Rattle.std.specs.Prelude.{◌≤◌, IfOk};
 ghost use Rattle.squares.specs.Book.{IsKnown};
 
