@@ -56,6 +56,9 @@ IsRefused words fault before after unchanged =
     ⊎ ((refusal : Refusal) × RefusesWords words refusal × (fault ≡ placeless refusal) × unchanged)
     ⊎ (AskForHelp words × (fault ≡ placeless WriteFailed))
 
--- the help went out, or a run that the words ask for ended well
+-- between the two a text went out for words that ask for the help, or the report of a run that the words ask for, which
+-- ended well
 abbrev pub IsDone : List Text → Option (List ℕ) → Option (List ℕ) → Type 0
-IsDone words before after = AskForHelp words ⊎ ((asked : Asked) × AsksFor words asked × HasRun asked.options before after)
+IsDone words before after =
+    (AskForHelp words × ((help : List ℕ) × Appends before after help))
+    ⊎ ((asked : Asked) × AsksFor words asked × HasRun asked.options before after)

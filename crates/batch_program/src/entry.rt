@@ -140,6 +140,7 @@ fn read_file<R: Files + Input>(rt: &R, alloc: Global, path: &str) -> Result<Vec<
 }
 
 fn show_help<O: Sink>(alloc: Global, help: &clap::Error, out: &mut O) -> Result<(), Fault>
+    ensures shown { OnOk result ((text : List ℕ) × Appends (O.taken out.old) (O.taken out.new) text) }
     ensures unfailed { OnOk result (O.failure_count out.new ≡ O.failure_count out.old) }
     ensures refused { IfErr result (λ fault. ((fault ≡ placeless Refusal.NoMemory) × (out.new ≡ out.old)) ⊎ (fault ≡ placeless Refusal.WriteFailed)) }
 {
