@@ -27,7 +27,7 @@ use Rattle.node_table.specs.Books.{knows_in, cells_in, IsCoherent}
 use Rattle.node_table.specs.Desks.{IsDeskOf, store_of, book_at}
 use Rattle.node_table.specs.Numbers.{KnowsFullWay}
 use Rattle.node_table.proofs.Books.{alike, grows_keeps}
-use Rattle.node_table.proofs.Entries.{block_of}
+use Rattle.node_table.proofs.Entries.{block_of, halved}
 
 pub coherent_at : (table : NodeTable) (desk : Desk) → IsDeskOf table desk → ∥ IsCoherent table.key.shape.bits desk.seat.me.0.known ∥₁
 coherent_at table desk d = (desk.sound table.key d.same_key).coherent
@@ -109,6 +109,4 @@ pub square_slot : (table : NodeTable) (desk : Desk) (sq : Sq) → IsDeskOf table
     IsSlot table.key.shape.bits Pair sq.num.0
 square_slot table desk sq d above some h =
     let known = desk.seat.me.0.known in
-    let e : square_rank sq.level ≡ suc (suc (square_rank (sq.level - 1))) = omega arith in
-    pair_slot table.key.shape.bits known (suc (square_rank (sq.level - 1))) sq.num.0 (cells_in known sq) (coherent_at table desk d) some
-    (subst (λ r. KnowsBlock known r sq.num.0 (cells_in known sq)) e (block_of known sq h))
+    pair_slot table.key.shape.bits known (suc (square_rank (sq.level - 1))) sq.num.0 (cells_in known sq) (coherent_at table desk d) some (halved known sq above h)

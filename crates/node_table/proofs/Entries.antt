@@ -1,5 +1,5 @@
 -- Entries of what a desk knows, as squares of its book.
-use Rattle.std.proofs.Common.{◌≡◌, ℕ, zero, suc, ◌<◌, ◌≤◌, Bool, true, false, cond, List, [], ◌∷◌, length, ◌∙◌, ap, arith, refl, inl, inr, ⊎_elim}
+use Rattle.std.proofs.Common.{◌≡◌, ℕ, zero, suc, ◌-◌, ◌<◌, ◌≤◌, Bool, true, false, cond, List, [], ◌∷◌, length, ◌∙◌, ap, subst, arith, refl, inl, inr, ⊎_elim}
 use Rattle.std.specs.Prelude.{IsTrue, ◌==◌, ◌&&◌, nat_le, slice_index_or, Option, Some, is_some}
 use Rattle.std.proofs.lemmas.Bool.{eqb-true, leb-true, le-leb, eq-eqb, false≢true}
 use Rattle.std.proofs.lemmas.List.Elements.{Contains-append_right}
@@ -67,6 +67,14 @@ known_level known sq h = in_range sq.level (and_left _ _ h)
 -- a square that the book knows is a block that the desk knows
 pub block_of : (known : Knowledge) (sq : Sq) → IsTrue (knows_in known sq) → KnowsBlock known (square_rank sq.level) sq.num.0 (cells_in known sq)
 block_of known sq h = known_step known (square_rank sq.level) sq.num.0 (sq.num.0 == 0) refl (and_right (nat_le 3 sq.level && nat_le sq.level 65) _ h)
+
+-- a square's rank is two above that of its quarters
+pub quarter_rank : (level : ℕ) → 3 < level → square_rank level ≡ suc (suc (square_rank (level - 1)))
+quarter_rank level above = omega arith
+
+-- a known square above level 3 is a block of two halves
+pub halved : (known : Knowledge) (sq : Sq) → 3 < sq.level → IsTrue (knows_in known sq) → KnowsBlock known (suc (suc (square_rank (sq.level - 1)))) sq.num.0 (cells_in known sq)
+halved known sq above h = subst (λ r. KnowsBlock known r sq.num.0 (cells_in known sq)) (quarter_rank sq.level above) (block_of known sq h)
 
 zero_step : (b : Bool) (o : Option KnownBlock) → b ≡ true → cond b true (is_some o) ≡ true
 zero_step true o e = refl

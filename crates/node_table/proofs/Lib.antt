@@ -5,6 +5,7 @@ pub mod Searching
 pub mod Desks
 pub mod TwoBlocks
 pub mod Refusing
+pub mod Quarters
 pub mod Telling
 pub mod Joining
 pub mod Leaving

@@ -54,7 +54,7 @@ in_slot key kind word place index e =
     subst (IsSlot key.shape.bits kind) (sym e) (way_is_slot key.shape.bits kind word place key.shape.range.0 (let r = key.shape.range.1 in omega arith))
 
 -- what a desk meets on the way
-module _ (key : Key) (old now after : Knowledge) (kind : Kind) (word place index found : ℕ) (sought : Sought key.shape.bits old now kind word place) (there : index ≡ way key.shape.bits kind word place) (grows : Grows now after) (met : MeetsWord key now index found after) where
+module _ {key : Key} {old now after : Knowledge} {kind : Kind} {word place index found : ℕ} (sought : Sought key.shape.bits old now kind word place) (there : index ≡ way key.shape.bits kind word place) (grows : Grows now after) (met : MeetsWord key now index found after) where
   pub still_grows : Grows old after
   still_grows = grows_trans old now after sought.grows grows
 

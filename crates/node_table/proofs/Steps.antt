@@ -1,5 +1,5 @@
 -- Each lawful event of a desk keeps the rule, and tells the desk what it learned.
-use Rattle.std.proofs.Common.{◌≡◌, ◌≢◌, ℕ, zero, suc, ◌<◌, List, [], ◌∷◌, sym, ◌∙◌, subst, arith, refl, ⊎_elim}
+use Rattle.std.proofs.Common.{◌≡◌, ◌≢◌, ℕ, zero, suc, ◌<◌, List, [], ◌∷◌, sym, ◌∙◌, ap, subst, arith, refl, ⊎_elim}
 use Rattle.std.specs.Prelude.{Some, slice_index, slice_set}
 use Rattle.std.specs.List.{AllByRecursion}
 use mathlib.Core.Option as core
@@ -23,9 +23,12 @@ use Rattle.table_core.proofs.Consistency.{every_truth_is_consistent}
 use Rattle.table_core.proofs.Knowing.{true_later, block_true, united_true, nothing_true}
 use Rattle.table_core.proofs.Lists.{all_set, all_append, all_weaker}
 use Rattle.table_core.proofs.Stepping.{DeskStep, desk_steps, word_there}
+use Rattle.node_table.specs.declared.desk.Desk.{Desk}
 use Rattle.node_table.specs.declared.still.Still.{Still}
+use Rattle.node_table.specs.declared.table.NodeTable.{NodeTable}
 use Rattle.node_table.specs.declared.view.View.{View}
 use Rattle.node_table.specs.Books.{IsCoherent, IsSound, IsSoundFor}
+use Rattle.node_table.specs.Desks.{IsDeskOf}
 use Rattle.node_table.specs.Rule.{IsTrueView, Holds, with_known, Met, HasMet, merged, spent}
 use Rattle.node_table.proofs.Books.{sound_for}
 
@@ -84,6 +87,13 @@ meets {S} still slots id me event present lawful s h n at fits =
   where
     some_key : (a b : Key) → Some a ≡ Some b → a ≡ b
     some_key a b e = cc
+
+-- and so does each of a desk at its table
+pub meets_at : (table : NodeTable) (desk : Desk) (event : Event) → IsDeskOf table desk → IsLawful table.key desk.seat.me.0.known event →
+    Allows (Holds {S = Unit {0}} table.table.shared.key) table.table.shared.table_id.slots desk.seat.id desk.seat.me (index_of event) (word_after event) (HasMet event desk.seat.me)
+meets_at table desk event d lawful =
+    meets table.table.shared.key table.table.shared.table_id.slots desk.seat.id desk.seat.me event (d.same_key ∙ ap (λ (k : Key). Some k) (sym table.same_key))
+    (subst (λ (k : Key). IsLawful k desk.seat.me.0.known event) (sym table.same_key) lawful)
 
 same_key : (a b : Key) → Some a ≡ Some b → a ≡ b
 same_key a b e = cc

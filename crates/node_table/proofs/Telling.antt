@@ -1,6 +1,6 @@
 -- What a result word tells a desk, as results of its book.
 use Rattle.std.proofs.Common.{◌≡◌, ◌≢◌, ℕ, zero, suc, ◌+◌, ◌-◌, ◌^◌, ◌<◌, ◌≤◌, ◌⊎◌, Bool, true, false, cond, List, [], ◌∷◌, map, length, sym, ◌∙◌, ap, subst, arith, refl, inl, inr, ⊎_elim}
-use Rattle.std.specs.Prelude.{◌==◌, ◌||◌, Contains, slice_index_or}
+use Rattle.std.specs.Prelude.{◌==◌, ◌||◌, IsTrue, Contains, slice_index_or}
 use Rattle.std.proofs.Math.Logic.{∥∥₁_elim}
 use Rattle.std.proofs.Props.{props}
 use Rattle.std.proofs.lemmas.Bool.{eqb-true, eq-eqb, false≢true}
@@ -16,16 +16,22 @@ use Rattle.table_core.specs.declared.key.Key.{Key}
 use Rattle.table_core.specs.declared.knowledge.KnownBlock.{KnownBlock}
 use Rattle.table_core.specs.declared.knowledge.KnownResult.{KnownResult}
 use Rattle.table_core.specs.declared.knowledge.Knowledge.{Knowledge}
-use Rattle.table_core.specs.declared.shape.Kind.TheVariants.{Pair}
-use Rattle.table_core.specs.Layout.{IsSlot, result_of, second_part}
+use Rattle.table_core.specs.Layout.{result_of, second_part}
 use Rattle.table_core.specs.Blocks.{square_rank}
-use Rattle.table_core.specs.Knowledge.{KnowsBlock, KnowsSquareOf, has_result}
+use Rattle.table_core.specs.Knowledge.{KnowsBlock, KnowsSquareOf, Grows, has_result}
 use Rattle.table_core.specs.Lawful.{MayAsk, MayTell}
 use Rattle.table_core.specs.Learning.{LearnsFuture, MeetsResult, with_future}
+use Rattle.table_core.proofs.Knowing.{knows_grown}
 use Rattle.table_core.proofs.Lists.{all_contains, contains_here}
 use Rattle.table_core.proofs.Results.{one_level}
-use Rattle.node_table.specs.Books.{book_of, square_of, cells_in, IsCoherent}
+use Rattle.node_table.specs.declared.desk.Desk.{Desk}
+use Rattle.node_table.specs.declared.table.NodeTable.{NodeTable}
+use Rattle.node_table.specs.Books.{book_of, square_of, knows_in, cells_in, IsCoherent}
+use Rattle.node_table.specs.Desks.{IsDeskOf, store_of, book_at}
+use Rattle.node_table.specs.Refusals.{known_by}
 use Rattle.node_table.proofs.Books.{shows_of, result_there, there_result, zero_is_empty}
+use Rattle.node_table.proofs.Desks.{coherent_at, keeps_at, square_slot, below_limit}
+use Rattle.node_table.proofs.Entries.{block_of}
 
 found_step : (x : KnownResult) (xs : List KnownResult) (square : ℕ) (b : Bool) → (x.square == square) ≡ b →
     (has_result xs square ≡ true → (r : KnownResult) × Contains xs r × (r.square ≡ square)) →
@@ -79,18 +85,42 @@ told_with old result live count had e = record {
 pub sq_equal : (a b : Sq) → a.level ≡ b.level → a.num.0 ≡ b.num.0 → a ≡ b
 sq_equal a b e n = λ i. record { level = e i; num = record { 0 = n i } }
 
-module _ (store : List ℕ) (key : Key) (old new : Knowledge) (sq : Sq) (index word count : ℕ) (plane : Plane) (slot : IsSlot key.shape.bits Pair sq.num.0) (beside : index ≡ result_of key.shape.bits sq.num.0) (above : 3 < sq.level) (knows : KnowsBlock old (square_rank sq.level) sq.num.0 plane) where
+-- the index of the result beside a known square
+module _ (table : NodeTable) (desk : Desk) (sq : Sq) {index : ℕ} (of_table : IsDeskOf table desk) (above : 3 < sq.level) (some : sq.num.0 ≢ 0) (known : IsTrue (knows_in (known_by desk) sq)) (beside : index ≡ result_of table.key.shape.bits sq.num.0) where
+  abbrev key : Key
+  key = table.key
+
+  abbrev old : Knowledge
+  old = known_by desk
+
+  abbrev plane : Plane
+  plane = cells_in old sq
+
   abbrev pub may_ask : MayAsk key.shape.bits old index
-  may_ask = record { square = sq.num.0; slot = slot; beside = beside; level = sq.level; above = above; plane = plane; shown = knows }
+  may_ask = record { square = sq.num.0; slot = square_slot table desk sq of_table above some known; beside = beside; level = sq.level; above = above; plane = plane; shown = block_of old sq known }
+
+  -- and that of a known square that is its future
+  pub may_tell : (future_sq : Sq) → KnowsBlock old (square_rank (sq.level - 1)) future_sq.num.0 (future key.rule key.exponent sq.level plane) → MayTell key old index future_sq.num.0
+  may_tell future_sq shown = record { of = may_ask; low = below_limit key old (square_rank (sq.level - 1)) future_sq.num.0 (future key.rule key.exponent sq.level plane) (coherent_at table desk of_table) shown; shown = shown }
 
   -- no result stands there: the desk knew none
-  pub no_result : sq.num.0 ≢ 0 → word ≡ 0 → MeetsResult key old count index word new → ¬ HasResult (book_of store key old) sq
-  no_result some none met has = ⊎_elim some (λ t.
+  pub no_result : {word count : ℕ} {new : Knowledge} → word ≡ 0 → MeetsResult key old count index word new → ¬ HasResult (book_at table desk) sq
+  no_result {word} none met has = ⊎_elim some (λ t.
       let r = result_there old.results sq t in
       let there : word ≡ 2 ^ 32 + r.0.future = met.agrees r.0 r.1 (beside ∙ ap (λ (q : Sq). result_of key.shape.bits q.num.0) (sym r.2)) in
       let no : 2 ^ 32 + r.0.future ≡ 0 = sym there ∙ none in omega arith) has
 
-  module _ (l : LearnsFuture key old count index word new) (h : ∥ IsCoherent key.shape.bits new ∥₁) (later : KnowsBlock new (square_rank sq.level) sq.num.0 plane) where
+  -- what the desk knows when it has learned what stands there
+  module _ (last : Desk) {word count : ℕ} (at_table : IsDeskOf table last) (grows : Grows old (known_by last)) (l : LearnsFuture key old count index word (known_by last)) where
+    abbrev new : Knowledge
+    new = known_by last
+
+    abbrev coherent : ∥ IsCoherent key.shape.bits new ∥₁
+    coherent = coherent_at table last at_table
+
+    later : KnowsBlock new (square_rank sq.level) sq.num.0 plane
+    later = knows_grown old new (square_rank sq.level) sq.num.0 plane grows (block_of old sq known)
+
     square_is : l.result.square ≡ sq.num.0
     square_is = let e : sq.num.0 + 2 ^ key.shape.bits ≡ l.result.square + 2 ^ key.shape.bits = sym beside ∙ l.beside in omega arith
 
@@ -103,7 +133,7 @@ module _ (store : List ℕ) (key : Key) (old new : Knowledge) (sq : Sq) (index w
     abbrev entry : KnownBlock
     entry = record { number = l.result.future; rank = square_rank (l.result.level - 1); live = l.live }
 
-    pub future_known : KnowsBlock new (square_rank (sq.level - 1)) l.result.future (future key.rule key.exponent sq.level plane)
+    future_known : KnowsBlock new (square_rank (sq.level - 1)) l.result.future (future key.rule key.exponent sq.level plane)
     future_known = subst (λ (k : Knowledge). KnowsBlock k (square_rank (sq.level - 1)) l.result.future (future key.rule key.exponent sq.level plane)) (sym l.is)
         (inr (entry, Contains-append_right old.blocks (entry ∷ []) entry (contains_here entry []), record { at_rank = ap (λ n. square_rank (n - 1)) level_is; of_number = refl; cells = (l.shows may_ask).1 }))
 
@@ -116,7 +146,7 @@ module _ (store : List ℕ) (key : Key) (old new : Knowledge) (sq : Sq) (index w
         let r = found_result old.results l.result.square e in
         let there : Contains new.results r.0 = subst (λ rs. Contains rs r.0) (sym t.results) r.1 in
         let at : r.0.square ≡ sq.num.0 = r.2 ∙ square_is in
-        let level : r.0.level ≡ sq.level = same_level key.shape.bits new r.0 sq.level plane h above there (subst (λ n. KnowsBlock new (square_rank sq.level) n plane) (sym at) later) in
+        let level : r.0.level ≡ sq.level = same_level key.shape.bits new r.0 sq.level plane coherent above there (subst (λ n. KnowsBlock new (square_rank sq.level) n plane) (sym at) later) in
         subst (Contains (map square_of new.results)) (sq_equal (square_of r.0) sq level at) (there_result new.results r.0 there)
     has_now false e =
         let t = told false e in
@@ -128,7 +158,7 @@ module _ (store : List ℕ) (key : Key) (old new : Knowledge) (sq : Sq) (index w
         subst (λ rs. Gains (map square_of old.results) (map square_of rs) sq) (sym t.results)
         (subst (λ q. Gains (map square_of old.results) (square_of l.result ∷ map square_of old.results) q) is_sq (gains_one (square_of l.result) (map square_of old.results)))
 
-    learns_case : count ≡ 1 → (had : Bool) → has_result old.results l.result.square ≡ had → Learns (book_of store key old) (book_of store key new) sq
+    learns_case : count ≡ 1 → (had : Bool) → has_result old.results l.result.square ≡ had → Learns (book_at table desk) (book_at table last) sq
     learns_case one true e = let t = told true e in record {
       known = inr (has_now true e);
       told = inl (record { results = ap (map square_of) t.results; learned = let k = t.learned in omega arith });
@@ -139,10 +169,10 @@ module _ (store : List ℕ) (key : Key) (old new : Knowledge) (sq : Sq) (index w
     }
 
     -- a result that was asked for is learned
-    pub book_learns : count ≡ 1 → Learns (book_of store key old) (book_of store key new) sq
+    pub book_learns : count ≡ 1 → Learns (book_at table desk) (book_at table last) sq
     book_learns one = learns_case one (has_result old.results l.result.square) refl
 
-    adds_case : count ≡ 0 → (had : Bool) → has_result old.results l.result.square ≡ had → AddsResult (book_of store key old) (book_of store key new) sq
+    adds_case : count ≡ 0 → (had : Bool) → has_result old.results l.result.square ≡ had → AddsResult (book_at table desk) (book_at table last) sq
     adds_case none true e = let t = told true e in record {
       known = inr (has_now true e);
       learned = let k = t.learned in omega arith;
@@ -155,21 +185,18 @@ module _ (store : List ℕ) (key : Key) (old new : Knowledge) (sq : Sq) (index w
     }
 
     -- one that was told is added
-    pub book_adds : count ≡ 0 → AddsResult (book_of store key old) (book_of store key new) sq
+    pub book_adds : count ≡ 0 → AddsResult (book_at table desk) (book_at table last) sq
     book_adds none = adds_case none (has_result old.results l.result.square) refl
 
     -- the number in the word shows the future
-    pub is_future : sq.level ≤ 65 → (number : ℕ) → number ≡ second_part word → l.result.future < 2 ^ 32 → IsSame (cells_in new sq) plane →
-        IsFuture (book_of store key new) sq (numbered (sq.level - 1) number)
-    is_future high number e fits same =
+    pub is_future : sq.level ≤ 65 → (number : ℕ) → number ≡ second_part word → IsFuture (book_at table last) sq (numbered (sq.level - 1) number)
+    is_future high number e =
+        let fits = below_limit key new (square_rank (sq.level - 1)) l.result.future (future key.rule key.exponent sq.level plane) coherent future_known in
+        let same = (keeps_at table desk last at_table grows).cells sq known in
         let is : number ≡ l.result.future = let t = l.told in omega arith in
-        subst (λ n. IsFuture (book_of store key new) sq (numbered (sq.level - 1) n)) (sym is)
-        (subst (λ p. Shows (book_of store key new) (sq.level - 1) (future key.rule key.exponent sq.level p) (numbered (sq.level - 1) l.result.future)) (sym (plane_equal _ _ same))
-        (shows_of store key new (numbered (sq.level - 1) l.result.future) (future key.rule key.exponent sq.level plane) h (omega arith) (omega arith) future_known))
-
-  -- the desk knows the square and its future
-  pub may_tell : (fut : Sq) → fut.num.0 < 2 ^ 32 → KnowsBlock old (square_rank (sq.level - 1)) fut.num.0 (future key.rule key.exponent sq.level plane) → MayTell key old index fut.num.0
-  may_tell fut low shown = record { of = may_ask; low = low; shown = shown }
+        subst (λ n. IsFuture (book_at table last) sq (numbered (sq.level - 1) n)) (sym is)
+        (subst (λ p. Shows (book_at table last) (sq.level - 1) (future key.rule key.exponent sq.level p) (numbered (sq.level - 1) l.result.future)) (sym (plane_equal _ _ same))
+        (shows_of (store_of table) key new (numbered (sq.level - 1) l.result.future) (future key.rule key.exponent sq.level plane) coherent (omega arith) (omega arith) future_known))
 
 -- the future of the empty square
 pub empty_future : (store : List ℕ) (key : Key) (known : Knowledge) (sq : Sq) → IsRule key.rule → ∥ IsCoherent key.shape.bits known ∥₁ → 3 < sq.level → sq.level ≤ 65 → sq.num.0 ≡ 0 →

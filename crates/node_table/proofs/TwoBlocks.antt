@@ -1,6 +1,6 @@
 -- Two blocks as one.
 use Rattle.std.proofs.Common.{◌≡◌, ◌≢◌, ℕ, suc, ◌+◌, ◌-◌, ◌%◌, ◌^◌, ◌<◌, ◌≤◌, pos, Bool, true, false, cond, sym, subst, arith, refl, inl}
-use Rattle.std.specs.Prelude.{◌==◌, int_lt, List, [], ◌∷◌}
+use Rattle.std.specs.Prelude.{◌==◌, IsTrue, int_lt, List, [], ◌∷◌}
 use Rattle.plane.specs.Plane.{Plane}
 use Rattle.plane.specs.Square.{IsSame, IsSquare, empty, cut, joined}
 use Rattle.plane.specs.Block.{beside, below}
@@ -15,13 +15,14 @@ use Rattle.table_core.specs.Learning.{KnowsPartsOf, LearnsWord, MeetsWord}
 use Rattle.table_core.proofs.Blocks.{paired_same}
 use Rattle.table_core.proofs.Knowing.{knows_same, knows_grown}
 use Rattle.table_core.proofs.Quads.{next_rank, quarters_joined}
-use Rattle.node_table.specs.Books.{IsCoherent}
-use Rattle.node_table.specs.Numbers.{IsPair, ArePartsOf, KnowsPairOf}
+use Rattle.node_table.specs.Books.{book_of, knows_in, cells_in, IsCoherent}
+use Rattle.node_table.specs.Numbers.{IsPair, ArePartsOf, KnowsPairOf, KnowsSomePair}
 use Rattle.std.proofs.Math.Logic.{∥∥₁_elim}
 use Rattle.std.proofs.Props.{props}
-use Rattle.squares.specs.Book.{AreQuarters, Shows, numbered}
-use Rattle.node_table.specs.Books.{book_of}
+use Rattle.squares.specs.declared.sq.Sq.{Sq}
+use Rattle.squares.specs.Book.{Book, AreQuarters, Shows, numbered}
 use Rattle.node_table.proofs.Books.{zero_is_empty, inside_square, shows_of}
+use Rattle.node_table.proofs.Entries.{halved, quarter_rank}
 
 both_cases : {A : Type 0} (b : Bool) (u v w : A) → u ≡ w → v ≡ w → cond b u v ≡ w
 both_cases true u v w h k = h
@@ -68,23 +69,31 @@ pair_read key old new number word some stands met = record {
 }
 
 -- four squares as one
-pub quad_shown : (a b c d : Knowledge) (level nw ne sw se upper lower number : ℕ) (p q r s : Plane) → 3 ≤ level →
-    IsPair a b nw ne upper → IsPair b c sw se lower → IsPair c d upper lower number → Grows a b → Grows b c →
-    KnowsBlock a (square_rank level) nw p → KnowsBlock a (square_rank level) ne q → KnowsBlock a (square_rank level) sw r → KnowsBlock a (square_rank level) se s →
-    KnowsBlock d (square_rank (level + 1)) number (joined (2 ^ level) p q r s)
-quad_shown a b c d level nw ne sw se upper lower number p q r s above one two whole grows more hp hq hr hs =
-    let k = square_rank level in
-    let top : KnowsBlock b (suc (square_rank level)) upper (paired (square_rank level) p q) = one.shown (square_rank level) p q hp hq in
-    let bottom : KnowsBlock c (suc (square_rank level)) lower (paired (square_rank level) r s) =
-    two.shown (square_rank level) r s (knows_grown a b (square_rank level) sw r grows hr) (knows_grown a b (square_rank level) se s grows hs) in
-    let all : KnowsBlock d (suc (suc (square_rank level))) number (paired (suc (square_rank level)) (paired (square_rank level) p q) (paired (square_rank level) r s)) =
-    whole.shown (suc (square_rank level)) (paired (square_rank level) p q) (paired (square_rank level) r s) (knows_grown b c (suc (square_rank level)) upper (paired (square_rank level) p q) more top) bottom in
-    subst (λ n. KnowsBlock d n number (joined (2 ^ level) p q r s)) (sym (next_rank level above))
-    (subst (λ plane. KnowsBlock d (suc (suc (square_rank level))) number plane) (quarters_joined level p q r s above) all)
+pub quad_shown : (old new : Knowledge) (level upper lower number : ℕ) (p q r s : Plane) → 3 ≤ level → IsPair old new upper lower number →
+    KnowsBlock old (suc (square_rank level)) upper (paired (square_rank level) p q) → KnowsBlock old (suc (square_rank level)) lower (paired (square_rank level) r s) →
+    KnowsBlock new (square_rank (level + 1)) number (joined (2 ^ level) p q r s)
+quad_shown old new level upper lower number p q r s above whole top bottom =
+    subst (λ n. KnowsBlock new n number (joined (2 ^ level) p q r s)) (sym (next_rank level above))
+    (subst (λ plane. KnowsBlock new (suc (suc (square_rank level))) number plane) (quarters_joined level p q r s above)
+    (whole.shown (suc (square_rank level)) (paired (square_rank level) p q) (paired (square_rank level) r s) top bottom))
 
--- a square's rank is two above that of its quarters
-pub quarter_rank : (level : ℕ) → 3 < level → square_rank level ≡ suc (suc (square_rank (level - 1)))
-quarter_rank level above = omega arith
+-- a known square above level 3 has two halves
+pub some_halves : (known : Knowledge) (sq : Sq) → 3 < sq.level → IsTrue (knows_in known sq) → KnowsSomePair known sq.num.0
+some_halves known sq above h = record { rank = suc (square_rank (sq.level - 1)); plane = cells_in known sq; shown = halved known sq above h }
+
+-- and each of them has two parts
+module _ {old new : Knowledge} {upper lower : ℕ} (sq : Sq) (above : 3 < sq.level) (known : IsTrue (knows_in old sq)) (read : KnowsPairOf old new sq.num.0 upper lower) where
+  two_halves : ArePartsOf new (suc (square_rank (sq.level - 1))) (cells_in old sq) upper lower
+  two_halves = read.parts (suc (square_rank (sq.level - 1))) (cells_in old sq) (halved old sq above known)
+
+  pub upper_half : KnowsSomePair new upper
+  upper_half = record { rank = square_rank (sq.level - 1); plane = two_halves.one; shown = two_halves.shows_one }
+
+  pub lower_half : KnowsSomePair new lower
+  lower_half = record { rank = square_rank (sq.level - 1); plane = two_halves.two; shown = two_halves.shows_two }
+
+pub pair_grown : {old new : Knowledge} {number : ℕ} → Grows old new → KnowsSomePair old number → KnowsSomePair new number
+pair_grown {old} {new} {number} grows h = record { rank = h.rank; plane = h.plane; shown = knows_grown old new (suc h.rank) number h.plane grows h.shown }
 
 is_square_prop : (side : ℕ) (plane : Plane) → IsProp (IsSquare side plane)
 is_square_prop side plane = hlevel props
@@ -94,7 +103,7 @@ known_square bits known level n plane h above knows =
     ∥∥₁_elim h (is_square_prop (2 ^ level) plane) (λ t. inside_square level plane above (t.consistent.inside (square_rank level) n plane knows))
 
 -- the quarters of a square whose halves and their parts were read
-module _ (store : List ℕ) (key : Key) (a b c d : Knowledge) (level number upper lower nw ne sw se : ℕ) (plane : Plane) (low : 3 < level) (high : level ≤ 65) (h : ∥ IsCoherent key.shape.bits d ∥₁) (whole : KnowsPairOf a b number upper lower) (top : KnowsPairOf b c upper nw ne) (bottom : KnowsPairOf c d lower sw se) (grows : Grows b c) (more : Grows c d) (knows : KnowsBlock a (square_rank level) number plane) where
+module _ (store : List ℕ) (key : Key) {a b c d : Knowledge} (level : ℕ) {number upper lower nw ne sw se : ℕ} (plane : Plane) (low : 3 < level) (high : level ≤ 65) (h : ∥ IsCoherent key.shape.bits d ∥₁) (whole : KnowsPairOf a b number upper lower) (top : KnowsPairOf b c upper nw ne) (bottom : KnowsPairOf c d lower sw se) (grows : Grows b c) (more : Grows c d) (knows : KnowsBlock a (square_rank level) number plane) where
   halves : ArePartsOf b (suc (square_rank (level - 1))) plane upper lower
   halves = whole.parts (suc (square_rank (level - 1))) plane (subst (λ r. KnowsBlock a r number plane) (quarter_rank level low) knows)
 
@@ -147,3 +156,7 @@ module _ (store : List ℕ) (key : Key) (a b c d : Knowledge) (level number uppe
     sw = shown sw 0 (2 ^ (level - 1)) lowers.one lowers.shows_one (joined_sw (2 ^ (level - 1)) _ _ _ _ square_nw square_ne square_sw square_se);
     se = shown se (2 ^ (level - 1)) (2 ^ (level - 1)) lowers.two lowers.shows_two (joined_se (2 ^ (level - 1)) _ _ _ _ square_nw square_ne square_sw square_se);
   }
+
+pub same_quarters : {book : Book} {level : ℕ} {plane : Plane} {a b c d nw ne sw se : Sq} → nw ≡ a → ne ≡ b → sw ≡ c → se ≡ d → AreQuarters book level plane (a ∷ b ∷ c ∷ d ∷ []) →
+    AreQuarters book level plane (nw ∷ ne ∷ sw ∷ se ∷ [])
+same_quarters {book} {level} {plane} e f g h quarters = subst (AreQuarters book level plane) (λ i. sym e i ∷ sym f i ∷ sym g i ∷ sym h i ∷ []) quarters

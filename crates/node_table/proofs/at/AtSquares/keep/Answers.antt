@@ -1,11 +1,9 @@
 use Rattle.std.proofs.Common.{◌-◌, refl}
 use Rattle.plane.specs.Square.{future}
 use Rattle.table_core.specs.Blocks.{square_rank}
-use Rattle.table_core.proofs.Knowing.{knows_grown, knows_same}
+use Rattle.table_core.proofs.Knowing.{knows_same}
 use Rattle.node_table.specs.Books.{cells_in}
-use Rattle.node_table.specs.Desks.{store_of}
-use Rattle.node_table.proofs.Entries.{block_of}
-use Rattle.node_table.proofs.Desks.{coherent_at, keeps_at, known_block, square_slot, below_limit}
+use Rattle.node_table.proofs.Desks.{keeps_at, known_block, square_slot}
 use Rattle.node_table.proofs.Telling.{may_tell, book_adds, told_some}
 use Rattle.node_table.proofs.at.AtSquares.keep.Goals as goal
 
@@ -21,25 +19,15 @@ tell-requires-clause-lawful c =
     let known = at.desk.seat.me.0.known in
     let sq = c.args.sq in
     let fut = c.args.future in
-    let plane = future key.rule key.exponent sq.level (cells_in known sq) in
-    let shown = knows_same known (square_rank (sq.level - 1)) fut.num.0 (cells_in known fut) plane c.requires.future.cells (known_block known (sq.level - 1) fut c.requires.future.known.at_level c.requires.future.known.known) in
-    may_tell (store_of c.args.self.now.table.now) key known known sq c.result_index-index.result 0 0 (cells_in known sq) (square_slot at.table.now at.desk sq at.of_table c.requires.level c.if-sq-ne0.true c.requires.known.known)
-    c.result_index-index.ensures.index c.requires.level (block_of known sq c.requires.known.known) fut (below_limit key known (square_rank (sq.level - 1)) fut.num.0 plane (coherent_at at.table.now at.desk at.of_table) shown) shown
+    may_tell at.table.now at.desk sq at.of_table c.requires.level c.if-sq-ne0.true c.requires.known.known c.result_index-index.ensures.index fut
+    (knows_same known (square_rank (sq.level - 1)) fut.num.0 (cells_in known fut) (future key.rule key.exponent sq.level (cells_in known sq)) c.requires.future.cells
+    (known_block known (sq.level - 1) fut c.requires.future.known.at_level c.requires.future.known.known))
 
 pub returns-then-sq-ne0-clause-ok : goal.returns-then-sq-ne0-clause-ok
 returns-then-sq-ne0-clause-ok c =
     let at = c.args.self.now in
-    let key = at.table.now.key in
-    let known = at.desk.seat.me.0.known in
-    let last = c.tell.new.self in
-    let new = last.seat.me.0.known in
-    let sq = c.args.sq in
-    let plane = cells_in known sq in
-    let slot = square_slot at.table.now at.desk sq at.of_table c.requires.level c.if-sq-ne0.true c.requires.known.known in
-    let knows = block_of known sq c.requires.known.known in
-    let learned = c.tell.ensures.met.learns.some (told_some c.tell.result c.args.future.num.0) in
-    let later = knows_grown known new (square_rank sq.level) sq.num.0 plane c.tell.ensures.met.grows knows in
-    book_adds (store_of c.args.self.now.table.now) key known new sq c.result_index-index.result _ 0 plane slot c.result_index-index.ensures.index c.requires.level knows learned (coherent_at at.table.now last c.tell.ensures.table) later refl
+    book_adds at.table.now at.desk c.args.sq at.of_table c.requires.level c.if-sq-ne0.true c.requires.known.known c.result_index-index.ensures.index
+    c.tell.new.self c.tell.ensures.table c.tell.ensures.met.grows (c.tell.ensures.met.learns.some (told_some c.tell.result c.args.future.num.0)) refl
 
 pub returns-then-sq-ne0-clause-keeps : goal.returns-then-sq-ne0-clause-keeps
 returns-then-sq-ne0-clause-keeps c = keeps_at c.args.self.now.table.now c.args.self.now.desk c.tell.new.self c.tell.ensures.table c.tell.ensures.met.grows

@@ -1,18 +1,10 @@
-use Rattle.std.proofs.Common.{◌∙◌, ap, sym, subst, Some}
-use Rattle.table_core.specs.declared.key.Key.{Key}
+use Rattle.std.proofs.Common.{◌∙◌}
 use Rattle.table_core.specs.declared.machine.Event.TheVariants.{Claim}
-use Rattle.table_core.specs.Lawful.{IsLawful}
-use Rattle.node_table.proofs.Steps.{meets, sound_after}
+use Rattle.node_table.proofs.Steps.{meets_at, sound_after}
 use Rattle.node_table.proofs.desk.Desk.claim.Goals as goal
 
 pub compare_exchange-requires : goal.compare_exchange-requires
-compare_exchange-requires c =
-    let t = c.args.table.now in
-    let seat = c.args.self.now.seat in (
-      c.requires.table.same_table,
-      c.requires.range,
-      meets t.table.shared.key t.table.shared.table_id.slots seat.id seat.me (Claim 0 c.args.index c.args.word) (c.requires.table.same_key ∙ ap (λ (k : Key). Some k) (sym t.same_key)) (subst (λ (k : Key). IsLawful k seat.me.0.known (Claim 0 c.args.index c.args.word)) (sym t.same_key) c.requires.lawful),
-    )
+compare_exchange-requires c = (c.requires.table.same_table, c.requires.range, meets_at c.args.table.now c.args.self.now (Claim 0 c.args.index c.args.word) c.requires.table c.requires.lawful)
 
 pub invariant_of-self : goal.invariant_of-self
 invariant_of-self c =

@@ -1,17 +1,10 @@
-use Rattle.std.proofs.Common.{◌∙◌, ap, sym, Some}
-use Rattle.table_core.specs.declared.key.Key.{Key}
+use Rattle.std.proofs.Common.{◌∙◌}
 use Rattle.table_core.specs.declared.machine.Event.TheVariants.{Look}
-use Rattle.node_table.proofs.Steps.{meets, sound_after}
+use Rattle.node_table.proofs.Steps.{meets_at, sound_after}
 use Rattle.node_table.proofs.desk.Desk.look.Goals as goal
 
 pub load-requires : goal.load-requires
-load-requires c =
-    let t = c.args.table.now in
-    let seat = c.args.self.now.seat in (
-      c.requires.table.same_table,
-      c.requires.range,
-      meets t.table.shared.key t.table.shared.table_id.slots seat.id seat.me (Look 0 c.args.index) (c.requires.table.same_key ∙ ap (λ (k : Key). Some k) (sym t.same_key)) tt,
-    )
+load-requires c = (c.requires.table.same_table, c.requires.range, meets_at c.args.table.now c.args.self.now (Look 0 c.args.index) c.requires.table tt)
 
 pub invariant_of-self : goal.invariant_of-self
 invariant_of-self c =

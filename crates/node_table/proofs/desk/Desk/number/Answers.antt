@@ -7,68 +7,51 @@ use Rattle.node_table.proofs.desk.Desk.number.Goals as goal
 
 pub claim-found-requires-clause-lawful : goal.claim-found-requires-clause-lawful
 claim-found-requires-clause-lawful c =
-    may_claim c.args.table.now.key c.args.self.now.seat.me.0.known c.loop-place.self.seat.me.0.known c.look-found.new.self.seat.me.0.known c.args.kind c.args.word c.loop-place.place c.way_index-index.result c.look-found.result
-    c.loop-place.invariant.sought c.way_index-index.ensures.index c.look-found.ensures.met.grows c.look-found.ensures.met.learns c.requires.some c.ranges.word.fits (let short = c.loop-place-test.true in omega arith) c.requires.parts
+    may_claim c.loop-place.invariant.sought c.way_index-index.ensures.index c.look-found.ensures.met.grows c.look-found.ensures.met.learns c.requires.some c.ranges.word.fits (let short = c.loop-place-test.true in omega arith) c.requires.parts
 
 pub returns-then-found-eq0-2-clause-some : goal.returns-then-found-eq0-2-clause-some
 returns-then-found-eq0-2-clause-some c =
-    let sought = still_sought c.args.table.now.key c.args.self.now.seat.me.0.known c.loop-place.self.seat.me.0.known c.look-found.new.self.seat.me.0.known c.args.kind c.args.word c.loop-place.place c.way_index-index.result c.look-found.result
-    c.loop-place.invariant.sought c.way_index-index.ensures.index c.look-found.ensures.met.grows c.look-found.ensures.met.learns in
-    is_number c.args.table.now.key c.args.self.now.seat.me.0.known c.look-found.new.self.seat.me.0.known c.claim-found.new.self.seat.me.0.known c.args.kind c.args.word c.loop-place.place c.way_index-index.result _
-    sought c.way_index-index.ensures.index c.claim-found.ensures.met.grows c.claim-found.ensures.met.learns c.requires.some (left_word c.claim-found.result c.args.word c.then-found-eq0-2.either)
+    let sought = still_sought c.loop-place.invariant.sought c.way_index-index.ensures.index c.look-found.ensures.met.grows c.look-found.ensures.met.learns in
+    is_number sought c.way_index-index.ensures.index c.claim-found.ensures.met.grows c.claim-found.ensures.met.learns c.requires.some (left_word c.claim-found.result c.args.word c.then-found-eq0-2.either)
 
 pub loop-place-preserved : goal.loop-place-preserved
 loop-place-preserved c =
-    let key = c.args.table.now.key in
+    let bits = c.args.table.now.key.shape.bits in
     let old = c.args.self.now.seat.me.0.known in
-    let looked = c.look-found.new.self.seat.me.0.known in
     elim c.if-found-eq0.branch [
       | then-found-eq0+else-found-eq0-2+else-found-word-2 w ↦ record {
         at = subst (λ (d : Desk). IsDeskOf c.args.table.now d) (sym w.self-is) w.claim-found.ensures.table;
-        sought = subst (λ (d : Desk). Sought key.shape.bits old d.seat.me.0.known c.args.kind c.args.word (c.loop-place.place + 1)) (sym w.self-is)
-            (goes_on key old looked w.claim-found.new.self.seat.me.0.known c.args.kind c.args.word c.loop-place.place c.way_index-index.result _
-            (still_sought key old c.loop-place.self.seat.me.0.known looked c.args.kind c.args.word c.loop-place.place c.way_index-index.result c.look-found.result
-            c.loop-place.invariant.sought c.way_index-index.ensures.index c.look-found.ensures.met.grows c.look-found.ensures.met.learns)
+        sought = subst (λ (d : Desk). Sought bits old d.seat.me.0.known c.args.kind c.args.word (c.loop-place.place + 1)) (sym w.self-is)
+            (goes_on (still_sought c.loop-place.invariant.sought c.way_index-index.ensures.index c.look-found.ensures.met.grows c.look-found.ensures.met.learns)
             c.way_index-index.ensures.index w.claim-found.ensures.met.grows w.claim-found.ensures.met.learns
             (λ e. w.if-found-eq0-2.false (sym (left_other w.claim-found.result c.args.word w.if-found-eq0-2.false) ∙ e))
             (λ e. w.if-found-word-2.false (sym (left_other w.claim-found.result c.args.word w.if-found-eq0-2.false) ∙ e)));
       }
       | else-found-eq0 w ↦ record {
         at = subst (λ (d : Desk). IsDeskOf c.args.table.now d) (sym w.self-is) c.look-found.ensures.table;
-        sought = subst (λ (d : Desk). Sought key.shape.bits old d.seat.me.0.known c.args.kind c.args.word (c.loop-place.place + 1)) (sym w.self-is)
-            (goes_on key old c.loop-place.self.seat.me.0.known looked c.args.kind c.args.word c.loop-place.place c.way_index-index.result c.look-found.result
-            c.loop-place.invariant.sought c.way_index-index.ensures.index c.look-found.ensures.met.grows c.look-found.ensures.met.learns w.if-found-eq0.false c.if-found-word.false);
+        sought = subst (λ (d : Desk). Sought bits old d.seat.me.0.known c.args.kind c.args.word (c.loop-place.place + 1)) (sym w.self-is)
+            (goes_on c.loop-place.invariant.sought c.way_index-index.ensures.index c.look-found.ensures.met.grows c.look-found.ensures.met.learns w.if-found-eq0.false c.if-found-word.false);
       }
     ]
 
 pub returns-then-found-word-clause-grows : goal.returns-then-found-word-clause-grows
-returns-then-found-word-clause-grows c =
-    still_grows c.args.table.now.key c.args.self.now.seat.me.0.known c.loop-place.self.seat.me.0.known c.look-found.new.self.seat.me.0.known c.args.kind c.args.word c.loop-place.place c.way_index-index.result c.look-found.result
-    c.loop-place.invariant.sought c.way_index-index.ensures.index c.look-found.ensures.met.grows c.look-found.ensures.met.learns
+returns-then-found-word-clause-grows c = still_grows c.loop-place.invariant.sought c.way_index-index.ensures.index c.look-found.ensures.met.grows c.look-found.ensures.met.learns
 
 pub returns-then-found-word-clause-told : goal.returns-then-found-word-clause-told
-returns-then-found-word-clause-told c =
-    still_told c.args.table.now.key c.args.self.now.seat.me.0.known c.loop-place.self.seat.me.0.known c.look-found.new.self.seat.me.0.known c.args.kind c.args.word c.loop-place.place c.way_index-index.result c.look-found.result
-    c.loop-place.invariant.sought c.way_index-index.ensures.index c.look-found.ensures.met.grows c.look-found.ensures.met.learns
+returns-then-found-word-clause-told c = still_told c.loop-place.invariant.sought c.way_index-index.ensures.index c.look-found.ensures.met.grows c.look-found.ensures.met.learns
 
 pub returns-then-found-word-clause-some : goal.returns-then-found-word-clause-some
-returns-then-found-word-clause-some c =
-    is_number c.args.table.now.key c.args.self.now.seat.me.0.known c.loop-place.self.seat.me.0.known c.look-found.new.self.seat.me.0.known c.args.kind c.args.word c.loop-place.place c.way_index-index.result c.look-found.result
-    c.loop-place.invariant.sought c.way_index-index.ensures.index c.look-found.ensures.met.grows c.look-found.ensures.met.learns c.requires.some c.if-found-word.true
+returns-then-found-word-clause-some c = is_number c.loop-place.invariant.sought c.way_index-index.ensures.index c.look-found.ensures.met.grows c.look-found.ensures.met.learns c.requires.some c.if-found-word.true
 
 pub returns-then-found-eq0-2-clause-grows : goal.returns-then-found-eq0-2-clause-grows
 returns-then-found-eq0-2-clause-grows c =
-    let sought = still_sought c.args.table.now.key c.args.self.now.seat.me.0.known c.loop-place.self.seat.me.0.known c.look-found.new.self.seat.me.0.known c.args.kind c.args.word c.loop-place.place c.way_index-index.result c.look-found.result
-    c.loop-place.invariant.sought c.way_index-index.ensures.index c.look-found.ensures.met.grows c.look-found.ensures.met.learns in
-    still_grows c.args.table.now.key c.args.self.now.seat.me.0.known c.look-found.new.self.seat.me.0.known c.claim-found.new.self.seat.me.0.known c.args.kind c.args.word c.loop-place.place c.way_index-index.result _
-    sought c.way_index-index.ensures.index c.claim-found.ensures.met.grows c.claim-found.ensures.met.learns
+    let sought = still_sought c.loop-place.invariant.sought c.way_index-index.ensures.index c.look-found.ensures.met.grows c.look-found.ensures.met.learns in
+    still_grows sought c.way_index-index.ensures.index c.claim-found.ensures.met.grows c.claim-found.ensures.met.learns
 
 pub returns-then-found-eq0-2-clause-told : goal.returns-then-found-eq0-2-clause-told
 returns-then-found-eq0-2-clause-told c =
-    let sought = still_sought c.args.table.now.key c.args.self.now.seat.me.0.known c.loop-place.self.seat.me.0.known c.look-found.new.self.seat.me.0.known c.args.kind c.args.word c.loop-place.place c.way_index-index.result c.look-found.result
-    c.loop-place.invariant.sought c.way_index-index.ensures.index c.look-found.ensures.met.grows c.look-found.ensures.met.learns in
-    still_told c.args.table.now.key c.args.self.now.seat.me.0.known c.look-found.new.self.seat.me.0.known c.claim-found.new.self.seat.me.0.known c.args.kind c.args.word c.loop-place.place c.way_index-index.result _
-    sought c.way_index-index.ensures.index c.claim-found.ensures.met.grows c.claim-found.ensures.met.learns
+    let sought = still_sought c.loop-place.invariant.sought c.way_index-index.ensures.index c.look-found.ensures.met.grows c.look-found.ensures.met.learns in
+    still_told sought c.way_index-index.ensures.index c.claim-found.ensures.met.grows c.claim-found.ensures.met.learns
 
 pub returns-clause-none : goal.returns-clause-none
 returns-clause-none c = record {

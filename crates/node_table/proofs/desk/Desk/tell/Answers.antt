@@ -1,27 +1,25 @@
-use Rattle.std.proofs.Common.{ℕ, ◌+◌, ◌^◌, ◌∙◌, ap, cond, eqb, sym, subst, Some}
+use Rattle.std.proofs.Common.{ℕ, ◌+◌, ◌^◌, ◌∙◌, ap, cond, eqb, sym, subst}
 use prog.Atomic.{either}
 use Rattle.atomic_table.specs.Table.{Allows}
-use Rattle.table_core.specs.declared.key.Key.{Key}
 use Rattle.table_core.specs.declared.machine.Event.TheVariants.{Tell}
 use Rattle.table_core.specs.Lawful.{IsLawful}
 use Rattle.table_core.specs.Layout.{second_part}
 use Rattle.node_table.specs.Rule.{Holds, Met, HasMet}
-use Rattle.node_table.proofs.Steps.{meets, sound_after}
+use Rattle.node_table.proofs.Steps.{meets_at, sound_after}
 use Rattle.node_table.proofs.desk.Desk.tell.Goals as goal
 
 pub compare_exchange-requires : goal.compare_exchange-requires
 compare_exchange-requires c =
     let t = c.args.table.now in
-    let seat = c.args.self.now.seat in
+    let desk = c.args.self.now in
     let word = c.result_word-word.result in
     let number = c.result_word-word.ensures.number in
     let whole = ap (λ (n : ℕ). 2 ^ 32 + n) number ∙ sym c.result_word-word.ensures.word in
-    let lawful = subst (λ (k : Key). IsLawful k seat.me.0.known (Tell 0 c.args.index (second_part word))) (sym t.same_key)
-    (subst (λ (n : ℕ). IsLawful t.key seat.me.0.known (Tell 0 c.args.index n)) (sym number) c.requires.lawful) in (
+    let lawful = subst (λ (n : ℕ). IsLawful t.key desk.seat.me.0.known (Tell 0 c.args.index n)) (sym number) c.requires.lawful in (
       c.requires.table.same_table,
       c.requires.range,
-      subst (λ (w : ℕ). Allows (Holds {S = Unit {0}} t.table.shared.key) t.table.shared.table_id.slots seat.id seat.me c.args.index (λ n. either (eqb n 0) w n) (HasMet (Tell 0 c.args.index (second_part word)) seat.me)) whole
-          (meets t.table.shared.key t.table.shared.table_id.slots seat.id seat.me (Tell 0 c.args.index (second_part word)) (c.requires.table.same_key ∙ ap (λ (k : Key). Some k) (sym t.same_key)) lawful),
+      subst (λ (w : ℕ). Allows (Holds {S = Unit {0}} t.table.shared.key) t.table.shared.table_id.slots desk.seat.id desk.seat.me c.args.index (λ n. either (eqb n 0) w n) (HasMet (Tell 0 c.args.index (second_part word)) desk.seat.me)) whole
+          (meets_at t desk (Tell 0 c.args.index (second_part word)) c.requires.table lawful),
     )
 
 pub returns-clause-met : goal.returns-clause-met
