@@ -29,59 +29,33 @@ fn numbered(table: &NodeTable, desk: Desk, rising: bool) -> Desk
     at.leave()
 }
 
-fn numbered_by_two<R: Threads + Sync>(rt: &R, table: &NodeTable, desk: Desk) -> Desk
+// Numbers the words by 2^splits desks, each in a thread of its own: of two that were split the first
+// goes rising, the second falling.
+fn numbered_by<R: Threads + Sync>(
+    rt: &R,
+    table: &NodeTable,
+    desk: Desk,
+    splits: u32,
+    rising: bool,
+) -> Desk
     requires { IsDeskOf table.now desk }
     ensures { IsDeskOf table.now result }
 {
+    if splits == 0 {
+        return numbered(table, desk, rising);
+    }
+    let splits = splits - 1;
     let (first, second) = table.split(desk);
     let (first, second) = join(
         rt,
         move || -> Desk
             requires { IsDeskOf table.now first }
             ensures { IsDeskOf table.entry.now result }
-        { numbered(table, first, true) },
+        { numbered_by(rt, table, first, splits, true) },
         move || -> Desk
             requires { IsDeskOf table.now second }
             ensures { IsDeskOf table.entry.now result }
-        { numbered(table, second, false) },
-    );
-    table.join(first, second)
-}
-
-fn numbered_by_four<R: Threads + Sync>(rt: &R, table: &NodeTable, desk: Desk) -> Desk
-    requires { IsDeskOf table.now desk }
-    ensures { IsDeskOf table.now result }
-{
-    let (first, second) = table.split(desk);
-    let (first, second) = join(
-        rt,
-        move || -> Desk
-            requires { IsDeskOf table.now first }
-            ensures { IsDeskOf table.entry.now result }
-        { numbered_by_two(rt, table, first) },
-        move || -> Desk
-            requires { IsDeskOf table.now second }
-            ensures { IsDeskOf table.entry.now result }
-        { numbered_by_two(rt, table, second) },
-    );
-    table.join(first, second)
-}
-
-fn numbered_by_eight<R: Threads + Sync>(rt: &R, table: &NodeTable, desk: Desk) -> Desk
-    requires { IsDeskOf table.now desk }
-    ensures { IsDeskOf table.now result }
-{
-    let (first, second) = table.split(desk);
-    let (first, second) = join(
-        rt,
-        move || -> Desk
-            requires { IsDeskOf table.now first }
-            ensures { IsDeskOf table.entry.now result }
-        { numbered_by_four(rt, table, first) },
-        move || -> Desk
-            requires { IsDeskOf table.now second }
-            ensures { IsDeskOf table.entry.now result }
-        { numbered_by_four(rt, table, second) },
+        { numbered_by(rt, table, second, splits, false) },
     );
     table.join(first, second)
 }
@@ -113,7 +87,7 @@ fn numbers_and_refusals<S: Squares>(book: &mut S) -> (usize, usize) {
 #[test]
 fn two_threads_give_one_number_each(rt: HostRuntime) -> Result<(), Fail> {
     let (table, desk) = empty_table(&rt, PAIRS, 0)?;
-    let joined = numbered_by_two(&rt, &table, desk);
+    let joined = numbered_by(&rt, &table, desk, 1, true);
     assert_eq!(rt; numbers_and_refusals(&mut table.at(joined)), (256, 1));
     Ok(())
 }
@@ -121,7 +95,7 @@ fn two_threads_give_one_number_each(rt: HostRuntime) -> Result<(), Fail> {
 #[test]
 fn eight_threads_give_one_number_each(rt: HostRuntime) -> Result<(), Fail> {
     let (table, desk) = empty_table(&rt, PAIRS, 0)?;
-    let joined = numbered_by_eight(&rt, &table, desk);
+    let joined = numbered_by(&rt, &table, desk, 3, true);
     assert_eq!(rt; numbers_and_refusals(&mut table.at(joined)), (256, 1));
     Ok(())
 }
