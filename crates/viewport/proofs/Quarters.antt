@@ -1,5 +1,5 @@
 -- A square is its quarters, laid over one another.
-use Rattle.std.proofs.Common.{◌≡◌, ℕ, ◌-◌, ◌^◌, ◌<◌, ℤ, pos, ◌-ℤ◌, Bool, true, false, cond, ◌&&◌, ◌||◌, List, refl, sym, ◌∙◌, ap, subst, arith}
+use Rattle.std.proofs.Common.{◌≡◌, ℕ, ◌-◌, ◌^◌, ◌<◌, ◌≤◌, ℤ, pos, ◌-ℤ◌, Bool, true, false, cond, ◌&&◌, ◌||◌, List, refl, sym, ◌∙◌, ap, subst, arith}
 use Rattle.std.specs.Prelude.{int_lt}
 use Rattle.std.proofs.lemmas.Int.{ints}
 use Rattle.plane.specs.Laws.{moved}
@@ -104,3 +104,15 @@ quartered book sq quarters laws known above are = record {
 
 pub own_level : (book : Book) (level : ℕ) (sq : Sq) → IsKnown book level sq → IsKnown book sq.level sq
 own_level book level sq known = subst (λ n. IsKnown book n sq) (sym known.at_level) known
+
+-- the same, of a side that has another name
+pub quartered_by : (book : Book) (sq : Sq) (quarters : List Sq) (half : ℕ) → IsBook book → IsKnown book sq.level sq → 3 < sq.level → AreQuarters book sq.level (book.cells sq) quarters → half ≡ 2 ^ (sq.level - 1) →
+    IsQuartered half (book.cells sq) (book.cells (nth quarters 0)) (book.cells (nth quarters 1)) (book.cells (nth quarters 2)) (book.cells (nth quarters 3))
+quartered_by book sq quarters half laws known above are side =
+    subst (λ n. IsQuartered n (book.cells sq) (book.cells (nth quarters 0)) (book.cells (nth quarters 1)) (book.cells (nth quarters 2)) (book.cells (nth quarters 3))) (sym side)
+    (quartered book sq quarters laws known above are)
+
+-- what a call that looks into a quarter asks for: that it is known, its level, and more
+pub of_quarter : {More : Type 0} (book : Book) (level : ℕ) (quarter : Sq) → level ≤ 63 → IsKnown book (level - 1) quarter → More → IsKnown book quarter.level quarter × ((quarter.level ≤ 63) × More)
+of_quarter book level quarter high known more =
+    let at_level = known.at_level in (own_level book _ _ known, (omega (arith, at_level), more))

@@ -46,12 +46,12 @@ module _ (h : ℕ) (p nw ne sw se : Plane) (quarters : IsQuartered h p nw ne sw 
   whole : (x : ℤ) → cells_at p left y x ≡ (beside h nw ne (x -ℤ left) (pos y) || beside h sw se ((x -ℤ left) -ℤ pos 0) (pos y -ℤ pos h))
   whole x = λ i. over h p nw ne sw se quarters i (x -ℤ left) (pos y)
 
-  pub upper_row : y < h → (x : ℤ) → cells_at p left y x ≡ (cells_at nw left y x || cells_at ne (left +ℤ pos h) y x)
+  upper_row : y < h → (x : ℤ) → cells_at p left y x ≡ (cells_at nw left y x || cells_at ne (left +ℤ pos h) y x)
   upper_row low x =
       whole x ∙ or_false _ _ ((rows_beside h sw se quarters.in_sw quarters.in_se).above _ _ (above_half y h low))
       ∙ half_row h nw ne left x y
 
-  pub under_row : h ≤ y → (x : ℤ) → cells_at p left y x ≡ (cells_at sw left (y - h) x || cells_at se (left +ℤ pos h) (y - h) x)
+  under_row : h ≤ y → (x : ℤ) → cells_at p left y x ≡ (cells_at sw left (y - h) x || cells_at se (left +ℤ pos h) (y - h) x)
   under_row high x =
       whole x ∙ ap (λ t. t || beside h sw se ((x -ℤ left) -ℤ pos 0) (pos y -ℤ pos h)) ((rows_beside h nw ne quarters.in_nw quarters.in_ne).below _ _ (below_half y h high))
       ∙ ap (λ u. beside h sw se u (pos y -ℤ pos h)) (from_nothing (x -ℤ left)) ∙ ap (beside h sw se (x -ℤ left)) (lower_row y h high)
@@ -200,7 +200,7 @@ whole_row word y n left old new e h =
     adds_as left 8 8 (cells_before word left y 8) (cells_at (bits_plane word) left y) old new refl (all_taken word y left) (subst (λ m. AddsCells left m (cells_before word left y m) old new) e h)
 
 -- a row of a square by its two quarters there
-pub quarter_rows : (level low next h : ℕ) (left middle : ℤ) (cells first others : ℤ → Bool) (old mid new : List (ℤ × ℕ)) → h ≡ 2 ^ (level - 1) → 1 ≤ level → low ≡ level - 1 → next ≡ level - 1 → middle ≡ left +ℤ pos h →
+quarter_rows : (level low next h : ℕ) (left middle : ℤ) (cells first others : ℤ → Bool) (old mid new : List (ℤ × ℕ)) → h ≡ 2 ^ (level - 1) → 1 ≤ level → low ≡ level - 1 → next ≡ level - 1 → middle ≡ left +ℤ pos h →
     ((x : ℤ) → cells x ≡ (first x || others x)) → AddsCells left (2 ^ low) first old mid → AddsCells middle (2 ^ next) others mid new → AddsCells left (2 ^ level) cells old new
 quarter_rows level low next h left middle cells first others old mid new side least e f at is one two =
     let twice : h + h ≡ 2 ^ level = ap (λ n. n + n) side ∙ sym (twice_half level least) in
@@ -208,7 +208,22 @@ quarter_rows level low next h left middle cells first others old mid new side le
     let b : AddsCells (left +ℤ pos h) h others mid new = subst (λ z. AddsCells z h others mid new) at (subst (λ n. AddsCells middle n others mid new) (ap (λ n. 2 ^ n) f ∙ sym side) two) in
     subst (λ n. AddsCells left n cells old new) twice (adds_then left h h first others cells old mid new a b is)
 
--- the runs of the first quarter end where the second begins
-pub ends_between : (level low h : ℕ) (left middle : ℤ) (cells : ℤ → Bool) (old mid : List (ℤ × ℕ)) → h ≡ 2 ^ (level - 1) → low ≡ level - 1 → middle ≡ left +ℤ pos h → AddsCells left (2 ^ low) cells old mid → EndBy middle mid
-ends_between level low h left middle cells old mid side e at one =
-    subst (λ z. EndBy z mid) (ap (λ n. left +ℤ pos n) (ap (λ n. 2 ^ n) e ∙ sym side) ∙ sym at) one.end
+-- two squares beside one another in a row, where the second begins so far behind left
+module _ (level low : ℕ) (far left : ℤ) (far_is : far ≡ pos (2 ^ (level - 1))) (low_is : low ≡ level - 1) (old mid : List (ℤ × ℕ)) where
+  -- the runs of the first end where the second begins
+  pub ends_between : (cells : ℤ → Bool) → AddsCells left (2 ^ low) cells old mid → EndBy (left +ℤ far) mid
+  ends_between cells one = subst (λ z. EndBy (left +ℤ z) mid) (ap (λ n. pos (2 ^ n)) low_is ∙ sym far_is) one.end
+
+  module _ (next half : ℕ) (p nw ne sw se : Plane) (quarters : IsQuartered half p nw ne sw se) (side : half ≡ 2 ^ (level - 1)) (least : 1 ≤ level) (next_is : next ≡ level - 1) (y : ℕ) (new : List (ℤ × ℕ)) where
+    middle : left +ℤ far ≡ left +ℤ pos half
+    middle = ap (λ z. left +ℤ z) (far_is ∙ ap pos (sym side))
+
+    -- a row of the upper half of a square, from those of its quarters
+    pub upper_adds : y < half → AddsCells left (2 ^ low) (cells_at nw left y) old mid → AddsCells (left +ℤ far) (2 ^ next) (cells_at ne (left +ℤ far) y) mid new → AddsCells left (2 ^ level) (cells_at p left y) old new
+    upper_adds above = quarter_rows level low next half left (left +ℤ far) (cells_at p left y) (cells_at nw left y) (cells_at ne (left +ℤ far) y) old mid new side least low_is next_is middle
+        (λ x. upper_row half p nw ne sw se quarters left y above x ∙ ap (λ z. cells_at nw left y x || cells_at ne z y x) (sym middle))
+
+    -- one of the lower half
+    pub lower_adds : half ≤ y → AddsCells left (2 ^ low) (cells_at sw left (y - half)) old mid → AddsCells (left +ℤ far) (2 ^ next) (cells_at se (left +ℤ far) (y - half)) mid new → AddsCells left (2 ^ level) (cells_at p left y) old new
+    lower_adds below = quarter_rows level low next half left (left +ℤ far) (cells_at p left y) (cells_at sw left (y - half)) (cells_at se (left +ℤ far) (y - half)) old mid new side least low_is next_is middle
+        (λ x. under_row half p nw ne sw se quarters left y below x ∙ ap (λ z. cells_at sw left (y - half) x || cells_at se z (y - half) x) (sym middle))

@@ -6,7 +6,7 @@ use Rattle.plane.proofs.Paddings.{twice_half}
 use Rattle.viewport.specs.BoundingBox.{IsLocalBox, joined_boxes}
 use Rattle.viewport.proofs.BoxesRound.{box_level, four_boxes, inside_of, leaf_as}
 use Rattle.viewport.proofs.Counts.{true_of_kept, zero_is_empty}
-use Rattle.viewport.proofs.Quarters.{known_square, own_level, quartered}
+use Rattle.viewport.proofs.Quarters.{known_square, of_quarter, quartered}
 use Rattle.viewport.proofs.boxes.+local_box.Goals as goal
 
 pub local_box-returns-then-sq-eq0-clause-ok : goal.local_box-returns-then-sq-eq0-clause-ok
@@ -30,27 +30,23 @@ local_box-returns-clause-boxed g t c =
 
 pub quarters_box-local_box-requires : goal.quarters_box-local_box-requires
 quarters_box-local_box-requires g t c κs within =
-    let book = g.L.Look.book c.args.look.now in
     let at_level = c.parts.ensures.nw.known.at_level in
-    (search rules, (search rules, (own_level book _ _ c.parts.ensures.nw.known, (omega (arith, at_level), c.requires.boxed))))
+    (search rules, (search rules, of_quarter _ _ _ c.requires.high c.parts.ensures.nw.known c.requires.boxed))
 
 pub quarters_box-local_box-requires-2 : goal.quarters_box-local_box-requires-2
 quarters_box-local_box-requires-2 g t c κs within =
-    let book = g.L.Look.book c.args.look.now in
     let at_level = c.parts.ensures.ne.known.at_level in
-    (search rules, (search rules, (own_level book _ _ c.parts.ensures.ne.known, (omega (arith, at_level), c.in_ok-nw.ensures.boxed))))
+    (search rules, (search rules, of_quarter _ _ _ c.requires.high c.parts.ensures.ne.known c.in_ok-nw.ensures.boxed))
 
 pub quarters_box-local_box-requires-3 : goal.quarters_box-local_box-requires-3
 quarters_box-local_box-requires-3 g t c κs within =
-    let book = g.L.Look.book c.args.look.now in
     let at_level = c.parts.ensures.sw.known.at_level in
-    (search rules, (search rules, (own_level book _ _ c.parts.ensures.sw.known, (omega (arith, at_level), c.in_ok-ne.ensures.boxed))))
+    (search rules, (search rules, of_quarter _ _ _ c.requires.high c.parts.ensures.sw.known c.in_ok-ne.ensures.boxed))
 
 pub quarters_box-local_box-requires-4 : goal.quarters_box-local_box-requires-4
 quarters_box-local_box-requires-4 g t c κs within =
-    let book = g.L.Look.book c.args.look.now in
     let at_level = c.parts.ensures.se.known.at_level in
-    (search rules, (search rules, (own_level book _ _ c.parts.ensures.se.known, (omega (arith, at_level), c.in_ok-sw.ensures.boxed))))
+    (search rules, (search rules, of_quarter _ _ _ c.requires.high c.parts.ensures.se.known c.in_ok-sw.ensures.boxed))
 
 pub quarters_box-box_of_quarters-requires-clause-ne : goal.quarters_box-box_of_quarters-requires-clause-ne
 quarters_box-box_of_quarters-requires-clause-ne g t c = λ x e. inside_of _ _ c.in_ok-ne.ne x e (box_level _ _ _ c.in_ok-ne.ne c.parts.ensures.ne.known.at_level c.in_ok-ne.ensures.ok)

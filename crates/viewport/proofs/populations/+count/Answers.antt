@@ -2,7 +2,7 @@ use Rattle.std.proofs.Common.{sym, arith, rules}
 use Rattle.squares.specs.Book.{nth}
 use Rattle.viewport.specs.Population.{IsCount}
 use Rattle.viewport.proofs.Counts.{counted_as, none_counted, four_counted, few, true_of_kept}
-use Rattle.viewport.proofs.Quarters.{own_level, quartered}
+use Rattle.viewport.proofs.Quarters.{of_quarter, quartered}
 use Rattle.viewport.proofs.populations.+count.Goals as goal
 
 pub count-returns-then-sq-eq0-clause-ok : goal.count-returns-then-sq-eq0-clause-ok
@@ -48,27 +48,23 @@ count-returns-clause-counted g t c =
 
 pub count_quarters-count-requires : goal.count_quarters-count-requires
 count_quarters-count-requires g t c κs within =
-    let book = g.L.Look.book c.args.look.now in
     let at_level = c.parts.ensures.nw.known.at_level in
-    (search rules, (search rules, (own_level book _ _ c.parts.ensures.nw.known, (omega (arith, at_level), c.requires.counted))))
+    (search rules, (search rules, of_quarter _ _ _ c.requires.high c.parts.ensures.nw.known c.requires.counted))
 
 pub count_quarters-count-requires-2 : goal.count_quarters-count-requires-2
 count_quarters-count-requires-2 g t c κs within =
-    let book = g.L.Look.book c.args.look.now in
     let at_level = c.parts.ensures.ne.known.at_level in
-    (search rules, (search rules, (own_level book _ _ c.parts.ensures.ne.known, (omega (arith, at_level), c.in_ok-count.ensures.counted))))
+    (search rules, (search rules, of_quarter _ _ _ c.requires.high c.parts.ensures.ne.known c.in_ok-count.ensures.counted))
 
 pub count_quarters-count-requires-3 : goal.count_quarters-count-requires-3
 count_quarters-count-requires-3 g t c κs within =
-    let book = g.L.Look.book c.args.look.now in
     let at_level = c.parts.ensures.sw.known.at_level in
-    (search rules, (search rules, (own_level book _ _ c.parts.ensures.sw.known, (omega (arith, at_level), c.in_ok-upper.ensures.counted))))
+    (search rules, (search rules, of_quarter _ _ _ c.requires.high c.parts.ensures.sw.known c.in_ok-upper.ensures.counted))
 
 pub count_quarters-count-requires-4 : goal.count_quarters-count-requires-4
 count_quarters-count-requires-4 g t c κs within =
-    let book = g.L.Look.book c.args.look.now in
     let at_level = c.parts.ensures.se.known.at_level in
-    (search rules, (search rules, (own_level book _ _ c.parts.ensures.se.known, (omega (arith, at_level), c.in_ok-count-2.ensures.counted))))
+    (search rules, (search rules, of_quarter _ _ _ c.requires.high c.parts.ensures.se.known c.in_ok-count-2.ensures.counted))
 
 pub count-returns-then-sq-eq3-clause-ok : goal.count-returns-then-sq-eq3-clause-ok
 count-returns-then-sq-eq3-clause-ok g t c =
