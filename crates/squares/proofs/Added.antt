@@ -12,7 +12,8 @@ use Rattle.squares.specs.declared.node.Node.TheVariants.{Leaf, Inner}
 use Rattle.squares.specs.declared.node.Quarters.{Quarters}
 use Rattle.squares.specs.declared.node.Record.{Record}
 use Rattle.squares.specs.declared.sq.Num.{Num}
-use Rattle.squares.specs.Nodes.{nodes_of, quarters_order, AreFutures, AreKnown, HasNumbers, IsGood}
+use Rattle.squares.specs.Nodes.{node_at, nodes_of, quarters_order, AreFutures, AreKnown, HasNumbers, IsGood}
+use Rattle.squares.proofs.NodeLists.{node_pushed}
 use Rattle.squares.proofs.NumberMaps.{exact_quarters, inner_apart, leaves_apart, no_inner, no_leaf, numbers_added, numbers_kept, numbers_same}
 use Rattle.squares.proofs.PlainLaws.{nodes_pushed}
 use Rattle.squares.proofs.PlainQuads.{good_quad}
@@ -28,11 +29,15 @@ pub record AreSound (rule : CountRule) (exponent : ℕ) (records : List Record) 
 last_number : (old : List Record) (num : Num) → num.0 ≡ suc (length old) → num.0 ≡ suc (length (nodes_of old))
 last_number old num is = is ∙ ap suc (sym (length-map old (λ (r : Record). r.node)))
 
-module _ (rule : CountRule) (exponent : ℕ) (old new : List Record) (leaves : BTreeMap ℕ Num) (inner : BTreeMap Quarters Num) (sound : AreSound rule exponent old leaves inner) where
-  -- the nodes with one more, which are good if the new one is
-  one_more : (node : Node) → new ≡ old ++ record { node = node; future = None } ∷ [] → nodes_of new ≡ nodes_of old ++ node ∷ []
-  one_more node is = ap nodes_of is ∙ nodes_pushed old _
+-- the nodes with one more
+pub one_more : (old new : List Record) (node : Node) → new ≡ old ++ record { node = node; future = None } ∷ [] → nodes_of new ≡ nodes_of old ++ node ∷ []
+one_more old new node is = ap nodes_of is ∙ nodes_pushed old _
 
+-- a node that was added stands under its number
+pub added_there : (old new : List Record) (node : Node) (num : Num) → num.0 ≡ suc (length old) → new ≡ old ++ record { node = node; future = None } ∷ [] → node_at (nodes_of new) num.0 ≡ Some node
+added_there old new node num number is = node_pushed (nodes_of old) (nodes_of new) node num.0 (one_more old new node is) (sym (last_number old num number))
+
+module _ (rule : CountRule) (exponent : ℕ) (old new : List Record) (leaves : BTreeMap ℕ Num) (inner : BTreeMap Quarters Num) (sound : AreSound rule exponent old leaves inner) where
   more_futures : (node : Node) → new ≡ old ++ record { node = node; future = None } ∷ [] → AreFutures rule exponent new
   more_futures node is = subst (AreFutures rule exponent) (sym is) (pushed_futures rule exponent old node sound.good sound.futures)
 
@@ -40,7 +45,7 @@ module _ (rule : CountRule) (exponent : ℕ) (old new : List Record) (leaves : B
       IfOk r (λ num. num.0 ≡ suc (length old)) → IfOk r (λ num. new ≡ old ++ record { node = Leaf word; future = None } ∷ []) → IfOk r (λ num. Updates nat_cmp leaves noted word (Some num)) →
       OnErr r (new ≡ old) → OnErr r (IsUnchanged leaves noted) → AreSound rule exponent new noted inner
   leaf_added (Ok num) word noted some fits none number is up same unchanged =
-      let all = one_more (Leaf word) is in record {
+      let all = one_more old new (Leaf word) is in record {
         good = subst IsGood (sym all) (good_leaf (nodes_of old) leaves word some fits sound.leaves_listed none sound.good);
         leaves_listed = subst (λ ns. HasNumbers nat_cmp Leaf ns noted) (sym all)
             (numbers_added nat_cmp exact_unsigned Leaf leaves_apart (nodes_of old) leaves noted word num (last_number old num number) sound.leaves_listed none up);
@@ -58,7 +63,7 @@ module _ (rule : CountRule) (exponent : ℕ) (old new : List Record) (leaves : B
       IfOk r (λ num. num.0 ≡ suc (length old)) → IfOk r (λ num. new ≡ old ++ record { node = Inner q; future = None } ∷ []) → IfOk r (λ num. Updates quarters_order inner noted q (Some num)) →
       OnErr r (new ≡ old) → OnErr r (IsUnchanged inner noted) → AreSound rule exponent new leaves noted
   quad_added (Ok num) q noted known none number is up same unchanged =
-      let all = one_more (Inner q) is in record {
+      let all = one_more old new (Inner q) is in record {
         good = subst IsGood (sym all) (good_quad (nodes_of old) inner q known sound.inner_listed none sound.good);
         leaves_listed = subst (λ ns. HasNumbers nat_cmp Leaf ns leaves) (sym all) (numbers_kept nat_cmp Leaf (nodes_of old) leaves (Inner q) (no_leaf q) sound.leaves_listed);
         inner_listed = subst (λ ns. HasNumbers quarters_order Inner ns noted) (sym all)

@@ -93,9 +93,10 @@ part_known book level plane parts (suc (suc (suc zero))) below is = is.se.known
 part_known book level plane parts (suc (suc (suc (suc k)))) below is = absurd (omega arith)
 
 -- four copies of the quarters make a copy of the whole
-pub quad_copied : (from to new : Book) (level : ℕ) (plane : Plane) (parts copies : List Sq) (copy : Sq) → 3 < level → IsSquare (2 ^ level) plane → AreQuarters from level plane parts → AreCopied from to parts 4 copies →
+pub quad_copied : (from to new : Book) (level : ℕ) (plane : Plane) (parts copies : List Sq) (copied : ℕ) (copy : Sq) → 3 < level → IsSquare (2 ^ level) plane → AreQuarters from level plane parts → copied ≡ 4 → AreCopied from to parts copied copies →
     Shows new ((nth copies 0).level + 1) (joined_squares to (nth copies 0).level copies) copy → Shows new level plane copy
-quad_copied from to new level plane parts copies copy above square is h made =
+quad_copied from to new level plane parts copies copied copy above square is all some made =
+    let h = subst (λ n. AreCopied from to parts n copies) all some in
     let low : (nth copies 0).level ≡ level - 1 = (h.made 0 (omega arith)).known.at_level ∙ is.nw.known.at_level in
     let whole : IsSquare (2 ^ (level - 1) + 2 ^ (level - 1)) plane = subst (λ side. IsSquare side plane) (twice_half level (omega arith)) square in
     let same = whole_joined (2 ^ (level - 1)) plane (to.cells (nth copies 0)) (to.cells (nth copies 1)) (to.cells (nth copies 2)) (to.cells (nth copies 3)) whole
@@ -104,8 +105,9 @@ quad_copied from to new level plane parts copies copy above square is h made =
     shows_as new (level - 1 + 1) level _ plane copy (omega arith) same (subst (λ n. Shows new (n + 1) (joined_squares to n copies) copy) low made)
 
 -- the copies of the quarters are known squares of one level
-pub copies_known : (from to : Book) (level : ℕ) (plane : Plane) (parts copies : List Sq) → length copies ≡ 4 → AreQuarters from level plane parts → AreCopied from to parts 4 copies → AllByRecursion (IsKnown to (nth copies 0).level) copies
-copies_known from to level plane parts copies size is h =
+pub copies_known : (from to : Book) (level : ℕ) (plane : Plane) (parts copies : List Sq) (copied : ℕ) → length copies ≡ 4 → AreQuarters from level plane parts → copied ≡ 4 → AreCopied from to parts copied copies → AllByRecursion (IsKnown to (nth copies 0).level) copies
+copies_known from to level plane parts copies copied size is all some =
+    let h = subst (λ n. AreCopied from to parts n copies) all some in
     let first : (nth copies 0).level ≡ level - 1 = (h.made 0 (omega arith)).known.at_level ∙ is.nw.known.at_level in
     let known = λ (k : ℕ) (below : k < 4). subst (λ n. IsKnown to n (nth copies k)) ((part_known from level plane parts k below is).at_level ∙ sym first) (h.made k below).known in
     from_four (IsKnown to (nth copies 0).level) copies size (known 0 (omega arith)) (known 1 (omega arith)) (known 2 (omega arith)) (known 3 (omega arith))

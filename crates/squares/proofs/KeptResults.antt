@@ -1,6 +1,6 @@
 -- A book with one result more.
 use Rattle.std.proofs.Common.{◌≡◌, ◌≢◌, ℕ, suc, ◌+◌, ◌-◌, ◌<◌, ◌⊎◌, true, false, List, [], sym, ◌∙◌, ap, subst, arith, refl, inl, inr, ⊎_elim}
-use Rattle.std.specs.Prelude.{IsTrue, Option, Some, None, is_some, slice_get, slice_set, Contains}
+use Rattle.std.specs.Prelude.{IsTrue, Option, Some, None, is_some, slice_get, slice_index_or, slice_set, Contains}
 use Rattle.std.proofs.lemmas.Bool.{cases_eq, false≢true}
 use Rattle.std.proofs.lemmas.List.{append-nil}
 use Rattle.rule_text.specs.CountRule.{CountRule}
@@ -11,7 +11,7 @@ use Rattle.squares.specs.declared.sq.Num.{Num}
 use Rattle.squares.specs.declared.sq.Sq.{Sq}
 use Rattle.squares.specs.Nodes.{nodes_of, node_at, level_of, knows_number, plain_book, results_from, future_at, AreFutures, IsGood}
 use Rattle.squares.proofs.NodeLists.{stands}
-use Rattle.squares.proofs.Places.{set_same, set_other}
+use Rattle.squares.proofs.Places.{read_there, set_same, set_other}
 use Rattle.squares.proofs.PlainLaws.{keeps_more, later_future}
 use Rattle.squares.proofs.RecordLists.{nodes_set, set_results, set_gains, node_of_record, record_of_node, record_there, future_of_record, kept_of, listed}
 use Rattle.squares.proofs.Results.{future_kept}
@@ -63,9 +63,21 @@ future_is records rule exponent sq r num futures some at level kept =
     subst (λ l. IsFuture (plain_book rule exponent records) sq (numbered (l - 1) num.0)) level
     (subst (λ (s : Sq). IsFuture (plain_book rule exponent records) s (numbered (level_of r.node - 1) num.0)) same is)
 
--- a record gets a result
+-- a record that was read gets a result
 module _ (rule : CountRule) (exponent : ℕ) (records : List Record) (sq : Sq) (r : Record) (num : Num) (good : IsGood (nodes_of records))
-    (some : sq.num.0 ≢ 0) (at : slice_get records (sq.num.0 - 1) ≡ Some r) (level : level_of r.node ≡ sq.level) where
+    (some : sq.num.0 ≢ 0) (there : IsTrue (knows_number (nodes_of records) sq.level sq.num.0)) (read : r ≡ slice_index_or records (sq.num.0 - 1) r) where
+  found : (x : Record) × (slice_get records (sq.num.0 - 1) ≡ Some x) × (level_of x.node ≡ sq.level)
+  found = record_of_square records sq.level sq.num.0 there some
+
+  same : r ≡ found.0
+  same = read_there records (sq.num.0 - 1) found.0 r found.1 read
+
+  at : slice_get records (sq.num.0 - 1) ≡ Some r
+  at = found.1 ∙ ap (λ (x : Record). Some x) (sym same)
+
+  level : level_of r.node ≡ sq.level
+  level = ap (λ (x : Record). level_of x.node) same ∙ found.2
+
   pub kept_nodes : nodes_of (slice_set records (sq.num.0 - 1) (record { node = r.node; future = Some num })) ≡ nodes_of records
   kept_nodes = nodes_set records (sq.num.0 - 1) r (record { node = r.node; future = Some num }) at refl
 

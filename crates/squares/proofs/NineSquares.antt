@@ -1,5 +1,5 @@
 -- The nine overlapping squares, put together of quarters of quarters.
-use Rattle.std.proofs.Common.{◌≡◌, ℕ, zero, suc, ◌+◌, ◌-◌, ◌*◌, ◌^◌, ◌<◌, List, [], ◌∷◌, sym, ap, subst, arith, refl}
+use Rattle.std.proofs.Common.{◌≡◌, ℕ, zero, suc, ◌+◌, ◌-◌, ◌*◌, ◌^◌, ◌<◌, ◌≤◌, List, [], ◌∷◌, sym, ap, subst, arith, refl}
 use Rattle.std.specs.List.{AllByRecursion}
 use Rattle.plane.specs.Plane.{Plane}
 use Rattle.plane.specs.Square.{IsSame, cut, ninth}
@@ -55,60 +55,55 @@ read_all level b1 b2 b3 b4 b5 plane q a b c d all k2 in_a k3 in_b k4 in_c k5 in_
       se = later b4 b5 (level - 1) _ (nth q 3) d k5 (shows_kept k14 all.se) d5;
     }
 
-module _ (book : Book) (level : ℕ) (plane : Plane) (q a b c d : List Sq) (above : 4 < level) (r : ArePartsOfParts book level plane q a b c d) where
+-- the square of four squares that an earlier book knows
+abbrev pub IsJoined : Book → Book → List Sq → Sq → Type 0
+IsJoined old new quarters sq = Shows new ((nth quarters 0).level + 1) (joined_squares old (nth quarters 0).level quarters) sq
+
+-- known squares of one level whose cells are together one of the nine squares
+pub record MakeNinth (book : Book) (level row column : ℕ) (plane : Plane) (quarters : List Sq) : Type 0 where
+  pub fits : (nth quarters 0).level < 65
+  pub known : AllByRecursion (IsKnown book (nth quarters 0).level) quarters
+  pub shown : (new : Book) (sq : Sq) → IsJoined book new quarters sq → Shows new (level - 1) (ninth level row column plane) sq
+
+module _ {book : Book} {level : ℕ} {plane : Plane} {q a b c d : List Sq} (above : 4 < level) (high : level ≤ 65) (r : ArePartsOfParts book level plane q a b c d) where
   side_is : 2 ^ (level - 1 - 1) ≡ 2 ^ (level - 2)
   side_is = ap (λ n. 2 ^ n) (let e : level - 1 - 1 ≡ level - 2 = omega arith in e)
 
-  joined_at : (row column : ℕ) (quarters : List Sq) → IsSame (joined_squares book (level - 1 - 1) quarters) (ninth level row column plane) →
-      (new : Book) (sq : Sq) → (nth quarters 0).level ≡ level - 1 - 1 → Shows new ((nth quarters 0).level + 1) (joined_squares book (nth quarters 0).level quarters) sq → Shows new (level - 1) (ninth level row column plane) sq
-  joined_at row column quarters same new sq e shown =
-      let here = subst (λ n. Shows new (n + 1) (joined_squares book n quarters) sq) e shown in
-      shows_as new (level - 1 - 1 + 1) (level - 1) _ _ sq (omega arith) same here
+  -- four squares, each a quarter of a quarter, whose cells are together those of the square there
+  make_ninth : (row column : ℕ) (nw ne sw se : Sq) → IsKnown book (level - 1 - 1) nw → IsKnown book (level - 1 - 1) ne → IsKnown book (level - 1 - 1) sw → IsKnown book (level - 1 - 1) se →
+      IsSame (joined_squares book (level - 1 - 1) (nw ∷ ne ∷ sw ∷ se ∷ [])) (ninth level row column plane) → MakeNinth book level row column plane (nw ∷ ne ∷ sw ∷ se ∷ [])
+  make_ninth row column nw ne sw se k0 k1 k2 k3 same = record {
+    fits = (let at = k0.at_level in omega arith);
+    known = quarters_of_level book (level - 1 - 1) nw ne sw se k0 k1 k2 k3;
+    shown = λ new sq joined.
+        let here = subst (λ n. Shows new (n + 1) (joined_squares book n (nw ∷ ne ∷ sw ∷ se ∷ [])) sq) k0.at_level joined in
+        shows_as new (level - 1 - 1 + 1) (level - 1) _ _ sq (omega arith) same here;
+  }
 
-  pub upper_known : AllByRecursion (IsKnown book (nth a 1).level) (nth a 1 ∷ nth b 0 ∷ nth a 3 ∷ nth b 2 ∷ [])
-  upper_known = quarters_of_level book (level - 1 - 1) (nth a 1) (nth b 0) (nth a 3) (nth b 2) r.nw.ne.known r.ne.nw.known r.nw.se.known r.ne.sw.known
+  pub make_upper : MakeNinth book level 0 1 plane (nth a 1 ∷ nth b 0 ∷ nth a 3 ∷ nth b 2 ∷ [])
+  make_upper = make_ninth 0 1 (nth a 1) (nth b 0) (nth a 3) (nth b 2) r.nw.ne.known r.ne.nw.known r.nw.se.known r.ne.sw.known
+      (upper_ninth level (2 ^ (level - 1 - 1)) plane (omega arith) side_is _ _ (book.cells (nth q 2)) (book.cells (nth q 3)) _ _ _ _ r.whole.nw.cells r.whole.ne.cells r.nw.ne.cells r.ne.nw.cells r.nw.se.cells r.ne.sw.cells)
 
-  pub left_known : AllByRecursion (IsKnown book (nth a 2).level) (nth a 2 ∷ nth a 3 ∷ nth c 0 ∷ nth c 1 ∷ [])
-  left_known = quarters_of_level book (level - 1 - 1) (nth a 2) (nth a 3) (nth c 0) (nth c 1) r.nw.sw.known r.nw.se.known r.sw.nw.known r.sw.ne.known
+  pub make_left : MakeNinth book level 1 0 plane (nth a 2 ∷ nth a 3 ∷ nth c 0 ∷ nth c 1 ∷ [])
+  make_left = make_ninth 1 0 (nth a 2) (nth a 3) (nth c 0) (nth c 1) r.nw.sw.known r.nw.se.known r.sw.nw.known r.sw.ne.known
+      (left_ninth level (2 ^ (level - 1 - 1)) plane (omega arith) side_is _ (book.cells (nth q 1)) _ (book.cells (nth q 3)) _ _ _ _ r.whole.nw.cells r.whole.sw.cells r.nw.sw.cells r.nw.se.cells r.sw.nw.cells r.sw.ne.cells)
 
-  pub middle_known : AllByRecursion (IsKnown book (nth a 3).level) (nth a 3 ∷ nth b 2 ∷ nth c 1 ∷ nth d 0 ∷ [])
-  middle_known = quarters_of_level book (level - 1 - 1) (nth a 3) (nth b 2) (nth c 1) (nth d 0) r.nw.se.known r.ne.sw.known r.sw.ne.known r.se.nw.known
+  pub make_middle : MakeNinth book level 1 1 plane (nth a 3 ∷ nth b 2 ∷ nth c 1 ∷ nth d 0 ∷ [])
+  make_middle = make_ninth 1 1 (nth a 3) (nth b 2) (nth c 1) (nth d 0) r.nw.se.known r.ne.sw.known r.sw.ne.known r.se.nw.known
+      (middle_ninth level (2 ^ (level - 1 - 1)) plane (omega arith) side_is _ _ _ _ _ _ _ _ r.whole.nw.cells r.whole.ne.cells r.whole.sw.cells r.whole.se.cells r.nw.se.cells r.ne.sw.cells r.sw.ne.cells r.se.nw.cells)
 
-  pub right_known : AllByRecursion (IsKnown book (nth b 2).level) (nth b 2 ∷ nth b 3 ∷ nth d 0 ∷ nth d 1 ∷ [])
-  right_known = quarters_of_level book (level - 1 - 1) (nth b 2) (nth b 3) (nth d 0) (nth d 1) r.ne.sw.known r.ne.se.known r.se.nw.known r.se.ne.known
+  pub make_right : MakeNinth book level 1 2 plane (nth b 2 ∷ nth b 3 ∷ nth d 0 ∷ nth d 1 ∷ [])
+  make_right = make_ninth 1 2 (nth b 2) (nth b 3) (nth d 0) (nth d 1) r.ne.sw.known r.ne.se.known r.se.nw.known r.se.ne.known
+      (right_ninth level (2 ^ (level - 1 - 1)) plane (omega arith) side_is (book.cells (nth q 0)) _ (book.cells (nth q 2)) _ _ _ _ _ r.whole.ne.cells r.whole.se.cells r.ne.sw.cells r.ne.se.cells r.se.nw.cells r.se.ne.cells)
 
-  pub lower_known : AllByRecursion (IsKnown book (nth c 1).level) (nth c 1 ∷ nth d 0 ∷ nth c 3 ∷ nth d 2 ∷ [])
-  lower_known = quarters_of_level book (level - 1 - 1) (nth c 1) (nth d 0) (nth c 3) (nth d 2) r.sw.ne.known r.se.nw.known r.sw.se.known r.se.sw.known
-
-  pub upper_shown : (new : Book) (sq : Sq) → let quarters = nth a 1 ∷ nth b 0 ∷ nth a 3 ∷ nth b 2 ∷ [] in
-      Shows new ((nth quarters 0).level + 1) (joined_squares book (nth quarters 0).level quarters) sq → Shows new (level - 1) (ninth level 0 1 plane) sq
-  upper_shown new sq = joined_at 0 1 (nth a 1 ∷ nth b 0 ∷ nth a 3 ∷ nth b 2 ∷ [])
-      (upper_ninth level (2 ^ (level - 1 - 1)) plane (omega arith) side_is (book.cells (nth q 0)) (book.cells (nth q 1)) (book.cells (nth q 2)) (book.cells (nth q 3)) (book.cells (nth a 1)) (book.cells (nth b 0)) (book.cells (nth a 3)) (book.cells (nth b 2)) r.whole.nw.cells r.whole.ne.cells r.nw.ne.cells r.ne.nw.cells r.nw.se.cells r.ne.sw.cells) new sq r.nw.ne.known.at_level
-
-  pub left_shown : (new : Book) (sq : Sq) → let quarters = nth a 2 ∷ nth a 3 ∷ nth c 0 ∷ nth c 1 ∷ [] in
-      Shows new ((nth quarters 0).level + 1) (joined_squares book (nth quarters 0).level quarters) sq → Shows new (level - 1) (ninth level 1 0 plane) sq
-  left_shown new sq = joined_at 1 0 (nth a 2 ∷ nth a 3 ∷ nth c 0 ∷ nth c 1 ∷ [])
-      (left_ninth level (2 ^ (level - 1 - 1)) plane (omega arith) side_is (book.cells (nth q 0)) (book.cells (nth q 1)) (book.cells (nth q 2)) (book.cells (nth q 3)) (book.cells (nth a 2)) (book.cells (nth a 3)) (book.cells (nth c 0)) (book.cells (nth c 1)) r.whole.nw.cells r.whole.sw.cells r.nw.sw.cells r.nw.se.cells r.sw.nw.cells r.sw.ne.cells) new sq r.nw.sw.known.at_level
-
-  pub middle_shown : (new : Book) (sq : Sq) → let quarters = nth a 3 ∷ nth b 2 ∷ nth c 1 ∷ nth d 0 ∷ [] in
-      Shows new ((nth quarters 0).level + 1) (joined_squares book (nth quarters 0).level quarters) sq → Shows new (level - 1) (ninth level 1 1 plane) sq
-  middle_shown new sq = joined_at 1 1 (nth a 3 ∷ nth b 2 ∷ nth c 1 ∷ nth d 0 ∷ [])
-      (middle_ninth level (2 ^ (level - 1 - 1)) plane (omega arith) side_is (book.cells (nth q 0)) (book.cells (nth q 1)) (book.cells (nth q 2)) (book.cells (nth q 3)) (book.cells (nth a 3)) (book.cells (nth b 2)) (book.cells (nth c 1)) (book.cells (nth d 0)) r.whole.nw.cells r.whole.ne.cells r.whole.sw.cells r.whole.se.cells r.nw.se.cells r.ne.sw.cells r.sw.ne.cells r.se.nw.cells) new sq r.nw.se.known.at_level
-
-  pub right_shown : (new : Book) (sq : Sq) → let quarters = nth b 2 ∷ nth b 3 ∷ nth d 0 ∷ nth d 1 ∷ [] in
-      Shows new ((nth quarters 0).level + 1) (joined_squares book (nth quarters 0).level quarters) sq → Shows new (level - 1) (ninth level 1 2 plane) sq
-  right_shown new sq = joined_at 1 2 (nth b 2 ∷ nth b 3 ∷ nth d 0 ∷ nth d 1 ∷ [])
-      (right_ninth level (2 ^ (level - 1 - 1)) plane (omega arith) side_is (book.cells (nth q 0)) (book.cells (nth q 1)) (book.cells (nth q 2)) (book.cells (nth q 3)) (book.cells (nth b 2)) (book.cells (nth b 3)) (book.cells (nth d 0)) (book.cells (nth d 1)) r.whole.ne.cells r.whole.se.cells r.ne.sw.cells r.ne.se.cells r.se.nw.cells r.se.ne.cells) new sq r.ne.sw.known.at_level
-
-  pub lower_shown : (new : Book) (sq : Sq) → let quarters = nth c 1 ∷ nth d 0 ∷ nth c 3 ∷ nth d 2 ∷ [] in
-      Shows new ((nth quarters 0).level + 1) (joined_squares book (nth quarters 0).level quarters) sq → Shows new (level - 1) (ninth level 2 1 plane) sq
-  lower_shown new sq = joined_at 2 1 (nth c 1 ∷ nth d 0 ∷ nth c 3 ∷ nth d 2 ∷ [])
-      (lower_ninth level (2 ^ (level - 1 - 1)) plane (omega arith) side_is (book.cells (nth q 0)) (book.cells (nth q 1)) (book.cells (nth q 2)) (book.cells (nth q 3)) (book.cells (nth c 1)) (book.cells (nth d 0)) (book.cells (nth c 3)) (book.cells (nth d 2)) r.whole.sw.cells r.whole.se.cells r.sw.ne.cells r.se.nw.cells r.sw.se.cells r.se.sw.cells) new sq r.sw.ne.known.at_level
+  pub make_lower : MakeNinth book level 2 1 plane (nth c 1 ∷ nth d 0 ∷ nth c 3 ∷ nth d 2 ∷ [])
+  make_lower = make_ninth 2 1 (nth c 1) (nth d 0) (nth c 3) (nth d 2) r.sw.ne.known r.se.nw.known r.sw.se.known r.se.sw.known
+      (lower_ninth level (2 ^ (level - 1 - 1)) plane (omega arith) side_is (book.cells (nth q 0)) (book.cells (nth q 1)) _ _ _ _ _ _ r.whole.sw.cells r.whole.se.cells r.sw.ne.cells r.se.nw.cells r.sw.se.cells r.se.sw.cells)
 
   corner_shown : (row column : ℕ) (sq : Sq) (left top : ℕ) → Shows book (level - 1) (cut (2 ^ (level - 1)) left top plane) sq → (IsSame (book.cells sq) (cut (2 ^ (level - 1)) left top plane) → IsSame (book.cells sq) (ninth level row column plane)) → Shows book (level - 1) (ninth level row column plane) sq
   corner_shown row column sq left top h f = record { known = h.known; cells = f h.cells }
 
-  pub all_nine : (upper left middle right lower : Sq) → Shows book (level - 1) (ninth level 0 1 plane) upper → Shows book (level - 1) (ninth level 1 0 plane) left → Shows book (level - 1) (ninth level 1 1 plane) middle →
+  all_nine : (upper left middle right lower : Sq) → Shows book (level - 1) (ninth level 0 1 plane) upper → Shows book (level - 1) (ninth level 1 0 plane) left → Shows book (level - 1) (ninth level 1 1 plane) middle →
       Shows book (level - 1) (ninth level 1 2 plane) right → Shows book (level - 1) (ninth level 2 1 plane) lower → AreNinths book level plane (nth q 0 ∷ upper ∷ nth q 1 ∷ left ∷ middle ∷ right ∷ nth q 2 ∷ lower ∷ nth q 3 ∷ [])
   all_nine upper left middle right lower up le mi ri lo = record { shown = each }
     where
@@ -126,3 +121,22 @@ module _ (book : Book) (level : ℕ) (plane : Plane) (q a b c d : List Sq) (abov
       each (suc (suc zero)) (suc (suc zero)) h k = corner_shown 2 2 (nth q 3) (2 ^ (level - 1)) (2 ^ (level - 1)) r.whole.se (se_ninth level (2 ^ (level - 2)) plane (omega arith) refl _)
       each (suc (suc zero)) (suc (suc (suc column))) h k = absurd (omega arith)
       each (suc (suc (suc row))) column h k = absurd (omega arith)
+
+-- the nine squares, five of which are made one after the other
+module _ (level : ℕ) (plane : Plane) (q a b c d : List Sq) (above : 4 < level) (high : level ≤ 65) (b0 b1 b2 b3 b4 b5 : Book) (upper left middle right lower : Sq) where
+  pub nine_made : ArePartsOfParts b0 level plane q a b c d →
+      Keeps b0 b1 → IsJoined b0 b1 (nth a 1 ∷ nth b 0 ∷ nth a 3 ∷ nth b 2 ∷ []) upper →
+      Keeps b1 b2 → IsJoined b1 b2 (nth a 2 ∷ nth a 3 ∷ nth c 0 ∷ nth c 1 ∷ []) left →
+      Keeps b2 b3 → IsJoined b2 b3 (nth a 3 ∷ nth b 2 ∷ nth c 1 ∷ nth d 0 ∷ []) middle →
+      Keeps b3 b4 → IsJoined b3 b4 (nth b 2 ∷ nth b 3 ∷ nth d 0 ∷ nth d 1 ∷ []) right →
+      Keeps b4 b5 → IsJoined b4 b5 (nth c 1 ∷ nth d 0 ∷ nth c 3 ∷ nth d 2 ∷ []) lower →
+      AreNinths b5 level plane (nth q 0 ∷ upper ∷ nth q 1 ∷ left ∷ middle ∷ right ∷ nth q 2 ∷ lower ∷ nth q 3 ∷ [])
+  nine_made r0 k1 up k2 le k3 mi k4 ri k5 lo =
+      let r1 = read_kept k1 r0 in let r2 = read_kept k2 r1 in let r3 = read_kept k3 r2 in let r4 = read_kept k4 r3 in
+      let k45 = keeps_trans k4 k5 in let k35 = keeps_trans k3 k45 in let k25 = keeps_trans k2 k35 in
+      all_nine above high (read_kept k5 r4) upper left middle right lower
+      (shows_kept k25 ((make_upper above high r0).shown b1 upper up))
+      (shows_kept k35 ((make_left above high r1).shown b2 left le))
+      (shows_kept k45 ((make_middle above high r2).shown b3 middle mi))
+      (shows_kept k5 ((make_right above high r3).shown b4 right ri))
+      ((make_lower above high r4).shown b5 lower lo)

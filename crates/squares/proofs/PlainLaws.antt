@@ -17,7 +17,7 @@ use Rattle.squares.specs.declared.sq.Num.{Num}
 use Rattle.squares.specs.declared.sq.Sq.{Sq}
 use Rattle.squares.specs.Nodes.{nodes_of, node_at, level_of, knows_number, leaf_plane, plane_at, plain_book, results_from, AreFutures, IsGood}
 use Rattle.squares.proofs.NodeLaws.{plane_square, zero_plane, one_number, all_joined, node_is, at_nw, at_ne, at_sw, at_se}
-use Rattle.squares.proofs.NodeLists.{known_later, node_known, plane_later, level_at, levels, at_height}
+use Rattle.squares.proofs.NodeLists.{known_later, node_known, not_zero, plane_later, level_at, levels, at_height}
 use Rattle.squares.proofs.RecordLists.{kept_of, results_once, node_of_record, future_of_record}
 use Rattle.squares.proofs.Results.{future_kept}
 
@@ -36,9 +36,9 @@ pub is_known : (rule : CountRule) (exponent : ℕ) (records : List Record) → I
 is_known rule exponent records good level n h = let k = levels (nodes_of records) good level n h in record { known = h; at_level = refl; low = k.0; high = k.1 }
 
 -- a node of a leaf shows its cells
-pub leaf_shows : (rule : CountRule) (exponent : ℕ) (records : List Record) (n word : ℕ) → IsGood (nodes_of records) → n ≢ 0 → node_at (nodes_of records) n ≡ Some (Leaf word) → Shows (plain_book rule exponent records) 3 (bits_plane word) (numbered 3 n)
-leaf_shows rule exponent records n word good some at = record {
-  known = is_known rule exponent records good 3 n (node_known (nodes_of records) 3 n (Leaf word) some at refl);
+pub leaf_shows : (rule : CountRule) (exponent : ℕ) (records : List Record) (n word : ℕ) → IsGood (nodes_of records) → node_at (nodes_of records) n ≡ Some (Leaf word) → Shows (plain_book rule exponent records) 3 (bits_plane word) (numbered 3 n)
+leaf_shows rule exponent records n word good at = record {
+  known = is_known rule exponent records good 3 n (node_known (nodes_of records) 3 n (Leaf word) (not_zero (nodes_of records) n _ at) at refl);
   cells = subst (λ o. IsSame (leaf_plane o) (bits_plane word)) (sym at) (same_refl (bits_plane word));
 }
 

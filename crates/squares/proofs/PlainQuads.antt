@@ -1,8 +1,9 @@
 -- The square that four squares of a plain book make.
-use Rattle.std.proofs.Common.{◌≡◌, ◌≢◌, ℕ, suc, ◌+◌, ◌-◌, ◌^◌, ◌<◌, ◌≤◌, List, [], ◌∷◌, ◌++◌, length, sym, subst, arith, refl}
+use Rattle.std.proofs.Common.{◌≡◌, ◌≢◌, ℕ, suc, ◌+◌, ◌-◌, ◌^◌, ◌<◌, ◌≤◌, Bool, true, false, List, [], ◌∷◌, ◌++◌, length, sym, ◌∙◌, ap, subst, arith, refl}
 use Rattle.std.specs.Prelude.{IsTrue, Some, None}
 use Rattle.std.specs.BTreeMap.{BTreeMap, get}
 use Rattle.std.specs.List.{AllByRecursion}
+use Rattle.std.proofs.lemmas.Bool.{false≢true}
 use Rattle.rule_text.specs.CountRule.{CountRule}
 use Rattle.plane.specs.Square.{IsSame, joined, empty}
 use Rattle.plane.proofs.Cuts.{joined_same}
@@ -17,7 +18,7 @@ use Rattle.squares.specs.declared.sq.Sq.{Sq}
 use Rattle.squares.specs.Nodes.{nodes_of, node_at, knows_number, plane_at, plain_book, quarters_order, AreKnown, HasNumbers, IsGood}
 use Rattle.squares.specs.Quarters.{quarters_of}
 use Rattle.squares.proofs.NodeLaws.{node_is, joined_is, zero_plane}
-use Rattle.squares.proofs.NodeLists.{node_known}
+use Rattle.squares.proofs.NodeLists.{node_known, not_zero}
 use Rattle.squares.proofs.NumberMaps.{inner_apart, no_leaf, not_there}
 use Rattle.squares.proofs.PlainLaws.{is_known, zero_known}
 use Rattle.squares.proofs.Pushed.{good_pushed}
@@ -44,11 +45,14 @@ pub good_quad : (nodes : List Node) (inner : BTreeMap Quarters Num) (q : Quarter
 good_quad nodes inner q known listed none good = good_pushed nodes (Inner q) (not_there quarters_order Inner nodes inner q listed none)
     (λ w e. absurd (no_leaf q w e)) (λ p e. subst (AreKnown nodes) (inner_apart q p e) known) good
 
-module _ (rule : CountRule) (exponent : ℕ) (records : List Record) (squares : List Sq) (known : AllFour (IsKnown (plain_book rule exponent records) (nth squares 0).level) squares) where
+module _ (rule : CountRule) (exponent : ℕ) (records : List Record) (squares : List Sq) (size : length squares ≡ 4) (all : AllByRecursion (IsKnown (plain_book rule exponent records) (nth squares 0).level) squares) where
+  known : AllFour (IsKnown (plain_book rule exponent records) (nth squares 0).level) squares
+  known = all_four (IsKnown (plain_book rule exponent records) (nth squares 0).level) squares size all
+
   number_known : (n : ℕ) (sq : Sq) (k : IsKnown (plain_book rule exponent records) (nth squares 0).level sq) → IsTrue (knows_number (nodes_of records) ((nth squares 0).level + 1 - 1) sq.num.0)
   number_known n sq k = subst (λ l. IsTrue (knows_number (nodes_of records) l sq.num.0)) (let is = k.at_level in let e : sq.level ≡ (nth squares 0).level + 1 - 1 = omega arith in e) k.known
 
-  pub quarters_known : (nth squares 0).level < 65 → (nth squares 0).num.0 + (nth squares 1).num.0 + (nth squares 2).num.0 + (nth squares 3).num.0 ≢ 0 → AreKnown (nodes_of records) (quarters_of squares)
+  quarters_known : (nth squares 0).level < 65 → (nth squares 0).num.0 + (nth squares 1).num.0 + (nth squares 2).num.0 + (nth squares 3).num.0 ≢ 0 → AreKnown (nodes_of records) (quarters_of squares)
   quarters_known fits some = record {
     low = (let l = known.nw.low in omega arith);
     high = omega arith;
@@ -59,10 +63,15 @@ module _ (rule : CountRule) (exponent : ℕ) (records : List Record) (squares : 
     some = some;
   }
 
+  -- the quarters that were tested are known, and not all empty
+  pub tested_known : (q : Quarters) (test : Bool) → (nth squares 0).level < 65 → q ≡ quarters_of squares → (q.nw.0 + q.ne.0 + q.sw.0 + q.se.0 ≡ 0 → test ≡ true) → test ≡ false → AreKnown (nodes_of records) q
+  tested_known q test fits is tested failed =
+      subst (AreKnown (nodes_of records)) (sym is) (quarters_known fits (λ e. false≢true (sym failed ∙ tested (ap (λ (p : Quarters). p.nw.0 + p.ne.0 + p.sw.0 + p.se.0) is ∙ e))))
+
   -- a node of these quarters shows their cells
-  pub node_shows : (new : List Record) (n : ℕ) → IsGood (nodes_of new) → Keeps (plain_book rule exponent records) (plain_book rule exponent new) → n ≢ 0 → node_at (nodes_of new) n ≡ Some (Inner (quarters_of squares)) →
+  pub node_shows : (new : List Record) (n : ℕ) → IsGood (nodes_of new) → Keeps (plain_book rule exponent records) (plain_book rule exponent new) → node_at (nodes_of new) n ≡ Some (Inner (quarters_of squares)) →
       Shows (plain_book rule exponent new) ((nth squares 0).level + 1) (joined_squares (plain_book rule exponent records) (nth squares 0).level squares) (numbered ((nth squares 0).level + 1) n)
-  node_shows new n good keeps some at =
+  node_shows new n good keeps at =
       let level = (nth squares 0).level in
       let low : 3 ≤ level = known.nw.low in
       let nodes = nodes_of new in
@@ -75,7 +84,7 @@ module _ (rule : CountRule) (exponent : ℕ) (records : List Record) (squares : 
       same_trans (node_is nodes more (quarters_of squares) n at) (joined_is nodes more (quarters_of squares)) in
       let parts = joined_same (2 ^ (more + 3)) _ _ _ _ _ _ _ _ (part (nth squares 0) known.nw) (part (nth squares 1) known.ne) (part (nth squares 2) known.sw) (part (nth squares 3) known.se) in
       record {
-        known = is_known rule exponent new good (level + 1) n (node_known nodes (level + 1) n (Inner (quarters_of squares)) some at refl);
+        known = is_known rule exponent new good (level + 1) n (node_known nodes (level + 1) n (Inner (quarters_of squares)) (not_zero nodes n _ at) at refl);
         cells = subst (λ m. IsSame (plane_at nodes m n) (joined_squares (plain_book rule exponent records) level squares)) (sym up)
             (subst (λ l. IsSame (plane_at nodes (suc more) n) (joined (2 ^ l) ((plain_book rule exponent records).cells (nth squares 0)) ((plain_book rule exponent records).cells (nth squares 1)) ((plain_book rule exponent records).cells (nth squares 2)) ((plain_book rule exponent records).cells (nth squares 3)))) side (same_trans whole parts));
       }

@@ -1,10 +1,10 @@
-use Rattle.std.proofs.Common.{◌≡◌, ◌-◌, ◌<◌, length, sym, ◌∙◌, ap, subst, arith, rules}
+use Rattle.std.proofs.Common.{◌-◌, ◌<◌, length, sym, ◌∙◌, ap, subst, arith, rules}
 use Rattle.std.proofs.Math.ListN.{length-set}
 use Rattle.std.specs.Option.{option_copied}
 use Rattle.std.proofs.lemmas.Result.{IfOk-weaker}
 use Rattle.squares.specs.Book.{IsKnown, Shows, nth}
 use Rattle.squares.specs.declared.sq.Sq.{Sq}
-use Rattle.squares.proofs.CopyMaps.{AreCopied, copies_kept, copies_known, empty_copied, leaf_copied, none_copied, noted_copies, one_copied, part_known, quad_copied}
+use Rattle.squares.proofs.CopyMaps.{copies_kept, copies_known, empty_copied, leaf_copied, none_copied, noted_copies, one_copied, part_known, quad_copied}
 use Rattle.squares.proofs.Kept.{keeps_none, keeps_trans, results_none, results_trans}
 use Rattle.squares.proofs.copies.+copy_into.Goals as goal
 
@@ -86,9 +86,7 @@ pub quad-requires-clause-known : goal.quad-requires-clause-known
 quad-requires-clause-known g t c =
     let from = g.L.Look.book c.args.from.now in
     let to = g.S.Squares.book c.loop-quarter.to in
-    let all : c.loop-quarter.quarter-index ≡ 4 = omega arith in
-    let copied : AreCopied from to c.parts-quarters.result 4 c.loop-quarter.quarter-items = subst (λ n. AreCopied from to c.parts-quarters.result n c.loop-quarter.quarter-items) all c.loop-quarter.invariant.copied in
-    copies_known from to c.args.sq.level (from.cells c.args.sq) c.parts-quarters.result c.loop-quarter.quarter-items c.loop-quarter.invariant.size c.parts-quarters.ensures copied
+    copies_known from to c.args.sq.level (from.cells c.args.sq) c.parts-quarters.result c.loop-quarter.quarter-items _ c.loop-quarter.invariant.size c.parts-quarters.ensures (omega arith) c.loop-quarter.invariant.copied
 
 pub quad-requires-clause-level : goal.quad-requires-clause-level
 quad-requires-clause-level g t c =
@@ -102,26 +100,22 @@ pub returns-clause-ok : goal.returns-clause-ok
 returns-clause-ok g t c =
     let from = g.L.Look.book c.args.from.now in
     let to = g.S.Squares.book c.loop-quarter.to in
-    let all : c.loop-quarter.quarter-index ≡ 4 = omega arith in
-    let copied : AreCopied from to c.parts-quarters.result 4 c.loop-quarter.quarter-items = subst (λ n. AreCopied from to c.parts-quarters.result n c.loop-quarter.quarter-items) all c.loop-quarter.invariant.copied in
     let sq = c.args.sq in
     let low = c.requires.known.low in
     let more = c.if-level-eq3.false in
-    let shown = quad_copied from to (g.S.Squares.book c.quad.new.self) sq.level (from.cells sq) c.parts-quarters.result c.loop-quarter.quarter-items c.in_ok-copy-2.copy (omega arith)
-    ((g.met.L.Look.is_book c.args.from.now).square sq c.requires.known.known) c.parts-quarters.ensures copied c.in_ok-copy-2.ensures.ok in
+    let shown = quad_copied from to (g.S.Squares.book c.quad.new.self) sq.level (from.cells sq) c.parts-quarters.result c.loop-quarter.quarter-items _ c.in_ok-copy-2.copy (omega arith)
+    ((g.met.L.Look.is_book c.args.from.now).square sq c.requires.known.known) c.parts-quarters.ensures (omega arith) c.loop-quarter.invariant.copied c.in_ok-copy-2.ensures.ok in
     IfOk-weaker c.noted-2.result _ _ (λ (noted : Sq) same. subst (Shows (g.S.Squares.book c.quad.new.self) sq.level (from.cells sq)) (sym same) shown) c.noted-2.ensures.ok
 
 pub returns-clause-copies : goal.returns-clause-copies
 returns-clause-copies g t c =
     let from = g.L.Look.book c.args.from.now in
     let to = g.S.Squares.book c.loop-quarter.to in
-    let all : c.loop-quarter.quarter-index ≡ 4 = omega arith in
-    let copied : AreCopied from to c.parts-quarters.result 4 c.loop-quarter.quarter-items = subst (λ n. AreCopied from to c.parts-quarters.result n c.loop-quarter.quarter-items) all c.loop-quarter.invariant.copied in
     let sq = c.args.sq in
     let low = c.requires.known.low in
     let more = c.if-level-eq3.false in
-    let shown = quad_copied from to (g.S.Squares.book c.quad.new.self) sq.level (from.cells sq) c.parts-quarters.result c.loop-quarter.quarter-items c.in_ok-copy-2.copy (omega arith)
-    ((g.met.L.Look.is_book c.args.from.now).square sq c.requires.known.known) c.parts-quarters.ensures copied c.in_ok-copy-2.ensures.ok in
+    let shown = quad_copied from to (g.S.Squares.book c.quad.new.self) sq.level (from.cells sq) c.parts-quarters.result c.loop-quarter.quarter-items _ c.in_ok-copy-2.copy (omega arith)
+    ((g.met.L.Look.is_book c.args.from.now).square sq c.requires.known.known) c.parts-quarters.ensures (omega arith) c.loop-quarter.invariant.copied c.in_ok-copy-2.ensures.ok in
     noted_copies from (g.S.Squares.book c.quad.new.self) c.loop-quarter.copies c.noted-2.new.copies sq c.in_ok-copy-2.copy c.noted-2.result c.noted-2.ensures.updates c.noted-2.ensures.err shown (copies_kept c.quad.ensures.keeps c.loop-quarter.invariant.copies)
 
 pub returns-clause-keeps : goal.returns-clause-keeps

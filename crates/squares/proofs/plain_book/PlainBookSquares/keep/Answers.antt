@@ -1,33 +1,24 @@
-use Rattle.std.proofs.Common.{◌≡◌, ◌-◌, ap, inl, refl, rules, subst, sym, ◌∙◌}
+use Rattle.std.proofs.Common.{◌-◌, inl, refl, rules, subst, sym}
 use Rattle.std.proofs.lemmas.Option.{slice_get_within}
-use Rattle.squares.proofs.Kept.{keeps_none}
-use Rattle.squares.specs.Nodes.{level_of, plain_book, HasNumbers}
-use Rattle.squares.proofs.KeptResults.{record_of_square, kept_good, kept_nodes, kept_adds, kept_keeps, kept_futures}
-use Rattle.squares.proofs.Places.{read_there}
-use Rattle.squares.proofs.PlainLaws.{book_good}
-use Rattle.squares.specs.Book.{IsFuture}
-use Rattle.squares.specs.declared.node.Record.{Record}
-use Rattle.squares.specs.declared.node.Node.TheVariants.{Leaf, Inner}
 use Rattle.std.specs.Ordering.{nat_cmp}
-use Rattle.std.specs.Prelude.{slice_get, Some}
-use Rattle.squares.specs.Nodes.{quarters_order}
+use Rattle.squares.specs.Book.{IsFuture}
+use Rattle.squares.specs.Nodes.{plain_book, quarters_order, HasNumbers}
+use Rattle.squares.specs.declared.node.Node.TheVariants.{Leaf, Inner}
+use Rattle.squares.proofs.Kept.{keeps_none}
+use Rattle.squares.proofs.KeptResults.{record_of_square, kept_good, kept_nodes, kept_adds, kept_keeps, kept_futures}
+use Rattle.squares.proofs.PlainLaws.{book_good}
 use Rattle.squares.proofs.plain_book.PlainBookSquares.keep.Goals as goal
 
 pub invariant_of-self : goal.invariant_of-self
 invariant_of-self c =
     let at = c.args.self.now in
-    let items = at.records.items in
-    let r = c.index_mut.result.now in
     let sq = c.args.sq in
-    let found = record_of_square items sq.level sq.num.0 c.requires.known.known c.if-sq-ne0.true in
-    let same : r ≡ found.0 = read_there items (sq.num.0 - 1) found.0 r found.1 c.index_mut.ensures.value in
-    let there : slice_get items (sq.num.0 - 1) ≡ Some r = found.1 ∙ ap (λ (x : Record). Some x) (sym same) in
-    let level : level_of r.node ≡ sq.level = ap (λ (x : Record). level_of x.node) same ∙ found.2 in
-    let book = plain_book at.rule at.exponent items in
-    let future : IsFuture book sq (record { level = sq.level - 1; num = c.args.future.num }) = subst (λ l. IsFuture book sq (record { level = l; num = c.args.future.num })) c.requires.future.known.at_level c.requires.future in
-    let nodes = kept_nodes at.rule at.exponent items sq r c.args.future.num at.good c.if-sq-ne0.true there level in
-    let good = kept_good at.rule at.exponent items sq r c.args.future.num at.good c.if-sq-ne0.true there level in
-    let futures = kept_futures at.rule at.exponent items sq r c.args.future.num at.good c.if-sq-ne0.true there level c.requires.known c.requires.level future at.futures in
+    let num = c.args.future.num in
+    let book = plain_book at.rule at.exponent at.records.items in
+    let future : IsFuture book sq (record { level = sq.level - 1; num = num }) = subst (λ l. IsFuture book sq (record { level = l; num = num })) c.requires.future.known.at_level c.requires.future in
+    let nodes = kept_nodes at.rule at.exponent at.records.items c.args.sq c.index_mut.result.now c.args.future.num at.good c.if-sq-ne0.true c.requires.known.known c.index_mut.ensures.value in
+    let good = kept_good at.rule at.exponent at.records.items c.args.sq c.index_mut.result.now c.args.future.num at.good c.if-sq-ne0.true c.requires.known.known c.index_mut.ensures.value in
+    let futures = kept_futures at.rule at.exponent at.records.items c.args.sq c.index_mut.result.now c.args.future.num at.good c.if-sq-ne0.true c.requires.known.known c.index_mut.ensures.value c.requires.known c.requires.level future at.futures in
     record {
       good = good;
       leaves_listed = subst (λ ns. HasNumbers nat_cmp Leaf ns at.leaves) (sym nodes) at.leaves_listed;
@@ -39,26 +30,12 @@ invariant_of-self c =
 pub returns-then-sq-ne0-clause-ok : goal.returns-then-sq-ne0-clause-ok
 returns-then-sq-ne0-clause-ok c =
     let at = c.args.self.now in
-    let items = at.records.items in
-    let r = c.index_mut.result.now in
-    let sq = c.args.sq in
-    let found = record_of_square items sq.level sq.num.0 c.requires.known.known c.if-sq-ne0.true in
-    let same : r ≡ found.0 = read_there items (sq.num.0 - 1) found.0 r found.1 c.index_mut.ensures.value in
-    let there : slice_get items (sq.num.0 - 1) ≡ Some r = found.1 ∙ ap (λ (x : Record). Some x) (sym same) in
-    let level : level_of r.node ≡ sq.level = ap (λ (x : Record). level_of x.node) same ∙ found.2 in
-    kept_adds at.rule at.exponent items sq r c.args.future.num at.good c.if-sq-ne0.true there level
+    kept_adds at.rule at.exponent at.records.items c.args.sq c.index_mut.result.now c.args.future.num at.good c.if-sq-ne0.true c.requires.known.known c.index_mut.ensures.value
 
 pub returns-then-sq-ne0-clause-keeps : goal.returns-then-sq-ne0-clause-keeps
 returns-then-sq-ne0-clause-keeps c =
     let at = c.args.self.now in
-    let items = at.records.items in
-    let r = c.index_mut.result.now in
-    let sq = c.args.sq in
-    let found = record_of_square items sq.level sq.num.0 c.requires.known.known c.if-sq-ne0.true in
-    let same : r ≡ found.0 = read_there items (sq.num.0 - 1) found.0 r found.1 c.index_mut.ensures.value in
-    let there : slice_get items (sq.num.0 - 1) ≡ Some r = found.1 ∙ ap (λ (x : Record). Some x) (sym same) in
-    let level : level_of r.node ≡ sq.level = ap (λ (x : Record). level_of x.node) same ∙ found.2 in
-    kept_keeps at.rule at.exponent items sq r c.args.future.num at.good c.if-sq-ne0.true there level
+    kept_keeps at.rule at.exponent at.records.items c.args.sq c.index_mut.result.now c.args.future.num at.good c.if-sq-ne0.true c.requires.known.known c.index_mut.ensures.value
 
 pub index_mut-requires : goal.index_mut-requires
 index_mut-requires c =

@@ -1,15 +1,12 @@
-use Rattle.std.proofs.Common.{◌≡◌, ◌++◌, ◌∷◌, [], subst, sym, ap, ◌∙◌, rules, None, Some, suc, length, refl}
+use Rattle.std.proofs.Common.{◌≡◌, subst, sym, rules, None, Some, refl}
 use Rattle.std.specs.BTreeMap.{get}
 use Rattle.std.specs.Ordering.{nat_cmp}
-use Rattle.std.proofs.lemmas.List.{length-map}
 use Rattle.squares.specs.declared.node.Node.TheVariants.{Leaf}
-use Rattle.squares.specs.declared.node.Record.{Record}
 use Rattle.squares.specs.Book.{Keeps, KeepsResults}
-use Rattle.squares.specs.Nodes.{node_at, nodes_of, plain_book, IsGood}
-use Rattle.squares.proofs.Added.{leaf_added}
+use Rattle.squares.specs.Nodes.{nodes_of, plain_book, IsGood}
+use Rattle.squares.proofs.Added.{added_there, leaf_added, one_more}
 use Rattle.squares.proofs.Kept.{keeps_none}
-use Rattle.squares.proofs.NodeLists.{node_pushed, not_zero}
-use Rattle.squares.proofs.PlainLaws.{book_good, leaf_shows, nodes_pushed}
+use Rattle.squares.proofs.PlainLaws.{book_good, leaf_shows}
 use Rattle.squares.proofs.Pushed.{good_leaf, pushed_keeps, pushed_results}
 use Rattle.squares.proofs.plain_book.PlainBookSquares.leaf.Goals as goal
 
@@ -43,16 +40,12 @@ invariant_of-self c =
 pub returns-clause-ok : goal.returns-clause-ok
 returns-clause-ok c =
     let at = c.args.self.now in
-    let word = c.args.word in
-    let num = c.in_ok-num.num in
-    let nodes = nodes_of at.records.items in
-    let new = nodes_of c.add_node.new.records.items in
-    let all : new ≡ nodes ++ Leaf word ∷ [] = ap nodes_of c.in_ok-num.ensures.ok ∙ nodes_pushed at.records.items _ in
-    let none : get nat_cmp at.leaves word ≡ None = search rules in
-    let number : suc (length nodes) ≡ num.0 = sym (c.in_ok-num.ensures.number ∙ ap suc (sym (length-map at.records.items (λ (r : Record). r.node)))) in
-    let there : node_at new num.0 ≡ Some (Leaf word) = node_pushed nodes new (Leaf word) num.0 all number in
-    let good = subst IsGood (sym all) (good_leaf nodes at.leaves word c.if-word-eq0.false c.ranges.word.fits at.leaves_listed none at.good) in
-    leaf_shows at.rule at.exponent c.add_node.new.records.items num.0 word good (not_zero new num.0 _ there) there
+    let new = c.add_node.new.records.items in
+    let made = c.in_ok-num.ensures in
+    let none : get nat_cmp at.leaves c.args.word ≡ None = search rules in
+    let good = subst IsGood (sym (one_more at.records.items new (Leaf c.args.word) made.ok))
+    (good_leaf (nodes_of at.records.items) at.leaves c.args.word c.if-word-eq0.false c.ranges.word.fits at.leaves_listed none at.good) in
+    leaf_shows at.rule at.exponent new c.in_ok-num.num.0 c.args.word good (added_there at.records.items new (Leaf c.args.word) c.in_ok-num.num made.number made.ok)
 
 pub returns-clause-keeps : goal.returns-clause-keeps
 returns-clause-keeps c =
@@ -69,8 +62,7 @@ returns-in-Some-clause-ok c =
     let at = c.args.self.now in
     let num = c.in-Some.num.now in
     let found : get nat_cmp at.leaves c.args.word ≡ Some num = search rules in
-    let there = at.leaves_listed.found c.args.word num found in
-    leaf_shows at.rule at.exponent at.records.items num.0 c.args.word at.good (not_zero (nodes_of at.records.items) num.0 _ there) there
+    leaf_shows at.rule at.exponent at.records.items num.0 c.args.word at.good (at.leaves_listed.found c.args.word num found)
 
 pub returns-in-Some-clause-keeps : goal.returns-in-Some-clause-keeps
 returns-in-Some-clause-keeps c = keeps_none _

@@ -1,20 +1,17 @@
-use Rattle.std.proofs.Common.{◌≡◌, Bool, true, false, refl, ◌+◌, ◌++◌, ◌∷◌, [], subst, sym, ap, ◌∙◌, rules, None, Some, suc, length, List}
+use Rattle.std.proofs.Common.{◌≡◌, Bool, true, false, refl, ◌+◌, subst, sym, ap, ◌∙◌, rules, None, Some, length, List}
 use Rattle.std.specs.BTreeMap.{get}
 use Rattle.std.specs.List.{AllByRecursion}
 use Rattle.std.proofs.lemmas.Bool.{false≢true}
-use Rattle.std.proofs.lemmas.List.{length-map}
 use Rattle.squares.specs.declared.node.Node.TheVariants.{Inner}
 use Rattle.squares.specs.declared.node.Quarters.{Quarters}
-use Rattle.squares.specs.declared.node.Record.{Record}
 use Rattle.squares.specs.declared.sq.Sq.{Sq}
-use Rattle.squares.specs.Book.{IsEmpty, IsKnown, Keeps, KeepsResults, Shows, joined_squares, numbered, nth}
-use Rattle.squares.specs.Nodes.{node_at, nodes_of, plain_book, quarters_order, AreKnown, IsGood}
+use Rattle.squares.specs.Book.{IsEmpty, Keeps, KeepsResults, Shows, joined_squares, numbered, nth}
+use Rattle.squares.specs.Nodes.{node_at, nodes_of, plain_book, quarters_order, IsGood}
 use Rattle.squares.specs.Quarters.{quarters_of}
-use Rattle.squares.proofs.Added.{quad_added}
+use Rattle.squares.proofs.Added.{added_there, one_more, quad_added}
 use Rattle.squares.proofs.Kept.{keeps_none}
-use Rattle.squares.proofs.NodeLists.{node_pushed, not_zero}
-use Rattle.squares.proofs.PlainLaws.{book_good, nodes_pushed}
-use Rattle.squares.proofs.PlainQuads.{all_four, empty_shows, good_quad, sum_of_empty, quarters_known, node_shows}
+use Rattle.squares.proofs.PlainLaws.{book_good}
+use Rattle.squares.proofs.PlainQuads.{all_four, empty_shows, good_quad, tested_known, sum_of_empty, node_shows}
 use Rattle.squares.proofs.Pushed.{pushed_keeps, pushed_results}
 use Rattle.squares.proofs.plain_book.PlainBookSquares.quad.Goals as goal
 
@@ -29,11 +26,10 @@ returns-then-are_empty-clause-ok c =
     let at = c.args.self.now in
     let squares = c.args.quarters in
     let book = plain_book at.rule at.exponent at.records.items in
-    let known = all_four (IsKnown book (nth squares 0).level) squares (search rules) c.requires.known in
     let none : (nth squares 0).num.0 + (nth squares 1).num.0 + (nth squares 2).num.0 + (nth squares 3).num.0 ≡ 0 =
     ap (λ (p : Quarters). p.nw.0 + p.ne.0 + p.sw.0 + p.se.0) (sym c.of-node.ensures) ∙ c.are_empty.ensures.0 c.if-are_empty.true in
     subst (Shows book ((nth squares 0).level + 1) (joined_squares book (nth squares 0).level squares)) (sym (c.empty_square.ensures ∙ ap (λ (p : Quarters). numbered p.level 0) c.of-node.ensures))
-    (empty_shows at.rule at.exponent at.records.items squares known at.good c.requires.level none)
+    (empty_shows at.rule at.exponent at.records.items squares (search rules) c.requires.known at.good c.requires.level none)
 
 pub returns-in_err-num-clause-empty : goal.returns-in_err-num-clause-empty
 returns-in_err-num-clause-empty c = λ all. absurd (some_cell c.args.quarters c.of-node.result c.are_empty.result (search rules) c.of-node.ensures c.are_empty.ensures.1 c.if-are_empty.false all)
@@ -54,29 +50,22 @@ returns-in-Some-clause-ok c =
     let at = c.args.self.now in
     let squares = c.args.quarters in
     let book = plain_book at.rule at.exponent at.records.items in
-    let known = all_four (IsKnown book (nth squares 0).level) squares (search rules) c.requires.known in
     let q = c.of-node.result in
     let num = c.in-Some.num.now in
     let found : get quarters_order at.inner q ≡ Some num = search rules in
     let there : node_at (nodes_of at.records.items) num.0 ≡ Some (Inner (quarters_of squares)) = at.inner_listed.found q num found ∙ ap (λ (p : Quarters). Some (Inner p)) c.of-node.ensures in
     subst (λ (p : Quarters). Shows book ((nth squares 0).level + 1) (joined_squares book (nth squares 0).level squares) (record { level = p.level; num = num })) (sym c.of-node.ensures)
-    (node_shows at.rule at.exponent at.records.items squares known at.records.items num.0 at.good (keeps_none book) (not_zero (nodes_of at.records.items) num.0 _ there) there)
+    (node_shows at.rule at.exponent at.records.items squares (search rules) c.requires.known at.records.items num.0 at.good (keeps_none book) there)
 
 pub invariant_of-self : goal.invariant_of-self
 invariant_of-self c =
     let at = c.args.self.now in
-    let squares = c.args.quarters in
-    let book = plain_book at.rule at.exponent at.records.items in
-    let known = all_four (IsKnown book (nth squares 0).level) squares (search rules) c.requires.known in
-    let q = c.of-node.result in
     let new = c.add_node.new.records.items in
     let made = c.add_node.ensures in
-    let none : get quarters_order at.inner q ≡ None = search rules in
-    let some = λ (e : q.nw.0 + q.ne.0 + q.sw.0 + q.se.0 ≡ 0). false≢true (sym c.if-are_empty.false ∙ c.are_empty.ensures.1 e) in
-    let quarters : AreKnown (nodes_of at.records.items) q = subst (AreKnown (nodes_of at.records.items)) (sym c.of-node.ensures)
-    (quarters_known at.rule at.exponent at.records.items squares known c.requires.level (λ e. some (ap (λ (p : Quarters). p.nw.0 + p.ne.0 + p.sw.0 + p.se.0) c.of-node.ensures ∙ e))) in
+    let none : get quarters_order at.inner c.of-node.result ≡ None = search rules in
+    let quarters = tested_known at.rule at.exponent at.records.items c.args.quarters (search rules) c.requires.known c.of-node.result c.are_empty.result c.requires.level c.of-node.ensures c.are_empty.ensures.1 c.if-are_empty.false in
     let sound = quad_added at.rule at.exponent at.records.items new at.leaves at.inner (record { good = at.good; leaves_listed = at.leaves_listed; inner_listed = at.inner_listed; futures = at.futures })
-    c.add_node.result q c.add_node.new.numbers quarters none made.number made.ok made.noted made.err made.same in
+    c.add_node.result c.of-node.result c.add_node.new.numbers quarters none made.number made.ok made.noted made.err made.same in
     record {
       good = sound.good;
       leaves_listed = sound.leaves_listed;
@@ -100,21 +89,17 @@ returns-clause-ok c =
     let at = c.args.self.now in
     let squares = c.args.quarters in
     let book = plain_book at.rule at.exponent at.records.items in
-    let known = all_four (IsKnown book (nth squares 0).level) squares (search rules) c.requires.known in
+    let node = Inner c.of-node.result in
     let new = c.add_node.new.records.items in
     let num = c.in_ok-num.num in
-    let nodes = nodes_of at.records.items in
-    let all : nodes_of new ≡ nodes ++ Inner c.of-node.result ∷ [] = ap nodes_of c.in_ok-num.ensures.ok ∙ nodes_pushed at.records.items _ in
-    let number : suc (length nodes) ≡ num.0 = sym (c.in_ok-num.ensures.number ∙ ap suc (sym (length-map at.records.items (λ (r : Record). r.node)))) in
-    let there : node_at (nodes_of new) num.0 ≡ Some (Inner (quarters_of squares)) = node_pushed nodes (nodes_of new) (Inner c.of-node.result) num.0 all number ∙ ap (λ (p : Quarters). Some (Inner p)) c.of-node.ensures in
+    let made = c.in_ok-num.ensures in
+    let there : node_at (nodes_of new) num.0 ≡ Some (Inner (quarters_of squares)) = added_there at.records.items new node num made.number made.ok ∙ ap (λ (p : Quarters). Some (Inner p)) c.of-node.ensures in
     let none : get quarters_order at.inner c.of-node.result ≡ None = search rules in
-    let some = λ (e : c.of-node.result.nw.0 + c.of-node.result.ne.0 + c.of-node.result.sw.0 + c.of-node.result.se.0 ≡ 0). false≢true (sym c.if-are_empty.false ∙ c.are_empty.ensures.1 e) in
-    let quarters : AreKnown nodes c.of-node.result = subst (AreKnown nodes) (sym c.of-node.ensures)
-    (quarters_known at.rule at.exponent at.records.items squares known c.requires.level (λ e. some (ap (λ (p : Quarters). p.nw.0 + p.ne.0 + p.sw.0 + p.se.0) c.of-node.ensures ∙ e))) in
-    let good = subst IsGood (sym all) (good_quad nodes at.inner c.of-node.result quarters at.inner_listed none at.good) in
-    let keeps = subst (λ items. Keeps book (plain_book at.rule at.exponent items)) (sym c.in_ok-num.ensures.ok) (pushed_keeps at.rule at.exponent at.records.items (Inner c.of-node.result) at.good) in
+    let quarters = tested_known at.rule at.exponent at.records.items squares (search rules) c.requires.known c.of-node.result c.are_empty.result c.requires.level c.of-node.ensures c.are_empty.ensures.1 c.if-are_empty.false in
+    let good = subst IsGood (sym (one_more at.records.items new node made.ok)) (good_quad (nodes_of at.records.items) at.inner c.of-node.result quarters at.inner_listed none at.good) in
+    let keeps = subst (λ items. Keeps book (plain_book at.rule at.exponent items)) (sym made.ok) (pushed_keeps at.rule at.exponent at.records.items node at.good) in
     subst (λ (p : Quarters). Shows (plain_book at.rule at.exponent new) ((nth squares 0).level + 1) (joined_squares book (nth squares 0).level squares) (record { level = p.level; num = num })) (sym c.of-node.ensures)
-    (node_shows at.rule at.exponent at.records.items squares known new num.0 good keeps (not_zero (nodes_of new) num.0 _ there) there)
+    (node_shows at.rule at.exponent at.records.items squares (search rules) c.requires.known new num.0 good keeps there)
 
 pub returns-in-Some-clause-keeps : goal.returns-in-Some-clause-keeps
 returns-in-Some-clause-keeps c = keeps_none _
