@@ -1,6 +1,6 @@
 -- Runs of a square's cells, counted from its upper left corner.
 use Rattle.std.specs.Prelude.{◌≡◌, ℕ, ◌+◌, ◌<◌, pos, ◌+ℤ◌, ◌-ℤ◌, ◌≤ℤ◌, ◌<ℤ◌, int_le, ◌&&◌, Bool, List, ◌==◌, nat_le, nat_lt, unsigned_abs}
-use Rattle.std.specs.List.{list_any}
+use Rattle.std.specs.List.{AllByRecursion, list_any}
 use Rattle.plane.specs.Plane.{Plane}
 use Rattle.plane.specs.declared.cell.Cell.{Cell}
 use Rattle.squares.specs.declared.spans.QuarterSpans.{QuarterSpans}
@@ -34,6 +34,13 @@ pub record AreQuarterSpans (half : ℕ) (spans : List Span) (quarters : QuarterS
   pub ne : IsPart half half 0 spans quarters.ne.items
   pub sw : IsPart half 0 half spans quarters.sw.items
   pub se : IsPart half half half spans quarters.se.items
+
+-- each span of the four quarters has a cell of its quarter
+pub record HaveCellsOfQuarters (half : ℕ) (quarters : QuarterSpans) : Type 0 where
+  pub nw : AllByRecursion (HasCellOf half) quarters.nw.items
+  pub ne : AllByRecursion (HasCellOf half) quarters.ne.items
+  pub sw : AllByRecursion (HasCellOf half) quarters.sw.items
+  pub se : AllByRecursion (HasCellOf half) quarters.se.items
 
 -- the plane of what is live to the right of and below (0,0)
 abbrev pub marked : (ℕ → ℕ → Bool) → Plane

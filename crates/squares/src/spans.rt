@@ -1,7 +1,7 @@
 ghost use Rattle.std.specs.Prelude.{◌≡◌, ℕ, ◌+◌, ◌-◌, ◌*◌, ◌^◌, ◌<◌, ◌≤◌, false, MatchOption, IfSome, IfOk, IsOkUnless, pos, ◌+ℤ◌, ◌-ℤ◌, ◌≤ℤ◌, ◌<ℤ◌, unsigned_abs, map};
 ghost use Rattle.std.specs.List.{AllByRecursion};
 ghost use Rattle.plane.specs.Square.{IsSame, bit, bits_plane, cut};
-ghost use Rattle.squares.specs.Spans.{AreQuarterSpans, FitsRound, HasCells, HasCellOf, in_span, in_spans, marked, span_of};
+ghost use Rattle.squares.specs.Spans.{AreQuarterSpans, FitsRound, HasCells, HasCellOf, HaveCellsOfQuarters, in_span, in_spans, marked, span_of};
 
 use plane::{Cell, Refusal};
 use std::alloc::Global;
@@ -127,6 +127,7 @@ pub struct QuarterSpans {
 pub fn quartered(alloc: Global, spans: &[Span], half: u64) -> Result<QuarterSpans, Refusal>
     requires half { half ≤ 2 ^ 62 }
     ensures ok { IfOk result (AreQuarterSpans half spans.now) }
+    ensures some { AllByRecursion HasCells spans.now → IfOk result (HaveCellsOfQuarters half) }
     ensures memory { IsOkUnless result Refusal.NoMemory }
 {
     Ok(QuarterSpans {
