@@ -54,7 +54,7 @@ pub fn program<R: Files + Input, O: Sink, E: Sink>(
     err: &mut E,
 ) -> u8
     ensures status { result ≤ 3 }
-    // At 0 the help or the report went out, and nothing was told.
+    // At 0 a text for those who ask for the help went out, or the report, and nothing was told.
     ensures well { result ≡ 0 → IsDone (map (λ word. word.now) words.now) (O.taken out.old) (O.taken out.new)
         × (O.failure_count out.new ≡ O.failure_count out.old) × (err.new ≡ err.old) }
     // At 2 the words ask for nothing, and one message said so.

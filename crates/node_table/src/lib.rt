@@ -1,4 +1,7 @@
 //! The running table of squares: words that threads share, and the desks at which they work.
+//!
+//! A desk has a seat at a table of `atomic_table`, and at the seat a view of what it has seen. Each step on a word is a play
+//! that the rule of the table allows it, and teaches it something.
 #![tactic(auto)]
 
 mod at;

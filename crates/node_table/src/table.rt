@@ -137,6 +137,7 @@ impl NodeTable {
             expansions: others,
         } = second;
         self.table.shared.join_seat::<Union>(&mut seat, other);
+        // A step, at which the rule of the words holds, tells that what the joined view says is true.
         self.table.shared.load::<Looks>(&mut seat, 0);
         Desk {
             seat,
