@@ -1,5 +1,6 @@
 pub mod Books
 pub mod Desks
+pub mod DesksAtWork
 pub mod GoodWords
 pub mod Numbers
 pub mod Rule

@@ -3,7 +3,7 @@ ghost use Rattle.std.specs.List.{AllByRecursion};
 ghost use Rattle.plane.specs.Square.{bits_plane};
 ghost use Rattle.squares.specs.Book.{IsKnown, Shows, IsEmpty, Keeps, KeepsResults, MayRefuse, numbered, joined_squares, nth};
 ghost use Rattle.table_core.specs.declared.shape.Kind.TheVariants.{Leaf};
-ghost use Rattle.node_table.specs.Desks.{IsDeskOf, store_of, book_at};
+ghost use Rattle.node_table.specs.Desks.{IsDeskOf, store_of};
 ghost use Rattle.node_table.specs.Refusals.{HasNoRoom, HasNoRoomForQuad};
 
 use crate::desk::Desk;
@@ -45,7 +45,9 @@ impl At<'_> {
 }
 
 impl Squares for At<'_> {
-    ghost book = { λ s. book_at s.table.now s.desk };
+    ghost use Rattle.node_table.specs.DesksAtWork.{book_here};
+
+    ghost book = { book_here };
 
     fn rule(&self) -> &Rule {
         &self.table.key.rule
@@ -76,12 +78,12 @@ impl Squares for At<'_> {
     }
 
     fn leaf(&mut self, word: u64) -> Result<Sq, Refusal>
-        ensures ok { IfOk result (Shows (book_at self.new.table.now self.new.desk) 3 (bits_plane word)) }
+        ensures ok { IfOk result (Shows (book_here self.new) 3 (bits_plane word)) }
         ensures empty { word ≡ 0 → IsOk result }
-        ensures refusal { IfErr result (MayRefuse (book_at self.new.table.now self.new.desk)) }
+        ensures refusal { IfErr result (MayRefuse (book_here self.new)) }
         ensures full { OnErr result (HasNoRoom self.new.table.now self.new.desk Leaf word) }
-        ensures keeps { Keeps (book_at self.old.table.now self.old.desk) (book_at self.new.table.now self.new.desk) }
-        ensures results { KeepsResults (book_at self.old.table.now self.old.desk) (book_at self.new.table.now self.new.desk) }
+        ensures keeps { Keeps (book_here self.old) (book_here self.new) }
+        ensures results { KeepsResults (book_here self.old) (book_here self.new) }
     {
         if word == 0 {
             return Ok(square(3, 0));
@@ -94,14 +96,14 @@ impl Squares for At<'_> {
 
     fn quad(&mut self, quarters: [Sq; 4]) -> Result<Sq, Refusal>
         requires level { (nth quarters 0).level < 65 }
-        requires known { AllByRecursion (IsKnown (book_at self.old.table.now self.old.desk) (nth quarters 0).level) quarters }
-        ensures ok { IfOk result (Shows (book_at self.new.table.now self.new.desk) ((nth quarters 0).level + 1)
-            (joined_squares (book_at self.old.table.now self.old.desk) (nth quarters 0).level quarters)) }
+        requires known { AllByRecursion (IsKnown (book_here self.old) (nth quarters 0).level) quarters }
+        ensures ok { IfOk result (Shows (book_here self.new) ((nth quarters 0).level + 1)
+            (joined_squares (book_here self.old) (nth quarters 0).level quarters)) }
         ensures empty { AllByRecursion IsEmpty quarters → IsOk result }
-        ensures refusal { IfErr result (MayRefuse (book_at self.new.table.now self.new.desk)) }
+        ensures refusal { IfErr result (MayRefuse (book_here self.new)) }
         ensures full { OnErr result (HasNoRoomForQuad self.new.table.now self.old.desk self.new.desk quarters) }
-        ensures keeps { Keeps (book_at self.old.table.now self.old.desk) (book_at self.new.table.now self.new.desk) }
-        ensures results { KeepsResults (book_at self.old.table.now self.old.desk) (book_at self.new.table.now self.new.desk) }
+        ensures keeps { Keeps (book_here self.old) (book_here self.new) }
+        ensures results { KeepsResults (book_here self.old) (book_here self.new) }
     {
         let [nw, ne, sw, se] = quarters;
         let upper = self.desk.pair(self.table, nw.num.0, ne.num.0)?;
