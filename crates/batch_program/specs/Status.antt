@@ -1,5 +1,5 @@
 -- Exit statuses, and what they mean.
-use Rattle.std.specs.Prelude.{◌≡◌, ◌⊎◌, ℕ, List, [], Option, Ok, Err}
+use Rattle.std.specs.Prelude.{◌≡◌, ◌⊎◌, ℕ, List, [], Option, None, Ok, Err}
 use Rattle.std.specs.Io.KnownBytes.{Appends}
 use Rattle.clap.specs.Words.{Text, IsAmong, fault_of}
 use Rattle.clap.specs.declared.error.kind.ErrorKind.{ErrorKind}
@@ -39,22 +39,23 @@ HasRun options before after =
     × Judges bytes options (Ok start) × Finishes start options answer said drawn × Appends before after said
 
 -- some bytes could not be read or were refused, and between the two what is said of them went out: nothing, or a
--- report, or the first lines of one; a device that fails may take a part of a line
-abbrev pub HasStopped : Options → Fault → Option (List ℕ) → Option (List ℕ) → Type 0 → Type 0
-HasStopped options fault before after unchanged =
+-- report, or the first lines of one; a device that fails may take a part of a line, and it is the one of the report where
+-- no file is asked for
+abbrev pub HasStopped : Options → Fault → Option (List ℕ) → Option (List ℕ) → Type 0 → Type 0 → Type 0
+HasStopped options fault before after unchanged failed =
     ((fault ≡ placeless ReadFailed) × unchanged)
     ⊎ ((bytes : List ℕ) × Judges bytes options (Err fault) × unchanged)
     ⊎ ((fault ≡ placeless BoxTooLarge) × ((bytes : List ℕ) × (said : List ℕ) × IsTooLarge bytes options said × Appends before after said))
     ⊎ ((fault ≡ placeless NoMemory) × (unchanged ⊎ ((bytes : List ℕ) × (said : List ℕ) × IsBegun bytes options said × Appends before after said)))
-    ⊎ (fault ≡ placeless WriteFailed)
+    ⊎ ((fault ≡ placeless WriteFailed) × (options.format ≡ None → failed))
 
 -- what the words ask for was refused: a run stopped; before it memory ran out, or the rule that they give was refused;
 -- or the help could not be written
-abbrev pub IsRefused : List Text → Fault → Option (List ℕ) → Option (List ℕ) → Type 0 → Type 0
-IsRefused words fault before after unchanged =
-    ((asked : Asked) × AsksFor words asked × HasStopped asked.options fault before after unchanged)
+abbrev pub IsRefused : List Text → Fault → Option (List ℕ) → Option (List ℕ) → Type 0 → Type 0 → Type 0
+IsRefused words fault before after unchanged failed =
+    ((asked : Asked) × AsksFor words asked × HasStopped asked.options fault before after unchanged failed)
     ⊎ ((refusal : Refusal) × RefusesWords words refusal × (fault ≡ placeless refusal) × unchanged)
-    ⊎ (AskForHelp words × (fault ≡ placeless WriteFailed))
+    ⊎ (AskForHelp words × (fault ≡ placeless WriteFailed) × failed)
 
 -- between the two a text went out for words that ask for the help, or the report of a run that the words ask for, which
 -- ended well

@@ -5,6 +5,6 @@ use Rattle.batch_program.specs.declared.entry.Stop.{Stop}
 use Rattle.batch_program.specs.declared.entry.Stop.TheVariants.{BadWords, Refused}
 
 -- why the program did not do what the words ask for
-abbrev pub IsStop : List Text → Option (List ℕ) → Option (List ℕ) → Type 0 → Stop → Type 0
-IsStop words before after unchanged (BadWords fault) = AskForNothing words × unchanged
-IsStop words before after unchanged (Refused fault) = IsRefused words fault before after unchanged
+abbrev pub IsStop : List Text → Option (List ℕ) → Option (List ℕ) → Type 0 → Type 0 → Stop → Type 0
+IsStop words before after unchanged failed (BadWords fault) = AskForNothing words × unchanged
+IsStop words before after unchanged failed (Refused fault) = IsRefused words fault before after unchanged failed

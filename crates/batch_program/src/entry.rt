@@ -64,6 +64,7 @@ pub fn program<R: Files + Input, O: Sink, E: Sink>(
     // At 1 and at 3 it was refused, and one line said why.
     ensures refused { (result ≡ 1) ⊎ (result ≡ 3) → (fault : Fault) × (result ≡ refused_status fault.refusal)
         × IsRefused (map (λ word. word.now) words.now) fault (O.taken out.old) (O.taken out.new) (out.new ≡ out.old)
+        (HasFailed (O.failure_count out.old) (O.failure_count out.new))
         × (HasFailed (E.failure_count err.old) (E.failure_count err.new)
         ⊎ Appends (E.taken err.old) (E.taken err.new) (fault_line fault)) }
 {
@@ -89,7 +90,8 @@ fn perform<R: Files + Input, O: Sink>(
 ) -> Result<(), Stop>
     ensures done { OnOk result (IsDone (map (λ word. word.now) words.now) (O.taken out.old) (O.taken out.new)) }
     ensures unfailed { OnOk result (O.failure_count out.new ≡ O.failure_count out.old) }
-    ensures stopped { IfErr result (IsStop (map (λ word. word.now) words.now) (O.taken out.old) (O.taken out.new) (out.new ≡ out.old)) }
+    ensures stopped { IfErr result (IsStop (map (λ word. word.now) words.now) (O.taken out.old) (O.taken out.new) (out.new ≡ out.old)
+        (HasFailed (O.failure_count out.old) (O.failure_count out.new))) }
 {
     match asked(alloc, words) {
         Ok(asked) => Ok(run_asked(rt, alloc, &asked, out)?),
@@ -110,7 +112,8 @@ fn run_asked<R: Files + Input, O: Sink>(
 ) -> Result<(), Fault>
     ensures ran { OnOk result (HasRun asked.now.options (O.taken out.old) (O.taken out.new)) }
     ensures unfailed { OnOk result (O.failure_count out.new ≡ O.failure_count out.old) }
-    ensures stopped { IfErr result (λ fault. HasStopped asked.now.options fault (O.taken out.old) (O.taken out.new) (out.new ≡ out.old)) }
+    ensures stopped { IfErr result (λ fault. HasStopped asked.now.options fault (O.taken out.old) (O.taken out.new) (out.new ≡ out.old)
+        (HasFailed (O.failure_count out.old) (O.failure_count out.new))) }
 {
     let bytes = read_file(rt, alloc, asked.file.as_str())?;
     let name = asked.output.as_ref().map_or("", |name| name.as_str());
@@ -142,7 +145,7 @@ fn read_file<R: Files + Input>(rt: &R, alloc: Global, path: &str) -> Result<Vec<
 fn show_help<O: Sink>(alloc: Global, help: &clap::Error, out: &mut O) -> Result<(), Fault>
     ensures shown { OnOk result ((text : List ℕ) × Appends (O.taken out.old) (O.taken out.new) text) }
     ensures unfailed { OnOk result (O.failure_count out.new ≡ O.failure_count out.old) }
-    ensures refused { IfErr result (λ fault. ((fault ≡ placeless Refusal.NoMemory) × (out.new ≡ out.old)) ⊎ (fault ≡ placeless Refusal.WriteFailed)) }
+    ensures refused { IfErr result (λ fault. ((fault ≡ placeless Refusal.NoMemory) × (out.new ≡ out.old)) ⊎ ((fault ≡ placeless Refusal.WriteFailed) × HasFailed (O.failure_count out.old) (O.failure_count out.new))) }
 {
     let Ok(text) = help.to_string(alloc) else {
         return Err(Fault::from(Refusal::NoMemory));

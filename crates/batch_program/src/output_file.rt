@@ -15,7 +15,9 @@ pub(crate) struct OutputFile<'a, R: Files> {
 }
 
 impl<'a, R: Files> OutputFile<'a, R> {
-    pub(crate) fn new(runtime: &'a R, path: &'a str) -> Self {
+    pub(crate) fn new(runtime: &'a R, path: &'a str) -> Self
+        ensures { result.failures ≡ 0 }
+    {
         OutputFile {
             runtime,
             path,
