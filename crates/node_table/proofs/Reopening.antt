@@ -1,7 +1,7 @@
 -- Words that are opened under another head, while their results are gone through.
-use Rattle.std.proofs.Common.{◌≡◌, ◌≢◌, ℕ, zero, suc, ◌+◌, ◌^◌, ◌<◌, ◌≤◌, Bool, true, false, List, length, sym, ◌∙◌, ap, subst, arith, refl, inl, inr, ⊎_elim}
+use Rattle.std.proofs.Common.{◌≡◌, ◌≢◌, ℕ, zero, suc, ◌+◌, ◌-◌, ◌^◌, ◌<◌, ◌≤◌, ◌⊎◌, min, Bool, true, false, List, length, sym, ◌∙◌, ap, subst, arith, refl, inl, inr, ⊎_elim}
 use Rattle.std.specs.Prelude.{IsTrue, slice_index, slice_set}
-use Rattle.std.proofs.lemmas.Bool.{false≢true}
+use Rattle.std.proofs.lemmas.Bool.{false≢true, cases_lt}
 use Rattle.std.proofs.lemmas.List.{get_or-set_same, get_or-set_other}
 use Rattle.table_core.specs.declared.key.Key.{Key}
 use Rattle.table_core.specs.declared.shape.Kind.{Kind}
@@ -27,6 +27,10 @@ pub record IsThrough (was : Still) (key : Key) (new : List ℕ) (done : ℕ) : T
   pub vacant : (i : ℕ) → IsSlot was.key.shape.bits Pair i → words_of was (result_of was.key.shape.bits i) ≡ 0 → slice_index new (result_of was.key.shape.bits i) ≡ 0
   pub rest : (i : ℕ) → IsSlot was.key.shape.bits Pair i → start was.key.shape.bits Pair + done ≤ i →
       slice_index new (result_of was.key.shape.bits i) ≡ words_of was (result_of was.key.shape.bits i)
+
+pub rules_decided : (was : Still) (key : Key) (one_rule : Bool) → (IsTrue one_rule → was.key.rule ≡ key.rule) × (was.key.rule ≡ key.rule → IsTrue one_rule) → (was.key.rule ≡ key.rule) ⊎ (was.key.rule ≢ key.rule)
+rules_decided was key true t = inl (t.0 refl)
+rules_decided was key false t = inr (λ e. false≢true (t.1 e))
 
 result_some : (bits i : ℕ) → IsSlot bits Pair i → result_of bits i ≢ 0
 result_some bits i slot e = not_head bits Pair i slot (omega arith)
@@ -70,6 +74,18 @@ module _ (was : Still) (key : Key) where
       let other = not_head was.key.shape.bits Pair i slot in
       let t = k.is level above other (low_level i level slot above block (some_word (square_rank level) i other block)) block in (t.0, t.1)
 
+  keeps_or_not : (level : ℕ) → (was.key.rule ≡ key.rule) ⊎ (was.key.rule ≢ key.rule) → KeepsResult was.key key level ⊎ (¬ KeepsResult was.key key level)
+  keeps_or_not level decided = ⊎_elim
+      (λ e. ⊎_elim
+      (λ one. inl (e, inl one))
+      (λ two. ⊎_elim
+      (λ less. inr (λ k. ⊎_elim (λ one. two one) (λ low. absurd (omega arith)) k.1))
+      (λ most. inl (e, inr most))
+      (cases_lt (min was.key.exponent key.exponent) (level - 2)))
+      (same_or_other was.key.exponent key.exponent))
+      (λ n. inr (λ k. n k.0))
+      decided
+
   module _ (new : List ℕ) (done pair : ℕ) (h : IsThrough was key new done) (at : pair ≡ start was.key.shape.bits Pair + done) (slot : IsSlot was.key.shape.bits Pair pair) where
     -- a result stays
     pub through_kept : KeepsAtRank was key pair true → IsThrough was key new (done + 1)
@@ -80,6 +96,22 @@ module _ (was : Still) (key : Key) where
       slots = h.slots;
       results = λ i level s below above block. ⊎_elim
           (λ e. inl ((tells i level true s (subst (λ n. KeepsAtRank was key n true) (sym e) k) above block).0 refl, h.rest i s (omega arith)))
+          (λ n. h.results i level s (omega arith) above block)
+          (same_or_other i pair);
+      vacant = h.vacant;
+      rest = λ i s far. h.rest i s (omega arith);
+    }
+
+    -- there is none
+    pub through_none : (was.key.rule ≡ key.rule) ⊎ (was.key.rule ≢ key.rule) → slice_index new (result_of was.key.shape.bits pair) ≡ 0 → IsThrough was key new (done + 1)
+    through_none decided none = record {
+      long = h.long;
+      names = h.names;
+      fits = h.fits;
+      slots = h.slots;
+      results = λ i level s below above block. ⊎_elim
+          (λ e. let here : slice_index new (result_of was.key.shape.bits i) ≡ 0 = ap (λ n. slice_index new (result_of was.key.shape.bits n)) e ∙ none in
+          ⊎_elim (λ keeps. inl (keeps, h.rest i s (omega arith))) (λ not. inr (not, here)) (keeps_or_not level decided))
           (λ n. h.results i level s (omega arith) above block)
           (same_or_other i pair);
       vacant = h.vacant;
@@ -111,6 +143,17 @@ module _ (was : Still) (key : Key) where
           vacant = λ i s z. ⊎_elim (λ e. ap (slice_index later) e ∙ here) (λ n. other (result_of was.key.shape.bits i) n ∙ h.vacant i s z) (same_or_other (result_of was.key.shape.bits i) (result_of was.key.shape.bits pair));
           rest = λ i s far. other (result_of was.key.shape.bits i) (λ e. let same : i ≡ pair = omega arith in omega arith) ∙ h.rest i s (omega arith);
         }
+
+  -- under one rule and exponent all results stay
+  pub through_same : (new : List ℕ) → was.key.rule ≡ key.rule → was.key.exponent ≡ key.exponent → key.shape ≡ was.key.shape → IsThrough was key new 0 → Reopens was.key key (words_of was) (slice_index new)
+  through_same new rules exponents shape h = record {
+    shape = shape;
+    names = h.names;
+    fits = h.fits;
+    slots = h.slots;
+    results = λ i level s above block. inl ((rules, inl exponents), h.rest i s (let from = s.from in omega arith));
+    vacant = h.vacant;
+  }
 
   pub through_all : (new : List ℕ) (done : ℕ) → 2 ^ was.key.shape.bits ≤ done → key.shape ≡ was.key.shape → IsThrough was key new done → Reopens was.key key (words_of was) (slice_index new)
   through_all new done many shape h = record {

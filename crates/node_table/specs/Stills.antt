@@ -1,5 +1,5 @@
 -- Words in one owner's hands.
-use Rattle.std.specs.Prelude.{◌≡◌, ◌≢◌, ℕ, ◌^◌, ◌<◌, ◌≤◌, ◌↔◌, Bool, IsTrue, [], slice_index}
+use Rattle.std.specs.Prelude.{◌≡◌, ◌≢◌, ℕ, ◌^◌, ◌<◌, ◌≤◌, ◌↔◌, Bool, IsTrue, List, [], slice_index}
 use Rattle.table_core.specs.declared.key.Key.{Key}
 use Rattle.table_core.specs.Blocks.{Words, IsBlock, square_rank, largest_rank}
 use Rattle.table_core.specs.Opening.{IsFresh, KeepsResult, Reopens}
@@ -7,6 +7,12 @@ use Rattle.squares.specs.Book.{Book}
 use Rattle.node_table.specs.Books.{book_of}
 use Rattle.node_table.specs.GoodWords.{all_of}
 use Rattle.node_table.specs.declared.still.Still.{Still}
+
+abbrev pub key_of : Still → Key
+key_of still = still.key
+
+abbrev pub items_of : Still → List ℕ
+items_of still = still.words.items
 
 abbrev pub words_of : Still → Words
 words_of still = slice_index still.words.items
@@ -33,3 +39,8 @@ pub record HasRank (still : Still) (number found : ℕ) : Type 0 where
 pub record KeepsAtRank (still : Still) (key : Key) (pair : ℕ) (stays : Bool) : Type 0 where
   pub is : (level : ℕ) → 3 < level → pair ≢ 0 → level ≤ 65 → IsBlock still.key.shape.bits (words_of still) (square_rank level) pair →
       IsTrue stays ↔ KeepsResult still.key key level
+
+-- the words are these, with this head
+pub record HasWords (still : Still) (key : Key) (words : List ℕ) : Type 0 where
+  pub same_key : key_of still ≡ key
+  pub same_words : items_of still ≡ words

@@ -1,4 +1,4 @@
-ghost use Rattle.std.specs.Prelude.{◌≡◌, ◌<◌, [], IfOk, IsOkUnless};
+ghost use Rattle.std.specs.Prelude.{◌≡◌, ◌≢◌, ◌<◌, ◌↔◌, [], IsTrue, IfOk, IsOkUnless};
 ghost use Rattle.table_core.specs.Good.{AreGoodWords};
 ghost use Rattle.table_core.specs.Sizes.{IsPairCount};
 ghost use Rattle.squares.specs.Book.{IsBook};
@@ -24,7 +24,7 @@ const RANKS: u8 = 125;
 
 impl Still {
     ghost use Rattle.table_core.specs.Opening.{KeepsResult};
-    ghost use Rattle.node_table.specs.Stills.{IsVacant, IsReopened, HasRank, KeepsAtRank};
+    ghost use Rattle.node_table.specs.Stills.{IsVacant, IsReopened, HasRank, KeepsAtRank, HasWords, key_of, items_of};
 
     /// The words of a table of so many pair slots, with no square in it.
     pub fn empty(alloc: Global, pairs: u32) -> Result<Still, Refusal>
@@ -46,6 +46,28 @@ impl Still {
         }
     }
 
+    /// Good words, as those of a table.
+    pub fn of_words(key: Key, words: Vec<u64>) -> Still
+        requires { AreGoodWords key words.items }
+        ensures { HasWords result key words.items }
+    {
+        Still { key, words }
+    }
+
+    /// The shape, the rule and the exponent of the table.
+    pub fn key(&self) -> &Key
+        ensures { result.now ≡ key_of self.now }
+    {
+        &self.key
+    }
+
+    /// The words.
+    pub fn words(&self) -> &[u64]
+        ensures { result.now ≡ items_of self.now }
+    {
+        self.words.as_slice()
+    }
+
     // The words under another rule and exponent, with the results that are the same under both.
     pub(crate) fn reopened(&self, alloc: Global, key: Key) -> Result<Still, AllocError>
         requires { key.shape ≡ self.now.key.shape }
@@ -53,25 +75,35 @@ impl Still {
     {
         let mut words = Vec::from_slice(alloc, self.words.as_slice())?;
         words[0] = key.head();
+        let one_rule = self.has_rule_of(&key);
+        if one_rule && self.key.exponent == key.exponent {
+            return Ok(Still { key, words });
+        }
         let shape = self.key.shape;
         for slot in 0..shape.slot_count(Kind::Pair) {
             let pair = shape.index(Kind::Pair, slot);
-            if !self.keeps_result(pair, &key) {
-                words[shape.result_index(pair) as usize] = 0;
+            let beside = shape.result_index(pair) as usize;
+            if words[beside] != 0 && !self.keeps_result(pair, &key, one_rule) {
+                words[beside] = 0;
             }
         }
         Ok(Still { key, words })
     }
 
-    // Whether the result of a pair's square is the same under both heads.
-    fn keeps_result(&self, pair: u32, key: &Key) -> bool
+    // Whether both heads name one rule.
+    fn has_rule_of(&self, key: &Key) -> bool
+        ensures { IsTrue result ↔ (self.now.key.rule ≡ key.now.rule) }
+    {
+        self.key.rule.code() == key.rule.code()
+    }
+
+    // Whether the result of a pair's square is the same under both heads, which are not one.
+    fn keeps_result(&self, pair: u32, key: &Key, one_rule: bool) -> bool
+        requires rule { IsTrue one_rule ↔ (self.now.key.rule ≡ key.now.rule) }
+        requires exponent { IsTrue one_rule → self.now.key.exponent ≢ key.now.exponent }
         ensures { KeepsAtRank self.now key.now pair result }
     {
-        if self.key.rule.code() != key.rule.code() {
-            return false;
-        }
-        self.key.exponent == key.exponent
-            || self.rank(pair) / 2 < self.key.exponent.min(key.exponent)
+        one_rule && self.rank(pair) / 2 < self.key.exponent.min(key.exponent)
     }
 
     // The rank of the block that a number other than 0 shows.

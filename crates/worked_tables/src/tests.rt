@@ -2,6 +2,7 @@ mod glider;
 mod leaves;
 mod reopened;
 mod steps;
+mod sweeps;
 mod tables;
 mod threads;
 mod two_desks;

@@ -35,7 +35,8 @@ pub(crate) fn glider<S: Squares>(book: &mut S) -> Result<Sq, Refusal>
 }
 
 pub(crate) fn glider_and_future<S: Squares>(book: &mut S) -> Result<(Sq, Sq), Refusal>
-    ensures { Keeps (S.book book.old) (S.book book.new) }
+    ensures known { IfOk result (λ made. IsKnown (S.book book.new) made.0.level made.0) }
+    ensures keeps { Keeps (S.book book.old) (S.book book.new) }
 {
     let sq = glider(book)?;
     let later = future(book, sq, &mut Tally { expansions: 0 })?;

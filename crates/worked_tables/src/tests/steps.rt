@@ -18,7 +18,7 @@ use std::test::Fail;
 const PAIRS: u32 = 262144;
 
 // The leaves of a square with the R-pentomino in its columns and rows 8 to 10.
-const R_PENTOMINO: [u64; 4] = [0, 0, 0, 0x20306];
+pub(crate) const R_PENTOMINO: [u64; 4] = [0, 0, 0, 0x20306];
 
 // 2^10 generations of the R-pentomino.
 fn stepped<S: Squares>(book: &mut S, tally: &mut Tally) -> Result<Sq, Refusal>

@@ -1,14 +1,18 @@
-//! Want of memory: no words are made, or no table is opened and the words come back as they were.
+//! Want of memory: no words are made, or no table is opened and the words come back as they were, or the
+//! words can't be copied and stay.
 //!
 //! In a plain run of the tests there is memory. `rt try --test --fail-alloc N -- want_of_memory` makes the
-//! Nth allocation fail, and is run for each N from 1 up to the first at which the test prints no line of
+//! Nth allocation fail, and is run for each N from 1 up to the first at which no test prints a line of
 //! its own.
 
 ghost use Rattle.std.specs.Prelude.{IfOk};
 ghost use Rattle.node_table.specs.Desks.{IsDeskOf};
+ghost use Rattle.node_table.specs.Stills.{book_in};
+ghost use Rattle.squares.specs.Book.{IsKnown};
 
 use crate::tests::glider::{glider_and_future, glider_and_result};
 use crate::tests::tables::{PAIRS, open_table};
+use node_sweep::{enlarge, sweep};
 use node_table::{Desk, NodeTable, Still};
 use plane::Refusal;
 use rule_text::Rule;
@@ -50,7 +54,9 @@ fn empty_words<R: Abort + AllocGlobal + Print>(rt: &R) -> Result<Option<Still>, 
 fn words_with_future<R: Abort + AllocGlobal + Print>(
     rt: &R,
     still: Still,
-) -> Result<(Still, Sq, Sq), Fail> {
+) -> Result<(Still, Sq, Sq), Fail>
+    ensures { IfOk result (λ made. IsKnown (book_in made.0) made.1.level made.1) }
+{
     let (table, desk) = opened(rt, still)?;
     let mut at = table.at(desk);
     let made = glider_and_future(&mut at);
@@ -66,6 +72,36 @@ fn words_come_back_for_want_of_memory(rt: HostRuntime) -> Result<(), Fail> {
         return Ok(());
     };
     let (words, sq, later) = words_with_future(&rt, still)?;
+    let (table, desk) = opened(&rt, words)?;
+    assert_eq!(rt; glider_and_result(&mut table.at(desk))?, (sq, Some(later)));
+    Ok(())
+}
+
+// The fresh words, where there was memory for them.
+fn copied<R: Abort + Print>(
+    rt: &R,
+    first: Result<(Still, Sq), Refusal>,
+) -> Result<Option<Still>, Fail> {
+    match first {
+        Ok((copy, _)) => Ok(Some(copy)),
+        Err(refusal) => {
+            assert_eq!(rt; refusal, Refusal::NoMemory);
+            println!(rt; "not copied")?;
+            Ok(None)
+        }
+    }
+}
+
+#[test]
+fn words_stay_for_want_of_memory(rt: HostRuntime) -> Result<(), Fail> {
+    let Some(still) = empty_words(&rt)? else {
+        return Ok(());
+    };
+    let (words, sq, later) = words_with_future(&rt, still)?;
+    assert!(rt; Shape::is_pair_count(PAIRS));
+    let swept = copied(&rt, sweep(rt.alloc(), &words, sq, PAIRS))?;
+    let enlarged = copied(&rt, enlarge(rt.alloc(), &words, sq, PAIRS))?;
+    assert!(rt; swept.is_some() || enlarged.is_some());
     let (table, desk) = opened(&rt, words)?;
     assert_eq!(rt; glider_and_result(&mut table.at(desk))?, (sq, Some(later)));
     Ok(())

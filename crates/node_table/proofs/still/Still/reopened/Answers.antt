@@ -1,16 +1,36 @@
-use Rattle.std.proofs.Common.{◌≡◌, ◌+◌, ◌∙◌, ap, sym, subst, arith, refl, rules, length, List, ℕ, Vec, Global}
-use Rattle.std.specs.Prelude.{slice_set}
+use Rattle.std.proofs.Common.{◌≡◌, ◌+◌, ◌<◌, ◌∙◌, ap, sym, subst, arith, rules, length, List, ℕ, Vec, Global}
+use Rattle.std.specs.Prelude.{slice_index, slice_set}
+use Rattle.std.proofs.lemmas.List.{get_or_read}
+use Rattle.table_core.specs.declared.key.Key.{Key}
 use Rattle.table_core.specs.declared.shape.Shape.{Shape}
 use Rattle.table_core.specs.Layout.{size, result_of}
 use Rattle.table_core.specs.Good.{AreGoodWords}
+use Rattle.table_core.specs.Opening.{Reopens}
 use Rattle.table_core.proofs.Lists.{length_set}
 use Rattle.table_core.proofs.Reopenings.{every_reopening}
 use Rattle.rule_text.specs.CountRule.{IsRule}
+use Rattle.node_table.specs.declared.still.Still.{Still}
 use Rattle.node_table.proofs.Everything.{all_book}
 use Rattle.node_table.specs.Stills.{words_of}
-use Rattle.node_table.proofs.Reopening.{IsThrough, through_kept, through_gone, through_all}
-use Rattle.node_table.proofs.still.Still.reopened.Goals.{then-not-keeps_result, else-not-keeps_result}
+use Rattle.node_table.proofs.Reopening.{IsThrough, rules_decided, through_kept, through_none, through_gone, through_same, through_all}
+use Rattle.node_table.proofs.still.Still.reopened.Goals.{then-index-ne0+then-not-keeps_result, else-index-ne0, else-index-ne0-via-then-index-ne0+else-not-keeps_result, else-index-ne0-via-else-index-ne0}
 use Rattle.node_table.proofs.still.Still.reopened.Goals as goal
+
+good_again : (was : Still) (key : Key) (new : List ℕ) → key.shape ≡ was.key.shape → length new ≡ size was.key.shape.bits → Reopens was.key key (words_of was) (slice_index new) → AreGoodWords key new
+good_again was key new shape long reopens = record {
+  long = long ∙ ap (λ (s : Shape). size s.bits) (sym shape);
+  good = (every_reopening was.key key (words_of was) (slice_index new) was.good.good reopens).good;
+}
+
+pub invariant_of-result : goal.invariant_of-result
+invariant_of-result c =
+    let was = c.args.self.now in
+    let new = slice_set c.in_ok-words.words.items 0 c.head.result in
+    let h : IsThrough was c.args.key new 0 = search rules in
+    let reopens = through_same was c.args.key new (c.has_rule_of-one_rule.ensures.0 c.if-one_rule.true) (search rules) c.requires h in
+    let good = good_again was c.args.key new c.requires h.long reopens in
+    let rule : IsRule c.args.key.rule = search rules in
+    record { good = good; is_book = all_book c.args.key new good rule }
 
 pub loop-slot-preserved : goal.loop-slot-preserved
 loop-slot-preserved c =
@@ -18,31 +38,33 @@ loop-slot-preserved c =
     let key = c.args.key in
     let h = c.loop-slot.invariant in
     let at = c.index-pair.ensures.index in
+    let slot = c.index-pair.ensures.slot in
+    let pair = c.index-pair.result in
+    let items = c.loop-slot.words.items in
     let vec = λ (v : Vec ℕ Global). v.items in
-    elim c.if-not-keeps_result.branch [
-      | then-not-keeps_result w ↦
-          let is : c.if-not-keeps_result.words.items ≡ slice_set c.loop-slot.words.items (result_of was.key.shape.bits c.index-pair.result) 0 =
-          ap vec w.words-is ∙ ap (λ i. slice_set c.loop-slot.words.items i 0) w.result_index.ensures.index in
-          through_gone was key c.loop-slot.words.items c.loop-slot.slot c.index-pair.result h at c.index-pair.ensures.slot c.if-not-keeps_result.words.items is
-          (ap (λ (xs : List ℕ). length xs) is ∙ length_set c.loop-slot.words.items (result_of was.key.shape.bits c.index-pair.result) 0 ∙ h.long) w.if-not-keeps_result.ensures
-      | else-not-keeps_result w ↦
-          subst (λ (items : List ℕ). IsThrough was key items (c.loop-slot.slot + 1)) (sym (ap vec w.words-is))
-          (through_kept was key c.loop-slot.words.items c.loop-slot.slot c.index-pair.result h at c.index-pair.ensures.slot w.if-not-keeps_result.ensures)
+    let beside = c.result_index-beside.ensures.index in
+    let range = c.result_index-beside.ensures.range in
+    let inside : c.result_index-beside.result < length items = let long = h.long in omega arith in
+    elim c.if-index-ne0.branch [
+      | then-index-ne0+then-not-keeps_result w ↦
+          let is : c.if-index-ne0.words.items ≡ slice_set items (result_of was.key.shape.bits pair) 0 =
+          ap vec w.words-is ∙ ap (λ i. slice_set items i 0) beside in
+          through_gone was key items c.loop-slot.slot pair h at slot c.if-index-ne0.words.items is
+          (ap (λ (xs : List ℕ). length xs) is ∙ length_set items (result_of was.key.shape.bits pair) 0 ∙ h.long) w.if-not-keeps_result.ensures
+      | else-index-ne0 w ↦
+          subst (λ (xs : List ℕ). IsThrough was key xs (c.loop-slot.slot + 1)) (sym (ap vec w.words-is)) (elim w.else-index-ne0.branch [
+            | else-index-ne0-via-then-index-ne0+else-not-keeps_result v ↦ through_kept was key items c.loop-slot.slot pair h at slot v.if-not-keeps_result.ensures
+            | else-index-ne0-via-else-index-ne0 v ↦
+                through_none was key items c.loop-slot.slot pair h at slot (rules_decided was key c.has_rule_of-one_rule.result c.has_rule_of-one_rule.ensures)
+                (ap (slice_index items) (sym beside) ∙ sym (get_or_read items _ _ inside c.index.ensures 0) ∙ v.if-index-ne0.false)
+          ])
     ]
 
-pub invariant_of-result : goal.invariant_of-result
-invariant_of-result c =
+pub invariant_of-result-2 : goal.invariant_of-result-2
+invariant_of-result-2 c =
     let was = c.args.self.now in
-    let reopens = through_all was c.args.key c.loop-slot.words.items c.loop-slot.slot (let far = c.loop-slot-test.false in let count = c.slot_count-slot-end.ensures in omega arith) c.requires c.loop-slot.invariant in
-    let good : AreGoodWords c.args.key c.loop-slot.words.items = record {
-      long = c.loop-slot.invariant.long ∙ ap (λ (s : Shape). size s.bits) (sym c.requires);
-      good = (every_reopening was.key c.args.key (words_of was) _ was.good.good reopens).good;
-    } in
+    let new = c.loop-slot.words.items in
+    let reopens = through_all was c.args.key new c.loop-slot.slot (let far = c.loop-slot-test.false in let count = c.slot_count-slot-end.ensures in omega arith) c.requires c.loop-slot.invariant in
+    let good = good_again was c.args.key new c.requires c.loop-slot.invariant.long reopens in
     let rule : IsRule c.args.key.rule = search rules in
-    record { good = good; is_book = all_book c.args.key c.loop-slot.words.items good rule }
-
-pub returns : goal.returns
-returns c = record {
-  same_key = refl;
-  reopens = through_all c.args.self.now c.args.key c.loop-slot.words.items c.loop-slot.slot (let far = c.loop-slot-test.false in let count = c.slot_count-slot-end.ensures in omega arith) c.requires c.loop-slot.invariant;
-}
+    record { good = good; is_book = all_book c.args.key new good rule }

@@ -1,0 +1,12 @@
+pub mod SameBlocks
+pub mod Places
+pub mod Notes
+pub mod Recursing
+pub mod Futures
+pub mod Swept
+pub mod Pigeons
+pub mod Few
+pub mod Squares
+pub mod AllBlocks
+pub mod Carried
+pub mod Transferred

@@ -1,0 +1,61 @@
+-- The square that a sweep is given, and the one that it gives.
+use Rattle.std.proofs.Common.{◌≡◌, ℕ, ◌≤◌, List, [], sym, subst, arith}
+use Rattle.plane.proofs.Same.{same_trans}
+use Rattle.squares.specs.declared.sq.Sq.{Sq}
+use Rattle.squares.specs.Book.{IsKnown, Shows}
+use Rattle.table_core.specs.declared.key.Key.{Key}
+use Rattle.table_core.specs.Blocks.{IsBlock, square_rank, cells_of}
+use Rattle.table_core.specs.Blocks.{Shows as ShowsBlock}
+use Rattle.table_core.proofs.Knowing.{block_true}
+use Rattle.node_table.specs.declared.still.Still.{Still}
+use Rattle.node_table.specs.Books.{cells_in}
+use Rattle.node_table.specs.GoodWords.{all_known}
+use Rattle.node_table.specs.Rule.{everything}
+use Rattle.node_table.specs.Stills.{key_of, items_of, words_of, book_in, HasWords}
+use Rattle.node_table.proofs.Books.{shows_of}
+use Rattle.node_table.proofs.Entries.{block_of}
+use Rattle.node_table.proofs.Everything.{all_coherent}
+use Rattle.node_sweep.specs.Copies.{IsCopy}
+use Rattle.node_sweep.specs.Sweeps.{Sweeps}
+use Rattle.node_sweep.specs.SweptStills.{IsResized, IsSwept}
+
+-- a known square is a block
+pub known_shows : (still : Still) (root : Sq) → IsKnown (book_in still) root.level root →
+    ShowsBlock (key_of still).shape.bits (words_of still) (square_rank root.level) root.num.0 ((book_in still).cells root)
+known_shows still root known =
+    block_true still.key.shape.bits (words_of still) (everything still) (square_rank root.level) root.num.0 (cells_in (everything still) root)
+    (all_known still.key still.words.items still.good).true_of (block_of (everything still) root known.known)
+
+-- a block of a square's rank is a known square
+pub block_shown : (still : Still) (sq : Sq) → 3 ≤ sq.level → sq.level ≤ 65 → IsBlock (key_of still).shape.bits (words_of still) (square_rank sq.level) sq.num.0 →
+    Shows (book_in still) sq.level (cells_of (words_of still) (square_rank sq.level) sq.num.0) sq
+block_shown still sq low high b =
+    shows_of [] still.key (everything still) sq (cells_of (words_of still) (square_rank sq.level) sq.num.0) ∣ all_coherent still.key still.words.items still.good ∣₁ low high
+    ((all_known still.key still.words.items still.good).blocks (square_rank sq.level) sq.num.0 b)
+
+pub shown_as : (still : Still) (root copy : Sq) (now : Still) → IsKnown (book_in still) root.level root → copy.level ≡ root.level →
+    IsCopy (key_of still).shape.bits (key_of now).shape.bits (words_of still) (words_of now) (square_rank root.level) root.num.0 copy.num.0 →
+    Shows (book_in now) root.level ((book_in still).cells root) copy
+shown_as still root copy now known e c =
+    let at : IsBlock (key_of now).shape.bits (words_of now) (square_rank copy.level) copy.num.0 = subst (λ l. IsBlock (key_of now).shape.bits (words_of now) (square_rank l) copy.num.0) (sym e) c.now in
+    let low = known.low in
+    let high = known.high in
+    let s : Shows (book_in now) copy.level (cells_of (words_of now) (square_rank copy.level) copy.num.0) copy = block_shown now copy (omega arith) (omega arith) at in
+    let t : Shows (book_in now) root.level (cells_of (words_of now) (square_rank root.level) copy.num.0) copy = subst (λ l. Shows (book_in now) l (cells_of (words_of now) (square_rank l) copy.num.0) copy) e s in
+    record { known = t.known; cells = same_trans t.cells (same_trans c.cells (known_shows still root known).cells) }
+
+-- the swept words, in one owner's hands
+pub is_swept : (still : Still) (root copy : Sq) (pairs : ℕ) (to : Key) (words : List ℕ) (now : Still) → IsKnown (book_in still) root.level root → copy.level ≡ root.level →
+    IsResized (key_of still) to pairs → HasWords now to words →
+    Sweeps (key_of still) to (words_of still) (square_rank root.level) root.num.0 words copy.num.0 → IsSwept still root pairs now copy
+is_swept still root copy pairs to words now known e resized has swept =
+    let keyed : Sweeps (key_of still) (key_of now) (words_of still) (square_rank root.level) root.num.0 words copy.num.0 =
+    subst (λ (k : Key). Sweeps (key_of still) k (words_of still) (square_rank root.level) root.num.0 words copy.num.0) (sym has.same_key) swept in
+    let all : Sweeps (key_of still) (key_of now) (words_of still) (square_rank root.level) root.num.0 (items_of now) copy.num.0 =
+    subst (λ (ws : List ℕ). Sweeps (key_of still) (key_of now) (words_of still) (square_rank root.level) root.num.0 ws copy.num.0) (sym has.same_words) keyed in
+    record {
+      resized = subst (λ (k : Key). IsResized (key_of still) k pairs) (sym has.same_key) resized;
+      level = e;
+      shown = shown_as still root copy now known e all.shown;
+      swept = all;
+    }

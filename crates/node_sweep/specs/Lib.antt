@@ -1,0 +1,10 @@
+pub mod Copies
+pub mod Copying
+pub mod EnlargedStills
+pub mod Enlarges
+pub mod Keeping
+pub mod Placing
+pub mod Reaching
+pub mod Sweeps
+pub mod SweptStills
+pub mod Transfers

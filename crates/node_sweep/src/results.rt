@@ -1,0 +1,46 @@
+ghost use Rattle.std.specs.Prelude.{◌≡◌, ◌+◌, ◌^◌, length};
+ghost use Rattle.table_core.specs.declared.shape.Kind.TheVariants.{Pair};
+ghost use Rattle.table_core.specs.Layout.{IsSlot, start};
+
+use crate::transfer::Transfer;
+use table_core::{Kind, parts, result_word};
+
+impl Transfer<'_> {
+    ghost use Rattle.node_sweep.specs.Transfers.{AreResultsKept, old_bits};
+
+    // Keeps the result of a pair beside its copy, where both have one.
+    fn keep_result(&self, words: &mut [u64], copies: &[u32], slot: u32, pair: u32)
+        requires long { length copies.now ≡ length self.now.old.now }
+        requires kept { AreResultsKept self.now copies.now words.old slot }
+        requires pair { IsSlot (old_bits self.now) Pair pair }
+        requires at { pair ≡ start (old_bits self.now) Pair + slot }
+        ensures { AreResultsKept self.now copies.now words.new (slot + 1) }
+    {
+        let copy = copies[pair as usize];
+        if copy == 0 {
+            return;
+        }
+        let result = self.old[self.from.shape.result_index(pair) as usize];
+        if result == 0 {
+            return;
+        }
+        let (_, future) = parts(result);
+        let number = copies[future as usize];
+        if number == 0 && future != 0 {
+            return;
+        }
+        words[self.to.shape.result_index(copy) as usize] = result_word(number);
+    }
+
+    // Keeps the result of each pair beside its copy, where both have one.
+    pub(crate) fn keep_results(&self, words: &mut [u64], copies: &[u32])
+        requires long { length copies.now ≡ length self.now.old.now }
+        requires kept { AreResultsKept self.now copies.now words.old 0 }
+        ensures { AreResultsKept self.now copies.now words.new (2 ^ old_bits self.now) }
+    {
+        for slot in 0..self.from.shape.slot_count(Kind::Pair) {
+            let pair = self.from.shape.index(Kind::Pair, slot);
+            self.keep_result(words, copies, slot, pair);
+        }
+    }
+}

@@ -1,0 +1,90 @@
+ghost use Rattle.std.specs.Prelude.{◌≡◌, ◌⊎◌, IfOk, IfErr, IsOkUnless};
+ghost use Rattle.squares.specs.Book.{IsKnown};
+ghost use Rattle.table_core.specs.Sizes.{IsPairCount};
+ghost use Rattle.node_table.specs.Stills.{book_in};
+ghost use Rattle.node_sweep.specs.EnlargedStills.{HasNoRoomForAll, IsEnlarged};
+ghost use Rattle.node_sweep.specs.SweptStills.{HasNoRoomFor, IsResized, IsSwept, IsTransferOf, ReachesFewWords};
+
+use crate::transfer::Transfer;
+use node_table::Still;
+use plane::Refusal;
+use squares::{Num, Sq};
+use std::alloc::Global;
+use table_core::{Key, Shape};
+
+// The head of a table of so many pair slots, under the same rule and exponent.
+fn resized(from: &Key, pairs: u32) -> Key
+    requires { IsPairCount pairs }
+    ensures { IsResized from.now result pairs }
+{
+    Key {
+        shape: Shape::new(pairs),
+        rule: from.rule,
+        exponent: from.exponent,
+    }
+}
+
+impl<'a> Transfer<'a> {
+    // From words into those of so many pair slots.
+    fn of_still(still: &'a Still, root: Option<u32>, pairs: u32) -> Transfer<'a>
+        requires { IsPairCount pairs }
+        ensures { IsTransferOf still.now root pairs result }
+    {
+        let from = still.key();
+        Transfer {
+            from,
+            old: still.words(),
+            root,
+            to: resized(from, pairs),
+        }
+    }
+}
+
+/// Copies the square and all that it reaches into fresh words of so many pair slots, under the same
+/// rule and exponent. The result of a square stays where it is the empty square or is reached too, and
+/// no other does. The old words stay as they are.
+///
+/// It refuses `NoMemory`, and `NodesFull` where the words of so many slots have no room for some of the
+/// squares beside others: never for a square that reaches at most 256 leaves and 256 pairs.
+pub fn sweep(alloc: Global, still: &Still, root: Sq, pairs: u32) -> Result<(Still, Sq), Refusal>
+    requires known { IsKnown (book_in still.now) root.level root }
+    requires pairs { IsPairCount pairs }
+    ensures ok { IfOk result (λ swept. IsSwept still.now root pairs swept.0 swept.1) }
+    ensures refusal { IfErr result (λ refusal.
+        (refusal ≡ Refusal.NoMemory) ⊎ ((refusal ≡ Refusal.NodesFull) × HasNoRoomFor still.now root pairs)) }
+    ensures few { ReachesFewWords still.now root → IsOkUnless result Refusal.NoMemory }
+{
+    let level = root.level;
+    let transfer = Transfer::of_still(still, Some(root.num.0), pairs);
+    let (words, number) = transfer.swept(alloc, root.num.0, 2 * (level - 3))?;
+    Ok((
+        Still::of_words(transfer.to, words),
+        Sq {
+            level,
+            num: Num(number),
+        },
+    ))
+}
+
+/// Copies all squares and their results into fresh words of so many pair slots, under the same rule
+/// and exponent, and says which square is now this one. The old words stay as they are.
+///
+/// It refuses `NoMemory`, and `NodesFull` where the words of so many slots have no room for some of the
+/// squares beside others.
+pub fn enlarge(alloc: Global, still: &Still, root: Sq, pairs: u32) -> Result<(Still, Sq), Refusal>
+    requires known { IsKnown (book_in still.now) root.level root }
+    requires pairs { IsPairCount pairs }
+    ensures ok { IfOk result (λ made. IsEnlarged still.now root pairs made.0 made.1) }
+    ensures refusal { IfErr result (λ refusal.
+        (refusal ≡ Refusal.NoMemory) ⊎ ((refusal ≡ Refusal.NodesFull) × HasNoRoomForAll still.now pairs)) }
+{
+    let transfer = Transfer::of_still(still, None, pairs);
+    let (words, number) = transfer.enlarged(alloc, root.num.0)?;
+    Ok((
+        Still::of_words(transfer.to, words),
+        Sq {
+            level: root.level,
+            num: Num(number),
+        },
+    ))
+}
