@@ -1,10 +1,17 @@
 #!/usr/bin/env python3
-"""Times lifebatch beside Golly's bgolly on some patterns, the best of three runs of each, and prints a table.
+"""Times lifebatch beside Golly's bgolly, compares their last populations, and prints a table.
 
-Run it from anywhere, once `./lifebatch --help` has built the program. Golly's patterns are sought where the package
-`golly` installs them; rows whose pattern or peer is missing say so.
+    bench/compare.py                           each row, the best of three rounds, one worker
+    bench/compare.py --rounds 5 --rows gun     the rows with "gun" in their names, the best of five
+    bench/compare.py --set formats             the rows that read, write and count, and run little
+
+Build the program first: `./lifebatch --help`. Golly's patterns are sought where the package `golly` installs them; rows
+whose pattern or peer is missing say so. In a round each program runs once, one after the other, so that both
+meet the same moods of the machine.
 """
+import argparse
 import gzip
+import math
 import os
 import pathlib
 import shutil
@@ -12,6 +19,7 @@ import subprocess
 import sys
 import tempfile
 import time
+from dataclasses import dataclass
 
 ROOT = pathlib.Path(__file__).resolve().parent.parent
 LIFEBATCH = ROOT / "crates" / "lifebatch" / "out" / "lifebatch"
@@ -19,20 +27,49 @@ GOLLY_PATTERNS = [
     pathlib.Path(p) / "Patterns"
     for p in ("/usr/share/golly", "/usr/local/share/golly", "/usr/lib/golly")
 ]
-RUNS = 3
 SECONDS = 300
 
-# Name, a file of Golly's or a text of one's own, generations, and whether the pattern is written.
-ROWS = [
-    ("R-pentomino", "x = 3, y = 3, rule = B3/S23\nb2o$2o$bo!\n", 1103, True),
-    ("glider", "x = 3, y = 3, rule = B3/S23\nbob$2bo$3o!\n", 2**40, True),
-    ("replicator", "x = 1, y = 1, rule = B1357/S1357\no!\n", 2**20, True),
-    ("one run of 2^28 cells", "x = 268435456, y = 1\n268435456o!\n", 0, False),
-    ("breeder", "Life/Breeders/switch-engine-breeder.rle", 2**16, False),
-    ("spacefiller", "Life/Breeders/spacefiller.rle", 2**14, False),
-    ("Turing machine", "Life/Signal-Circuitry/Turing-Machine-3-state.rle", 2**14, False),
-    ("metapixel galaxy", "HashLife/metapixel-galaxy.mc.gz", 2**10, False),
-]
+
+@dataclass
+class Row:
+    """A run of both programs. The source is a file of Golly's, or a text of one's own."""
+
+    name: str
+    source: str
+    generations: int
+    step: int = 0
+    output: str = ""
+
+
+R_PENTOMINO = "x = 3, y = 3, rule = B3/S23\nb2o$2o$bo!\n"
+REPLICATOR = "x = 1, y = 1, rule = B1357/S1357\no!\n"
+
+SETS = {
+    "runs": [
+        Row("metapixel-galaxy", "HashLife/metapixel-galaxy.mc.gz", 2**16),
+        Row("hexadecimal", "HashLife/hexadecimal.mc.gz", 2**16),
+        Row("loafer-gun-p8388608-linear", "HashLife/loafer-gun-p8388608-linear.mc.gz", 2**16),
+        Row("gotts-dots", "HashLife/gotts-dots.mc", 2**16),
+        Row("LWSS-breeder", "Life/Breeders/LWSS-breeder.rle", 2**16),
+        Row("one-cell-thick-quadratic-growth-2596x1", "Life/Breeders/one-cell-thick-quadratic-growth-2596x1.rle", 2**16),
+        Row("pi-blink-breeder1", "Life/Breeders/pi-blink-breeder1.rle", 2**16),
+        Row("replicator", REPLICATOR, 2**20),
+        Row("R-pentomino", R_PENTOMINO, 1103),
+        Row("R-pentomino", R_PENTOMINO, 1103, step=1),
+        Row("lidka-predecessor", "Life/Methuselahs/lidka-predecessor.rle", 30000, step=100),
+        Row("gun-p165mwss", "Life/Guns/gun-p165mwss.rle", 100000, step=1000),
+        Row("rabbits-relation-17423", "Life/Methuselahs/rabbits-relation-17423.rle", 17408, step=64),
+    ],
+    "formats": [
+        Row("R-pentomino, written", R_PENTOMINO, 1103, output="out.rle"),
+        Row("replicator, written", REPLICATOR, 2**20, output="out.rle"),
+        Row("one run of 2^28 cells", "x = 268435456, y = 1\n268435456o!\n", 0),
+        Row("breeder", "Life/Breeders/switch-engine-breeder.rle", 2**16),
+        Row("spacefiller", "Life/Breeders/spacefiller.rle", 2**14),
+        Row("Turing machine", "Life/Signal-Circuitry/Turing-Machine-3-state.rle", 2**14),
+        Row("metapixel galaxy, written", "HashLife/metapixel-galaxy.mc.gz", 0, output="out.rle"),
+    ],
+}
 
 
 def pattern_file(source, folder):
@@ -57,64 +94,118 @@ def unpacked(path, folder):
     return plain
 
 
-def run_once(words):
-    """Seconds and peak megabytes of a run, or why it has none."""
+@dataclass
+class Run:
+    """The time and the peak memory of a run, and the last generation that it reported with its population."""
+
+    seconds: float
+    megabytes: float
+    last: str
+
+    def __str__(self):
+        return f"{self.seconds:.3f} s, {self.megabytes:.0f} MB"
+
+
+def last_line(report):
+    """The last line of a report, without the commas that bgolly writes into numbers."""
+    lines = [line for line in report.read_text().splitlines() if line[:1].isdigit()]
+    return lines[-1].replace(",", "") if lines else ""
+
+
+def run_once(words, folder):
+    """A run, or why there is none."""
+    report = folder / "report"
     begin = time.monotonic()
-    process = subprocess.Popen(words, stdout=subprocess.DEVNULL, stderr=subprocess.DEVNULL)
-    try:
-        while True:
-            done, status, usage = os.wait4(process.pid, os.WNOHANG)
-            if done:
-                break
-            if time.monotonic() - begin > SECONDS:
-                process.kill()
-                os.wait4(process.pid, 0)
-                return f"over {SECONDS} s"
-            time.sleep(0.0005)
-    finally:
-        process.returncode = 0
+    with report.open("wb") as out:
+        process = subprocess.Popen(words, stdout=out, stderr=subprocess.DEVNULL, cwd=folder)
+    while True:
+        done, status, usage = os.wait4(process.pid, os.WNOHANG)
+        if done:
+            break
+        if time.monotonic() - begin > SECONDS:
+            process.kill()
+            os.wait4(process.pid, 0)
+            process.returncode = 0
+            return f"over {SECONDS} s"
+        time.sleep(0.0005)
     seconds = time.monotonic() - begin
+    process.returncode = 0
     if status:
         return f"status {os.waitstatus_to_exitcode(status)}"
-    return seconds, usage.ru_maxrss / 1024
+    return Run(seconds, usage.ru_maxrss / 1024, last_line(report))
 
 
-def best_of(words):
-    """The quickest of some runs, or why one failed."""
-    best = None
-    for _ in range(RUNS):
-        found = run_once(words)
-        if isinstance(found, str):
-            return found
-        if best is None or found < best:
-            best = found
+def best_of_rounds(commands, rounds, folder):
+    """The quickest run of each command, or why one of its runs failed."""
+    best = [None] * len(commands)
+    for _ in range(rounds):
+        for place, words in enumerate(commands):
+            found = run_once(words, folder)
+            kept = best[place]
+            if kept is None or isinstance(found, str):
+                best[place] = found
+            elif isinstance(kept, Run) and found.seconds < kept.seconds:
+                best[place] = found
     return best
 
 
-def shown(found):
-    return found if isinstance(found, str) else f"{found[0]:.3f} s, {found[1]:.0f} MB"
+def words_of(row, path):
+    """The words that both programs take."""
+    words = ["-m", str(row.generations)]
+    if row.step:
+        words += ["-i", str(row.step)]
+    if row.output:
+        words += ["-o", row.output]
+    return [*words, str(path)]
+
+
+def compared(ours, theirs):
+    """The ratio of the times, and whether both programs found one population."""
+    if not isinstance(ours, Run) or not isinstance(theirs, Run):
+        return None, "not compared"
+    return ours.seconds / theirs.seconds, "same" if ours.last == theirs.last else f"{ours.last} and {theirs.last}"
+
+
+def chosen(options):
+    rows = [row for name in options.set for row in SETS[name]]
+    return [row for row in rows if not options.rows or any(part in row.name for part in options.rows)]
 
 
 def main():
-    if not LIFEBATCH.is_file():
+    parser = argparse.ArgumentParser(description=__doc__, formatter_class=argparse.RawDescriptionHelpFormatter)
+    parser.add_argument("--rounds", type=int, default=3, help="how many runs of each, of which the best counts (3)")
+    parser.add_argument("--set", nargs="+", choices=sorted(SETS), default=["runs"], help="which rows")
+    parser.add_argument("--rows", nargs="+", default=[], help="only the rows with one of these words in their names")
+    parser.add_argument("--program", type=pathlib.Path, default=LIFEBATCH, help="another build of lifebatch")
+    parser.add_argument("--words", default="", help="further words for lifebatch, as '--nodes 65536'")
+    options = parser.parse_args()
+    if not options.program.is_file():
         sys.exit("build the program first: ./lifebatch --help")
     bgolly = shutil.which("bgolly")
-    print("| Pattern | Generations | lifebatch | bgolly, HashLife | Ratio |")
-    print("|---|---|---|---|---|")
+    ratios = []
+    print("| Pattern | Generations | lifebatch | bgolly, HashLife | Ratio | Last population |")
+    print("|---|---|---|---|---|---|")
     with tempfile.TemporaryDirectory() as name:
         folder = pathlib.Path(name)
-        for title, source, generations, written in ROWS:
-            path = pattern_file(source, folder)
+        for row in chosen(options):
+            path = pattern_file(row.source, folder)
+            generations = f"{row.generations}, every {row.step}" if row.step else str(row.generations)
             if path is None:
-                print(f"| {title} | {generations} | Golly's patterns are not installed | | |")
+                print(f"| {row.name} | {generations} | Golly's patterns are not installed | | | |")
                 continue
-            output = ["-o", str(folder / "out.rle")] if written else []
-            words = ["-m", str(generations), *output, str(path)]
-            ours = best_of([str(LIFEBATCH), *words])
-            theirs = best_of([bgolly, "-a", "HashLife", *words]) if bgolly else "not installed"
-            both = not isinstance(ours, str) and not isinstance(theirs, str)
-            ratio = f"{ours[0] / theirs[0]:.1f}" if both else ""
-            print(f"| {title} | {generations} | {shown(ours)} | {shown(theirs)} | {ratio} |", flush=True)
+            words = words_of(row, path)
+            commands = [[str(options.program.resolve()), *options.words.split(), *words]]
+            if bgolly:
+                commands.append([bgolly, "-a", "HashLife", *words])
+            found = best_of_rounds(commands, options.rounds, folder)
+            theirs = found[1] if bgolly else "not installed"
+            ratio, populations = compared(found[0], theirs)
+            if ratio is not None:
+                ratios.append(ratio)
+            shown = "" if ratio is None else f"{ratio:.2f}"
+            print(f"| {row.name} | {generations} | {found[0]} | {theirs} | {shown} | {populations} |", flush=True)
+    if ratios:
+        print(f"\nGeometric mean of the ratios: {math.exp(sum(map(math.log, ratios)) / len(ratios)):.2f}")
 
 
 if __name__ == "__main__":

@@ -14,6 +14,7 @@ use Rattle.plane.specs.declared.refusal.Refusal.{Refusal}
 use Rattle.plane.specs.Window.{IsWindow, Rectangle}
 use Rattle.plane.specs.declared.refusal.Refusal.TheVariants.{NoMemory, WindowTooLarge}
 use Rattle.engine.specs.Judgement.{rule_refusal}
+use Rattle.table_core.specs.Sizes.{IsPairCount}
 use Rattle.batch_program.specs.declared.command_line.WordsFault.{WordsFault}
 use Rattle.batch_program.specs.declared.command_line.WordsFault.TheVariants.{Clap, Unfit, Refused}
 use Rattle.batch_program.specs.WindowText.{IsUnsigned, WritesWindow}
@@ -57,6 +58,15 @@ quiet_option = record (new_rule (codes "quiet")) { short = Some 113; long = Some
 abbrev pub window_option : Rule
 window_option = record (new_rule (codes "window")) { long = Some (codes "window"); value_names = 1 }
 
+-- `--nodes N`: a number from 1024 to 268435456, 4194304 if it is left out
+abbrev pub node_option : Rule
+node_option = record (new_rule (codes "nodes")) {
+  long = Some (codes "nodes");
+  value_names = 1;
+  defaults = codes "4194304" ∷ [];
+  parser = Some (parser.Unsigned 1024 268435456);
+}
+
 -- FILE, which has to be there
 abbrev pub file_argument : Rule
 file_argument = record (new_rule (codes "file")) { value_names = 1; required = true }
@@ -64,7 +74,7 @@ file_argument = record (new_rule (codes "file")) { value_names = 1; required = t
 -- the form of the words: the options in this order, and FILE
 abbrev pub command_form : App
 command_form = fold with_rule (new_app (codes "lifebatch"))
-    (generation_option ∷ step_option ∷ output_option ∷ rule_option ∷ quiet_option ∷ window_option ∷ file_argument ∷ [])
+    (generation_option ∷ step_option ∷ output_option ∷ rule_option ∷ quiet_option ∷ window_option ∷ node_option ∷ file_argument ∷ [])
 
 -- the text that clap finds for an option or an argument
 abbrev pub text_for : List ℕ → List Text → Option Text
@@ -78,6 +88,10 @@ value_for name words = one_of name (matches_of command_form words)
 abbrev pub IsNumber : Option Text → ℕ → Type 0
 IsNumber None number = ⊥
 IsNumber (Some text) number = IsUnsigned 64 text number
+
+-- the text is a numeral of this number, and a table may have so many pair slots
+abbrev pub IsPairNumber : Option Text → ℕ → Type 0
+IsPairNumber text pairs = IsNumber text pairs × IsPairCount pairs
 
 -- the flag is up where its text is "true", and nowhere else
 abbrev pub IsFlag : Option Text → Bool → Type 0
@@ -116,6 +130,7 @@ pub record AsksFor (words : List Text) (asked : Asked) : Type 0 where
   pub rule : IsAskedRule (text_for (codes "rule") words) asked.options.rule
   pub quiet : IsFlag (value_for (codes "quiet") words) asked.options.quiet
   pub window : IsAskedWindow (text_for (codes "window") words) asked.options.window
+  pub pairs : IsPairNumber (value_for (codes "nodes") words) asked.options.pairs
 
 -- ---- faults of the words
 
@@ -130,14 +145,15 @@ abbrev pub IsFitWindow : Option Text → Type 0
 IsFitWindow None = ⊤
 IsFitWindow (Some text) = (window : Rectangle) × WritesWindow text window
 
--- the words have values that are fit: numbers, a FILE, a NAME that says its format, if there is one, and a window of
--- four numbers, if there is one
+-- the words have values that are fit: numbers, of which that of nodes is one of pair slots, a FILE, a NAME that says its
+-- format, if there is one, and a window of four numbers, if there is one
 pub record IsFit (words : List Text) : Type 0 where
   pub gens : (number : ℕ) × IsNumber (value_for (codes "generation") words) number
   pub step : (number : ℕ) × IsNumber (value_for (codes "stepsize") words) number
   pub file : (name : Text) × (text_for (codes "file") words ≡ Some name)
   pub format : (format : Option Format) × IsFormat (text_for (codes "output") words) format
   pub window : IsFitWindow (text_for (codes "window") words)
+  pub pairs : (pairs : ℕ) × IsPairNumber (value_for (codes "nodes") words) pairs
 
 -- the text that is given is refused as a rule, by this name
 abbrev pub IsRefusedRule : Option Text → Refusal → Type 0

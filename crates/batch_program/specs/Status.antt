@@ -10,7 +10,7 @@ use Rattle.plane.specs.declared.refusal.Refusal.TheVariants.{BoxTooLarge, NoMemo
 use Rattle.batch_program.specs.CommandLine.{AsksFor, IsFit, RefusesWords, command_form}
 use Rattle.engine.specs.Judgement.{Start, Judges}
 use Rattle.patterns.specs.Meaning.{placeless}
-use Rattle.engine.specs.Run.{Finishes, IsBegun, IsTooLarge}
+use Rattle.engine.specs.Run.{Finishes, IsStopped, IsTooLarge}
 use Rattle.engine.specs.declared.running.Summary.{Summary}
 use Rattle.batch_program.specs.declared.request.Asked.{Asked}
 use Rattle.engine.specs.declared.options.Options.{Options}
@@ -46,7 +46,8 @@ HasStopped options fault before after unchanged failed =
     ((fault ≡ placeless ReadFailed) × unchanged)
     ⊎ ((bytes : List ℕ) × Judges bytes options (Err fault) × unchanged)
     ⊎ ((fault ≡ placeless BoxTooLarge) × ((bytes : List ℕ) × (said : List ℕ) × IsTooLarge bytes options said × Appends before after said))
-    ⊎ ((fault ≡ placeless NoMemory) × (unchanged ⊎ ((bytes : List ℕ) × (said : List ℕ) × IsBegun bytes options said × Appends before after said)))
+    ⊎ ((fault ≡ placeless NoMemory) × unchanged)
+    ⊎ ((bytes : List ℕ) × (said : List ℕ) × IsStopped bytes options fault said × Appends before after said)
     ⊎ ((fault ≡ placeless WriteFailed) × (options.format ≡ None → failed))
 
 -- what the words ask for was refused: a run stopped; before it memory ran out, or the rule that they give was refused;

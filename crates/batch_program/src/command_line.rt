@@ -1,4 +1,4 @@
-ghost use Rattle.std.specs.Prelude.{◌≡◌, ℕ, List, [], ◌∷◌, map, string_bytes, Option, IfOk, IfErr};
+ghost use Rattle.std.specs.Prelude.{◌≡◌, ℕ, List, [], ◌∷◌, codes, map, string_bytes, Option, IfOk, IfErr};
 ghost use Rattle.std.specs.Option.{option_copied, option_map};
 ghost use Rattle.clap.specs.Words.{Text, app_of, found_of, one_text};
 ghost use Rattle.patterns.specs.declared.format.Format.{Format};
@@ -6,10 +6,11 @@ ghost use Rattle.plane.specs.declared.refusal.Refusal.TheVariants.{NoMemory};
 ghost use Rattle.batch_program.specs.declared.command_line.WordsFault.TheVariants.{Refused};
 ghost use Rattle.batch_program.specs.OptionRules.{HasRule, HaveRules, numeric, valued, valued_in_short};
 ghost use Rattle.batch_program.specs.Matched.{AreMatchesOf, AskForOptions, HasFile};
-ghost use Rattle.batch_program.specs.CommandLine.{AsksFor, IsAskedRule, IsFlag, IsFormat, IsNumber, IsRefusedRule, IsToldAs, IsWordsFault, command_form, file_argument, format_named, generation_option, output_option, quiet_option, rule_option, step_option, window_option};
+ghost use Rattle.batch_program.specs.CommandLine.{AsksFor, IsAskedRule, IsFlag, IsFormat, IsNumber, IsPairNumber, IsRefusedRule, IsToldAs, IsWordsFault, command_form, file_argument, format_named, generation_option, node_option, output_option, quiet_option, rule_option, step_option, window_option};
 
 use crate::request::Asked;
 use crate::window_option::{window_asked, window_numbers};
+use clap::builder::ValueParser;
 use clap::error::ErrorKind;
 use clap::{Arg, ArgAction, ArgMatches, Command, value_parser};
 use engine::{Format, Options, rule_refusal};
@@ -17,6 +18,7 @@ use plane::Refusal;
 use rule_text::Rule;
 use std::alloc::{AllocError, Global};
 use std::{error, fmt};
+use table_core::Shape;
 
 const ABOUT: &str = "Runs a pattern of a two-state cellular automaton for a number of generations.
 
@@ -38,15 +40,17 @@ const EXAMPLES: &str = "Examples:
   lifebatch -q -m 1103 -o later.rle r-pentomino.rle
       run 1103 generations, write the pattern and report nothing
   lifebatch -m 100 --window=-20,-15,40,30 r-pentomino.rle
-      run 100 generations and draw 40 by 30 cells, of which (-20,-15) is the upper left one";
+      run 100 generations and draw 40 by 30 cells, of which (-20,-15) is the upper left one
+  lifebatch -m 1073741824 --nodes 67108864 breeder.mc
+      run 2^30 generations with room for more squares";
 
 /// Why the words of a command line ask for no run.
 #[derive(Debug, Drop)]
 pub enum WordsFault {
     /// The words are not of the command line's form, or ask for its help.
     Clap(clap::Error),
-    /// A value is not fit: the name of the output has no ending that says its format, or the window is not four
-    /// numbers.
+    /// A value is not fit: the name of the output has no ending that says its format, the window is not four
+    /// numbers, or the number of nodes is no power of two.
     Unfit,
     /// Memory ran out while the words were read, or the rule or the window that they give is refused.
     Refused(Refusal),
@@ -57,7 +61,7 @@ impl fmt::Display for WordsFault {
         match self {
             WordsFault::Clap(error) => write!(f, "{error}"),
             WordsFault::Unfit => f.write_str(
-                "NAME ends with .rle or with .mc, and a window is four whole numbers X,Y,W,H",
+                "NAME ends with .rle or with .mc, a window is four whole numbers X,Y,W,H, and the number of nodes is a power of two",
             ),
             WordsFault::Refused(refusal) => write!(f, "{refusal}"),
         }
@@ -96,8 +100,9 @@ impl From<clap::Error> for WordsFault {
 
 /// Reads the words of a command line, the program's name first. It answers `Clap` for words that are
 /// not of its form and for a request for help, `Unfit` for an output whose name ends neither with
-/// `.rle` nor with `.mc` and for a window that is not four numbers, then `Refused` with `BadRule` or `BirthOnZero` for
-/// the rule that is given, then `Refused` with `WindowTooLarge`, and `Refused` with `NoMemory`.
+/// `.rle` nor with `.mc`, for a window that is not four numbers and for a number of nodes that is no power of two, then
+/// `Refused` with `BadRule` or `BirthOnZero` for the rule that is given, then `Refused` with `WindowTooLarge`, and
+/// `Refused` with `NoMemory`.
 pub fn asked<'a>(alloc: Global, words: &'a [&'a str]) -> Result<Asked, WordsFault>
     ensures asks { IfOk result (AsksFor (map (λ word. word.now) words.entry.now)) }
     ensures faults { IfErr result (IsWordsFault (map (λ word. word.now) words.entry.now)) }
@@ -129,6 +134,7 @@ fn options_by(matches: &ArgMatches<'_>) -> Result<Options, WordsFault>
 {
     let gens = number_for(matches, "generation")?;
     let step = number_for(matches, "stepsize")?;
+    let pairs = pairs_asked(matches)?;
     let format = format_of(matches.get_str("output"))?;
     let numbers = window_numbers(matches.get_str("window"))?;
     let rule = rule_asked(matches.get_str("rule"))?;
@@ -139,6 +145,7 @@ fn options_by(matches: &ArgMatches<'_>) -> Result<Options, WordsFault>
         rule,
         window,
         format,
+        pairs,
         quiet: is_set(matches, "quiet"),
     })
 }
@@ -157,7 +164,7 @@ fn command<'a>(alloc: Global) -> Result<Command<'a>, AllocError>
 // The options, and FILE.
 fn options<'a>(alloc: Global) -> Result<Vec<Arg<'a>>, AllocError>
     ensures { IfOk result (λ options. HaveRules options.items
-        (generation_option ∷ step_option ∷ output_option ∷ rule_option ∷ quiet_option ∷ window_option ∷ file_argument ∷ [])) }
+        (generation_option ∷ step_option ∷ output_option ∷ rule_option ∷ quiet_option ∷ window_option ∷ node_option ∷ file_argument ∷ [])) }
 {
     Ok(vec![in alloc;
         generation_option(alloc),
@@ -166,6 +173,7 @@ fn options<'a>(alloc: Global) -> Result<Vec<Arg<'a>>, AllocError>
         rule_option(alloc),
         quiet_option(alloc),
         window_option(alloc),
+        node_option(alloc),
         file_argument(alloc),
     ]?)
 }
@@ -220,6 +228,19 @@ fn window_option<'a>(alloc: Global) -> Arg<'a>
         "X,Y,W,H",
         "Draw W by H cells from (X,Y) behind the report: * live, . dead",
     )
+}
+
+fn node_option<'a>(alloc: Global) -> Arg<'a>
+    ensures { HasRule result node_option }
+{
+    long_option(
+        alloc,
+        "nodes",
+        "N",
+        "Bound all tables of squares by N slots, a power of two from 1024 to 268435456",
+    )
+    .value_parser(ValueParser::Unsigned(1024, 268435456))
+    .default_value("4194304")
 }
 
 // An option with a short name that takes a number, 0 if it is left out.
@@ -281,6 +302,18 @@ fn number_for(matches: &ArgMatches<'_>, name: &str) -> Result<u64, WordsFault>
     match matches.get_one::<u64>(name) {
         Some(number) => Ok(number),
         None => Err(WordsFault::Unfit),
+    }
+}
+
+// The most pair slots that the tables may have.
+fn pairs_asked(matches: &ArgMatches<'_>) -> Result<u32, WordsFault>
+    ensures ok { IfOk result (IsPairNumber (one_text (found_of matches.now) (codes "nodes"))) }
+    ensures err { IfErr result (λ fault. (fault ≡ WordsFault.Unfit) × ((pairs : ℕ) → ¬ IsPairNumber (one_text (found_of matches.now) (codes "nodes")) pairs)) }
+{
+    let number = number_for(matches, "nodes")?;
+    match u32::try_from(number) {
+        Ok(pairs) if Shape::is_pair_count(pairs) => Ok(pairs),
+        _ => Err(WordsFault::Unfit),
     }
 }
 

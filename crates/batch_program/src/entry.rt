@@ -3,6 +3,7 @@ ghost use Rattle.std.specs.Io.KnownBytes.{Appends};
 ghost use Rattle.plane.specs.Device.{HasFailed};
 ghost use Rattle.plane.specs.declared.fault.Fault.{Fault};
 ghost use Rattle.patterns.specs.Meaning.{placeless};
+ghost use Rattle.table_core.specs.Sizes.{IsPairCount};
 ghost use Rattle.batch_program.specs.Messages.{bad_words_text, fault_line};
 ghost use Rattle.batch_program.specs.Status.{AskForHelp, AskForNothing, HasRun, HasStopped, IsDone, IsRefused, refused_status};
 ghost use Rattle.batch_program.specs.Stops.{IsStop};
@@ -110,6 +111,7 @@ fn run_asked<R: Files + Input, O: Sink>(
     asked: &Asked,
     out: &mut O,
 ) -> Result<(), Fault>
+    requires { IsPairCount asked.now.options.pairs }
     ensures ran { OnOk result (HasRun asked.now.options (O.taken out.old) (O.taken out.new)) }
     ensures unfailed { OnOk result (O.failure_count out.new ≡ O.failure_count out.old) }
     ensures stopped { IfErr result (λ fault. HasStopped asked.now.options fault (O.taken out.old) (O.taken out.new) (out.new ≡ out.old)

@@ -15,11 +15,14 @@ use Rattle.viewport.specs.BoundingBox.{HasBounds}
 use Rattle.engine.specs.Accepted.{HasRoomFor, IsAccepted, IsRefused, LeavesRange}
 use Rattle.engine.specs.Judgement.{Judges, ReadsRule, rule_refusal}
 use Rattle.patterns.specs.Meaning.{placeless, Meaning, is_macrocell, judged}
-use Rattle.engine.specs.Run.{IsBegun}
+use Rattle.engine.specs.Run.{IsStopped, IsOutOfRoom}
 use Rattle.engine.specs.declared.options.Options.{Options}
-use Rattle.engine.proofs.Endings.{begun_none, listing_as, stays_as}
+use Rattle.engine.proofs.Endings.{reported_none, listing_as, stays_as, stopped_by}
 
 -- ---- the range
+
+pub bounds_as : {here there : Plane} {box : Option Bounds} → IsSame here there → HasBounds here box → HasBounds there box
+bounds_as same bounds = record { cells = bounds.cells; listing = listing_as same bounds.listing; bounds = bounds.bounds }
 
 module _ (meaning : Meaning) (generations : ℕ) (here : Plane) (box : Option Bounds) (start : ℕ) (bounds : HasBounds here box) (same : IsSame here meaning.live) (is : start ≡ meaning.generation) where
   pub has_room : StaysWithin box start generations → HasRoomFor meaning generations here
@@ -39,7 +42,7 @@ pub text_refused : (bytes : List ℕ) (options : Options) (fault : Fault) → (j
     IsRefused bytes options fault
 unfolding IsRefused
 text_refused bytes options fault (inl refused) = inl (inl refused)
-text_refused bytes options fault (inr (macrocell, memory)) = inr (memory, inl (macrocell, refl))
+text_refused bytes options fault (inr (macrocell, memory)) = inr (inl (memory, inl (macrocell, refl)))
 
 module _ (bytes : List ℕ) (options : Options) (meaning : Meaning) (text : judged bytes ≡ Ok meaning) where
   pub rule_refused : (fault : Fault) → ((rule_fault : RuleFault) × ReadsRule options.rule meaning (Err rule_fault) × (fault ≡ record { refusal = rule_refusal rule_fault; place = Some meaning.rule_place })) →
@@ -48,10 +51,10 @@ module _ (bytes : List ℕ) (options : Options) (meaning : Meaning) (text : judg
   rule_refused fault (rule_fault, read, is) = inl (inr (inl (record { meaning = meaning; rule_fault = rule_fault; text = text; rule = read; is = is })))
 
   module _ (rule : CountRule) (read : ReadsRule options.rule meaning (Ok rule)) where
-    pub range_refused : (refusal : Refusal) → (refusal ≡ NoMemory) ⊎ ((refusal ≡ TooFar) × LeavesRange meaning options.gens) →
+    pub range_refused : (refusal : Refusal) → IsOutOfRoom refusal ⊎ ((refusal ≡ TooFar) × LeavesRange meaning options.gens) →
         IsRefused bytes options (placeless refusal)
     unfolding IsRefused
-    range_refused refusal (inl memory) = inr (ap placeless memory, begun_none bytes options meaning rule text read)
+    range_refused refusal (inl no_room) = inr (stopped_by bytes options refusal [] no_room (reported_none bytes options meaning rule text read))
     range_refused refusal (inr (far, leaves)) = inl (inr (inr (record {
       start = record { meaning = meaning; rule = rule; cells = leaves.cells };
       accepted = record { text = text; rule = read; cells = leaves.listing };
@@ -72,7 +75,7 @@ module _ (bytes : List ℕ) (options : Options) (meaning : Meaning) (text : judg
 pub refused_at_once : (bytes : List ℕ) (options : Options) (fault : Fault) (taken : Option (List ℕ)) (ReportSame FileSame TooLarge Failed : Type 0) → ReportSame → FileSame →
     IsRefused bytes options fault →
     (Judges bytes options (Err fault) × ReportSame × FileSame) ⊎ TooLarge
-    ⊎ ((fault ≡ placeless NoMemory) × FileSame × ((said : List ℕ) × IsBegun bytes options said × Appends taken taken said)) ⊎ Failed
+    ⊎ (FileSame × ((said : List ℕ) × IsStopped bytes options fault said × Appends taken taken said)) ⊎ Failed
 unfolding IsRefused
 refused_at_once bytes options fault taken ReportSame FileSame TooLarge Failed report file (inl refused) = inl (refused, report, file)
-refused_at_once bytes options fault taken ReportSame FileSame TooLarge Failed report file (inr (memory, begun)) = inr (inr (inl (memory, file, ([], begun, Appends-nil _))))
+refused_at_once bytes options fault taken ReportSame FileSame TooLarge Failed report file (inr stopped) = inr (inr (inl (file, ([], stopped, Appends-nil _))))

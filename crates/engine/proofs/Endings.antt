@@ -24,7 +24,7 @@ use Rattle.engine.specs.Accepted.{IsAccepted, SumsUp}
 use Rattle.engine.specs.Judgement.{Start, Judges, ReadsRule}
 use Rattle.engine.specs.Report.{Shows, shown}
 use Rattle.patterns.specs.Drawing.{picture_of}
-use Rattle.engine.specs.Run.{IsLast, IsReport, Finishes, IsBegun, IsTooLarge, last_generation}
+use Rattle.engine.specs.Run.{IsLast, IsReport, Finishes, HasBegun, HasReported, IsBegun, IsStopped, IsTooLarge, IsOutOfRoom, last_generation}
 use Rattle.engine.specs.declared.running.Summary.{Summary}
 use Rattle.patterns.specs.declared.format.Format.{Format}
 use Rattle.patterns.specs.declared.format.Format.TheVariants.{Rle, Macrocell}
@@ -41,15 +41,24 @@ copied_or None other = refl
 copied_or (Some slice) other = refl
 
 -- a run that has said nothing yet
-pub begun_none : (bytes : List ℕ) (options : Options) (meaning : Meaning) (rule : CountRule) → judged bytes ≡ Ok meaning → ReadsRule options.rule meaning (Ok rule) →
-    IsBegun bytes options []
-begun_none bytes options meaning rule text read = inr (record {
+pub reported_none : (bytes : List ℕ) (options : Options) (meaning : Meaning) (rule : CountRule) → judged bytes ≡ Ok meaning → ReadsRule options.rule meaning (Ok rule) →
+    HasReported bytes options []
+reported_none bytes options meaning rule text read = record {
   meaning = meaning;
   rule = rule;
   text = text;
   read = read;
-  report = inl (0, shows_none rule meaning.live meaning.generation);
-})
+  report = (0, shows_none rule meaning.live meaning.generation);
+}
+
+-- a run that has said its first lines has begun
+pub begun_of : {bytes : List ℕ} {options : Options} {said : List ℕ} → HasReported bytes options said → HasBegun bytes options said
+begun_of reported = record { meaning = reported.meaning; rule = reported.rule; text = reported.text; read = reported.read; report = inl reported.report }
+
+-- a run whose text and rule are accepted was stopped
+pub stopped_by : (bytes : List ℕ) (options : Options) (refusal : Refusal) (said : List ℕ) → IsOutOfRoom refusal → HasReported bytes options said → IsStopped bytes options (placeless refusal) said
+stopped_by bytes options refusal said (inl memory) reported = inl (ap placeless memory, inr (begun_of reported))
+stopped_by bytes options refusal said (inr full) reported = inr (ap placeless full, reported)
 
 -- a listing of one plane is one of each other with the same cells
 pub listing_as : {cells : List Cell} {plane other : Plane} → IsSame plane other → IsListing cells plane → IsListing cells other
@@ -104,21 +113,20 @@ module _ (bytes : List ℕ) (options : Options) (meaning : Meaning) (rule : Coun
   start = record { meaning = meaning; rule = rule; cells = run.cells }
 
   -- a run that has said some lines
-  pub begun_some : (lines : ℕ) (said : List ℕ) → Shows rule here meaning.generation (take lines (shown options)) said → IsBegun bytes options said
-  begun_some lines said shows = inr (record {
+  pub reported_some : (lines : ℕ) (said : List ℕ) → Shows rule here meaning.generation (take lines (shown options)) said → HasReported bytes options said
+  reported_some lines said shows = record {
     meaning = meaning;
     rule = rule;
     text = run.accepted.0.text;
     read = run.accepted.0.rule;
-    report = inl (lines, same_shows rule here meaning.live run.same.same meaning.generation (take lines (shown options)) said shows);
-  })
+    report = (lines, same_shows rule here meaning.live run.same.same meaning.generation (take lines (shown options)) said shows);
+  }
 
   -- a run that has said all lines
   pub begun_all : (said : List ℕ) → Shows rule here meaning.generation (shown options) said → IsBegun bytes options said
   begun_all said shows =
       let all : take (length (shown options)) (shown options) ≡ shown options = take_all (length (shown options)) (shown options) (omega arith) in
-      begun_some (length (shown options)) said
-      (subst (λ ns. Shows rule here meaning.generation ns said) (sym all) shows)
+      inr (begun_of (reported_some (length (shown options)) said (subst (λ ns. Shows rule here meaning.generation ns said) (sym all) shows)))
 
   -- the lines and the picture of the last cells
   pub whole_report : (last : Plane) (lines : List ℕ) → IsSame last (after rule here options.gens) → Shows rule here meaning.generation (shown options) lines →
@@ -166,12 +174,12 @@ module _ (bytes : List ℕ) (options : Options) (meaning : Meaning) (rule : Coun
 
   -- in the middle of the report
   pub refused_reporting : (generation : ℕ) (refusal : Refusal) (failed_before failed_after : ℕ) (old new : Option (List ℕ)) (Unaccepted TooLarge FileSame FileFailed : Type 0) → FileSame → generation ≡ meaning.generation →
-      ((refusal ≡ NoMemory) × ((lines : ℕ) × (said : List ℕ) × Shows rule here generation (take lines (shown options)) said × Appends old new said))
+      (IsOutOfRoom refusal × ((lines : ℕ) × (said : List ℕ) × Shows rule here generation (take lines (shown options)) said × Appends old new said))
       ⊎ IsWriteRefusal failed_before failed_after refusal →
-      Unaccepted ⊎ TooLarge ⊎ ((placeless refusal ≡ placeless NoMemory) × FileSame × ((said : List ℕ) × IsBegun bytes options said × Appends old new said))
+      Unaccepted ⊎ TooLarge ⊎ (FileSame × ((said : List ℕ) × IsStopped bytes options (placeless refusal) said × Appends old new said))
       ⊎ ((placeless refusal ≡ placeless WriteFailed) × (HasFailed failed_before failed_after ⊎ FileFailed))
-  refused_reporting generation refusal failed_before failed_after old new Unaccepted TooLarge FileSame FileFailed same is_start (inl (memory, (lines, said, shows, appends))) =
-      inr (inr (inl (ap placeless memory, same, (said, begun_some lines said (subst (λ n. Shows rule here n (take lines (shown options)) said) is_start shows), appends))))
+  refused_reporting generation refusal failed_before failed_after old new Unaccepted TooLarge FileSame FileFailed same is_start (inl (no_room, (lines, said, shows, appends))) =
+      inr (inr (inl (same, (said, stopped_by bytes options refusal said no_room (reported_some lines said (subst (λ n. Shows rule here n (take lines (shown options)) said) is_start shows)), appends))))
   refused_reporting generation refusal failed_before failed_after old new Unaccepted TooLarge FileSame FileFailed same is_start (inr (is, failed)) =
       inr (inr (inr (ap placeless is, inl failed)))
 
@@ -194,7 +202,7 @@ module _ (bytes : List ℕ) (options : Options) (meaning : Meaning) (rule : Coun
           ((refusal ≡ BoxTooLarge) × Exceeds format last × FileSame) ⊎ ((refusal ≡ NoMemory) × FileSame) ⊎ IsWriteRefusal failed_before failed_after refusal →
           Unaccepted
           ⊎ ((placeless refusal ≡ placeless BoxTooLarge) × FileSame × ((said : List ℕ) × IsTooLarge bytes options said × Appends old drawn said))
-          ⊎ ((placeless refusal ≡ placeless NoMemory) × FileSame × ((said : List ℕ) × IsBegun bytes options said × Appends old drawn said))
+          ⊎ (FileSame × ((said : List ℕ) × IsStopped bytes options (placeless refusal) said × Appends old drawn said))
           ⊎ ((placeless refusal ≡ placeless WriteFailed) × (ReportFailed ⊎ HasFailed failed_before failed_after))
       refused_writing None refusal failed_before failed_after Unaccepted FileSame ReportFailed asked (inl (large, unfit, unchanged)) = absurd unfit
       refused_writing (Some Macrocell) refusal failed_before failed_after Unaccepted FileSame ReportFailed asked (inl (large, unfit, unchanged)) = absurd unfit
@@ -216,7 +224,7 @@ module _ (bytes : List ℕ) (options : Options) (meaning : Meaning) (rule : Coun
             ),
           ))
       refused_writing format refusal failed_before failed_after Unaccepted FileSame ReportFailed asked (inr (inl (memory, unchanged))) =
-          inr (inr (inl (ap placeless memory, unchanged, (reported.0 ++ picture_of options.window last, begun_whole last reported.0 is shows_all, said_all))))
+          inr (inr (inl (unchanged, (reported.0 ++ picture_of options.window last, inl (ap placeless memory, begun_whole last reported.0 is shows_all), said_all))))
       refused_writing format refusal failed_before failed_after Unaccepted FileSame ReportFailed asked (inr (inr (failing, failed))) =
           inr (inr (inr (ap placeless failing, inr failed)))
 

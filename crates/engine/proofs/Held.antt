@@ -17,7 +17,7 @@ use Rattle.plane.proofs.Around.{live_cell}
 use Rattle.plane.proofs.Boxes.{box_at, coordinate_between, some_box, within_bounds}
 use Rattle.plane.proofs.Paddings.{quiet}
 use Rattle.plane.proofs.Turns.{AllByRecursion-weaker}
-use Rattle.patterns.proofs.Patterns.{both, in_square}
+use Rattle.universe.proofs.Rounds.{both, in_square}
 
 -- so many cells on each side of the cell lie in the range
 record HasRoom (far : ℕ) (cell : Cell) : Type 0 where

@@ -1,7 +1,7 @@
 pub mod Acceptance
 pub mod Endings
 pub mod Held
-pub mod Later
+mod Onward
 pub mod OneRun
 pub mod Reports
 pub mod Steps

@@ -10,10 +10,9 @@ use Rattle.plane.specs.declared.cell.Cell.{Cell}
 use Rattle.viewport.specs.BoundingBox.{HasBounds}
 use Rattle.viewport.specs.Population.{HasPopulation}
 use Rattle.plane.specs.declared.fault.Fault.{Fault}
-use Rattle.plane.specs.declared.refusal.Refusal.TheVariants.{NoMemory}
 use Rattle.engine.specs.Judgement.{Judges}
-use Rattle.patterns.specs.Meaning.{Meaning, placeless}
-use Rattle.engine.specs.Run.{IsBegun}
+use Rattle.patterns.specs.Meaning.{Meaning}
+use Rattle.engine.specs.Run.{IsStopped}
 use Rattle.engine.specs.declared.options.Options.{Options}
 use Rattle.engine.specs.declared.running.Summary.{Summary}
 
@@ -38,9 +37,9 @@ pub record IsAccepted (bytes : List ℕ) (options : Options) (meaning : Meaning)
   pub lawful : IsRule rule
   pub accepted : Judges bytes options (Ok (record { meaning = meaning; rule = rule; cells = cells }))
 
--- the run is refused before its first line: by its judgement, or since memory ran out
+-- the run is refused before its first line: by its judgement, or since there was no room
 unfoldable pub IsRefused : List ℕ → Options → Fault → Type 0
-IsRefused bytes options fault = Judges bytes options (Err fault) ⊎ ((fault ≡ placeless NoMemory) × IsBegun bytes options [])
+IsRefused bytes options fault = Judges bytes options (Err fault) ⊎ IsStopped bytes options fault []
 
 -- the answer of a run whose last generation has this number and these cells
 pub record SumsUp (generation : ℕ) (plane : Plane) (answer : Summary) : Type 0 where

@@ -1,6 +1,6 @@
 pub mod Accepted
 pub mod Devices
-pub mod Held
+pub mod Generations
 pub mod Judgement
 pub mod Report
 pub mod Run

@@ -5,7 +5,10 @@ use Rattle.plane.specs.Bounds.{bounds_of}
 use Rattle.plane.specs.Listing.{IsListing}
 use Rattle.plane.specs.Plane.{after}
 use Rattle.plane.specs.declared.cell.Cell.{Cell}
-use Rattle.patterns.specs.Meaning.{Meaning, is_macrocell, judged}
+use Rattle.plane.specs.declared.fault.Fault.{Fault}
+use Rattle.plane.specs.declared.refusal.Refusal.{Refusal}
+use Rattle.plane.specs.declared.refusal.Refusal.TheVariants.{NodesFull, NoMemory}
+use Rattle.patterns.specs.Meaning.{Meaning, is_macrocell, judged, placeless}
 use Rattle.patterns.specs.FileText.{HasText, IsFileText}
 use Rattle.engine.specs.Judgement.{Start, Judges, ReadsRule}
 use Rattle.engine.specs.Report.{Shows, shown}
@@ -65,3 +68,20 @@ pub record HasBegun (bytes : List ℕ) (options : Options) (said : List ℕ) : T
 -- a run is about to read a macrocell file, which takes memory, and has said nothing; or it has begun
 abbrev pub IsBegun : List ℕ → Options → List ℕ → Type 0
 IsBegun bytes options said = ((is_macrocell bytes ≡ true) × (said ≡ [])) ⊎ HasBegun bytes options said
+
+-- the run's text and rule are accepted, and these are the first lines of its report, or none
+pub record HasReported (bytes : List ℕ) (options : Options) (said : List ℕ) : Type 0 where
+  pub meaning : Meaning
+  pub rule : CountRule
+  pub text : judged bytes ≡ Ok meaning
+  pub read : ReadsRule options.rule meaning (Ok rule)
+  pub report : IsBeginning meaning rule options said
+
+-- memory ran out, or the tables of squares are full
+abbrev pub IsOutOfRoom : Refusal → Type 0
+IsOutOfRoom refusal = (refusal ≡ NoMemory) ⊎ (refusal ≡ NodesFull)
+
+-- a run that has said this was stopped: memory ran out, or, once its text and rule were accepted, the tables were full
+abbrev pub IsStopped : List ℕ → Options → Fault → List ℕ → Type 0
+IsStopped bytes options fault said =
+    ((fault ≡ placeless NoMemory) × IsBegun bytes options said) ⊎ ((fault ≡ placeless NodesFull) × HasReported bytes options said)

@@ -5,15 +5,18 @@ ghost use Rattle.rule_text.specs.CountRule.{IsRule};
 ghost use Rattle.rule_text.specs.declared.fault.RuleFault.{RuleFault};
 ghost use Rattle.engine.specs.Accepted.{HasRoomFor, IsAccepted, IsRefused, LeavesRange};
 ghost use Rattle.engine.specs.Judgement.{ReadsRule, rule_refusal};
-ghost use Rattle.patterns.specs.Pattern.{plane_of};
+ghost use Rattle.engine.specs.Run.{IsOutOfRoom};
 ghost use Rattle.patterns.specs.PatternFile.{meaning_of};
+ghost use Rattle.table_core.specs.Sizes.{IsPairCount};
+ghost use Rattle.universe.specs.Cells.{live_cells, rule_of};
 
 use crate::options::Options;
 use crate::running::rule_refusal;
-use patterns::{Pattern, PatternFile};
+use patterns::PatternFile;
 use plane::{Fault, Refusal, reach};
 use rule_text::Rule;
 use std::alloc::Global;
+use universe::Universe;
 
 // The rule of a file that names none.
 const LIFE: &[u8] = b"B3/S23";
@@ -23,46 +26,53 @@ const LIFE: &[u8] = b"B3/S23";
 pub(crate) struct Accepted<'a> {
     pub(crate) text: PatternFile<'a>,
     pub(crate) rule: Rule,
-    pub(crate) pattern: Pattern,
+    pub(crate) universe: Universe,
 }
 
-// Judges a run: the file's text, then the rule, then the range. `NoMemory` if there is no room for the cells.
+// Judges a run: the file's text, then the rule, then the range. `NoMemory` or `NodesFull` if there is no room for the
+// cells.
 pub(crate) fn judge<'a>(
     alloc: Global,
     bytes: &'a [u8],
     options: &Options,
 ) -> Result<Accepted<'a>, Fault>
-    ensures accepted { IfOk result (λ run. IsAccepted bytes.now options.now (meaning_of run.text) run.rule (plane_of run.pattern)) }
+    requires { IsPairCount options.now.pairs }
+    ensures accepted { IfOk result (λ run. IsAccepted bytes.now options.now (meaning_of run.text) (rule_of run.universe) (live_cells run.universe)) }
+    ensures rule { IfOk result (λ run. rule_of run.universe ≡ run.rule) }
     ensures refused { IfErr result (IsRefused bytes.now options.now) }
 {
     let text = PatternFile::open(alloc, bytes)?;
-    let rule = rule_of(&text, options.rule)?;
-    let pattern = pattern_of(alloc, rule, &text, options.gens)?;
+    let rule = given_or_named(&text, options.rule)?;
+    let universe = universe_of(alloc, &rule, &text, options.gens, options.pairs)?;
     Ok(Accepted {
         text,
         rule,
-        pattern,
+        universe,
     })
 }
 
-// The cells that a file makes live. It refuses `TooFar` where so many generations leave the range, and `NoMemory`.
-fn pattern_of(
+// The cells that a file makes live, in tables of at most so many pair slots. It refuses `TooFar` where so many generations
+// leave the range, `NodesFull` and `NoMemory`.
+fn universe_of(
     alloc: Global,
-    rule: Rule,
+    rule: &Rule,
     text: &PatternFile<'_>,
     generations: u64,
-) -> Result<Pattern, Refusal>
-    ensures ok { IfOk result (λ pattern. HasRoomFor (meaning_of text.now) generations (plane_of pattern)) }
-    ensures refused { IfErr result (λ refusal. (refusal ≡ Refusal.NoMemory)
+    limit: u32,
+) -> Result<Universe, Refusal>
+    requires { IsPairCount limit }
+    ensures ok { IfOk result (λ universe. HasRoomFor (meaning_of text.now) generations (live_cells universe)) }
+    ensures rule { IfOk result (λ universe. rule_of universe ≡ rule.now) }
+    ensures refused { IfErr result (λ refusal. IsOutOfRoom refusal
         ⊎ ((refusal ≡ Refusal.TooFar) × LeavesRange (meaning_of text.now) generations)) }
 {
-    let pattern = Pattern::of_file(alloc, rule, text)?;
-    reach(pattern.bounds(alloc)?, text.generation(), generations)?;
-    Ok(pattern)
+    let (universe, bounds) = Universe::of(alloc, rule, text, limit)?.bounds(alloc)?;
+    reach(bounds, text.generation(), generations)?;
+    Ok(universe)
 }
 
 // The rule that is given, or else the one that the file names, or that of a file that names none.
-fn rule_of(text: &PatternFile<'_>, given: Option<Rule>) -> Result<Rule, Fault>
+fn given_or_named(text: &PatternFile<'_>, given: Option<Rule>) -> Result<Rule, Fault>
     ensures ok { IfOk result (λ rule. ReadsRule given (meaning_of text.now) (Ok rule) × IsRule rule) }
     ensures err { IfErr result (λ fault. (rule_fault : RuleFault) × ReadsRule given (meaning_of text.now) (Err rule_fault)
         × (fault ≡ record { refusal = rule_refusal rule_fault; place = Some (meaning_of text.now).rule_place })) }

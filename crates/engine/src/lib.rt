@@ -2,7 +2,6 @@
 #![tactic(auto)]
 
 mod accepted;
-mod generations;
 mod input;
 mod laws;
 mod options;

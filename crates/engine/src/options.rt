@@ -16,6 +16,8 @@ pub struct Options {
     pub window: Option<Window>,
     /// The format of the pattern that is written, if one is.
     pub format: Option<Format>,
+    /// The most pair slots that all tables of squares may have together: a power of two, from 2^10 to 2^28.
+    pub pairs: u32,
     /// Whether the lines of the report are left out.
     pub quiet: bool,
 }

@@ -1,14 +1,15 @@
-ghost use Rattle.std.specs.Prelude.{◌≡◌, ◌⊎◌, ℕ, List, OnOk, IfErr};
+ghost use Rattle.std.specs.Prelude.{◌≡◌, ◌⊎◌, ℕ, List, IfOk, OnOk, IfErr};
 ghost use Rattle.std.specs.Io.KnownBytes.{Appends};
 ghost use Rattle.plane.specs.Device.{IsWriteRefusal};
-ghost use Rattle.patterns.specs.Pattern.{plane_of};
+ghost use Rattle.universe.specs.Cells.{live_cells};
+ghost use Rattle.engine.specs.Generations.{IsSameRun};
 ghost use Rattle.engine.specs.Report.{IsSaid, report_line};
 
 use arrayvec::ArrayString;
 use itoa::Buffer;
-use patterns::Pattern;
 use plane::{Refusal, Sink, write_all};
 use std::alloc::Global;
+use universe::Universe;
 
 // Room for two numbers of up to 40 digits and what stands round them.
 const LINE_ROOM: usize = 96;
@@ -20,19 +21,21 @@ pub(crate) fn report_generation<W: Sink>(
     report: &mut W,
     quiet: bool,
     generation: u64,
-    pattern: &Pattern,
-) -> Result<(), Refusal>
-    ensures written { OnOk result ((said : List ℕ) × IsSaid quiet generation (plane_of pattern.now) said
+    universe: Universe,
+) -> Result<Universe, Refusal>
+    ensures same { IfOk result (IsSameRun universe) }
+    ensures written { OnOk result ((said : List ℕ) × IsSaid quiet generation (live_cells universe) said
         × Appends (W.taken report.old) (W.taken report.new) said) }
     ensures unfailed { OnOk result (W.failure_count report.new ≡ W.failure_count report.old) }
     ensures refused { IfErr result (λ refusal. ((refusal ≡ Refusal.NoMemory) × (report.new ≡ report.old))
         ⊎ IsWriteRefusal (W.failure_count report.old) (W.failure_count report.new) refusal) }
 {
     if quiet {
-        return Ok(());
+        return Ok(universe);
     }
-    let population = pattern.population(alloc)?;
-    write_report_line(report, generation, population)
+    let (universe, population) = universe.population(alloc)?;
+    write_report_line(report, generation, population)?;
+    Ok(universe)
 }
 
 // Writes the line of one generation: its number and how many cells are live.

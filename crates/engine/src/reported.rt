@@ -5,52 +5,49 @@ ghost use Rattle.plane.specs.Plane.{after};
 ghost use Rattle.plane.specs.Square.{IsSame, empty};
 ghost use Rattle.plane.specs.declared.range.TheConstants.{GENERATION_LIMIT};
 ghost use Rattle.plane.specs.Device.{IsWriteRefusal};
-ghost use Rattle.engine.specs.Held.{StaysHeld};
-ghost use Rattle.patterns.specs.Pattern.{plane_of};
+ghost use Rattle.universe.specs.Cells.{live_cells, rule_of};
+ghost use Rattle.universe.specs.Held.{StaysHeld};
 ghost use Rattle.engine.specs.Report.{Shows, is_shown, shown};
+ghost use Rattle.engine.specs.Run.{IsOutOfRoom};
 
-use crate::generations::after;
 use crate::options::Options;
 use crate::report::report_generation;
-use patterns::Pattern;
 use plane::{Refusal, Sink};
-use rule_text::Rule;
 use std::alloc::Global;
+use universe::Universe;
 
-// Runs a pattern of a generation as many generations on as the options ask for, and reports generations on the
-// way. `NoMemory` comes between two lines.
+// Runs a universe of a generation as many generations on as the options ask for, and reports generations on the
+// way. `NoMemory` and `NodesFull` come between two lines.
 pub(crate) fn run_reported<W: Sink>(
     alloc: Global,
-    start: Pattern,
-    rule: &Rule,
+    start: Universe,
     generation: u64,
     options: &Options,
     report: &mut W,
-) -> Result<Pattern, Refusal>
-    requires rule { IsRule rule.now }
-    requires held { StaysHeld rule.now (plane_of start) options.now.gens }
-    requires short { (IsSame (plane_of start) empty → ⊥) → options.now.gens < 2 ^ 63 }
+) -> Result<Universe, Refusal>
+    requires rule { IsRule (rule_of start) }
+    requires held { StaysHeld (rule_of start) (live_cells start) options.now.gens }
+    requires short { (IsSame (live_cells start) empty → ⊥) → options.now.gens < 2 ^ 63 }
     requires last { generation + options.now.gens ≤ GENERATION_LIMIT }
-    ensures cells { IfOk result (λ last. IsSame (plane_of last) (after rule.now (plane_of start) options.now.gens)) }
-    ensures reported { OnOk result ((said : List ℕ) × Shows rule.now (plane_of start) generation (shown options.now) said
+    ensures cells { IfOk result (λ last. IsSame (live_cells last) (after (rule_of start) (live_cells start) options.now.gens)) }
+    ensures reported { OnOk result ((said : List ℕ) × Shows (rule_of start) (live_cells start) generation (shown options.now) said
         × Appends (W.taken report.old) (W.taken report.new) said) }
     ensures unfailed { OnOk result (W.failure_count report.new ≡ W.failure_count report.old) }
     ensures refused { IfErr result (λ refusal.
-        (refusal ≡ Refusal.NoMemory
-        × ((lines : ℕ) × (said : List ℕ) × Shows rule.now (plane_of start) generation (take lines (shown options.now)) said
+        (IsOutOfRoom refusal
+        × ((lines : ℕ) × (said : List ℕ) × Shows (rule_of start) (live_cells start) generation (take lines (shown options.now)) said
         × Appends (W.taken report.old) (W.taken report.new) said))
         ⊎ IsWriteRefusal (W.failure_count report.old) (W.failure_count report.new) refusal) }
 {
-    let mut pattern = start;
+    let mut universe = report_generation(alloc, report, options.quiet, generation, start)?;
     let mut done = 0;
-    report_generation(alloc, report, options.quiet, generation, &pattern)?;
     while done < options.gens {
         let next = next_shown(options, done);
-        pattern = after(alloc, pattern, rule, next - done)?;
+        universe = universe.after(alloc, next - done)?;
         done = next;
-        report_generation(alloc, report, options.quiet, generation + done, &pattern)?;
+        universe = report_generation(alloc, report, options.quiet, generation + done, universe)?;
     }
-    Ok(pattern)
+    Ok(universe)
 }
 
 // The next number of generations after which there is a line, or that of the last where there are none.

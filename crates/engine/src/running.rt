@@ -1,11 +1,14 @@
 ghost use Rattle.std.specs.Prelude.{◌≡◌, ◌⊎◌, ℕ, List, None, Ok, Err, IfOk, IfErr, IsOkUnless, OnOk};
 ghost use Rattle.std.specs.Io.KnownBytes.{Appends};
 ghost use Rattle.plane.specs.Device.{HasFailed};
+ghost use Rattle.table_core.specs.Sizes.{IsPairCount};
+ghost use Rattle.plane.specs.Square.{IsSame};
+ghost use Rattle.universe.specs.Cells.{live_cells};
 ghost use Rattle.engine.specs.Accepted.{SumsUp};
 ghost use Rattle.engine.specs.Judgement.{Start, Judges, rule_refusal};
 ghost use Rattle.patterns.specs.Meaning.{placeless};
 ghost use Rattle.patterns.specs.Pattern.{plane_of};
-ghost use Rattle.engine.specs.Run.{Finishes, IsBegun, IsTooLarge};
+ghost use Rattle.engine.specs.Run.{Finishes, IsStopped, IsTooLarge};
 
 use crate::accepted::judge;
 use crate::options::Options;
@@ -14,6 +17,7 @@ use patterns::Pattern;
 use plane::{Bounds, Fault, Refusal, Sink};
 use rule_text::RuleFault;
 use std::alloc::Global;
+use universe::Universe;
 
 /// What a run ends with.
 #[derive(Clone, Copy, Debug, PartialEq, Eq)]
@@ -33,8 +37,9 @@ pub struct Summary {
 /// It refuses, in this order, a text that is no pattern file, by its first fault; the file's rule
 /// (`BadRule`, `BirthOnZero`), at the place of the header, unless another rule is given; and a run that
 /// would leave the range (`TooFar`). Until then nothing is written. `BoxTooLarge`, where a side of the last
-/// pattern's box is 2^31 or more, and `NoMemory` leave `file` as it was. `WriteFailed` comes where a sink
-/// failed.
+/// pattern's box is 2^31 or more, `NoMemory`, and `NodesFull`, where the cells of the file or those after a single
+/// generation have no room in the tables that the options allow, leave `file` as it was. `WriteFailed` comes where a
+/// sink failed.
 pub fn run<R, W: Sink, V: Sink>(
     _rt: &R,
     alloc: Global,
@@ -43,6 +48,7 @@ pub fn run<R, W: Sink, V: Sink>(
     report: &mut W,
     file: &mut V,
 ) -> Result<Summary, Fault>
+    requires { IsPairCount options.now.pairs }
     // It writes the defined report and file of the cells that the rule, applied that many times, makes live.
     ensures finished { IfOk result (λ summary. (start : Start) × (said : List ℕ) × (drawn : List ℕ)
         × Judges bytes.now options.now (Ok start)
@@ -53,21 +59,22 @@ pub fn run<R, W: Sink, V: Sink>(
     ensures unfailed { OnOk result ((V.failure_count file.new ≡ V.failure_count file.old)
         × (W.failure_count report.new ≡ W.failure_count report.old)) }
     // It refuses what is not accepted, by its name and at its place, and then has written nothing; what has no
-    // text in the format, after the whole report; and else only where memory ran out or a sink failed.
+    // text in the format, after the whole report; and else only where memory ran out, the tables are full, or a sink
+    // failed.
     ensures refused { IfErr result (λ fault.
         (Judges bytes.now options.now (Err fault) × (report.new ≡ report.old) × (file.new ≡ file.old))
         ⊎ ((fault ≡ placeless Refusal.BoxTooLarge) × (file.new ≡ file.old) × ((said : List ℕ)
         × IsTooLarge bytes.now options.now said × Appends (W.taken report.old) (W.taken report.new) said))
-        ⊎ ((fault ≡ placeless Refusal.NoMemory) × (file.new ≡ file.old) × ((said : List ℕ)
-        × IsBegun bytes.now options.now said × Appends (W.taken report.old) (W.taken report.new) said))
+        ⊎ ((file.new ≡ file.old) × ((said : List ℕ)
+        × IsStopped bytes.now options.now fault said × Appends (W.taken report.old) (W.taken report.new) said))
         ⊎ ((fault ≡ placeless Refusal.WriteFailed)
         × (HasFailed (W.failure_count report.old) (W.failure_count report.new)
         ⊎ HasFailed (V.failure_count file.old) (V.failure_count file.new)))) }
 {
     let begun = judge(alloc, bytes, options)?;
     let start = begun.text.generation();
-    let last = run_reported(alloc, begun.pattern, &begun.rule, start, options, report)?;
-    let summary = summary_of(alloc, &last, start + options.gens)?;
+    let universe = run_reported(alloc, begun.universe, start, options, report)?;
+    let (last, summary) = ended(alloc, universe, start + options.gens)?;
     last.draw(options.window, report)?;
     last.write(
         alloc,
@@ -80,16 +87,21 @@ pub fn run<R, W: Sink, V: Sink>(
     Ok(summary)
 }
 
-// What a run ends with, by its last generation and the pattern of it.
-fn summary_of(alloc: Global, last: &Pattern, generation: u64) -> Result<Summary, Refusal>
-    ensures ok { IfOk result (SumsUp generation (plane_of last.now)) }
+// The pattern of the last generation, and what the run ends with.
+fn ended(alloc: Global, universe: Universe, generation: u64) -> Result<(Pattern, Summary), Refusal>
+    ensures same { IfOk result (λ ended. IsSame (plane_of ended.0) (live_cells universe)) }
+    ensures ok { IfOk result (λ ended. SumsUp generation (plane_of ended.0) ended.1) }
     ensures memory { IsOkUnless result Refusal.NoMemory }
 {
-    Ok(Summary {
+    let (universe, population) = universe.population(alloc)?;
+    let last = Pattern::of(universe);
+    let bounds = last.bounds(alloc)?;
+    let summary = Summary {
         generation,
-        population: last.population(alloc)?,
-        bounds: last.bounds(alloc)?,
-    })
+        population,
+        bounds,
+    };
+    Ok((last, summary))
 }
 
 /// The refusal of a rule's fault: `BadRule` or `BirthOnZero`.

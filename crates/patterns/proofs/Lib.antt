@@ -1,3 +1,3 @@
+mod CellsAtRest
 pub mod Judged
 pub mod NodeSquares
-pub mod Patterns

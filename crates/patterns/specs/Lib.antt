@@ -1,4 +1,3 @@
-pub mod Books
 pub mod Drawing
 pub mod FileText
 pub mod Meaning

@@ -1,15 +1,18 @@
 //! A checked pattern file, in either format.
 
-ghost use Rattle.std.specs.Prelude.{◌≡◌, ◌⊎◌, true, Ok, Err, IfOk, IfErr};
+ghost use Rattle.std.specs.Prelude.{◌≡◌, ◌⊎◌, true, Ok, Err, IfOk, IfErr, ⊤};
 ghost use Rattle.std.specs.Option.{option_copied};
 ghost use Rattle.patterns.specs.Meaning.{is_macrocell, judged, placeless};
 ghost use Rattle.patterns.specs.PatternFile.{meaning_of};
 
+use crate::nodes::nodes_to_square;
 use macrocell_reader::McFile;
 use plane::{Fault, Refusal};
 use rle_reader::RleFile;
+use squares::{Sq, Squares, runs_to_square};
 use std::alloc::Global;
 use text_lines::{Comments, begins_with};
+use universe::Build;
 
 // What a macrocell file begins with.
 const MACROCELL: &[u8] = b"[M2]";
@@ -74,6 +77,24 @@ impl<'a> PatternFile<'a> {
         match self {
             PatternFile::Rle(file) => file.comments(),
             PatternFile::Macrocell(file) => file.comments(),
+        }
+    }
+}
+
+impl Build for PatternFile<'_> {
+    ghost live = { λ file. (meaning_of file).live };
+
+    ghost is_lawful = { λ _. ⊤ };
+
+    fn build<S: Squares>(&self, alloc: Global, book: &mut S) -> Result<Sq, Refusal> {
+        match self {
+            PatternFile::Rle(file) => {
+                let Ok(runs) = file.live_runs(alloc) else {
+                    return Err(Refusal::NoMemory);
+                };
+                runs_to_square(alloc, book, runs.as_slice())
+            }
+            PatternFile::Macrocell(file) => nodes_to_square(alloc, book, file.lines()),
         }
     }
 }

@@ -4,6 +4,7 @@ pub mod CopyMaps
 pub mod EmptyFutures
 pub mod Kept
 pub mod KeptResults
+pub mod KnownCopies
 pub mod KnownQuarters
 pub mod NineSquares
 pub mod NodeLaws

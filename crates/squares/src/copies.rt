@@ -10,7 +10,7 @@ use std::alloc::Global;
 use std::collections::BTreeMap;
 
 // Notes the copy of a square.
-fn noted(copies: &mut BTreeMap<Sq, Num>, sq: Sq, copy: Sq) -> Result<Sq, Refusal>
+pub(crate) fn noted(copies: &mut BTreeMap<Sq, Num>, sq: Sq, copy: Sq) -> Result<Sq, Refusal>
     ensures ok { IfOk result (λ noted. noted ≡ copy) }
     ensures updates { OnOk result (Updates sq_order copies.old copies.new sq (Some copy.num)) }
     ensures err { OnErr result (IsUnchanged copies.old copies.new) }

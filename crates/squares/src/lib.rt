@@ -1,6 +1,7 @@
 //! Squares of cells, the books that number them, and what holds over any book.
 #![tactic(auto)]
 
+mod between;
 mod book;
 mod copies;
 mod node;
@@ -10,6 +11,7 @@ mod spans;
 mod sq;
 mod subsquares;
 
+pub use between::copy_between;
 pub use book::{Look, Squares};
 pub use copies::copy_square;
 pub use plain_book::PlainBook;

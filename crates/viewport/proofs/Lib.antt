@@ -1,6 +1,7 @@
 pub mod BoxesRound
 pub mod CellsOfSquares
 pub mod Counts
+pub mod CountsLater
 pub mod FirstRows
 pub mod LeafBoxes
 pub mod LeafRows

@@ -1,5 +1,5 @@
 -- How many live cells planes and squares have.
-use Rattle.std.specs.Prelude.{◌≡◌, ℕ, ◌*◌, ◌^◌, ◌≤◌, ◌==◌, ◌&&◌, Bool, List, length, Some, Option}
+use Rattle.std.specs.Prelude.{◌≡◌, ℕ, ◌*◌, ◌^◌, ◌≤◌, ◌==◌, ◌&&◌, Bool, IsTrue, List, length, Some, Option}
 use Rattle.std.specs.declared.hash.FoldHasher.{FoldHasher}
 use Rattle.std.specs.declared.hash.BuildHasherDefault.{BuildHasherDefault}
 use Rattle.std.specs.HashMap.{HashMap, get}
@@ -33,6 +33,10 @@ pub record IsCount (book : Book) (sq : Sq) (population : ℕ) : Type 0 where
   pub cells : population ≡ cell_count (2 ^ sq.level) (book.cells sq)
   pub most : population ≤ 2 ^ (2 * sq.level)
 
--- each value that is kept is the number of live cells of its square
+-- the square is known, and has so many live cells
+abbrev pub IsKnownCount : Book → Sq → ℕ → Type 0
+IsKnownCount book sq population = IsTrue (book.knows sq) × IsCount book sq population
+
+-- each value that is kept is the number of live cells of its square, which is known
 pub record AreCounts (book : Book) (counts : HashMap (ℕ × ℕ) ℕ (BuildHasherDefault FoldHasher)) : Type 0 where
-  pub count : (sq : Sq) (population : ℕ) → value_of counts sq ≡ Some population → IsCount book sq population
+  pub count : (sq : Sq) (population : ℕ) → value_of counts sq ≡ Some population → IsKnownCount book sq population

@@ -1,11 +1,11 @@
 ghost use Rattle.std.specs.Prelude.{◌≡◌, ◌≤◌, ◌<◌, IfOk, IsOkUnless};
 ghost use Rattle.plane.specs.Centred.{centred};
 ghost use Rattle.plane.specs.Square.{bits_plane};
-ghost use Rattle.squares.specs.Book.{IsKnown};
+ghost use Rattle.squares.specs.Book.{IsKnown, Keeps, KeepsResults};
 ghost use Rattle.viewport.specs.Population.{AreCounts, HasPopulation, IsCount, cell_count};
 
 use plane::Refusal;
-use squares::{Look, Sq};
+use squares::{Sq, Squares};
 use std::alloc::Global;
 use std::collections::HashMap;
 
@@ -13,38 +13,42 @@ use std::collections::HashMap;
 type Counts = HashMap<(u8, u32), u128>;
 
 /// How many live cells a square of a level up to 63 has: up to 2^126. Each number above level 3 is
-/// counted once. `NoMemory` where there is no room for one more count.
-pub fn population<L: Look>(look: &L, alloc: Global, sq: Sq) -> Result<u128, Refusal>
-    requires known { IsKnown (L.book look.now) sq.level sq }
+/// counted once. The book goes on knowing what it knew. `NoMemory` where there is no room for one more count.
+pub fn population<S: Squares>(book: &mut S, alloc: Global, sq: Sq) -> Result<u128, Refusal>
+    requires known { IsKnown (S.book book.old) sq.level sq }
     requires level { sq.level ≤ 63 }
-    ensures ok { IfOk result (HasPopulation (centred sq.level ((L.book look.now).cells sq))) }
+    ensures ok { IfOk result (HasPopulation (centred sq.level ((S.book book.old).cells sq))) }
     ensures memory { IsOkUnless result Refusal.NoMemory }
+    ensures keeps { Keeps (S.book book.old) (S.book book.new) }
+    ensures results { KeepsResults (S.book book.old) (S.book book.new) }
 {
     let mut counts = HashMap::new(alloc);
-    count(look, sq, &mut counts)
+    count(book, sq, &mut counts)
 }
 
 // How many live cells the square has, by the counts that are known; it adds what it finds to them.
 #[cycle(count)]
-fn count<L: Look>(look: &L, sq: Sq, counts: &mut Counts) -> Result<u128, Refusal>
-    requires known { IsKnown (L.book look.now) sq.level sq }
+fn count<S: Squares>(book: &mut S, sq: Sq, counts: &mut Counts) -> Result<u128, Refusal>
+    requires known { IsKnown (S.book book.old) sq.level sq }
     requires level { sq.level ≤ 63 }
-    requires counted { AreCounts (L.book look.now) counts.old }
-    ensures ok { IfOk result (IsCount (L.book look.now) sq) }
-    ensures counted { AreCounts (L.book look.now) counts.new }
+    requires counted { AreCounts (S.book book.old) counts.old }
+    ensures ok { IfOk result (IsCount (S.book book.old) sq) }
+    ensures counted { AreCounts (S.book book.new) counts.new }
     ensures memory { IsOkUnless result Refusal.NoMemory }
+    ensures keeps { Keeps (S.book book.old) (S.book book.new) }
+    ensures results { KeepsResults (S.book book.old) (S.book book.new) }
 {
     if sq.num.0 == 0 {
         return Ok(0);
     }
     if sq.level == 3 {
-        return Ok(leaf_count(look.bits(sq)));
+        return Ok(leaf_count(book.read_bits(sq)));
     }
     let key = (sq.level, sq.num.0);
     if let Some(known) = counts.get(&key) {
         return Ok(*known);
     }
-    let whole = count_quarters(look, sq, counts)?;
+    let whole = count_quarters(book, sq, counts)?;
     let Ok(_) = counts.insert(key, whole) else {
         return Err(Refusal::NoMemory);
     };
@@ -53,18 +57,20 @@ fn count<L: Look>(look: &L, sq: Sq, counts: &mut Counts) -> Result<u128, Refusal
 
 // How many live cells the quarters of a square have.
 #[cycle(count)]
-fn count_quarters<L: Look>(look: &L, sq: Sq, counts: &mut Counts) -> Result<u128, Refusal>
-    requires known { IsKnown (L.book look.now) sq.level sq }
+fn count_quarters<S: Squares>(book: &mut S, sq: Sq, counts: &mut Counts) -> Result<u128, Refusal>
+    requires known { IsKnown (S.book book.old) sq.level sq }
     requires low { 3 < sq.level }
     requires high { sq.level ≤ 63 }
-    requires counted { AreCounts (L.book look.now) counts.old }
-    ensures ok { IfOk result (IsCount (L.book look.now) sq) }
-    ensures counted { AreCounts (L.book look.now) counts.new }
+    requires counted { AreCounts (S.book book.old) counts.old }
+    ensures ok { IfOk result (IsCount (S.book book.old) sq) }
+    ensures counted { AreCounts (S.book book.new) counts.new }
     ensures memory { IsOkUnless result Refusal.NoMemory }
+    ensures keeps { Keeps (S.book book.old) (S.book book.new) }
+    ensures results { KeepsResults (S.book book.old) (S.book book.new) }
 {
-    let [nw, ne, sw, se] = look.parts(sq);
-    let upper = count(look, nw, counts)? + count(look, ne, counts)?;
-    let lower = count(look, sw, counts)? + count(look, se, counts)?;
+    let [nw, ne, sw, se] = book.read_parts(sq);
+    let upper = count(book, nw, counts)? + count(book, ne, counts)?;
+    let lower = count(book, sw, counts)? + count(book, se, counts)?;
     Ok(upper + lower)
 }
 

@@ -4,6 +4,7 @@ mod ended;
 mod full_squares;
 mod macrocell;
 mod many_leaves;
+mod nodes;
 mod pictures;
 mod refused;
 mod rows;

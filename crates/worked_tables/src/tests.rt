@@ -6,4 +6,5 @@ mod sweeps;
 mod tables;
 mod threads;
 mod two_desks;
+mod universes;
 mod want_of_memory;

@@ -1,7 +1,9 @@
 //! Runs that are accepted: the report, and the pattern as RLE.
 
 use crate::tests::ended::Ended;
-use crate::tests::rows::{BLINKER, PLAIN, R_PENTOMINO, RLE, Row, assert_rows, assert_told};
+use crate::tests::rows::{
+    BLINKER, FAR_GLIDER, FAR_REPLICATOR, PLAIN, R_PENTOMINO, RLE, Row, assert_rows, assert_told,
+};
 use engine::{Format, Options};
 use rule_text::Rule;
 use std::alloc::AllocError;
@@ -212,14 +214,7 @@ const STEPS: &[Row] = &[
 
 // Runs that no engine comes through cell by cell.
 const FAR: &[Row] = &[
-    Row {
-        file: "x = 3, y = 3, rule = B3/S23\nbob$2bo$3o!",
-        generations: 1 << 40,
-        report: "0: 5\n1099511627776: 5\n",
-        text: "#CXRLE Pos=274877906944,274877906944 Gen=1099511627776\n\
-         x = 3, y = 3, rule = B3/S23\nbo$2bo$3o!\n",
-        ..RLE
-    },
+    FAR_GLIDER,
     Row {
         file: "x = 3, y = 3, rule = B3/S23\nbob$2bo$3o!",
         generations: 3 << 39,
@@ -229,16 +224,7 @@ const FAR: &[Row] = &[
          x = 3, y = 3, rule = B3/S23\nbo$2bo$3o!\n",
         ..RLE
     },
-    // A replicator: three of its 2097153 rows have cells.
-    Row {
-        file: "x = 1, y = 1, rule = B1357/S1357\no!",
-        generations: 1 << 20,
-        report: "0: 1\n1048576: 8\n",
-        text: "#CXRLE Pos=-1048576,-1048576 Gen=1048576\n\
-         x = 2097153, y = 2097153, rule = B1357/S1357\n\
-         o1048575bo1048575bo1048576$o2097151bo1048576$o1048575bo1048575bo!\n",
-        ..RLE
-    },
+    FAR_REPLICATOR,
 ];
 
 #[test]

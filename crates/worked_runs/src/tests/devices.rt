@@ -138,7 +138,7 @@ fn is_cut(row: &Row, end: &Ended, failing: Failing) -> bool {
 }
 
 /// Runs a row with sinks that take so many bytes at a time, of which one fails at this call.
-fn ended<R: AllocGlobal>(
+fn ended<R: Abort + AllocGlobal>(
     rt: &R,
     row: &Row,
     most: usize,
@@ -165,7 +165,7 @@ fn calls_of<R: Abort + AllocGlobal>(
 
 /// The first call at which, if it fails, a run with so many calls of the sink does not end as it should;
 /// call 0, and one behind the last, fail at none.
-fn first_wrong_call<R: AllocGlobal>(
+fn first_wrong_call<R: Abort + AllocGlobal>(
     rt: &R,
     row: &Row,
     most: usize,

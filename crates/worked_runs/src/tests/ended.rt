@@ -4,6 +4,8 @@ use crate::tests::sipping::Sipping;
 use engine::{Options, Summary, run};
 use plane::Fault;
 use std::alloc::AllocError;
+use std::process::Abort;
+use table_core::Shape;
 
 /// How a run ended, and what it wrote.
 #[derive(Drop)]
@@ -15,7 +17,7 @@ pub(crate) struct Ended {
 
 impl Ended {
     /// Runs a file with devices that take all that is written.
-    pub(crate) fn of<R: AllocGlobal>(
+    pub(crate) fn of<R: Abort + AllocGlobal>(
         rt: &R,
         file: &str,
         options: &Options,
@@ -25,13 +27,14 @@ impl Ended {
 
     /// Runs a file with devices that take so many bytes at a time, of which the report and the file fail
     /// at these calls, or at none for 0.
-    pub(crate) fn with_devices<R: AllocGlobal>(
+    pub(crate) fn with_devices<R: Abort + AllocGlobal>(
         rt: &R,
         file: &str,
         options: &Options,
         most: usize,
         calls: (u64, u64),
     ) -> Result<Ended, AllocError> {
+        assert!(rt; Shape::is_pair_count(options.pairs));
         let mut report = Sipping::new(rt.alloc(), most, calls.0)?;
         let mut written = Sipping::new(rt.alloc(), most, calls.1)?;
         let bytes = file.as_bytes();

@@ -47,7 +47,7 @@ fn push_squares(
 }
 
 // Leaves of the words 1 to 65536, and squares of four up to one.
-fn many_leaves(alloc: Global) -> Result<String, AllocError> {
+pub(crate) fn many_leaves(alloc: Global) -> Result<String, AllocError> {
     let mut text = String::from_str(alloc, "[M2]\n")?;
     for word in 1..65537 {
         push_leaf(&mut text, word)?;

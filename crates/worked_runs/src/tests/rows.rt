@@ -13,6 +13,7 @@ pub(crate) const PLAIN: Options = Options {
     rule: None,
     window: None,
     format: None,
+    pairs: 4194304,
     quiet: false,
 };
 
@@ -23,6 +24,7 @@ pub(crate) struct Row {
     pub generations: u64,
     pub step: u64,
     pub format: Option<Format>,
+    pub pairs: u32,
     pub refusal: Option<Refusal>,
     pub place: Option<u64>,
     pub report: &'static str,
@@ -35,6 +37,7 @@ impl Row {
             gens: self.generations,
             step: self.step,
             format: self.format,
+            pairs: self.pairs,
             ..PLAIN
         }
     }
@@ -51,6 +54,7 @@ pub(crate) const RLE: Row = Row {
     generations: 0,
     step: 0,
     format: Some(Format::Rle),
+    pairs: PLAIN.pairs,
     refusal: None,
     place: None,
     report: "",
@@ -92,6 +96,27 @@ pub(crate) const COMMENTED_GLIDER: Row = Row {
     ..RLE
 };
 
+/// A run that no engine comes through cell by cell.
+pub(crate) const FAR_GLIDER: Row = Row {
+    file: "x = 3, y = 3, rule = B3/S23\nbob$2bo$3o!",
+    generations: 1 << 40,
+    report: "0: 5\n1099511627776: 5\n",
+    text: "#CXRLE Pos=274877906944,274877906944 Gen=1099511627776\n\
+     x = 3, y = 3, rule = B3/S23\nbo$2bo$3o!\n",
+    ..RLE
+};
+
+/// A replicator: three of its 2097153 rows have cells.
+pub(crate) const FAR_REPLICATOR: Row = Row {
+    file: "x = 1, y = 1, rule = B1357/S1357\no!",
+    generations: 1 << 20,
+    report: "0: 1\n1048576: 8\n",
+    text: "#CXRLE Pos=-1048576,-1048576 Gen=1048576\n\
+     x = 2097153, y = 2097153, rule = B1357/S1357\n\
+     o1048575bo1048575bo1048576$o2097151bo1048576$o1048575bo1048575bo!\n",
+    ..RLE
+};
+
 /// Compares how a run of a file ended, the report and what was written with what they are to be.
 pub(crate) fn assert_told<R: Abort>(
     rt: &R,
@@ -100,6 +125,33 @@ pub(crate) fn assert_told<R: Abort>(
     wanted: (Option<Fault>, &str, &str),
 ) {
     assert_eq!(rt; (file, end.told()), (file, wanted));
+}
+
+/// Whether a text is the beginning of a report, up to the end of a line.
+fn is_between_lines(said: &str, report: &str) -> bool {
+    report.starts_with(said) && (said.is_empty() || said.ends_with("\n"))
+}
+
+/// Compares how a run of a row ended: it wrote the whole texts, or was refused by this refusal between two lines of the
+/// report, with nothing in the file. It answers whether it was refused.
+pub(crate) fn assert_whole_or_refused<R: Abort>(
+    rt: &R,
+    row: &Row,
+    end: &Ended,
+    refusal: Refusal,
+) -> bool {
+    if end.outcome.is_ok() {
+        assert_told(rt, row.file, end, (None, row.report, row.text));
+        return false;
+    }
+    let said = end.report.text();
+    let fault = Fault {
+        refusal,
+        place: None,
+    };
+    assert_told(rt, row.file, end, (Some(fault), said, ""));
+    assert!(rt; is_between_lines(said, row.report));
+    true
 }
 
 /// Runs rows, with their reports and without, and compares what is written with what they say.

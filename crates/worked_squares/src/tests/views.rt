@@ -48,12 +48,11 @@ fn sides_of(bounds: Bounds) -> [i64; 4] {
 fn size_of(alloc: Global, word: u64, level: u8) -> Result<(u128, Option<[i64; 4]>), Refusal> {
     let mut book = empty_book(alloc)?;
     let sq = filled(&mut book, word, level)?;
-    let count = population(&book, alloc, sq)?;
     let sides = match bounds(&book, alloc, sq)? {
         Some(bounds) => Some(sides_of(bounds)),
         None => None,
     };
-    Ok((count, sides))
+    Ok((population(&mut book, alloc, sq)?, sides))
 }
 
 const FULL: u64 = u64::MAX;

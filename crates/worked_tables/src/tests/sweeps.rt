@@ -206,8 +206,10 @@ fn a_swept_square_has_its_cells(rt: HostRuntime) -> Result<(), Fail> {
         assert!(rt; Shape::is_pair_count(pairs));
         let (swept, copy) = sweep(rt.alloc(), &words, root, pairs)?;
         assert!(rt; are_same(rt.alloc(), (&words, root), (&swept, copy))?);
-        assert!(rt; copy.level <= 63);
-        assert_eq!(rt; population(&swept, rt.alloc(), copy)?, 162);
+        let mut plain = PlainBook::new(rt.alloc(), Rule::read(b"B3/S23")?, 0);
+        let cells = copy_square(rt.alloc(), &swept, copy, &mut plain)?;
+        assert!(rt; cells.level <= 63);
+        assert_eq!(rt; population(&mut plain, rt.alloc(), cells)?, 162);
     }
     Ok(())
 }

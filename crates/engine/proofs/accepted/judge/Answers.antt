@@ -1,7 +1,9 @@
-use Rattle.std.proofs.Common.{◌≡◌, Err, rules}
+use Rattle.std.proofs.Common.{◌≡◌, Err, rules, subst, sym}
 use Rattle.patterns.specs.Meaning.{placeless}
-use Rattle.patterns.specs.Pattern.{plane_of}
+use Rattle.universe.specs.Cells.{live_cells}
 use Rattle.patterns.specs.PatternFile.{meaning_of}
+use Rattle.rule_text.specs.CountRule.{CountRule}
+use Rattle.engine.specs.Accepted.{IsAccepted}
 use Rattle.engine.proofs.Acceptance.{accepted, range_refused, rule_refused, text_refused}
 use Rattle.engine.proofs.accepted.judge.Goals as goal
 
@@ -15,12 +17,13 @@ returns-in_err-rule-clause-refused c =
     let is : c.from_residual-in_err-rule.result ≡ Err c.in_err-rule.field-0.0 = search rules in
     rw is (rule_refused c.args.bytes.now c.args.options.now (meaning_of c.in_ok-text.text) c.in_ok-text.ensures.accepted c.in_err-rule.field-0.0 c.in_err-rule.ensures.err)
 
-pub returns-in_err-pattern-clause-refused : goal.returns-in_err-pattern-clause-refused
-returns-in_err-pattern-clause-refused c =
-    let is : c.from_residual-in_err-pattern.result ≡ Err (placeless c.in_err-pattern.field-0.0) = search rules in
-    rw is (range_refused c.args.bytes.now c.args.options.now (meaning_of c.in_ok-text.text) c.in_ok-text.ensures.accepted c.in_ok-rule.rule c.in_ok-rule.ensures.ok.0 c.in_err-pattern.field-0.0 c.in_err-pattern.ensures.refused)
+pub returns-in_err-universe-clause-refused : goal.returns-in_err-universe-clause-refused
+returns-in_err-universe-clause-refused c =
+    let is : c.from_residual-in_err-universe.result ≡ Err (placeless c.in_err-universe.field-0.0) = search rules in
+    rw is (range_refused c.args.bytes.now c.args.options.now (meaning_of c.in_ok-text.text) c.in_ok-text.ensures.accepted c.in_ok-rule.rule c.in_ok-rule.ensures.ok.0 c.in_err-universe.field-0.0 c.in_err-universe.ensures.refused)
 
 pub returns-clause-accepted : goal.returns-clause-accepted
 returns-clause-accepted c =
-    accepted c.args.bytes.now c.args.options.now (meaning_of c.in_ok-text.text) c.in_ok-text.ensures.accepted c.in_ok-rule.rule c.in_ok-rule.ensures.ok.0
-    (plane_of c.in_ok-pattern.pattern) c.in_ok-rule.ensures.ok.1 c.in_ok-pattern.ensures.ok
+    subst (λ (r : CountRule). IsAccepted c.args.bytes.now c.args.options.now (meaning_of c.in_ok-text.text) r (live_cells c.in_ok-universe.universe)) (sym c.in_ok-universe.ensures.rule)
+    (accepted c.args.bytes.now c.args.options.now (meaning_of c.in_ok-text.text) c.in_ok-text.ensures.accepted c.in_ok-rule.rule c.in_ok-rule.ensures.ok.0
+    (live_cells c.in_ok-universe.universe) c.in_ok-rule.ensures.ok.1 c.in_ok-universe.ensures.ok)

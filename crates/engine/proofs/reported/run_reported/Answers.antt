@@ -2,31 +2,33 @@ use Rattle.std.proofs.Common.{◌≡◌, ◌+◌, ◌-◌, ◌++◌, [], Err, le
 use Rattle.std.proofs.KnownBytes.{Appends-nil, Appends-trans}
 use Rattle.plane.specs.Plane.{after}
 use Rattle.plane.specs.Square.{IsSame}
-use Rattle.plane.specs.declared.refusal.Refusal.TheVariants.{NoMemory}
 use Rattle.plane.proofs.Same.{same_refl}
-use Rattle.patterns.specs.Pattern.{plane_of}
+use Rattle.universe.specs.Cells.{live_cells, rule_of}
+use Rattle.engine.specs.Generations.{IsRunOn}
+use Rattle.universe.proofs.Later.{empty_later}
 use Rattle.engine.specs.Report.{IsSaid, Shows, shown_until}
-use Rattle.engine.proofs.Later.{after_step, held_later, empty_later}
+use Rattle.engine.proofs.Onward.{held_on, later_on, none_later, then_same}
 use Rattle.engine.proofs.Reports.{first_lines, shown_next, shows_next, shows_none, start_shown, stopped}
 use Rattle.engine.proofs.reported.run_reported.Goals as goal
 
-pub returns-in_err-report_generation-clause-refused : goal.returns-in_err-report_generation-clause-refused
-returns-in_err-report_generation-clause-refused g c =
-    let plane = plane_of c.args.start in
-    let is : c.from_residual.result ≡ Err c.in_err-report_generation.field-0.0 = search rules in
-    rw is (stopped g.W.Sink.taken g.W.Sink.failure_count c.args.report.now c.args.report.now c.report_generation.new.report c.args.rule.now plane c.args.generation c.args.options.now
-    c.in_err-report_generation.field-0.0 0 [] refl (shows_none c.args.rule.now plane c.args.generation) (Appends-nil _) c.in_err-report_generation.ensures.refused)
+pub returns-in_err-universe-clause-refused : goal.returns-in_err-universe-clause-refused
+returns-in_err-universe-clause-refused g c =
+    let rule = rule_of c.args.start in
+    let plane = live_cells c.args.start in
+    let is : c.from_residual.result ≡ Err c.in_err-universe.field-0.0 = search rules in
+    rw is (stopped g.W.Sink.taken g.W.Sink.failure_count c.args.report.now c.args.report.now c.report_generation.new.report rule plane c.args.generation c.args.options.now
+    c.in_err-universe.field-0.0 0 [] refl (shows_none rule plane c.args.generation) (Appends-nil _) c.in_err-universe.ensures.refused)
 
 pub loop-done-init : goal.loop-done-init
 loop-done-init g c =
     let options = c.args.options.now in
-    let rule = c.args.rule.now in
-    let plane = plane_of c.args.start in
-    let said = c.in_ok-report_generation.ensures.written in
+    let rule = rule_of c.args.start in
+    let plane = live_cells c.args.start in
+    let said = c.in_ok-universe.ensures.written in
     let start : c.args.generation ≡ c.args.generation + 0 = omega arith in
     record {
       within = omega arith;
-      cells = same_refl plane;
+      later = none_later c.in_ok-universe.ensures.same;
       unfailed = search rules;
       said = (
         said.0,
@@ -37,57 +39,59 @@ loop-done-init g c =
     }
 
 pub after-requires-clause-held : goal.after-requires-clause-held
-after-requires-clause-held g c = λ n less.
-    held_later c.args.rule.now (plane_of c.args.start) (plane_of c.loop-done.pattern) c.args.options.now.gens c.loop-done.done n c.requires.held c.loop-done.invariant.cells
-    (omega (arith, less, c.loop-done-test.true, c.next_shown-next.ensures.later, c.next_shown-next.ensures.within))
+after-requires-clause-held g c =
+    held_on c.args.options.now.gens c.loop-done.done (c.next_shown-next.result - c.loop-done.done) c.requires.held c.loop-done.invariant.later
+    (omega (arith, c.next_shown-next.ensures.later, c.next_shown-next.ensures.within))
 
 pub after-requires-clause-short : goal.after-requires-clause-short
 after-requires-clause-short g c = λ some.
-    let short = c.requires.short (λ none. some (empty_later c.args.rule.now c.requires.rule.no_birth_on_zero (plane_of c.args.start) (plane_of c.loop-done.pattern) c.loop-done.done none c.loop-done.invariant.cells)) in
+    let short = c.requires.short (λ none. some (empty_later (rule_of c.args.start) c.requires.rule.no_birth_on_zero (live_cells c.args.start) (live_cells c.loop-done.universe) c.loop-done.done none c.loop-done.invariant.later.cells)) in
     omega (arith, short, c.next_shown-next.ensures.within)
 
-pub returns-in_err-pattern-clause-refused : goal.returns-in_err-pattern-clause-refused
-returns-in_err-pattern-clause-refused g c =
+pub returns-in_err-universe-2-clause-refused : goal.returns-in_err-universe-2-clause-refused
+returns-in_err-universe-2-clause-refused g c =
     let options = c.args.options.now in
     let said = c.loop-done.invariant.said in
-    let is : c.from_residual-in_err-pattern.result ≡ Err NoMemory = search rules in
+    let is : c.from_residual-in_err-universe-2.result ≡ Err c.in_err-universe-2.field-0.0 = search rules in
     rw is (inl (
-      refl,
+      c.in_err-universe-2.ensures.refusal,
       (
         length (shown_until options c.loop-done.done),
         said.0,
-        first_lines c.args.rule.now (plane_of c.args.start) c.args.generation options c.loop-done.done said.0 c.loop-done.invariant.within said.1,
+        first_lines (rule_of c.args.start) (live_cells c.args.start) c.args.generation options c.loop-done.done said.0 c.loop-done.invariant.within said.1,
         said.2,
       ),
     ))
 
-pub returns-in_err-report_generation-2-clause-refused : goal.returns-in_err-report_generation-2-clause-refused
-returns-in_err-report_generation-2-clause-refused g c =
+pub returns-in_err-universe-3-clause-refused : goal.returns-in_err-universe-3-clause-refused
+returns-in_err-universe-3-clause-refused g c =
     let options = c.args.options.now in
-    let plane = plane_of c.args.start in
+    let rule = rule_of c.args.start in
+    let plane = live_cells c.args.start in
     let said = c.loop-done.invariant.said in
-    let is : c.from_residual-in_err-report_generation-2.result ≡ Err c.in_err-report_generation-2.field-0.0 = search rules in
-    rw is (stopped g.W.Sink.taken g.W.Sink.failure_count c.args.report.now c.loop-done.report c.report_generation-in-loop-done.new.report c.args.rule.now plane c.args.generation options
-    c.in_err-report_generation-2.field-0.0 (length (shown_until options c.loop-done.done)) said.0 c.loop-done.invariant.unfailed
-    (first_lines c.args.rule.now plane c.args.generation options c.loop-done.done said.0 c.loop-done.invariant.within said.1) said.2 c.in_err-report_generation-2.ensures.refused)
+    let is : c.from_residual-in_err-universe-3.result ≡ Err c.in_err-universe-3.field-0.0 = search rules in
+    rw is (stopped g.W.Sink.taken g.W.Sink.failure_count c.args.report.now c.loop-done.report c.report_generation-in-loop-done.new.report rule plane c.args.generation options
+    c.in_err-universe-3.field-0.0 (length (shown_until options c.loop-done.done)) said.0 c.loop-done.invariant.unfailed
+    (first_lines rule plane c.args.generation options c.loop-done.done said.0 c.loop-done.invariant.within said.1) said.2 c.in_err-universe-3.ensures.refused)
 
 pub loop-done-preserved : goal.loop-done-preserved
 loop-done-preserved g c =
     let options = c.args.options.now in
-    let rule = c.args.rule.now in
-    let plane = plane_of c.args.start in
+    let rule = rule_of c.args.start in
+    let plane = live_cells c.args.start in
     let done = c.loop-done.done in
     let next = c.next_shown-next.result in
     let said = c.loop-done.invariant.said in
-    let line = c.in_ok-report_generation-2.ensures.written in
+    let line = c.in_ok-universe-3.ensures.written in
+    let more = c.in_ok-universe-2.ensures in
     let sum : done + (next - done) ≡ next = omega (arith, c.next_shown-next.ensures.later) in
-    let cells = subst (λ n. IsSame (plane_of c.in_ok-pattern.pattern) (after rule plane n)) sum
-    (after_step rule plane (plane_of c.loop-done.pattern) (plane_of c.in_ok-pattern.pattern) done (next - done) c.loop-done.invariant.cells c.in_ok-pattern.ensures.ok) in
-    let shows = shows_next rule plane c.args.generation options (shown_until options done) next (plane_of c.in_ok-pattern.pattern) said.0 line.0 said.1 cells line.1 c.next_shown-next.ensures.shown in
+    let step : IsRunOn c.loop-done.universe (next - done) c.in_ok-universe-2.universe = record { cells = more.ok; rule = more.rule } in
+    let later = subst (λ n. IsRunOn c.args.start n c.in_ok-universe-2.universe) sum (later_on done (next - done) c.loop-done.invariant.later step) in
+    let shows = shows_next rule plane c.args.generation options (shown_until options done) next (live_cells c.in_ok-universe-2.universe) said.0 line.0 said.1 later.cells line.1 c.next_shown-next.ensures.shown in
     let numbers = shown_next options done next c.next_shown-next.ensures.later c.next_shown-next.ensures.between in
     record {
       within = c.next_shown-next.ensures.within;
-      cells = cells;
+      later = then_same next later c.in_ok-universe-3.ensures.same;
       unfailed = search rules;
       said = (
         said.0 ++ line.0,
@@ -99,13 +103,13 @@ loop-done-preserved g c =
 pub returns-clause-cells : goal.returns-clause-cells
 returns-clause-cells g c =
     let all : c.loop-done.done ≡ c.args.options.now.gens = omega (arith, c.loop-done-test.false, c.loop-done.invariant.within) in
-    subst (λ n. IsSame (plane_of c.loop-done.pattern) (after c.args.rule.now (plane_of c.args.start) n)) all c.loop-done.invariant.cells
+    subst (λ n. IsSame (live_cells c.loop-done.universe) (after (rule_of c.args.start) (live_cells c.args.start) n)) all c.loop-done.invariant.later.cells
 
 pub returns-clause-reported : goal.returns-clause-reported
 returns-clause-reported g c =
     let said = c.loop-done.invariant.said in
     let all : c.loop-done.done ≡ c.args.options.now.gens = omega (arith, c.loop-done-test.false, c.loop-done.invariant.within) in (
       said.0,
-      subst (λ n. Shows c.args.rule.now (plane_of c.args.start) c.args.generation (shown_until c.args.options.now n) said.0) all said.1,
+      subst (λ n. Shows (rule_of c.args.start) (live_cells c.args.start) c.args.generation (shown_until c.args.options.now n) said.0) all said.1,
       said.2,
     )

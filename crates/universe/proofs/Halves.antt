@@ -1,0 +1,19 @@
+-- A step in two halves.
+use Rattle.std.proofs.Common.{◌≡◌, ◌≢◌, ℕ, zero, suc, ◌+◌, ◌-◌, ◌^◌, refl, ◌∙◌, ap, arith}
+use Rattle.std.proofs.Math.Nat.{pow-suc}
+use Rattle.std.specs.Prelude.{Result, Ok, Err, IfErr, IfOk}
+
+pub ok_then : {T E : Type 0} (P Q : T → Type 0) (r : Result T E) → ((x : T) → P x → Q x) → IfOk r P → IfOk r Q
+ok_then P Q (Ok x) f h = f x h
+ok_then P Q (Err e) f h = tt
+
+pub err_then : {T E : Type 0} (P Q : E → Type 0) (r : Result T E) → ((x : E) → P x → Q x) → IfErr r P → IfErr r Q
+err_then P Q (Ok x) f h = tt
+err_then P Q (Err e) f h = f e h
+
+pub two_halves : (exponent : ℕ) → exponent ≢ 0 → 2 ^ (exponent - 1) + 2 ^ (exponent - 1) ≡ 2 ^ exponent
+two_halves zero some = absurd (some refl)
+two_halves (suc e) some =
+    let down : suc e - 1 ≡ e = omega arith in
+    let double = pow-suc 2 e in
+    ap (λ n. 2 ^ n + 2 ^ n) down ∙ omega (arith, double)

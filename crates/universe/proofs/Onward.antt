@@ -1,0 +1,135 @@
+-- Universes some generations on, one after the other.
+use Rattle.std.proofs.Common.{◌≡◌, ◌≢◌, ℕ, ◌+◌, ◌-◌, ◌^◌, ◌<◌, ◌≤◌, sym, ◌∙◌, refl, subst, arith}
+use Rattle.std.specs.Prelude.{Result, Ok, Err, IfOk}
+use Rattle.plane.specs.declared.refusal.Refusal.{Refusal}
+use Rattle.rule_text.specs.CountRule.{CountRule}
+use Rattle.plane.specs.Centred.{Holds}
+use Rattle.plane.specs.Plane.{Plane, after}
+use Rattle.plane.specs.Square.{IsSame}
+use Rattle.plane.proofs.Parts.{after_same}
+use Rattle.plane.proofs.Same.{same_refl, same_sym, same_trans}
+use Rattle.universe.specs.Cells.{exponent_of, live_cells, rule_of}
+use Rattle.universe.specs.Held.{StaysHeld}
+use Rattle.universe.specs.Runs.{IsAttempt, IsExhausted, IsLater, IsSameUniverse, IsStuck, IsTurn, IsTurned, MayStep}
+use Rattle.universe.specs.declared.attempts.Attempt.{Attempt}
+use Rattle.universe.specs.declared.attempts.Attempt.TheVariants.{Done, Full}
+use Rattle.universe.specs.declared.universe.Universe.{Universe}
+use Rattle.universe.proofs.Halves.{two_halves}
+use Rattle.universe.proofs.Later.{after_step, held_later}
+use Rattle.universe.proofs.Rounds.{held_same}
+
+pub same_universe : (universe : Universe) → IsSameUniverse universe universe
+same_universe universe = record { cells = same_refl (live_cells universe); rule = refl; limit = refl }
+
+pub still_same : {first second third : Universe} → IsSameUniverse first second → IsSameUniverse second third → IsSameUniverse first third
+still_same before now = record { cells = same_trans now.cells before.cells; rule = now.rule ∙ before.rule; limit = now.limit ∙ before.limit }
+
+-- the same cells are those after no generation
+pub none_later : {first second : Universe} → IsSameUniverse first second → IsLater first 0 second
+none_later same = record { cells = same.cells; rule = same.rule; limit = same.limit }
+
+pub later_on : {first second third : Universe} → (done more : ℕ) → IsLater first done second → IsLater second more third → IsLater first (done + more) third
+later_on {first} {second} {third} done more before now = record {
+  cells = after_step (rule_of first) (live_cells first) (live_cells second) (live_cells third) done more before.cells
+      (subst (λ (r : CountRule). IsSame (live_cells third) (after r (live_cells second) more)) before.rule now.cells);
+  rule = now.rule ∙ before.rule;
+  limit = now.limit ∙ before.limit;
+}
+
+pub same_then : {first second third : Universe} → (generations : ℕ) → IsSameUniverse first second → IsLater second generations third → IsLater first generations third
+same_then {first} {second} {third} generations same now = record {
+  cells = same_trans (subst (λ (r : CountRule). IsSame (live_cells third) (after r (live_cells second) generations)) same.rule now.cells)
+      (after_same (rule_of first) (live_cells second) (live_cells first) generations same.cells);
+  rule = now.rule ∙ same.rule;
+  limit = now.limit ∙ same.limit;
+}
+
+-- so many generations more stay in the range
+pub held_on : {first second : Universe} → (generations done more : ℕ) → StaysHeld (rule_of first) (live_cells first) generations → IsLater first done second → done + more ≤ generations →
+    StaysHeld (rule_of second) (live_cells second) more
+held_on {first} {second} generations done more held before within = λ n less.
+    subst (λ (r : CountRule). Holds 63 (after r (live_cells second) n)) (sym before.rule)
+    (held_later (rule_of first) (live_cells first) (live_cells second) generations done n held before.cells (omega (arith, within, less)))
+
+-- both halves are the step
+pub two_steps : {first second third : Universe} → (exponent : ℕ) → exponent ≢ 0 → IsLater first (2 ^ (exponent - 1)) second → IsLater second (2 ^ (exponent - 1)) third → IsLater first (2 ^ exponent) third
+two_steps {first} {second} {third} exponent some one two =
+    subst (λ n. IsLater first n third) (two_halves exponent some) (later_on (2 ^ (exponent - 1)) (2 ^ (exponent - 1)) one two)
+
+-- ---- at the same table, or at another of its exponent
+
+pub stays_turned : (universe : Universe) → IsTurned (exponent_of universe) universe universe
+stays_turned universe = record { same = same_universe universe; exponent = refl }
+
+pub turned_on : {first second third : Universe} {wanted : ℕ} → IsTurned wanted first second → IsTurned wanted second third → IsTurned wanted first third
+turned_on before now = record { same = still_same before.same now.same; exponent = now.exponent }
+
+-- so it stays, at the exponent that the table had
+pub stay_on : {first second third : Universe} → IsTurned (exponent_of first) first second → IsTurned (exponent_of second) second third → IsTurned (exponent_of first) first third
+stay_on before now = record { same = still_same before.same now.same; exponent = now.exponent ∙ before.exponent }
+
+pub held_again : (rule : CountRule) (plane other : Plane) (generations : ℕ) → IsSame other plane → Holds 63 (after rule plane generations) → Holds 63 (after rule other generations)
+held_again rule plane other generations same held =
+    held_same 63 (after rule plane generations) (after rule other generations) (same_sym (after_same rule other plane generations same)) held
+
+-- a step that may be taken may be begun again
+pub step_again : {first second : Universe} → MayStep first → IsTurned (exponent_of first) first second → MayStep second
+step_again {first} {second} may turned = record {
+  exponent = subst (λ (e : ℕ). e ≤ 62) (sym turned.exponent) may.exponent;
+  held = subst (λ (e : ℕ). Holds 63 (after (rule_of second) (live_cells second) (2 ^ e))) (sym turned.exponent)
+      (subst (λ (r : CountRule). Holds 63 (after r (live_cells second) (2 ^ exponent_of first))) (sym turned.same.rule)
+      (held_again (rule_of first) (live_cells first) (live_cells second) (2 ^ exponent_of first) turned.same.cells may.held));
+}
+
+-- a step at the table of its exponent may be taken
+pub may_step : {first second : Universe} → (exponent : ℕ) → exponent ≤ 62 → StaysHeld (rule_of first) (live_cells first) (2 ^ exponent) → IsTurned exponent first second → MayStep second
+may_step {first} {second} exponent low held turned =
+    let steps = 2 ^ exponent in
+    let whole : 0 + steps ≤ steps = omega arith in
+    let last : steps ≤ steps = omega arith in
+    record {
+      exponent = subst (λ (e : ℕ). e ≤ 62) (sym turned.exponent) low;
+      held = subst (λ (e : ℕ). Holds 63 (after (rule_of second) (live_cells second) (2 ^ e))) (sym turned.exponent)
+          (held_on {first = first} {second = second} steps 0 steps held (none_later turned.same) whole steps last);
+    }
+
+-- and is the step
+pub turned_step : {first second third : Universe} → (exponent : ℕ) → IsTurned exponent first second → IsLater second (2 ^ exponent_of second) third → IsLater first (2 ^ exponent) third
+turned_step {first} {second} {third} exponent turned later =
+    same_then (2 ^ exponent) turned.same (subst (λ (e : ℕ). IsLater second (2 ^ e) third) turned.exponent later)
+
+-- what comes of a step that was begun again comes of the step
+pub attempt_again : {first second : Universe} → (attempt : Attempt) → IsTurned (exponent_of first) first second → IsAttempt second attempt → IsAttempt first attempt
+attempt_again {first} {second} (Done later) turned is =
+    same_then (2 ^ exponent_of first) turned.same (subst (λ (e : ℕ). IsLater second (2 ^ e) later) turned.exponent is)
+attempt_again {first} {second} (Full same) turned is = turned_on turned (subst (λ (e : ℕ). IsTurned e second same) turned.exponent is)
+
+-- what comes of a turn that is tried again comes of the turn
+pub turn_again : {first second : Universe} → (exponent wanted : ℕ) (attempt : Attempt) → IsSameUniverse first second → exponent ≡ wanted → IsTurn exponent second attempt → IsTurn wanted first attempt
+turn_again exponent wanted (Done turned) same is turn = record { same = still_same same turn.same; exponent = turn.exponent ∙ is }
+turn_again exponent wanted (Full still) same is turn = still_same same turn
+
+-- who is stuck later is stuck
+pub stuck_on : {first second : Universe} → (generations done more : ℕ) → IsLater first done second → done + more ≤ generations → IsStuck second more → IsStuck first generations
+stuck_on {first} {second} generations done more later within stuck = record {
+  done = done + stuck.done;
+  before = let before = stuck.before in omega (arith, before, within);
+  there = stuck.there;
+  later = later_on {first = first} {second = second} {third = stuck.there} done stuck.done later stuck.later;
+  one = stuck.one;
+  exhausted = stuck.exhausted;
+}
+
+pub stuck_at_once : {first second : Universe} → (generations : ℕ) → 0 < generations → IsSameUniverse first second → exponent_of second ≡ 0 → IsExhausted second → IsStuck first generations
+stuck_at_once {first} {second} generations some same one exhausted = record {
+  done = 0;
+  before = some;
+  there = second;
+  later = none_later same;
+  one = one;
+  exhausted = exhausted;
+}
+
+pub turned_again : {first second : Universe} → (exponent wanted : ℕ) (r : Result Attempt Refusal) → IfOk r (IsTurn exponent second) → IsSameUniverse first second → exponent ≡ wanted → IfOk r (IsTurn wanted first)
+turned_again exponent wanted (Ok attempt) turn same is = turn_again exponent wanted attempt same is turn
+turned_again exponent wanted (Err refusal) turn same is = tt

@@ -1,0 +1,78 @@
+use Rattle.std.proofs.Common.{◌≡◌, ◌+◌, ◌-◌, ◌^◌, ◌≤◌, ◌∙◌, subst, arith, rules}
+use Rattle.std.specs.Prelude.{Err}
+use Rattle.std.proofs.lemmas.Nat.{pow_pos}
+use Rattle.plane.specs.declared.refusal.Refusal.TheVariants.{NodesFull}
+use Rattle.universe.specs.Runs.{IsAttempt, IsFullAtLimit, IsLater, IsSameUniverse, IsStuck}
+use Rattle.universe.specs.declared.attempts.Attempt.{Attempt}
+use Rattle.universe.proofs.Halves.{err_then, ok_then, two_halves}
+use Rattle.universe.proofs.Onward.{held_on, may_step, none_later, same_then, still_same, stuck_at_once, stuck_on, turned_step, two_steps}
+use Rattle.universe.proofs.universe.Universe.+step.Goals as goal
+
+pub attempt-requires : goal.attempt-requires
+attempt-requires t c = may_step c.args.exponent c.requires.exponent c.requires.held c.in_ok-turned.ensures.ok
+
+pub returns-in-Done-clause-ok : goal.returns-in-Done-clause-ok
+returns-in-Done-clause-ok t c =
+    let made = subst (λ (a : Attempt). IsAttempt c.in_ok-turned.field-0 a) c.in-Done.is c.in_ok-later.ensures.ok in
+    turned_step c.args.exponent c.in_ok-turned.ensures.ok made
+
+pub step-requires : goal.step-requires
+step-requires t c =
+    let full = subst (λ (a : Attempt). IsAttempt c.in_ok-turned.field-0 a) c.in-Full.is c.in_ok-later.ensures.ok in
+    let same : IsSameUniverse c.args.self c.in-Full.start = still_same c.in_ok-turned.ensures.ok.same full.same in
+    let some = c.if-exponent-eq0.false in
+    let whole = two_halves c.args.exponent some in
+    let less = c.decreases in
+    let low = c.requires.exponent in
+    (grind (arith, less, some), (omega (arith, low), held_on (2 ^ c.args.exponent) 0 (2 ^ (c.args.exponent - 1)) c.requires.held (none_later same) (omega (arith, whole))))
+
+pub step-requires-2 : goal.step-requires-2
+step-requires-2 t c =
+    let full = subst (λ (a : Attempt). IsAttempt c.in_ok-turned.field-0 a) c.in-Full.is c.in_ok-later.ensures.ok in
+    let same : IsSameUniverse c.args.self c.in-Full.start = still_same c.in_ok-turned.ensures.ok.same full.same in
+    let half = 2 ^ (c.args.exponent - 1) in
+    let first : IsLater c.args.self half c.in_ok-middle.middle = same_then half same c.in_ok-middle.ensures.ok in
+    let some = c.if-exponent-eq0.false in
+    let whole = two_halves c.args.exponent some in
+    let less = c.decreases in
+    let low = c.requires.exponent in
+    (grind (arith, less, some), (omega (arith, low), held_on (2 ^ c.args.exponent) half half c.requires.held first (omega (arith, whole))))
+
+pub returns-clause-ok : goal.returns-clause-ok
+returns-clause-ok t c =
+    let full = subst (λ (a : Attempt). IsAttempt c.in_ok-turned.field-0 a) c.in-Full.is c.in_ok-later.ensures.ok in
+    let same : IsSameUniverse c.args.self c.in-Full.start = still_same c.in_ok-turned.ensures.ok.same full.same in
+    let half = 2 ^ (c.args.exponent - 1) in
+    let first : IsLater c.args.self half c.in_ok-middle.middle = same_then half same c.in_ok-middle.ensures.ok in
+    ok_then (IsLater c.in_ok-middle.middle half) (IsLater c.args.self (2 ^ c.args.exponent)) c.step-2.result
+    (λ later second. two_steps c.args.exponent c.if-exponent-eq0.false first second) c.step-2.ensures.ok
+
+pub returns-then-exponent-eq0-clause-full : goal.returns-then-exponent-eq0-clause-full
+returns-then-exponent-eq0-clause-full t c =
+    let turned = c.in_ok-turned.ensures.ok in
+    let full = subst (λ (a : Attempt). IsAttempt c.in_ok-turned.field-0 a) c.in-Full.is c.in_ok-later.ensures.ok in
+    let exhausted = subst IsFullAtLimit c.in-Full.is c.in_ok-later.ensures.full in
+    λ refusal. stuck_at_once (2 ^ c.args.exponent) (pow_pos c.args.exponent) (still_same turned.same full.same) (full.exponent ∙ turned.exponent ∙ c.if-exponent-eq0.true) exhausted
+
+pub returns-in_err-middle-clause-full : goal.returns-in_err-middle-clause-full
+returns-in_err-middle-clause-full t c =
+    let full = subst (λ (a : Attempt). IsAttempt c.in_ok-turned.field-0 a) c.in-Full.is c.in_ok-later.ensures.ok in
+    let same : IsSameUniverse c.args.self c.in-Full.start = still_same c.in_ok-turned.ensures.ok.same full.same in
+    let steps = 2 ^ c.args.exponent in
+    let half = 2 ^ (c.args.exponent - 1) in
+    let whole = two_halves c.args.exponent c.if-exponent-eq0.false in
+    let within : 0 + half ≤ steps = omega (arith, whole) in
+    let is : c.from_residual-in_err-middle.result ≡ Err c.in_err-middle.field-0.0 = search rules in
+    rw is (λ refusal. stuck_on steps 0 half (none_later same) within (c.in_err-middle.ensures.full refusal))
+
+pub returns-clause-full : goal.returns-clause-full
+returns-clause-full t c =
+    let full = subst (λ (a : Attempt). IsAttempt c.in_ok-turned.field-0 a) c.in-Full.is c.in_ok-later.ensures.ok in
+    let same : IsSameUniverse c.args.self c.in-Full.start = still_same c.in_ok-turned.ensures.ok.same full.same in
+    let steps = 2 ^ c.args.exponent in
+    let half = 2 ^ (c.args.exponent - 1) in
+    let whole = two_halves c.args.exponent c.if-exponent-eq0.false in
+    let within : half + half ≤ steps = omega (arith, whole) in
+    let first : IsLater c.args.self half c.in_ok-middle.middle = same_then half same c.in_ok-middle.ensures.ok in
+    err_then (λ refusal. refusal ≡ NodesFull → IsStuck c.in_ok-middle.middle half) (λ refusal. refusal ≡ NodesFull → IsStuck c.args.self steps) c.step-2.result
+    (λ refusal stuck full. stuck_on steps half half first within (stuck full)) c.step-2.ensures.full

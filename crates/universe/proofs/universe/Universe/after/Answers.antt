@@ -1,0 +1,70 @@
+use Rattle.std.proofs.Common.{◌≡◌, ◌^◌, take, get_or, refl, sym, ◌∙◌, ap, subst, arith, rules}
+use Rattle.std.specs.Prelude.{Err, sum_by}
+use Rattle.std.proofs.lemmas.Bool.{false≢true}
+use Rattle.std.proofs.lemmas.List.{take_all}
+use Rattle.std.proofs.lemmas.List.Sums.{sum_by_more}
+use Rattle.rule_text.specs.CountRule.{IsRule}
+use Rattle.plane.specs.Square.{IsSame, empty}
+use Rattle.table_core.specs.declared.shape.Shape.{Shape}
+use Rattle.universe.specs.Cells.{live_cells, rule_of}
+use Rattle.universe.specs.Runs.{IsLater}
+use Rattle.universe.proofs.Later.{empty_stays, low_exponent, next_within}
+use Rattle.universe.proofs.Onward.{held_on, later_on, none_later, same_universe, stuck_on}
+use Rattle.universe.proofs.universe.Universe.after.Goals as goal
+
+pub returns-then-is_empty-clause-ok : goal.returns-then-is_empty-clause-ok
+returns-then-is_empty-clause-ok c =
+    let rule : IsRule (rule_of c.args.self) = search rules in
+    empty_stays (rule_of c.args.self) rule.no_birth_on_zero (live_cells c.args.self) c.args.generations (c.if-is_empty.ensures.0 refl)
+
+pub steps-init : goal.steps-init
+steps-init c = none_later (same_universe c.args.self)
+
+pub step-requires-clause-exponent : goal.step-requires-clause-exponent
+step-requires-clause-exponent c =
+    let exponents = c.as_slice-exponent-items.result.now in
+    let i = c.steps.exponent-index in
+    let sum = ap (sum_by (λ exponent. 2 ^ exponent)) c.as_slice-exponent-items.ensures.value ∙ c.plan-steps.ensures.sum in
+    let some : IsSame (live_cells c.args.self) empty → ⊥ = λ none. false≢true (c.if-is_empty.ensures.1 none) in
+    low_exponent (get_or exponents i 0) (sum_by (λ exponent. 2 ^ exponent) (take i exponents)) c.args.generations
+    (next_within exponents c.args.generations i sum c.steps-test.true) (c.requires.short some)
+
+pub step-requires-clause-held : goal.step-requires-clause-held
+step-requires-clause-held c =
+    let exponents = c.as_slice-exponent-items.result.now in
+    let i = c.steps.exponent-index in
+    let sum = ap (sum_by (λ exponent. 2 ^ exponent)) c.as_slice-exponent-items.ensures.value ∙ c.plan-steps.ensures.sum in
+    held_on c.args.generations (sum_by (λ exponent. 2 ^ exponent) (take i exponents)) (2 ^ get_or exponents i 0) c.requires.held c.steps.invariant
+    (next_within exponents c.args.generations i sum c.steps-test.true)
+
+pub steps-preserved : goal.steps-preserved
+steps-preserved c =
+    let exponents = c.as_slice-exponent-items.result.now in
+    let i = c.steps.exponent-index in
+    subst (λ n. IsLater c.args.self n c.in_ok-universe.universe) (sym (sum_by_more (λ exponent. 2 ^ exponent) exponents i 0 c.steps-test.true))
+    (later_on (sum_by (λ exponent. 2 ^ exponent) (take i exponents)) (2 ^ get_or exponents i 0) c.steps.invariant c.in_ok-universe.ensures.ok)
+
+pub returns-clause-ok : goal.returns-clause-ok
+returns-clause-ok c =
+    let exponents = c.as_slice-exponent-items.result.now in
+    let i = c.steps.exponent-index in
+    let sum = ap (sum_by (λ exponent. 2 ^ exponent)) c.as_slice-exponent-items.ensures.value ∙ c.plan-steps.ensures.sum in
+    let all = take_all i exponents (omega (arith, c.steps-test.false)) in
+    (subst (λ n. IsLater c.args.self n c.steps.universe) (ap (sum_by (λ exponent. 2 ^ exponent)) all ∙ sum) c.steps.invariant).cells
+
+pub returns-clause-rule : goal.returns-clause-rule
+returns-clause-rule c = c.steps.invariant.rule
+
+pub returns-clause-limit : goal.returns-clause-limit
+returns-clause-limit c = ap (λ (s : Shape). 2 ^ s.bits) c.steps.invariant.limit
+
+pub returns-in_err-universe-clause-full : goal.returns-in_err-universe-clause-full
+returns-in_err-universe-clause-full c =
+    let exponents = c.as_slice-exponent-items.result.now in
+    let i = c.steps.exponent-index in
+    let done = sum_by (λ exponent. 2 ^ exponent) (take i exponents) in
+    let steps = 2 ^ get_or exponents i 0 in
+    let sum = ap (sum_by (λ exponent. 2 ^ exponent)) c.as_slice-exponent-items.ensures.value ∙ c.plan-steps.ensures.sum in
+    let within = next_within exponents c.args.generations i sum c.steps-test.true in
+    let is : c.from_residual.result ≡ Err c.in_err-universe.field-0.0 = search rules in
+    rw is (λ refusal. stuck_on c.args.generations done steps c.steps.invariant within (c.in_err-universe.ensures.full refusal))

@@ -1,0 +1,15 @@
+use Rattle.std.proofs.Common.{subst}
+use Rattle.universe.specs.Runs.{IsAttempt}
+use Rattle.universe.specs.declared.attempts.Attempt.{Attempt}
+use Rattle.universe.proofs.Halves.{ok_then}
+use Rattle.universe.proofs.Onward.{attempt_again, step_again}
+use Rattle.universe.proofs.universe.Universe.tried_here.Goals as goal
+
+pub tried_swept-requires-clause-step : goal.tried_swept-requires-clause-step
+tried_swept-requires-clause-step c =
+    step_again c.requires (subst (λ (a : Attempt). IsAttempt c.args.self a) c.in-Full.is c.tried.ensures.tried)
+
+pub returns-clause-ok : goal.returns-clause-ok
+returns-clause-ok c =
+    let turned = subst (λ (a : Attempt). IsAttempt c.args.self a) c.in-Full.is c.tried.ensures.tried in
+    ok_then (IsAttempt c.in-Full.start) (IsAttempt c.args.self) c.tried_swept.result (λ attempt is. attempt_again attempt turned is) c.tried_swept.ensures.ok

@@ -1,0 +1,34 @@
+-- What comes of a step of the cells at a table, and of copying them into another.
+use Rattle.std.specs.Prelude.{◌≡◌, ◌≤◌, ◌^◌, IsTrue}
+use Rattle.plane.specs.Plane.{after}
+use Rattle.plane.specs.Square.{IsSame}
+use Rattle.node_table.specs.Stills.{key_of}
+use Rattle.universe.specs.Cells.{cells_of, resting_cells, still_of}
+use Rattle.universe.specs.declared.resting.Resting.{Resting}
+use Rattle.universe.specs.declared.scenes.Scene.{Scene}
+use Rattle.universe.specs.declared.scenes.Moved.{Moved}
+use Rattle.universe.specs.declared.scenes.Moved.TheVariants.{There, Full}
+use Rattle.universe.specs.declared.tables.OpenTable.{OpenTable}
+use Rattle.universe.specs.Tables.{known_at}
+
+-- the cells one step later, at the same table
+pub record IsNext (old new : Scene) : Type 0 where
+  pub cells : IsSame (cells_of new) (after old.table.key.rule (cells_of old) (2 ^ old.table.key.exponent))
+  pub key : new.table.key ≡ old.table.key
+
+-- the same cells, at the same table, which is full
+pub record IsFullHere (old new : Scene) : Type 0 where
+  pub cells : IsSame (cells_of new) (cells_of old)
+  pub key : new.table.key ≡ old.table.key
+  pub full : IsTrue (known_at new.table).is_full
+
+-- the same cells, at the other table, beside the one where they were; or where they were
+abbrev pub IsMoved : Scene → OpenTable → Moved → Type 0
+IsMoved old other (There left here) = IsSame (cells_of here) (cells_of old) × (here.table.key ≡ other.key) × (left.key ≡ old.table.key)
+IsMoved old other (Full here there) = IsSame (cells_of here) (cells_of old) × (here.table.key ≡ old.table.key) × (there.key ≡ other.key)
+
+-- the same cells at rest, under the same rule, in words of no more pair slots
+pub record IsShrunk (old new : Resting) : Type 0 where
+  pub cells : IsSame (resting_cells new) (resting_cells old)
+  pub rule : (key_of (still_of new)).rule ≡ (key_of (still_of old)).rule
+  pub pairs : 2 ^ (key_of (still_of new)).shape.bits ≤ 2 ^ (key_of (still_of old)).shape.bits

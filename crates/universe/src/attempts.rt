@@ -1,0 +1,164 @@
+//! A step tried at one table after the other.
+
+ghost use Rattle.std.specs.Prelude.{◌≡◌, ◌≤◌, ◌+◌, ◌^◌, IfOk, IfSome, IsOkUnless};
+ghost use Rattle.node_table.specs.Stills.{key_of};
+ghost use Rattle.plane.specs.Square.{IsSame};
+ghost use Rattle.universe.specs.Sums.{pair_sum};
+
+use crate::resting::Resting;
+use crate::sizes::{larger, pair_count};
+use crate::tables::OpenTable;
+use crate::universe::Universe;
+use plane::Refusal;
+use std::alloc::Global;
+use table_core::Shape;
+
+// What came of what a table may be too full for: the universe behind it, or, where the table was
+// full, the one before it.
+#[derive(Drop)]
+pub(crate) enum Attempt {
+    Done(Universe),
+    Full(Universe),
+}
+
+impl Universe {
+    ghost use Rattle.universe.specs.Cells.{limit_of};
+    ghost use Rattle.universe.specs.Runs.{IsAttempt, IsFullAtLimit, IsFullInPlace, MayStep};
+
+    // Takes one step of the table that is here. Where it is full the step is begun again: in one of its
+    // size with the cells alone, if earlier steps have filled it; in larger ones with all that is known
+    // here, until it is the largest; and then in one with the cells alone.
+    pub(crate) fn attempt(self, alloc: Global) -> Result<Attempt, Refusal>
+        requires { MayStep self }
+        ensures ok { IfOk result (IsAttempt self) }
+        ensures full { IfOk result IsFullAtLimit }
+        ensures memory { IsOkUnless result Refusal.NoMemory }
+    {
+        let most = self.limit;
+        let mut shape = self.here.table.key.shape;
+        let mut start = match self.tried_here(alloc)? {
+            Attempt::Full(start) => start,
+            done => return Ok(done),
+        };
+        'sizes: while let Some(next) = larger(shape, most) {
+            start = match start.tried_larger(alloc, next)? {
+                Attempt::Full(start) => start,
+                done => return Ok(done),
+            };
+            shape = next;
+        }
+        start.tried_swept(alloc, most)
+    }
+
+    // Takes one step of the table that is here, or, where earlier steps have filled it, in one of its size
+    // with the cells alone.
+    fn tried_here(self, alloc: Global) -> Result<Attempt, Refusal>
+        requires { MayStep self }
+        ensures ok { IfOk result (IsAttempt self) }
+        ensures memory { IsOkUnless result Refusal.NoMemory }
+    {
+        let start = match self.tried() {
+            Attempt::Full(start) => start,
+            done => return Ok(done),
+        };
+        if !start.here.table.is_worn() {
+            return Ok(Attempt::Full(start));
+        }
+        let shape = start.here.table.key.shape;
+        start.tried_swept(alloc, shape)
+    }
+
+    // Takes one step of the table that is here.
+    fn tried(self) -> Attempt
+        requires { MayStep self }
+        ensures tried { IsAttempt self result }
+        ensures full { IsFullInPlace self result }
+    {
+        let Universe {
+            here,
+            others,
+            limit,
+        } = self;
+        match here.step() {
+            Ok(here) => Attempt::Done(Universe {
+                here,
+                others,
+                limit,
+            }),
+            Err(here) => Attempt::Full(Universe {
+                here,
+                others,
+                limit,
+            }),
+        }
+    }
+
+    // Takes one step in a table of this shape with all that is known here, if there is room for it.
+    fn tried_larger(self, alloc: Global, shape: Shape) -> Result<Attempt, Refusal>
+        requires step { MayStep self }
+        requires shape { shape.bits ≤ self.limit.bits }
+        ensures ok { IfOk result (IsAttempt self) }
+        ensures memory { IsOkUnless result Refusal.NoMemory }
+    {
+        let Universe {
+            here,
+            others,
+            limit,
+        } = self.with_room(pair_count(shape));
+        let start = here.rest();
+        match start.enlarged(alloc, shape)? {
+            Some(fresh) => {
+                let here = fresh.resume(alloc)?;
+                Ok(Universe {
+                    here,
+                    others,
+                    limit,
+                }
+                .tried())
+            }
+            None => {
+                let here = start.resume(alloc)?;
+                Ok(Attempt::Full(Universe {
+                    here,
+                    others,
+                    limit,
+                }))
+            }
+        }
+    }
+
+    // Takes one step in a table of this shape with the cells alone, if there is room for them.
+    fn tried_swept(self, alloc: Global, shape: Shape) -> Result<Attempt, Refusal>
+        requires step { MayStep self }
+        requires shape { 2 ^ shape.bits ≤ limit_of self }
+        ensures ok { IfOk result (IsAttempt self) }
+        ensures full { 2 ^ shape.bits ≡ limit_of self → IfOk result IsFullAtLimit }
+        ensures memory { IsOkUnless result Refusal.NoMemory }
+    {
+        let Universe {
+            here,
+            others,
+            limit,
+        } = self.with_room(pair_count(shape));
+        let start = here.rest();
+        match start.swept(alloc, shape)? {
+            Some(fresh) => {
+                let here = fresh.resume(alloc)?;
+                Ok(Universe {
+                    here,
+                    others,
+                    limit,
+                }
+                .tried())
+            }
+            None => {
+                let here = start.resume(alloc)?;
+                Ok(Attempt::Full(Universe {
+                    here,
+                    others,
+                    limit,
+                }))
+            }
+        }
+    }
+}

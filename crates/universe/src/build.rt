@@ -1,0 +1,26 @@
+//! What a universe is built of.
+
+ghost use Rattle.std.specs.Prelude.{◌≡◌, ◌⊎◌, ◌≤◌, IfErr, IfOk};
+ghost use Rattle.plane.specs.Plane.{Plane};
+ghost use Rattle.squares.specs.Book.{Keeps, MayRefuse};
+ghost use Rattle.squares.specs.Rounds.{IsRound};
+
+use plane::Refusal;
+use squares::{Sq, Squares};
+use std::alloc::Global;
+
+/// Live cells in the range, of which squares can be made in any book, more than once.
+pub trait Build {
+    // The live cells.
+    ghost live: { Self → Plane };
+    // What is asked of what they are made of.
+    ghost is_lawful: { Self → Type 0 };
+
+    /// The square of the live cells round (0,0), at the smallest level of at least 4.
+    fn build<S: Squares>(&self, alloc: Global, book: &mut S) -> Result<Sq, Refusal>
+        requires { is_lawful self.now }
+        ensures ok { IfOk result (IsRound (S.book book.new) (live self.now)) }
+        ensures level { IfOk result (λ root. root.level ≤ 63) }
+        ensures refusal { IfErr result (λ refusal. (refusal ≡ Refusal.NoMemory) ⊎ MayRefuse (S.book book.new) refusal) }
+        ensures keeps { Keeps (S.book book.old) (S.book book.new) };
+}

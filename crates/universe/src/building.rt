@@ -1,0 +1,81 @@
+//! Universes built of live cells, at the smallest size of the table that has room for them.
+
+ghost use Rattle.std.specs.Prelude.{◌≡◌, ◌⊎◌, ◌^◌, IfErr, IfOk};
+ghost use Rattle.plane.specs.Square.{IsSame};
+ghost use Rattle.table_core.specs.Sizes.{IsPairCount};
+ghost use Rattle.universe.specs.Tables.{HasFullTable};
+
+use crate::build::Build;
+use crate::scenes::Scene;
+use crate::sizes::{larger, smallest};
+use crate::tables::OpenTable;
+use crate::universe::Universe;
+use plane::Refusal;
+use rule_text::Rule;
+use std::alloc::Global;
+use table_core::Shape;
+
+impl Universe {
+    ghost use Rattle.universe.specs.Cells.{limit_of, live_cells, rule_of};
+
+    /// The live cells of the source, in tables of together at most so many pair slots. `NodesFull`
+    /// where the largest table is full before they are built, and `NoMemory`.
+    pub fn of<B: Build>(
+        alloc: Global,
+        rule: &Rule,
+        source: &B,
+        limit: u32,
+    ) -> Result<Universe, Refusal>
+        requires source { B.is_lawful source.now }
+        requires limit { IsPairCount limit }
+        ensures ok { IfOk result (λ universe. IsSame (live_cells universe) (B.live source.now)) }
+        ensures rule { IfOk result (λ universe. rule_of universe ≡ rule.now) }
+        ensures limit { IfOk result (λ universe. limit_of universe ≡ limit) }
+        ensures refusal { IfErr result (λ refusal. (refusal ≡ Refusal.NoMemory) ⊎ (refusal ≡ Refusal.NodesFull)) }
+        ensures full { IfErr result (λ refusal. refusal ≡ Refusal.NodesFull → HasFullTable limit) }
+    {
+        let limit = Shape::new(limit);
+        let mut shape = smallest(limit);
+        'sizes: loop {
+            shape = match Scene::built(alloc, rule, source, shape) {
+                Ok(here) => {
+                    return Ok(Universe {
+                        here,
+                        others: Vec::new(alloc),
+                        limit,
+                    });
+                }
+                Err(Refusal::NodesFull) => match larger(shape, limit) {
+                    Some(next) => next,
+                    None => return Err(Refusal::NodesFull),
+                },
+                Err(refusal) => return Err(refusal),
+            };
+        }
+    }
+}
+
+impl Scene {
+    ghost use Rattle.universe.specs.Cells.{cells_of};
+    ghost use Rattle.universe.specs.Tables.{IsTableUnder, pairs_in};
+
+    // The live cells, in a table of this shape.
+    fn built<B: Build>(
+        alloc: Global,
+        rule: &Rule,
+        source: &B,
+        shape: Shape,
+    ) -> Result<Scene, Refusal>
+        requires { B.is_lawful source.now }
+        ensures ok { IfOk result (λ scene. IsSame (cells_of scene) (B.live source.now)) }
+        ensures under { IfOk result (λ scene. IsTableUnder rule.now 0 scene.table) }
+        ensures pairs { IfOk result (λ scene. pairs_in scene.table ≡ 2 ^ shape.bits) }
+        ensures refusal { IfErr result (λ refusal. (refusal ≡ Refusal.NoMemory) ⊎ (refusal ≡ Refusal.NodesFull)) }
+        ensures full { IfErr result (λ refusal. refusal ≡ Refusal.NodesFull → HasFullTable (2 ^ shape.bits)) }
+    {
+        let fresh = OpenTable::fresh(alloc, shape, rule, 0)?;
+        let (table, made) = fresh.build(alloc, source);
+        let root = made?;
+        Ok(Scene { table, root })
+    }
+}

@@ -1,0 +1,116 @@
+//! Live cells as a square at an open table.
+
+ghost use Rattle.std.specs.Prelude.{◌≡◌, ◌<◌, ◌≤◌, ◌^◌, ◌↔◌, IfErr, IfOk, IsOkUnless, IsTrue};
+ghost use Rattle.node_table.specs.Stills.{key_of};
+ghost use Rattle.plane.specs.Centred.{Holds};
+ghost use Rattle.plane.specs.Plane.{after};
+ghost use Rattle.plane.specs.Square.{IsSame, empty};
+ghost use Rattle.squares.specs.Book.{IsKnown};
+ghost use Rattle.universe.specs.Tables.{known_at};
+ghost use Rattle.viewport.specs.BoundingBox.{HasBounds};
+ghost use Rattle.viewport.specs.Population.{HasPopulation};
+
+use crate::resting::Resting;
+use crate::tables::OpenTable;
+use plane::{Bounds, Refusal};
+use squares::Sq;
+use std::alloc::Global;
+
+/// Live cells in the range, as a square at an open table whose centre corner is (0,0).
+#[derive(Drop)]
+pub(crate) struct Scene {
+    pub(crate) table: OpenTable,
+    pub(crate) root: Sq,
+    ghost known: { IsKnown (known_at table) root.level root },
+    ghost level: { (3 < root.level) × (root.level ≤ 63) },
+}
+
+// What came of copying the cells into another table: they are there, and the table where they were
+// stays open, or that one has no room for them, and both are as they were.
+#[derive(Drop)]
+pub(crate) enum Moved {
+    There(OpenTable, Scene),
+    Full(Scene, OpenTable),
+}
+
+impl Scene {
+    ghost use Rattle.universe.specs.Cells.{cells_of, resting_cells, still_of};
+    ghost use Rattle.universe.specs.Scenes.{IsFullHere, IsMoved, IsNext};
+
+    /// Whether no cell is live.
+    pub(crate) fn is_empty(&self) -> bool
+        ensures { IsTrue result ↔ IsSame (cells_of self.now) empty }
+    {
+        self.root.num.0 == 0
+    }
+
+    // The cells in words at rest.
+    pub(crate) fn rest(self) -> Resting
+        ensures cells { IsSame (resting_cells result) (cells_of self) }
+        ensures key { key_of (still_of result) ≡ self.table.key }
+    {
+        let Scene { table, root } = self;
+        let still = table.close();
+        Resting { still, root }
+    }
+
+    // How many cells are live.
+    pub(crate) fn population(self, alloc: Global) -> Result<(Scene, u128), Refusal>
+        ensures ok { IfOk result (λ found. HasPopulation (cells_of self) found.1) }
+        ensures same { IfOk result (λ found. IsSame (cells_of found.0) (cells_of self)) }
+        ensures key { IfOk result (λ found. found.0.table.key ≡ self.table.key) }
+        ensures memory { IsOkUnless result Refusal.NoMemory }
+    {
+        let Scene { table, root } = self;
+        let (table, found) = table.population(alloc, root);
+        let count = found?;
+        Ok((Scene { table, root }, count))
+    }
+
+    // The smallest box that holds the live cells.
+    pub(crate) fn bounds(self, alloc: Global) -> Result<(Scene, Option<Bounds>), Refusal>
+        ensures ok { IfOk result (λ found. HasBounds (cells_of self) found.1) }
+        ensures same { IfOk result (λ found. IsSame (cells_of found.0) (cells_of self)) }
+        ensures key { IfOk result (λ found. found.0.table.key ≡ self.table.key) }
+        ensures memory { IsOkUnless result Refusal.NoMemory }
+    {
+        let resting = self.rest();
+        let found = resting.bounds(alloc)?;
+        Ok((resting.resume(alloc)?, found))
+    }
+
+    // The cells after one step of the table, or, where it is full, the cells before it.
+    pub(crate) fn step(self) -> Result<Scene, Scene>
+        requires exponent { self.table.key.exponent ≤ 62 }
+        requires held { Holds 63 (after self.table.key.rule (cells_of self) (2 ^ self.table.key.exponent)) }
+        ensures ok { IfOk result (IsNext self) }
+        ensures full { IfErr result (IsFullHere self) }
+    {
+        let Scene { table, root } = self;
+        let (table, made) = table.step(root);
+        match made {
+            Ok(later) => Ok(Scene { table, root: later }),
+            Err(_) => Err(Scene { table, root }),
+        }
+    }
+
+    // Copies the cells into another table.
+    pub(crate) fn moved(self, alloc: Global, other: OpenTable) -> Result<Moved, Refusal>
+        ensures ok { IfOk result (IsMoved self other) }
+        ensures memory { IsOkUnless result Refusal.NoMemory }
+    {
+        let Scene { table, root } = self;
+        let (table, other, copied) = table.copy_across(alloc, root, other);
+        match copied {
+            Ok(copy) => Ok(Moved::There(
+                table,
+                Scene {
+                    table: other,
+                    root: copy,
+                },
+            )),
+            Err(Refusal::NodesFull) => Ok(Moved::Full(Scene { table, root }, other)),
+            Err(_) => Err(Refusal::NoMemory),
+        }
+    }
+}

@@ -1,0 +1,38 @@
+//! The sizes of tables, from a small one on.
+
+ghost use Rattle.std.specs.Prelude.{◌≡◌, ◌<◌, ◌≤◌, ◌+◌, ◌^◌, min, IfNone, IfSome};
+
+use table_core::{Kind, Shape};
+
+/// With how many pair slots a table begins, as a power of two, where it may have so many.
+const START_BITS: u8 = 12;
+
+/// The shape with which a table begins: 4096 pair slots, or the largest.
+pub(crate) fn smallest(most: Shape) -> Shape
+    ensures { result.bits ≡ min 12 most.bits }
+{
+    Shape {
+        bits: most.bits.min(START_BITS),
+    }
+}
+
+/// The shape with four times as many pair slots, or the largest. There is none above the largest.
+pub(crate) fn larger(shape: Shape, most: Shape) -> Option<Shape>
+    ensures some { IfSome result (λ larger. larger.bits ≡ min (shape.bits + 2) most.bits) }
+    ensures above { IfSome result (λ _. shape.bits < most.bits) }
+    ensures none { IfNone result (most.bits ≤ shape.bits) }
+{
+    if shape.bits >= most.bits {
+        return None;
+    }
+    Some(Shape {
+        bits: most.bits.min(shape.bits + 2),
+    })
+}
+
+/// How many pair slots a table of this shape has.
+pub(crate) fn pair_count(shape: Shape) -> u64
+    ensures { result ≡ 2 ^ shape.bits }
+{
+    u64::from(shape.slot_count(Kind::Pair))
+}

@@ -1,0 +1,60 @@
+//! The cells some generations on.
+
+ghost use Rattle.std.specs.Prelude.{◌≡◌, ◌⊎◌, ◌≤◌, ◌<◌, ◌^◌, IfErr, IfOk};
+ghost use Rattle.plane.specs.Plane.{after};
+ghost use Rattle.plane.specs.Square.{IsSame, empty};
+ghost use Rattle.universe.specs.Held.{StaysHeld};
+ghost use Rattle.universe.specs.Runs.{IsLater, IsStuck};
+
+use crate::attempts::Attempt;
+use crate::universe::Universe;
+use hashlife_step::plan;
+use plane::Refusal;
+use std::alloc::Global;
+
+impl Universe {
+    ghost use Rattle.universe.specs.Cells.{limit_of, live_cells, rule_of};
+
+    // The cells after 2^exponent generations. Where the largest table is full the step is taken in two
+    // halves; `NodesFull` where a single generation has no room, and `NoMemory`.
+    fn step(self, alloc: Global, exponent: u8) -> Result<Universe, Refusal>
+        requires exponent { exponent ≤ 62 }
+        requires held { StaysHeld (rule_of self) (live_cells self) (2 ^ exponent) }
+        ensures ok { IfOk result (IsLater self (2 ^ exponent)) }
+        ensures full { IfErr result (λ refusal. refusal ≡ Refusal.NodesFull → IsStuck self (2 ^ exponent)) }
+        ensures refusal { IfErr result (λ refusal. (refusal ≡ Refusal.NoMemory) ⊎ (refusal ≡ Refusal.NodesFull)) }
+    {
+        let start = match self.turned(alloc, exponent)?.attempt(alloc)? {
+            Attempt::Done(later) => return Ok(later),
+            Attempt::Full(start) => start,
+        };
+        if exponent == 0 {
+            return Err(Refusal::NodesFull);
+        }
+        let middle = start.step(alloc, exponent - 1)?;
+        middle.step(alloc, exponent - 1)
+    }
+
+    /// The cells after so many generations: a step for each binary digit of their number. The empty
+    /// universe takes no step. `NodesFull` where the largest table has no room for one generation, and
+    /// `NoMemory`.
+    pub fn after(self, alloc: Global, generations: u64) -> Result<Universe, Refusal>
+        requires held { StaysHeld (rule_of self) (live_cells self) generations }
+        requires short { (IsSame (live_cells self) empty → ⊥) → generations < 2 ^ 63 }
+        ensures ok { IfOk result (λ later. IsSame (live_cells later) (after (rule_of self) (live_cells self) generations)) }
+        ensures rule { IfOk result (λ later. rule_of later ≡ rule_of self) }
+        ensures limit { IfOk result (λ later. limit_of later ≡ limit_of self) }
+        ensures full { IfErr result (λ refusal. refusal ≡ Refusal.NodesFull → IsStuck self generations) }
+        ensures refusal { IfErr result (λ refusal. (refusal ≡ Refusal.NoMemory) ⊎ (refusal ≡ Refusal.NodesFull)) }
+    {
+        if self.is_empty() {
+            return Ok(self);
+        }
+        let mut universe = self;
+        let steps = plan(generations);
+        'steps: for exponent in steps.as_slice() {
+            universe = universe.step(alloc, *exponent)?;
+        }
+        Ok(universe)
+    }
+}

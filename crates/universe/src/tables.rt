@@ -1,0 +1,288 @@
+//! Tables that stay open, each with its one desk.
+
+ghost use Rattle.std.specs.Prelude.{◌≡◌, ◌⊎◌, ◌≤◌, ◌<◌, ◌^◌, ◌↔◌, IfErr, IfOk, IfSome, IsOkUnless, IsTrue};
+ghost use Rattle.node_table.specs.Desks.{IsDeskOf};
+ghost use Rattle.node_table.specs.Openings.{SaysAll};
+ghost use Rattle.node_table.specs.Stills.{book_in, key_of};
+ghost use Rattle.plane.specs.Centred.{centred};
+ghost use Rattle.plane.specs.Plane.{after};
+ghost use Rattle.squares.specs.Book.{IsKnown, Shows};
+ghost use Rattle.squares.specs.Rounds.{IsRound};
+ghost use Rattle.viewport.specs.Population.{HasPopulation};
+
+use crate::build::Build;
+use crate::sizes::pair_count;
+use hashlife_step::{Tally, step};
+use node_sweep::enlarge;
+use node_table::{Desk, NodeTable, Still};
+use plane::Refusal;
+use rule_text::Rule;
+use squares::{Num, Sq, copy_between};
+use std::alloc::Global;
+use table_core::{Key, Kind, Shape};
+use viewport::population;
+
+// How many pair slots make a table large, as a power of two: more of it than a processor keeps near.
+const LARGE_BITS: u8 = 18;
+
+// After how many steps a large table is swept before it grows.
+const WORN_AFTER: u32 = 4;
+
+/// A table that stays open under a rule and an exponent, with its one desk.
+#[derive(Drop)]
+pub(crate) struct OpenTable {
+    table: NodeTable,
+    desk: Desk,
+    pub(crate) key: Key,
+    /// How many steps it has taken.
+    steps: u32,
+    ghost of_table: { IsDeskOf table desk },
+    ghost same_key: { table.key ≡ key },
+}
+
+impl OpenTable {
+    ghost use Rattle.universe.specs.Tables.{IsOpened, IsTableUnder, StaysOpen, known_at, pairs_in};
+
+    /// A table of these words, which knows what they show.
+    pub(crate) fn of_words(
+        alloc: Global,
+        still: Still,
+        rule: &Rule,
+        exponent: u8,
+    ) -> Result<OpenTable, Refusal>
+        ensures ok { IfOk result (IsOpened still rule.now exponent) }
+        ensures memory { IsOkUnless result Refusal.NoMemory }
+    {
+        let key = Key {
+            shape: still.key().shape,
+            rule: *rule,
+            exponent,
+        };
+        let Ok((table, desk)) = NodeTable::open(alloc, still, *rule, exponent) else {
+            return Err(Refusal::NoMemory);
+        };
+        Ok(OpenTable {
+            table,
+            desk,
+            key,
+            steps: 0,
+        })
+    }
+
+    /// A table of this shape without a square.
+    pub(crate) fn fresh(
+        alloc: Global,
+        shape: Shape,
+        rule: &Rule,
+        exponent: u8,
+    ) -> Result<OpenTable, Refusal>
+        ensures under { IfOk result (IsTableUnder rule.now exponent) }
+        ensures pairs { IfOk result (λ opened. pairs_in opened ≡ 2 ^ shape.bits) }
+        ensures memory { IsOkUnless result Refusal.NoMemory }
+    {
+        let still = Still::empty(alloc, shape.slot_count(Kind::Pair))?;
+        OpenTable::of_words(alloc, still, rule, exponent)
+    }
+
+    /// A table of this shape with all squares and results of this one, if it has room for them.
+    pub(crate) fn enlarged(self, alloc: Global, shape: Shape) -> Result<Option<OpenTable>, Refusal>
+        ensures under { IfOk result (λ made. IfSome made (IsTableUnder self.key.rule self.key.exponent)) }
+        ensures pairs { IfOk result (λ made. IfSome made (λ larger. pairs_in larger ≡ 2 ^ shape.bits)) }
+        ensures memory { IsOkUnless result Refusal.NoMemory }
+    {
+        let rule = self.rule();
+        let exponent = self.key.exponent;
+        let still = self.close();
+        let none = Sq {
+            level: 4,
+            num: Num(0),
+        };
+        match enlarge(alloc, &still, none, shape.slot_count(Kind::Pair)) {
+            Ok((larger, _)) => {
+                let table = OpenTable::of_words(alloc, larger, &rule, exponent)?;
+                Ok(Some(table))
+            }
+            Err(Refusal::NodesFull) => Ok(None),
+            Err(_) => Err(Refusal::NoMemory),
+        }
+    }
+
+    /// How many pair slots it has.
+    pub(crate) fn pair_count(&self) -> u64
+        ensures { result ≡ pairs_in self.now }
+    {
+        pair_count(self.key.shape)
+    }
+
+    /// The rule.
+    pub(crate) fn rule(&self) -> Rule
+        ensures { result ≡ self.now.key.rule }
+    {
+        self.key.rule
+    }
+
+    /// Whether it is under this rule and exponent.
+    pub(crate) fn is_under(&self, rule: &Rule, exponent: u8) -> bool
+        ensures { IsTrue result ↔ IsTableUnder rule.now exponent self.now }
+    {
+        if self.key.exponent != exponent {
+            return false;
+        }
+        if self.key.rule.code() != rule.code() {
+            return false;
+        }
+        true
+    }
+
+    /// Whether most of it is likely to be left over from earlier steps: it is large, and has taken some.
+    pub(crate) fn is_worn(&self) -> bool
+        ensures { IsTrue result ↔ ((4 ≤ self.now.steps) × (18 ≤ self.now.key.shape.bits)) }
+    {
+        self.steps >= WORN_AFTER && self.key.shape.bits >= LARGE_BITS
+    }
+
+    /// The words, which say all that was known.
+    pub(crate) fn close(self) -> Still
+        ensures key { key_of result ≡ self.key }
+        ensures says { SaysAll (known_at self) (book_in result) }
+    {
+        let OpenTable {
+            table,
+            desk,
+            key: _,
+            steps: _,
+        } = self;
+        table.close(desk)
+    }
+
+    /// One step of 2^exponent generations from a square. The table comes back, at a refusal too.
+    pub(crate) fn step(self, root: Sq) -> (OpenTable, Result<Sq, Refusal>)
+        requires known { IsKnown (known_at self) root.level root }
+        requires level { (3 < root.level) × (root.level ≤ 63) }
+        requires exponent { self.key.exponent ≤ 62 }
+        ensures stays { StaysOpen self result.0 }
+        ensures ok { IfOk result.1 (IsRound (known_at result.0) (after self.key.rule (centred root.level ((known_at self).cells root)) (2 ^ self.key.exponent))) }
+        ensures full { IfErr result.1 (λ refusal. IsTrue (known_at result.0).is_full) }
+    {
+        let OpenTable {
+            table,
+            desk,
+            key,
+            steps,
+        } = self;
+        let mut at = table.at(desk);
+        let made = step(&mut at, root, &mut Tally { expansions: 0 });
+        let desk = at.leave();
+        let stepped = OpenTable {
+            table,
+            desk,
+            key,
+            steps: steps.saturating_add(1),
+        };
+        (stepped, made)
+    }
+
+    /// The square of the live cells of the source. The table comes back, at a refusal too.
+    pub(crate) fn build<B: Build>(
+        self,
+        alloc: Global,
+        source: &B,
+    ) -> (OpenTable, Result<Sq, Refusal>)
+        requires { B.is_lawful source.now }
+        ensures stays { StaysOpen self result.0 }
+        ensures ok { IfOk result.1 (IsRound (known_at result.0) (B.live source.now)) }
+        ensures level { IfOk result.1 (λ root. root.level ≤ 63) }
+        ensures full { IfErr result.1 (λ refusal. refusal ≡ Refusal.NodesFull → IsTrue (known_at result.0).is_full) }
+        ensures refusal { IfErr result.1 (λ refusal. (refusal ≡ Refusal.NoMemory) ⊎ (refusal ≡ Refusal.NodesFull)) }
+    {
+        let OpenTable {
+            table,
+            desk,
+            key,
+            steps,
+        } = self;
+        let mut at = table.at(desk);
+        let made = source.build(alloc, &mut at);
+        let desk = at.leave();
+        let same = OpenTable {
+            table,
+            desk,
+            key,
+            steps,
+        };
+        (same, made)
+    }
+
+    /// How many live cells a square has. The table comes back, at a refusal too.
+    pub(crate) fn population(self, alloc: Global, root: Sq) -> (OpenTable, Result<u128, Refusal>)
+        requires known { IsKnown (known_at self) root.level root }
+        requires level { root.level ≤ 63 }
+        ensures stays { StaysOpen self result.0 }
+        ensures ok { IfOk result.1 (HasPopulation (centred root.level ((known_at self).cells root))) }
+        ensures memory { IsOkUnless result.1 Refusal.NoMemory }
+    {
+        let OpenTable {
+            table,
+            desk,
+            key,
+            steps,
+        } = self;
+        let mut at = table.at(desk);
+        let found = population(&mut at, alloc, root);
+        let desk = at.leave();
+        let same = OpenTable {
+            table,
+            desk,
+            key,
+            steps,
+        };
+        (same, found)
+    }
+
+    /// The square copied into another table. Both come back, at a refusal too.
+    pub(crate) fn copy_across(
+        self,
+        alloc: Global,
+        root: Sq,
+        other: OpenTable,
+    ) -> (OpenTable, OpenTable, Result<Sq, Refusal>)
+        requires known { IsKnown (known_at self) root.level root }
+        ensures from { StaysOpen self result.0 }
+        ensures to { StaysOpen other result.1 }
+        ensures ok { IfOk result.2 (Shows (known_at result.1) root.level ((known_at self).cells root)) }
+        ensures refusal { IfErr result.2 (λ refusal. (refusal ≡ Refusal.NoMemory) ⊎ (refusal ≡ Refusal.NodesFull)) }
+    {
+        let OpenTable {
+            table,
+            desk,
+            key,
+            steps,
+        } = self;
+        let OpenTable {
+            table: other_table,
+            desk: other_desk,
+            key: other_key,
+            steps: other_steps,
+        } = other;
+        let mut at = table.at(desk);
+        let mut other_at = other_table.at(other_desk);
+        let copied = copy_between(alloc, &mut at, root, &mut other_at);
+        let desk = at.leave();
+        let other_desk = other_at.leave();
+        (
+            OpenTable {
+                table,
+                desk,
+                key,
+                steps,
+            },
+            OpenTable {
+                table: other_table,
+                desk: other_desk,
+                key: other_key,
+                steps: other_steps,
+            },
+            copied,
+        )
+    }
+}

@@ -1,0 +1,107 @@
+//! Live cells and the tables that stay open for them.
+
+ghost use Rattle.std.specs.Prelude.{◌≡◌, ◌≤◌, ◌+◌, ◌^◌, ◌↔◌, IfOk, IsOkUnless, IsTrue};
+ghost use Rattle.plane.specs.Square.{IsSame, empty};
+ghost use Rattle.viewport.specs.BoundingBox.{HasBounds};
+ghost use Rattle.viewport.specs.Population.{HasPopulation};
+ghost use Rattle.universe.specs.Sums.{pair_sum};
+ghost use Rattle.universe.specs.Tables.{pairs_in};
+
+use crate::resting::Resting;
+use crate::room::total;
+use crate::scenes::Scene;
+use crate::tables::OpenTable;
+use plane::{Bounds, Refusal};
+use std::alloc::Global;
+use table_core::Shape;
+
+/// Live cells in the range, as a square round (0,0) at an open table, with a rule, and a limit for the
+/// pair slots of all its tables. A table for each exponent that its steps asked for stays open: the one
+/// with the square is here, and the others stand, the least recently used first.
+#[derive(Drop)]
+pub struct Universe {
+    pub(crate) here: Scene,
+    pub(crate) others: Vec<OpenTable>,
+    pub(crate) limit: Shape,
+    ghost within: { pairs_in here.table + pair_sum others.items ≤ 2 ^ limit.bits },
+}
+
+impl Universe {
+    ghost use Rattle.universe.specs.Cells.{limit_of, live_cells, pairs_of, resting_cells, rule_of};
+
+    /// Whether no cell is live.
+    pub fn is_empty(&self) -> bool
+        ensures { IsTrue result ↔ IsSame (live_cells self.now) empty }
+    {
+        self.here.is_empty()
+    }
+
+    /// The universe again, and how many cells are live. `NoMemory` where there is no room to count them.
+    pub fn population(self, alloc: Global) -> Result<(Universe, u128), Refusal>
+        ensures ok { IfOk result (λ found. HasPopulation (live_cells self) found.1) }
+        ensures same { IfOk result (λ found. IsSame (live_cells found.0) (live_cells self)) }
+        ensures rule { IfOk result (λ found. rule_of found.0 ≡ rule_of self) }
+        ensures limit { IfOk result (λ found. limit_of found.0 ≡ limit_of self) }
+        ensures memory { IsOkUnless result Refusal.NoMemory }
+    {
+        let Universe {
+            here,
+            others,
+            limit,
+        } = self;
+        let (here, count) = here.population(alloc)?;
+        Ok((
+            Universe {
+                here,
+                others,
+                limit,
+            },
+            count,
+        ))
+    }
+
+    /// The universe again, and the smallest box that holds the live cells. `NoMemory` where there is no
+    /// room to find it.
+    pub fn bounds(self, alloc: Global) -> Result<(Universe, Option<Bounds>), Refusal>
+        ensures ok { IfOk result (λ found. HasBounds (live_cells self) found.1) }
+        ensures same { IfOk result (λ found. IsSame (live_cells found.0) (live_cells self)) }
+        ensures rule { IfOk result (λ found. rule_of found.0 ≡ rule_of self) }
+        ensures limit { IfOk result (λ found. limit_of found.0 ≡ limit_of self) }
+        ensures memory { IsOkUnless result Refusal.NoMemory }
+    {
+        let Universe {
+            here,
+            others,
+            limit,
+        } = self;
+        let (here, bounds) = here.bounds(alloc)?;
+        Ok((
+            Universe {
+                here,
+                others,
+                limit,
+            },
+            bounds,
+        ))
+    }
+
+    /// How many pair slots its tables have together: at most the limit.
+    pub fn pairs(&self) -> u64
+        ensures pairs { result ≡ pairs_of self.now }
+        ensures limit { result ≤ limit_of self.now }
+    {
+        self.here.table.pair_count() + total(self.others.as_slice())
+    }
+
+    /// The live cells in words at rest. All other tables are let go.
+    pub fn rest(self) -> Resting
+        ensures { IsSame (resting_cells result) (live_cells self) }
+    {
+        let Universe {
+            here,
+            others: _,
+            limit: _,
+        } = self;
+        here.rest()
+    }
+}

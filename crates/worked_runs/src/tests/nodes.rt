@@ -1,0 +1,184 @@
+//! Tables of squares that may have few slots: runs that have room in them, and runs that are refused.
+
+use crate::tests::ended::Ended;
+use crate::tests::many_leaves::many_leaves;
+use crate::tests::rows::{
+    FAR_GLIDER, FAR_REPLICATOR, PLAIN, R_PENTOMINO, RLE, Row, assert_rows, assert_told,
+    assert_whole_or_refused,
+};
+use engine::Options;
+use plane::{Fault, Refusal};
+use std::alloc::{AllocError, Global};
+use std::process::Abort;
+
+const FULL: Fault = Fault {
+    refusal: Refusal::NodesFull,
+    place: None,
+};
+
+// The last generations of the R-pentomino.
+const SETTLED: Row = Row {
+    generations: 1103,
+    report: "0: 5\n1103: 116\n",
+    text: "#CXRLE Pos=-240,-258 Gen=1103\n\
+         x = 501, y = 525, rule = B3/S23\n\
+         479b2o$478bobo$480bo28$bo$2o$obo117$180b2o$180bobo$180bo90$265b2o$264b\n\
+         o2bo$265bobo$266bo$235bo$234bobo3b2o$235b2o3b2o3$284b3o$271b3o2$293b2o\n\
+         $293b2o5$201b2o$200bobo$200b2o31bo$232bobo$232bobo$233bo6bo$219b2o18bo\n\
+         bo$219b2o18bobo$240bo2$211b2o$211b2o56b2o$269b2o2$241b3o51b2o$295b2o4$\n\
+         307bo$306bobo$283b2o21bobo$283b2o22bo3$295b3o$265bo$264bobo$264bobo$\n\
+         265bo2$249b2o$249b2o208$473bo$474b2o$473b2o7$499bo$500bo$498b3o12$454b\n\
+         o$455b2o$454b2o!\n",
+    ..R_PENTOMINO
+};
+
+// The same, with a line for every hundredth generation.
+const REPORTED: Row = Row {
+    step: 100,
+    report: "0: 5\n100: 121\n200: 120\n300: 168\n400: 195\n500: 174\n600: 213\n700: 194\n\
+     800: 228\n900: 204\n1000: 156\n1100: 122\n1103: 116\n",
+    ..SETTLED
+};
+
+// 1024 generations of the glider.
+const GLIDER: Row = Row {
+    generations: 1024,
+    report: "0: 5\n1024: 5\n",
+    text: "#CXRLE Pos=256,256 Gen=1024\nx = 3, y = 3, rule = B3/S23\nbo$2bo$3o!\n",
+    ..FAR_GLIDER
+};
+
+// Runs that have room in few slots.
+const SMALL: &[Row] = &[
+    SETTLED,
+    Row {
+        pairs: 32768,
+        ..SETTLED
+    },
+    Row {
+        pairs: 4096,
+        ..REPORTED
+    },
+    Row {
+        pairs: 4096,
+        ..FAR_GLIDER
+    },
+    Row {
+        pairs: 4096,
+        ..FAR_REPLICATOR
+    },
+];
+
+#[test]
+fn runs_in_few_slots(rt: HostRuntime) -> Result<(), AllocError> {
+    assert_rows(&rt, SMALL)
+}
+
+// In the fewest slots a run writes the same, or is refused with no output.
+#[test]
+fn runs_in_the_fewest_slots_or_is_refused(rt: HostRuntime) -> Result<(), AllocError> {
+    for row in [SETTLED, REPORTED, GLIDER] {
+        let row = Row { pairs: 1024, ..row };
+        let end = Ended::of(&rt, row.file, &row.options())?;
+        let _ = assert_whole_or_refused(&rt, &row, &end, Refusal::NodesFull);
+    }
+    Ok(())
+}
+
+// The leaves of the words 1 to 300 side by side: bit j of the word i is the cell (8i + j mod 8, j div 8).
+fn leaves_in_a_row(alloc: Global) -> Result<String, AllocError> {
+    let mut text = String::from_str(alloc, "x = 2408, y = 2\n8b")?;
+    for word in 1..301u32 {
+        push_bits(&mut text, word, 8)?;
+    }
+    text.push_str("$8b")?;
+    for word in 1..301u32 {
+        text.push_str(if word >= 256 { "o7b" } else { "8b" })?;
+    }
+    text.push_str("!")?;
+    Ok(text)
+}
+
+// The cells of so many bits of a word, the lowest first.
+fn push_bits(text: &mut String, word: u32, bits: u8) -> Result<(), AllocError> {
+    let mut rest = word;
+    for _ in 0..bits {
+        text.push_str(if rest % 2 == 1 { "o" } else { "b" })?;
+        rest /= 2;
+    }
+    Ok(())
+}
+
+// There is room for 256 leaves in the fewest slots.
+#[test]
+fn refuses_300_leaves_in_the_fewest_slots(rt: HostRuntime) -> Result<(), AllocError> {
+    let file = leaves_in_a_row(rt.alloc())?;
+    let few = Options {
+        pairs: 1024,
+        ..RLE.options()
+    };
+    let end = Ended::of(&rt, file.as_str(), &few)?;
+    assert_told(&rt, "", &end, (Some(FULL), "", ""));
+    let end = Ended::of(&rt, file.as_str(), &PLAIN)?;
+    assert_told(&rt, "", &end, (None, "0: 1184\n", ""));
+    Ok(())
+}
+
+// The words 1 to 160, 16 in a row, each in the middle of a leaf of its own: bit j of the word i is the cell
+// (8 (i mod 16) + 1 + j mod 4, 8 (i div 16) + 1 + j div 4).
+fn spread_leaves(alloc: Global) -> Result<String, AllocError> {
+    let mut text = String::from_str(alloc, "x = 128, y = 88, rule = B1/S01234V\n")?;
+    for row in 0..11u8 {
+        text.push_str("$")?;
+        push_middles(&mut text, row, 1)?;
+        push_middles(&mut text, row, 16)?;
+        text.push_str("5$")?;
+    }
+    text.push_str("!")?;
+    Ok(text)
+}
+
+// A row of cells through the middles of 16 leaves, of the bits of this worth and the next three of their words.
+fn push_middles(text: &mut String, row: u8, worth: u32) -> Result<(), AllocError> {
+    for column in 0..16u32 {
+        let word = 16 * u32::from(row) + column;
+        let bits = word.checked_div(worth).unwrap_or(0);
+        text.push_str("b")?;
+        push_bits(text, if word <= 160 { bits } else { 0 }, 4)?;
+        text.push_str("3b")?;
+    }
+    text.push_str("$")?;
+    Ok(())
+}
+
+// After one generation by this rule there are at least 320 different leaves.
+#[test]
+fn refuses_the_first_generation_of_160_leaves(rt: HostRuntime) -> Result<(), AllocError> {
+    let file = spread_leaves(rt.alloc())?;
+    let none = Options {
+        pairs: 1024,
+        ..RLE.options()
+    };
+    let end = Ended::of(&rt, file.as_str(), &none)?;
+    assert!(rt; end.is_summed_up_by(0, 562));
+    assert_eq!(rt; end.report.text(), "0: 562\n");
+    let one = Options { gens: 1, ..none };
+    let end = Ended::of(&rt, file.as_str(), &one)?;
+    assert_told(&rt, "", &end, (Some(FULL), "0: 562\n", ""));
+    let end = Ended::of(&rt, file.as_str(), &Options { gens: 1, ..PLAIN })?;
+    assert_told(&rt, "", &end, (None, "0: 562\n1: 1736\n", ""));
+    Ok(())
+}
+
+// There is room for 16384 leaves in 65536 slots for pairs.
+#[test]
+fn refuses_65536_leaves(rt: HostRuntime) -> Result<(), AllocError> {
+    let file = many_leaves(rt.alloc())?;
+    let options = Options {
+        pairs: 65536,
+        ..RLE.options()
+    };
+    let end = Ended::of(&rt, file.as_str(), &options)?;
+    assert_told(&rt, "", &end, (Some(FULL), "", ""));
+    Ok(())
+}

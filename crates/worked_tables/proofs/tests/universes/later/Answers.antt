@@ -1,0 +1,16 @@
+use Rattle.std.proofs.Common.{rules}
+use Rattle.rule_text.specs.CountRule.{IsRule}
+use Rattle.universe.specs.Cells.{live_cells, rule_of}
+use Rattle.universe.proofs.Held.{stays_held, stays_short}
+use Rattle.worked_tables.proofs.tests.universes.later.Goals as goal
+
+pub after-requires-clause-held : goal.after-requires-clause-held
+after-requires-clause-held c =
+    let here = c.in_ok-universe.universe in
+    let rule : IsRule (rule_of here) = search rules in
+    stays_held (rule_of here) rule (live_cells c.args.universe) (live_cells here) c.in_ok-universe.bounds 0 c.args.generations c.in_ok-universe.ensures.ok c.in_ok-universe.ensures.same c.in_ok-reach.ensures.ok.0
+
+pub after-requires-clause-short : goal.after-requires-clause-short
+after-requires-clause-short c =
+    let here = c.in_ok-universe.universe in
+    stays_short (live_cells c.args.universe) (live_cells here) c.in_ok-universe.bounds 0 c.args.generations c.in_ok-universe.ensures.ok c.in_ok-universe.ensures.same c.in_ok-reach.ensures.ok.0
