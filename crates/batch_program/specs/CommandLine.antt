@@ -14,6 +14,7 @@ use Rattle.plane.specs.declared.refusal.Refusal.{Refusal}
 use Rattle.plane.specs.Window.{IsWindow, Rectangle}
 use Rattle.plane.specs.declared.refusal.Refusal.TheVariants.{NoMemory, WindowTooLarge}
 use Rattle.engine.specs.Judgement.{rule_refusal}
+use Rattle.engine.specs.Workers.{IsWorkerCount}
 use Rattle.table_core.specs.Sizes.{IsPairCount}
 use Rattle.batch_program.specs.declared.command_line.WordsFault.{WordsFault}
 use Rattle.batch_program.specs.declared.command_line.WordsFault.TheVariants.{Clap, Unfit, Refused}
@@ -67,6 +68,15 @@ node_option = record (new_rule (codes "nodes")) {
   parser = Some (parser.Unsigned 1024 268435456);
 }
 
+-- `--workers N`: a number from 1 to 64, 1 if it is left out
+abbrev pub worker_option : Rule
+worker_option = record (new_rule (codes "workers")) {
+  long = Some (codes "workers");
+  value_names = 1;
+  defaults = codes "1" ∷ [];
+  parser = Some (parser.Unsigned 1 64);
+}
+
 -- FILE, which has to be there
 abbrev pub file_argument : Rule
 file_argument = record (new_rule (codes "file")) { value_names = 1; required = true }
@@ -74,7 +84,7 @@ file_argument = record (new_rule (codes "file")) { value_names = 1; required = t
 -- the form of the words: the options in this order, and FILE
 abbrev pub command_form : App
 command_form = fold with_rule (new_app (codes "lifebatch"))
-    (generation_option ∷ step_option ∷ output_option ∷ rule_option ∷ quiet_option ∷ window_option ∷ node_option ∷ file_argument ∷ [])
+    (generation_option ∷ step_option ∷ output_option ∷ rule_option ∷ quiet_option ∷ window_option ∷ node_option ∷ worker_option ∷ file_argument ∷ [])
 
 -- the text that clap finds for an option or an argument
 abbrev pub text_for : List ℕ → List Text → Option Text
@@ -92,6 +102,10 @@ IsNumber (Some text) number = IsUnsigned 64 text number
 -- the text is a numeral of this number, and a table may have so many pair slots
 abbrev pub IsPairNumber : Option Text → ℕ → Type 0
 IsPairNumber text pairs = IsNumber text pairs × IsPairCount pairs
+
+-- the text is a numeral of this number, and there may be so many workers
+abbrev pub IsWorkerNumber : Option Text → ℕ → Type 0
+IsWorkerNumber text workers = IsNumber text workers × IsWorkerCount workers
 
 -- the flag is up where its text is "true", and nowhere else
 abbrev pub IsFlag : Option Text → Bool → Type 0
@@ -131,6 +145,7 @@ pub record AsksFor (words : List Text) (asked : Asked) : Type 0 where
   pub quiet : IsFlag (value_for (codes "quiet") words) asked.options.quiet
   pub window : IsAskedWindow (text_for (codes "window") words) asked.options.window
   pub pairs : IsPairNumber (value_for (codes "nodes") words) asked.options.pairs
+  pub workers : IsWorkerNumber (value_for (codes "workers") words) asked.options.workers
 
 -- ---- faults of the words
 
@@ -145,7 +160,7 @@ abbrev pub IsFitWindow : Option Text → Type 0
 IsFitWindow None = ⊤
 IsFitWindow (Some text) = (window : Rectangle) × WritesWindow text window
 
--- the words have values that are fit: numbers, of which that of nodes is one of pair slots, a FILE, a NAME that says its
+-- the words have values that are fit: numbers, of which those of nodes and workers are such, a FILE, a NAME that says its
 -- format, if there is one, and a window of four numbers, if there is one
 pub record IsFit (words : List Text) : Type 0 where
   pub gens : (number : ℕ) × IsNumber (value_for (codes "generation") words) number
@@ -154,6 +169,7 @@ pub record IsFit (words : List Text) : Type 0 where
   pub format : (format : Option Format) × IsFormat (text_for (codes "output") words) format
   pub window : IsFitWindow (text_for (codes "window") words)
   pub pairs : (pairs : ℕ) × IsPairNumber (value_for (codes "nodes") words) pairs
+  pub workers : (workers : ℕ) × IsWorkerNumber (value_for (codes "workers") words) workers
 
 -- the text that is given is refused as a rule, by this name
 abbrev pub IsRefusedRule : Option Text → Refusal → Type 0

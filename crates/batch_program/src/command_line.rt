@@ -6,7 +6,7 @@ ghost use Rattle.plane.specs.declared.refusal.Refusal.TheVariants.{NoMemory};
 ghost use Rattle.batch_program.specs.declared.command_line.WordsFault.TheVariants.{Refused};
 ghost use Rattle.batch_program.specs.OptionRules.{HasRule, HaveRules, numeric, valued, valued_in_short};
 ghost use Rattle.batch_program.specs.Matched.{AreMatchesOf, AskForOptions, HasFile};
-ghost use Rattle.batch_program.specs.CommandLine.{AsksFor, IsAskedRule, IsFlag, IsFormat, IsNumber, IsPairNumber, IsRefusedRule, IsToldAs, IsWordsFault, command_form, file_argument, format_named, generation_option, node_option, output_option, quiet_option, rule_option, step_option, window_option};
+ghost use Rattle.batch_program.specs.CommandLine.{AsksFor, IsAskedRule, IsFlag, IsFormat, IsNumber, IsPairNumber, IsRefusedRule, IsToldAs, IsWordsFault, IsWorkerNumber, command_form, file_argument, format_named, generation_option, node_option, output_option, quiet_option, rule_option, step_option, window_option, worker_option};
 
 use crate::request::Asked;
 use crate::window_option::{window_asked, window_numbers};
@@ -41,8 +41,8 @@ const EXAMPLES: &str = "Examples:
       run 1103 generations, write the pattern and report nothing
   lifebatch -m 100 --window=-20,-15,40,30 r-pentomino.rle
       run 100 generations and draw 40 by 30 cells, of which (-20,-15) is the upper left one
-  lifebatch -m 1073741824 --nodes 67108864 breeder.mc
-      run 2^30 generations with room for more squares";
+  lifebatch -m 1073741824 --nodes 67108864 --workers 4 breeder.mc
+      run 2^30 generations with room for more squares, by four workers";
 
 /// Why the words of a command line ask for no run.
 #[derive(Debug, Drop)]
@@ -135,6 +135,7 @@ fn options_by(matches: &ArgMatches<'_>) -> Result<Options, WordsFault>
     let gens = number_for(matches, "generation")?;
     let step = number_for(matches, "stepsize")?;
     let pairs = pairs_asked(matches)?;
+    let workers = workers_asked(matches)?;
     let format = format_of(matches.get_str("output"))?;
     let numbers = window_numbers(matches.get_str("window"))?;
     let rule = rule_asked(matches.get_str("rule"))?;
@@ -146,6 +147,7 @@ fn options_by(matches: &ArgMatches<'_>) -> Result<Options, WordsFault>
         window,
         format,
         pairs,
+        workers,
         quiet: is_set(matches, "quiet"),
     })
 }
@@ -164,7 +166,7 @@ fn command<'a>(alloc: Global) -> Result<Command<'a>, AllocError>
 // The options, and FILE.
 fn options<'a>(alloc: Global) -> Result<Vec<Arg<'a>>, AllocError>
     ensures { IfOk result (λ options. HaveRules options.items
-        (generation_option ∷ step_option ∷ output_option ∷ rule_option ∷ quiet_option ∷ window_option ∷ node_option ∷ file_argument ∷ [])) }
+        (generation_option ∷ step_option ∷ output_option ∷ rule_option ∷ quiet_option ∷ window_option ∷ node_option ∷ worker_option ∷ file_argument ∷ [])) }
 {
     Ok(vec![in alloc;
         generation_option(alloc),
@@ -174,6 +176,7 @@ fn options<'a>(alloc: Global) -> Result<Vec<Arg<'a>>, AllocError>
         quiet_option(alloc),
         window_option(alloc),
         node_option(alloc),
+        worker_option(alloc),
         file_argument(alloc),
     ]?)
 }
@@ -241,6 +244,14 @@ fn node_option<'a>(alloc: Global) -> Arg<'a>
     )
     .value_parser(ValueParser::Unsigned(1024, 268435456))
     .default_value("4194304")
+}
+
+fn worker_option<'a>(alloc: Global) -> Arg<'a>
+    ensures { HasRule result worker_option }
+{
+    long_option(alloc, "workers", "N", "Run by N workers, from 1 to 64")
+        .value_parser(ValueParser::Unsigned(1, 64))
+        .default_value("1")
 }
 
 // An option with a short name that takes a number, 0 if it is left out.
@@ -313,6 +324,18 @@ fn pairs_asked(matches: &ArgMatches<'_>) -> Result<u32, WordsFault>
     let number = number_for(matches, "nodes")?;
     match u32::try_from(number) {
         Ok(pairs) if Shape::is_pair_count(pairs) => Ok(pairs),
+        _ => Err(WordsFault::Unfit),
+    }
+}
+
+// How many workers run.
+fn workers_asked(matches: &ArgMatches<'_>) -> Result<usize, WordsFault>
+    ensures ok { IfOk result (IsWorkerNumber (one_text (found_of matches.now) (codes "workers"))) }
+    ensures err { IfErr result (λ fault. (fault ≡ WordsFault.Unfit) × ((workers : ℕ) → ¬ IsWorkerNumber (one_text (found_of matches.now) (codes "workers")) workers)) }
+{
+    let number = number_for(matches, "workers")?;
+    match usize::try_from(number) {
+        Ok(workers) if workers >= 1 && workers <= 64 => Ok(workers),
         _ => Err(WordsFault::Unfit),
     }
 }

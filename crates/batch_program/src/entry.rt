@@ -2,6 +2,7 @@ ghost use Rattle.std.specs.Prelude.{◌≡◌, ◌≤◌, ◌⊎◌, ℕ, List, 
 ghost use Rattle.std.specs.Io.KnownBytes.{Appends};
 ghost use Rattle.plane.specs.Device.{HasFailed};
 ghost use Rattle.plane.specs.declared.fault.Fault.{Fault};
+ghost use Rattle.engine.specs.Workers.{IsWorkerCount};
 ghost use Rattle.patterns.specs.Meaning.{placeless};
 ghost use Rattle.table_core.specs.Sizes.{IsPairCount};
 ghost use Rattle.batch_program.specs.Messages.{bad_words_text, fault_line};
@@ -19,6 +20,8 @@ use plane::{Counted, Fault, Refusal, Sink, write_all};
 use std::alloc::Global;
 use std::fs;
 use std::rt::Files;
+use std::sync::Wait;
+use std::thread::Threads;
 
 // The name of standard input. It is read as such, so also where its device may not be opened.
 const STANDARD_INPUT: &str = "/dev/stdin";
@@ -47,7 +50,7 @@ impl From<Fault> for Stop {
 /// - 3: the input could not be read, or the report or the output could not be written.
 ///
 /// The output file is created at its first byte. A failure of `err` changes nothing else.
-pub fn program<R: Files + Input, O: Sink, E: Sink>(
+pub fn program<R: Files + Input + Threads + Wait + Sync, O: Sink, E: Sink>(
     rt: &R,
     alloc: Global,
     words: &[&str],
@@ -83,7 +86,7 @@ pub fn program<R: Files + Input, O: Sink, E: Sink>(
 }
 
 // Does what the words ask for. What it then tells has no part in it.
-fn perform<R: Files + Input, O: Sink>(
+fn perform<R: Files + Input + Threads + Wait + Sync, O: Sink>(
     rt: &R,
     alloc: Global,
     words: &[&str],
@@ -105,13 +108,14 @@ fn perform<R: Files + Input, O: Sink>(
 }
 
 // Reads the file and runs it.
-fn run_asked<R: Files + Input, O: Sink>(
+fn run_asked<R: Files + Input + Threads + Wait + Sync, O: Sink>(
     rt: &R,
     alloc: Global,
     asked: &Asked,
     out: &mut O,
 ) -> Result<(), Fault>
-    requires { IsPairCount asked.now.options.pairs }
+    requires pairs { IsPairCount asked.now.options.pairs }
+    requires workers { IsWorkerCount asked.now.options.workers }
     ensures ran { OnOk result (HasRun asked.now.options (O.taken out.old) (O.taken out.new)) }
     ensures unfailed { OnOk result (O.failure_count out.new ≡ O.failure_count out.old) }
     ensures stopped { IfErr result (λ fault. HasStopped asked.now.options fault (O.taken out.old) (O.taken out.new) (out.new ≡ out.old)

@@ -4,3 +4,4 @@ pub mod Generations
 pub mod Judgement
 pub mod Report
 pub mod Run
+pub mod Workers

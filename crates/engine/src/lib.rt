@@ -13,4 +13,5 @@ pub use input::load;
 pub use laws::{one_ending, one_judgement};
 pub use options::Options;
 pub use patterns::Format;
-pub use running::{Summary, rule_refusal, run};
+pub use running::{Summary, rule_refusal, run, run_gated};
+pub use worker_split::{Gate, OpenGate};

@@ -18,6 +18,8 @@ pub struct Options {
     pub format: Option<Format>,
     /// The most pair slots that all tables of squares may have together: a power of two, from 2^10 to 2^28.
     pub pairs: u32,
+    /// How many workers take the steps, from 1 to 64. One starts no thread.
+    pub workers: usize,
     /// Whether the lines of the report are left out.
     pub quiet: bool,
 }

@@ -13,13 +13,15 @@ ghost use Rattle.engine.specs.Run.{IsOutOfRoom};
 use crate::options::Options;
 use crate::report::report_generation;
 use plane::{Refusal, Sink};
-use std::alloc::Global;
+use std::sync::Wait;
+use std::thread::Threads;
 use universe::Universe;
+use worker_split::{Gate, Team};
 
-// Runs a universe of a generation as many generations on as the options ask for, and reports generations on the
+// Runs a universe of a generation, by a team, as many generations on as the options ask for, and reports generations on the
 // way. `NoMemory` and `NodesFull` come between two lines.
-pub(crate) fn run_reported<W: Sink>(
-    alloc: Global,
+pub(crate) fn run_reported<R: Threads + Wait + Sync, G: Gate, W: Sink>(
+    team: &Team<'_, R, G>,
     start: Universe,
     generation: u64,
     options: &Options,
@@ -39,11 +41,12 @@ pub(crate) fn run_reported<W: Sink>(
         × Appends (W.taken report.old) (W.taken report.new) said))
         ⊎ IsWriteRefusal (W.failure_count report.old) (W.failure_count report.new) refusal) }
 {
+    let alloc = team.alloc;
     let mut universe = report_generation(alloc, report, options.quiet, generation, start)?;
     let mut done = 0;
     while done < options.gens {
         let next = next_shown(options, done);
-        universe = universe.after(alloc, next - done)?;
+        universe = universe.after(team, next - done)?;
         done = next;
         universe = report_generation(alloc, report, options.quiet, generation + done, universe)?;
     }

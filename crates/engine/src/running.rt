@@ -8,6 +8,7 @@ ghost use Rattle.engine.specs.Accepted.{SumsUp};
 ghost use Rattle.engine.specs.Judgement.{Start, Judges, rule_refusal};
 ghost use Rattle.patterns.specs.Meaning.{placeless};
 ghost use Rattle.patterns.specs.Pattern.{plane_of};
+ghost use Rattle.engine.specs.Workers.{IsWorkerCount};
 ghost use Rattle.engine.specs.Run.{Finishes, IsStopped, IsTooLarge};
 
 use crate::accepted::judge;
@@ -17,7 +18,10 @@ use patterns::Pattern;
 use plane::{Bounds, Fault, Refusal, Sink};
 use rule_text::RuleFault;
 use std::alloc::Global;
+use std::sync::Wait;
+use std::thread::Threads;
 use universe::Universe;
+use worker_split::{Gate, OpenGate, Team};
 
 /// What a run ends with.
 #[derive(Clone, Copy, Debug, PartialEq, Eq)]
@@ -40,15 +44,53 @@ pub struct Summary {
 /// pattern's box is 2^31 or more, `NoMemory`, and `NodesFull`, where the cells of the file or those after a single
 /// generation have no room in the tables that the options allow, leave `file` as it was. `WriteFailed` comes where a
 /// sink failed.
-pub fn run<R, W: Sink, V: Sink>(
-    _rt: &R,
+pub fn run<R: Threads + Wait + Sync, W: Sink, V: Sink>(
+    rt: &R,
     alloc: Global,
     bytes: &[u8],
     options: &Options,
     report: &mut W,
     file: &mut V,
 ) -> Result<Summary, Fault>
-    requires { IsPairCount options.now.pairs }
+    requires pairs { IsPairCount options.now.pairs }
+    requires workers { IsWorkerCount options.now.workers }
+    // It writes the defined report and file of the cells that the rule, applied that many times, makes live.
+    ensures finished { IfOk result (λ summary. (start : Start) × (said : List ℕ) × (drawn : List ℕ)
+        × Judges bytes.now options.now (Ok start)
+        × Finishes start options.now summary said drawn
+        × Appends (W.taken report.old) (W.taken report.new) said
+        × Appends (V.taken file.old) (V.taken file.new) drawn) }
+    ensures no_format { options.now.format ≡ None → file.new ≡ file.old }
+    ensures unfailed { OnOk result ((V.failure_count file.new ≡ V.failure_count file.old)
+        × (W.failure_count report.new ≡ W.failure_count report.old)) }
+    // It refuses what is not accepted, by its name and at its place, and then has written nothing; what has no
+    // text in the format, after the whole report; and else only where memory ran out, the tables are full, or a sink
+    // failed.
+    ensures refused { IfErr result (λ fault.
+        (Judges bytes.now options.now (Err fault) × (report.new ≡ report.old) × (file.new ≡ file.old))
+        ⊎ ((fault ≡ placeless Refusal.BoxTooLarge) × (file.new ≡ file.old) × ((said : List ℕ)
+        × IsTooLarge bytes.now options.now said × Appends (W.taken report.old) (W.taken report.new) said))
+        ⊎ ((file.new ≡ file.old) × ((said : List ℕ)
+        × IsStopped bytes.now options.now fault said × Appends (W.taken report.old) (W.taken report.new) said))
+        ⊎ ((fault ≡ placeless Refusal.WriteFailed)
+        × (HasFailed (W.failure_count report.old) (W.failure_count report.new)
+        ⊎ HasFailed (V.failure_count file.old) (V.failure_count file.new)))) }
+{
+    run_gated(rt, &OpenGate, alloc, bytes, options, report, file)
+}
+
+/// The same, with a gate, which is called before and after each job of several workers.
+pub fn run_gated<R: Threads + Wait + Sync, G: Gate, W: Sink, V: Sink>(
+    rt: &R,
+    gate: &G,
+    alloc: Global,
+    bytes: &[u8],
+    options: &Options,
+    report: &mut W,
+    file: &mut V,
+) -> Result<Summary, Fault>
+    requires pairs { IsPairCount options.now.pairs }
+    requires workers { IsWorkerCount options.now.workers }
     // It writes the defined report and file of the cells that the rule, applied that many times, makes live.
     ensures finished { IfOk result (λ summary. (start : Start) × (said : List ℕ) × (drawn : List ℕ)
         × Judges bytes.now options.now (Ok start)
@@ -73,7 +115,13 @@ pub fn run<R, W: Sink, V: Sink>(
 {
     let begun = judge(alloc, bytes, options)?;
     let start = begun.text.generation();
-    let universe = run_reported(alloc, begun.universe, start, options, report)?;
+    let team = Team {
+        runtime: rt,
+        alloc,
+        workers: options.workers,
+        gate,
+    };
+    let universe = run_reported(&team, begun.universe, start, options, report)?;
     let (last, summary) = ended(alloc, universe, start + options.gens)?;
     last.draw(options.window, report)?;
     last.write(

@@ -8,7 +8,7 @@ use Rattle.plane.proofs.Same.{plane_equal, same_sym}
 use Rattle.hashlife_step.specs.Futures.{AreFutures}
 use Rattle.squares.specs.Book.{Book, IsFuture, IsKnown, Shows, Keeps, nth, numbered}
 use Rattle.squares.specs.declared.sq.Sq.{Sq}
-use Rattle.squares.proofs.Kept.{keeps_trans, keeps_none, known_kept, shows_kept}
+use Rattle.squares.proofs.Kept.{keeps_trans, known_kept, shows_kept}
 
 -- the first so many show what is made of those that stood there, in the planes that the old book gave them, and the others stand as they did
 pub record IsReplaced (make : Plane → Plane) (old new : Book) (level done : ℕ) (before now : List Sq) : Type 0 where
@@ -17,9 +17,9 @@ pub record IsReplaced (make : Plane → Plane) (old new : Book) (level done : �
   pub made : (k : ℕ) → k < done → k < length before → Shows new (level - 1) (make (old.cells (nth before k))) (nth now k)
   pub others : (k : ℕ) → done ≤ k → nth now k ≡ nth before k
 
-pub replaced_none : (make : Plane → Plane) (book : Book) (level : ℕ) (squares : List Sq) → IsReplaced make book book level 0 squares squares
-replaced_none make book level squares = record {
-  keeps = keeps_none book;
+pub replaced_kept : (make : Plane → Plane) (old new : Book) (level : ℕ) (squares : List Sq) → Keeps old new → IsReplaced make old new level 0 squares squares
+replaced_kept make old new level squares keeps = record {
+  keeps = keeps;
   same_length = refl;
   made = λ k less _. absurd (omega arith);
   others = λ k _. refl;

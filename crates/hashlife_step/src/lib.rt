@@ -3,6 +3,7 @@
 #![tactic(auto)]
 
 mod leaf_squares;
+mod orders;
 mod overlaps;
 mod padding;
 mod plans;
@@ -13,7 +14,7 @@ mod trimming;
 
 pub use padding::pad;
 pub use plans::plan;
-pub use recursion::future;
+pub use recursion::{future, future_in_order};
 pub use steps::step;
 pub use tally::Tally;
 pub use trimming::trim;

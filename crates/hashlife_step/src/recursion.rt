@@ -4,6 +4,7 @@ ghost use Rattle.hashlife_step.specs.Futures.{AreCentres, AreFutures};
 ghost use Rattle.hashlife_step.specs.Tallies.{Tallies};
 
 use crate::leaf_squares::leaf_future;
+use crate::orders::turn;
 use crate::overlaps::{overlaps, replace_by_centres};
 use crate::tally::Tally;
 use plane::Refusal;
@@ -12,8 +13,28 @@ use squares::{Sq, Squares, nine};
 /// The future of a square: its centre, which has half its side, after 2^exponent generations of the
 /// book's exponent, or after 2^(level - 2) if that is less. A result that the book knows is recalled,
 /// and one that is made is kept in the book and counted.
-#[cycle(future)]
 pub fn future<S: Squares>(book: &mut S, sq: Sq, tally: &mut Tally) -> Result<Sq, Refusal>
+    requires known { IsKnown (S.book book.old) sq.level sq }
+    requires low { 3 < sq.level }
+    ensures ok { IfOk result (IsFuture (S.book book.new) sq) }
+    ensures kept { OnOk result (HasResult (S.book book.new) sq) }
+    ensures refusal { IfErr result (MayRefuse (S.book book.new)) }
+    ensures keeps { Keeps (S.book book.old) (S.book book.new) }
+    ensures tally { Tallies (S.book book.old) (S.book book.new) sq.level tally.old.expansions tally.new.expansions }
+{
+    future_in_order(book, sq, 0, tally)
+}
+
+/// The same future. Where the order isn't 0, the futures of several smaller squares are first asked for
+/// in an order of this number: of workers at one table, each with an order of its own, each finds most
+/// of what the others make.
+#[cycle(future)]
+pub fn future_in_order<S: Squares>(
+    book: &mut S,
+    sq: Sq,
+    order: u8,
+    tally: &mut Tally,
+) -> Result<Sq, Refusal>
     requires known { IsKnown (S.book book.old) sq.level sq }
     requires low { 3 < sq.level }
     ensures ok { IfOk result (IsFuture (S.book book.new) sq) }
@@ -25,7 +46,7 @@ pub fn future<S: Squares>(book: &mut S, sq: Sq, tally: &mut Tally) -> Result<Sq,
     if let Some(future) = book.recall(sq) {
         return Ok(future);
     }
-    let future = make(book, sq, tally)?;
+    let future = make(book, sq, order, tally)?;
     book.keep(sq, future)?;
     tally.add();
     Ok(future)
@@ -33,7 +54,7 @@ pub fn future<S: Squares>(book: &mut S, sq: Sq, tally: &mut Tally) -> Result<Sq,
 
 // The future of a square whose result is not known.
 #[cycle(future)]
-fn make<S: Squares>(book: &mut S, sq: Sq, tally: &mut Tally) -> Result<Sq, Refusal>
+fn make<S: Squares>(book: &mut S, sq: Sq, order: u8, tally: &mut Tally) -> Result<Sq, Refusal>
     requires known { IsKnown (S.book book.old) sq.level sq }
     requires low { 3 < sq.level }
     ensures ok { IfOk result (IsFuture (S.book book.new) sq) }
@@ -46,9 +67,9 @@ fn make<S: Squares>(book: &mut S, sq: Sq, tally: &mut Tally) -> Result<Sq, Refus
     }
     let level = sq.level - 1;
     let mut parts = nine(book, sq)?;
-    replace_by_futures(book, level, &mut parts, tally)?;
+    replace_by_futures(book, level, &mut parts, order, tally)?;
     let mut quarters = overlaps(book, level - 1, parts)?;
-    finish(book, level, &mut quarters, tally)?;
+    finish(book, level, &mut quarters, order, tally)?;
     book.quad(quarters)
 }
 
@@ -58,6 +79,7 @@ fn finish<S: Squares>(
     book: &mut S,
     level: u8,
     quarters: &mut [Sq],
+    order: u8,
     tally: &mut Tally,
 ) -> Result<(), Refusal>
     requires known { All (IsKnown (S.book book.old) level) quarters.old }
@@ -69,7 +91,7 @@ fn finish<S: Squares>(
     ensures tally { Tallies (S.book book.old) (S.book book.new) level tally.old.expansions tally.new.expansions }
 {
     if book.exponent() >= level - 1 {
-        replace_by_futures(book, level, quarters, tally)
+        replace_by_futures(book, level, quarters, order, tally)
     } else {
         replace_by_centres(book, level, quarters)
     }
@@ -81,6 +103,7 @@ fn replace_by_futures<S: Squares>(
     book: &mut S,
     level: u8,
     squares: &mut [Sq],
+    order: u8,
     tally: &mut Tally,
 ) -> Result<(), Refusal>
     requires known { All (IsKnown (S.book book.old) level) squares.old }
@@ -90,8 +113,33 @@ fn replace_by_futures<S: Squares>(
     ensures keeps { Keeps (S.book book.old) (S.book book.new) }
     ensures tally { Tallies (S.book book.old) (S.book book.new) level tally.old.expansions tally.new.expansions }
 {
+    visit(book, level, squares, order, tally)?;
     for i in 0..squares.len() {
-        squares[i] = future(book, squares[i], tally)?;
+        squares[i] = future_in_order(book, squares[i], order, tally)?;
+    }
+    Ok(())
+}
+
+// Asks for the futures of the squares in this order; in order 0 for none.
+#[cycle(future)]
+fn visit<S: Squares>(
+    book: &mut S,
+    level: u8,
+    squares: &[Sq],
+    order: u8,
+    tally: &mut Tally,
+) -> Result<(), Refusal>
+    requires known { All (IsKnown (S.book book.old) level) squares.now }
+    requires low { 3 < level }
+    ensures refusal { IfErr result (MayRefuse (S.book book.new)) }
+    ensures keeps { Keeps (S.book book.old) (S.book book.new) }
+    ensures tally { Tallies (S.book book.old) (S.book book.new) level tally.old.expansions tally.new.expansions }
+{
+    if order == 0 {
+        return Ok(());
+    }
+    for k in 0..squares.len() {
+        future_in_order(book, squares[turn(order, k, squares.len())], order, tally)?;
     }
     Ok(())
 }

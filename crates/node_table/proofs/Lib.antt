@@ -15,3 +15,5 @@ pub mod Reopening
 pub mod Openings
 pub mod Everything
 pub mod Closing
+mod Working
+pub mod AtWork

@@ -22,10 +22,18 @@ store_of table = numbers_of table.key.shape.bits table.table.shared.table_id
 abbrev pub book_at : NodeTable → Desk → Book
 book_at table desk = book_of (store_of table) table.key desk.seat.me.0.known
 
--- the desk is one of each table at which such a book began, and knows what is in the book
+-- the store of a desk at work: the table, and the number of expansions with which the desk came
+abbrev pub work_store : ℕ → NodeTable → List ℕ
+work_store expansions table = expansions ∷ store_of table
+
+-- what a desk at work at this table knows
+abbrev pub work_at : ℕ → NodeTable → Desk → Book
+work_at expansions table desk = book_of (work_store expansions table) table.key desk.seat.me.0.known
+
+-- the desk is one of each table at which such a book began, knows what is in the book, and has the number of expansions with which it came
 pub record Returns (book : Book) (desk : Desk) : Type 0 where
-  pub returns : (table : NodeTable) (first : Desk) → Keeps (book_at table first) book →
-      IsDeskOf table desk × (book_at table desk ≡ book)
+  pub returns : (table : NodeTable) (first : Desk) → Keeps (work_at first.expansions table first) book →
+      IsDeskOf table desk × (work_at first.expansions table desk ≡ book) × (desk.expansions ≡ first.expansions)
 
 -- what a desk knows is the same, of whichever table it is
 pub record IsSameDesk (old new : Desk) : Type 0 where

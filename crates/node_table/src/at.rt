@@ -3,7 +3,7 @@ ghost use Rattle.std.specs.List.{AllByRecursion};
 ghost use Rattle.plane.specs.Square.{bits_plane};
 ghost use Rattle.squares.specs.Book.{IsKnown, Shows, IsEmpty, Keeps, KeepsResults, MayRefuse, numbered, joined_squares, nth};
 ghost use Rattle.table_core.specs.declared.shape.Kind.TheVariants.{Leaf};
-ghost use Rattle.node_table.specs.Desks.{IsDeskOf, store_of};
+ghost use Rattle.node_table.specs.Desks.{IsDeskOf, work_store};
 ghost use Rattle.node_table.specs.Refusals.{HasNoRoom, HasNoRoomForQuad};
 
 use crate::desk::Desk;
@@ -20,6 +20,7 @@ use table_core::{Kind, parts};
 pub struct At<'t> {
     pub(crate) table: &'t NodeTable,
     pub(crate) desk: Desk,
+    pub(crate) expansions: u64,
     ghost of_table: { IsDeskOf table.now desk },
 }
 
@@ -35,12 +36,20 @@ pub(crate) fn square(level: u8, number: u32) -> Sq
 impl At<'_> {
     ghost use Rattle.node_table.specs.Desks.{Returns};
 
-    /// The desk again, with all that it knows.
+    /// The desk again, with all that it knows, and its number of expansions as it was.
     pub fn leave(self) -> Desk
         ensures { Returns (⟦<At<'static> as Squares>⟧.book self.entry) result }
     {
-        let At { table: _, desk } = self;
-        desk
+        let At {
+            table: _,
+            desk,
+            expansions,
+        } = self;
+        let Desk {
+            seat,
+            expansions: _,
+        } = desk;
+        Desk { seat, expansions }
     }
 }
 
@@ -134,5 +143,5 @@ impl Squares for At<'_> {
         Ok(())
     }
 
-    ghost is_book = { λ s. (s.desk.sound s.table.now.key s.of_table.same_key).book (store_of s.table.now) };
+    ghost is_book = { λ s. (s.desk.sound s.table.now.key s.of_table.same_key).book (work_store s.expansions s.table.now) };
 }

@@ -29,7 +29,7 @@ pub struct NodeTable {
 
 impl NodeTable {
     ghost use Rattle.squares.specs.Book.{Keeps};
-    ghost use Rattle.node_table.specs.Desks.{IsDeskOf, book_at, expansions_of};
+    ghost use Rattle.node_table.specs.Desks.{IsDeskOf, book_at, work_at, expansions_of};
     ghost use Rattle.node_table.specs.Openings.{Opens, Closes};
 
     /// A running table of these words under a rule and an exponent, and its first desk, which knows
@@ -91,9 +91,17 @@ impl NodeTable {
     /// The desk, at work at its table.
     pub fn at(&self, desk: Desk) -> At<'_>
         requires { IsDeskOf self.now desk }
-        ensures { ⟦<At<'static> as Squares>⟧.book result ≡ book_at self.now desk }
+        ensures { ⟦<At<'static> as Squares>⟧.book result ≡ work_at (expansions_of desk) self.now desk }
     {
-        At { table: self, desk }
+        let Desk { seat, expansions } = desk;
+        At {
+            table: self,
+            desk: Desk {
+                seat,
+                expansions: 0,
+            },
+            expansions,
+        }
     }
 
     /// Two desks that know what the one knew. The first goes on with its number of expansions, the

@@ -1,13 +1,11 @@
--- Squares of words at rest, at the table that is opened of them, and at rest again.
-use Rattle.std.proofs.Common.{◌≡◌, ℕ, ◌^◌, refl, sym, ◌∙◌, ap, subst}
+-- Squares of words at rest at the table that is opened of them, and what a desk found there at work.
+use Rattle.std.proofs.Common.{◌≡◌, ℕ, sym, subst}
 use Rattle.std.specs.Prelude.{slice_index}
 use Rattle.rule_text.specs.CountRule.{CountRule}
-use Rattle.plane.specs.Centred.{centred}
-use Rattle.plane.specs.Plane.{Plane, after}
-use Rattle.plane.specs.Square.{IsSame}
-use Rattle.plane.proofs.Same.{plane_equal, same_trans}
+use Rattle.plane.specs.Plane.{Plane}
+use Rattle.plane.proofs.Same.{same_trans}
 use Rattle.squares.specs.declared.sq.Sq.{Sq}
-use Rattle.squares.specs.Book.{Book, IsKnown, Keeps, Shows}
+use Rattle.squares.specs.Book.{Book, IsKnown, Shows}
 use Rattle.squares.specs.Rounds.{IsRound}
 use Rattle.table_core.specs.declared.key.Key.{Key}
 use Rattle.table_core.specs.Layout.{IsSlot}
@@ -19,14 +17,13 @@ use Rattle.table_core.proofs.Blocks.{shows_stay}
 use Rattle.node_table.specs.declared.desk.Desk.{Desk}
 use Rattle.node_table.specs.declared.still.Still.{Still}
 use Rattle.node_table.specs.declared.table.NodeTable.{NodeTable}
-use Rattle.node_table.specs.Desks.{Returns, book_at, store_of}
-use Rattle.node_table.specs.Openings.{Closes, Opens, SaysAll}
+use Rattle.node_table.specs.Desks.{book_at, store_of}
+use Rattle.node_table.specs.Openings.{Opens}
 use Rattle.node_table.specs.Stills.{book_in, words_of}
+use Rattle.node_table.proofs.AtWork.{IsBack, back_round}
 use Rattle.node_table.proofs.Books.{shows_of}
 use Rattle.node_table.proofs.Steps.{is_coherent}
 use Rattle.node_sweep.proofs.Squares.{known_shows}
-
--- ---- opening
 
 slots_kept : (was key : Key) (old new : Words) → Reopens was key old new → KeepsSlots key.shape.bits old new
 slots_kept was key old new r = record {
@@ -47,57 +44,6 @@ opened_shows still rule exponent table desk opens sq known =
     ∣ is_coherent table.key (slice_index opens.words) desk.seat.me.0.known opens.opening.good opens.known.true_of ∣₁ known.low known.high knows in
     record { known = shown.known; cells = same_trans shown.cells now.cells }
 
--- ---- at a desk, and at rest again
-
-pub kept_shows : (old new : Book) (level : ℕ) (plane : Plane) (sq : Sq) → Keeps old new → Shows old level plane sq → Shows new level plane sq
-kept_shows old new level plane sq keeps shown = record {
-  known = record { known = keeps.known sq shown.known.known; at_level = shown.known.at_level; low = shown.known.low; high = shown.known.high };
-  cells = same_trans (keeps.cells sq shown.known.known) shown.cells;
-}
-
-pub said_shows : (old new : Book) (level : ℕ) (plane : Plane) (sq : Sq) → SaysAll old new → Shows old level plane sq → Shows new level plane sq
-said_shows old new level plane sq says shown = record {
-  known = record { known = says.known sq shown.known.known; at_level = shown.known.at_level; low = shown.known.low; high = shown.known.high };
-  cells = same_trans (says.cells sq shown.known.known) shown.cells;
-}
-
-pub centred_same : (level : ℕ) (plane other : Plane) → IsSame plane other → IsSame (centred level plane) (centred level other)
-centred_same level plane other is = record { same = λ x y. is.same _ _ }
-
-pub said_round : (old new : Book) (plane : Plane) (sq : Sq) → SaysAll old new → IsRound old plane sq → IsRound new plane sq
-said_round old new plane sq says round = record {
-  known = record { known = says.known sq round.known.known; at_level = refl; low = round.known.low; high = round.known.high };
-  smallest = round.smallest;
-  cells = same_trans (centred_same sq.level (new.cells sq) (old.cells sq) (says.cells sq round.known.known)) round.cells;
-}
-
--- the closed words say all that the book at the desk knew
-pub closed_says : (table : NodeTable) (first desk : Desk) (book : Book) (still : Still) → Keeps (book_at table first) book → Returns book desk → Closes table desk still → SaysAll book (book_in still)
-closed_says table first desk book still keeps returns closes =
-    subst (λ (b : Book). SaysAll b (book_in still)) (returns.returns table first keeps).1 closes.says
-
--- ---- a step
-
--- what the words at rest showed, they show again when the table is closed
-pub still_shows : (was now : Still) (rule : CountRule) (exponent : ℕ) (table : NodeTable) (first desk : Desk) (book : Book) (sq : Sq) → Opens was rule exponent table first → Keeps (book_at table first) book →
-    Returns book desk → Closes table desk now → IsKnown (book_in was) sq.level sq → Shows (book_in now) sq.level ((book_in was).cells sq) sq
-still_shows was now rule exponent table first desk book sq opens keeps returns closes known =
-    said_shows book (book_in now) sq.level ((book_in was).cells sq) sq (closed_says table first desk book now keeps returns closes)
-    (kept_shows (book_at table first) book sq.level ((book_in was).cells sq) sq keeps (opened_shows was rule exponent table first opens sq known))
-
--- the square after the step, in the closed words
-pub still_stepped : (was now : Still) (rule : CountRule) (exponent : ℕ) (table : NodeTable) (first desk : Desk) (book : Book) (sq later : Sq) → Opens was rule exponent table first →
-    Keeps (book_at table first) book → Returns book desk → Closes table desk now → IsKnown (book_in was) sq.level sq →
-    IsRound book (after (book_at table first).rule (centred sq.level ((book_at table first).cells sq)) (2 ^ (book_at table first).exponent)) later →
-    IsRound (book_in now) (after rule (centred sq.level ((book_in was).cells sq)) (2 ^ exponent)) later
-still_stepped was now rule exponent table first desk book sq later opens keeps returns closes known round =
-    let same_rule : (book_at table first).rule ≡ rule = ap (λ (k : Key). k.rule) opens.key in
-    let same_exponent : (book_at table first).exponent ≡ exponent = ap (λ (k : Key). k.exponent) opens.key in
-    let shown = opened_shows was rule exponent table first opens sq known in
-    let same_cells : (book_at table first).cells sq ≡ (book_in was).cells sq = plane_equal ((book_at table first).cells sq) ((book_in was).cells sq) shown.cells in
-    said_round book (book_in now) (after rule (centred sq.level ((book_in was).cells sq)) (2 ^ exponent)) later (closed_says table first desk book now keeps returns closes)
-    (subst (λ (p : Plane). IsRound book p later)
-    (ap (λ r. after r (centred sq.level ((book_at table first).cells sq)) (2 ^ (book_at table first).exponent)) same_rule
-    ∙ ap (λ (p : Plane). after rule (centred sq.level p) (2 ^ (book_at table first).exponent)) same_cells
-    ∙ ap (λ e. after rule (centred sq.level ((book_in was).cells sq)) (2 ^ e)) same_exponent)
-    round)
+-- what the work found round (0,0), the desk that is back knows
+pub back_as_round : {table : NodeTable} {desk back : Desk} {book : Book} (plane : Plane) (sq : Sq) → IsBack table desk back book → IsRound book plane sq → IsRound (book_at table back) plane sq
+back_as_round plane sq is round = record { known = is.known sq.level sq round.known; smallest = round.smallest; cells = back_round plane sq is round.known round.cells }

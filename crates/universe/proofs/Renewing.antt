@@ -15,7 +15,7 @@ use Rattle.universe.specs.Runs.{IsTurned}
 use Rattle.universe.specs.declared.resting.Resting.{Resting}
 use Rattle.universe.specs.declared.scenes.Scene.{Scene}
 use Rattle.universe.specs.declared.universe.Universe.{Universe}
-use Rattle.universe.proofs.AtRest.{centred_same}
+use Rattle.node_table.proofs.AtWork.{centred_same}
 
 -- a refusal for want of slots says that there is no room
 pub no_room : {NoRoom : Type 0} → (refusal : Refusal) → refusal ≡ NodesFull → (refusal ≡ NoMemory) ⊎ ((refusal ≡ NodesFull) × NoRoom) → NoRoom

@@ -7,7 +7,10 @@ use Rattle.universe.specs.Cells.{cells_of, resting_cells, still_of}
 use Rattle.universe.specs.declared.resting.Resting.{Resting}
 use Rattle.universe.specs.declared.scenes.Scene.{Scene}
 use Rattle.universe.specs.declared.scenes.Moved.{Moved}
-use Rattle.universe.specs.declared.scenes.Moved.TheVariants.{There, Full}
+use Rattle.universe.specs.declared.scenes.Moved.TheVariants.{There}
+use Rattle.universe.specs.declared.scenes.Moved.TheVariants.{Full as FullThere}
+use Rattle.universe.specs.declared.scenes.Stepped.{Stepped}
+use Rattle.universe.specs.declared.scenes.Stepped.TheVariants.{Done, Full}
 use Rattle.universe.specs.declared.tables.OpenTable.{OpenTable}
 use Rattle.universe.specs.Tables.{known_at}
 
@@ -22,10 +25,15 @@ pub record IsFullHere (old new : Scene) : Type 0 where
   pub key : new.table.key ≡ old.table.key
   pub full : IsTrue (known_at new.table).is_full
 
+-- the cells one step later, or, where the table was full, before it
+abbrev pub IsStepped : Scene → Stepped → Type 0
+IsStepped old (Done later) = IsNext old later
+IsStepped old (Full same) = IsFullHere old same
+
 -- the same cells, at the other table, beside the one where they were; or where they were
 abbrev pub IsMoved : Scene → OpenTable → Moved → Type 0
 IsMoved old other (There left here) = IsSame (cells_of here) (cells_of old) × (here.table.key ≡ other.key) × (left.key ≡ old.table.key)
-IsMoved old other (Full here there) = IsSame (cells_of here) (cells_of old) × (here.table.key ≡ old.table.key) × (there.key ≡ other.key)
+IsMoved old other (FullThere here there) = IsSame (cells_of here) (cells_of old) × (here.table.key ≡ old.table.key) × (there.key ≡ other.key)
 
 -- the same cells at rest, under the same rule, in words of no more pair slots
 pub record IsShrunk (old new : Resting) : Type 0 where

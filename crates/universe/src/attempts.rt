@@ -6,12 +6,15 @@ ghost use Rattle.plane.specs.Square.{IsSame};
 ghost use Rattle.universe.specs.Sums.{pair_sum};
 
 use crate::resting::Resting;
+use crate::scenes::Stepped;
 use crate::sizes::{larger, pair_count};
 use crate::tables::OpenTable;
 use crate::universe::Universe;
 use plane::Refusal;
-use std::alloc::Global;
+use std::sync::Wait;
+use std::thread::Threads;
 use table_core::Shape;
+use worker_split::{Gate, Team};
 
 // What came of what a table may be too full for: the universe behind it, or, where the table was
 // full, the one before it.
@@ -28,7 +31,10 @@ impl Universe {
     // Takes one step of the table that is here. Where it is full the step is begun again: in one of its
     // size with the cells alone, if earlier steps have filled it; in larger ones with all that is known
     // here, until it is the largest; and then in one with the cells alone.
-    pub(crate) fn attempt(self, alloc: Global) -> Result<Attempt, Refusal>
+    pub(crate) fn attempt<R: Threads + Wait + Sync, G: Gate>(
+        self,
+        team: &Team<'_, R, G>,
+    ) -> Result<Attempt, Refusal>
         requires { MayStep self }
         ensures ok { IfOk result (IsAttempt self) }
         ensures full { IfOk result IsFullAtLimit }
@@ -36,28 +42,31 @@ impl Universe {
     {
         let most = self.limit;
         let mut shape = self.here.table.key.shape;
-        let mut start = match self.tried_here(alloc)? {
+        let mut start = match self.tried_here(team)? {
             Attempt::Full(start) => start,
             done => return Ok(done),
         };
         'sizes: while let Some(next) = larger(shape, most) {
-            start = match start.tried_larger(alloc, next)? {
+            start = match start.tried_larger(team, next)? {
                 Attempt::Full(start) => start,
                 done => return Ok(done),
             };
             shape = next;
         }
-        start.tried_swept(alloc, most)
+        start.tried_swept(team, most)
     }
 
     // Takes one step of the table that is here, or, where earlier steps have filled it, in one of its size
     // with the cells alone.
-    fn tried_here(self, alloc: Global) -> Result<Attempt, Refusal>
+    fn tried_here<R: Threads + Wait + Sync, G: Gate>(
+        self,
+        team: &Team<'_, R, G>,
+    ) -> Result<Attempt, Refusal>
         requires { MayStep self }
         ensures ok { IfOk result (IsAttempt self) }
         ensures memory { IsOkUnless result Refusal.NoMemory }
     {
-        let start = match self.tried() {
+        let start = match self.tried(team)? {
             Attempt::Full(start) => start,
             done => return Ok(done),
         };
@@ -65,36 +74,44 @@ impl Universe {
             return Ok(Attempt::Full(start));
         }
         let shape = start.here.table.key.shape;
-        start.tried_swept(alloc, shape)
+        start.tried_swept(team, shape)
     }
 
     // Takes one step of the table that is here.
-    fn tried(self) -> Attempt
+    fn tried<R: Threads + Wait + Sync, G: Gate>(
+        self,
+        team: &Team<'_, R, G>,
+    ) -> Result<Attempt, Refusal>
         requires { MayStep self }
-        ensures tried { IsAttempt self result }
-        ensures full { IsFullInPlace self result }
+        ensures ok { IfOk result (IsAttempt self) }
+        ensures full { IfOk result (IsFullInPlace self) }
+        ensures memory { IsOkUnless result Refusal.NoMemory }
     {
         let Universe {
             here,
             others,
             limit,
         } = self;
-        match here.step() {
-            Ok(here) => Attempt::Done(Universe {
+        match here.step(team)? {
+            Stepped::Done(here) => Ok(Attempt::Done(Universe {
                 here,
                 others,
                 limit,
-            }),
-            Err(here) => Attempt::Full(Universe {
+            })),
+            Stepped::Full(here) => Ok(Attempt::Full(Universe {
                 here,
                 others,
                 limit,
-            }),
+            })),
         }
     }
 
     // Takes one step in a table of this shape with all that is known here, if there is room for it.
-    fn tried_larger(self, alloc: Global, shape: Shape) -> Result<Attempt, Refusal>
+    fn tried_larger<R: Threads + Wait + Sync, G: Gate>(
+        self,
+        team: &Team<'_, R, G>,
+        shape: Shape,
+    ) -> Result<Attempt, Refusal>
         requires step { MayStep self }
         requires shape { shape.bits ≤ self.limit.bits }
         ensures ok { IfOk result (IsAttempt self) }
@@ -106,18 +123,18 @@ impl Universe {
             limit,
         } = self.with_room(pair_count(shape));
         let start = here.rest();
-        match start.enlarged(alloc, shape)? {
+        match start.enlarged(team.alloc, shape)? {
             Some(fresh) => {
-                let here = fresh.resume(alloc)?;
-                Ok(Universe {
+                let here = fresh.resume(team.alloc)?;
+                Universe {
                     here,
                     others,
                     limit,
                 }
-                .tried())
+                .tried(team)
             }
             None => {
-                let here = start.resume(alloc)?;
+                let here = start.resume(team.alloc)?;
                 Ok(Attempt::Full(Universe {
                     here,
                     others,
@@ -128,7 +145,11 @@ impl Universe {
     }
 
     // Takes one step in a table of this shape with the cells alone, if there is room for them.
-    fn tried_swept(self, alloc: Global, shape: Shape) -> Result<Attempt, Refusal>
+    fn tried_swept<R: Threads + Wait + Sync, G: Gate>(
+        self,
+        team: &Team<'_, R, G>,
+        shape: Shape,
+    ) -> Result<Attempt, Refusal>
         requires step { MayStep self }
         requires shape { 2 ^ shape.bits ≤ limit_of self }
         ensures ok { IfOk result (IsAttempt self) }
@@ -141,18 +162,18 @@ impl Universe {
             limit,
         } = self.with_room(pair_count(shape));
         let start = here.rest();
-        match start.swept(alloc, shape)? {
+        match start.swept(team.alloc, shape)? {
             Some(fresh) => {
-                let here = fresh.resume(alloc)?;
-                Ok(Universe {
+                let here = fresh.resume(team.alloc)?;
+                Universe {
                     here,
                     others,
                     limit,
                 }
-                .tried())
+                .tried(team)
             }
             None => {
-                let here = start.resume(alloc)?;
+                let here = start.resume(team.alloc)?;
                 Ok(Attempt::Full(Universe {
                     here,
                     others,

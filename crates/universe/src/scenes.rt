@@ -1,6 +1,6 @@
 //! Live cells as a square at an open table.
 
-ghost use Rattle.std.specs.Prelude.{◌≡◌, ◌<◌, ◌≤◌, ◌^◌, ◌↔◌, IfErr, IfOk, IsOkUnless, IsTrue};
+ghost use Rattle.std.specs.Prelude.{◌≡◌, ◌<◌, ◌≤◌, ◌^◌, ◌↔◌, IfOk, IsOkUnless, IsTrue};
 ghost use Rattle.node_table.specs.Stills.{key_of};
 ghost use Rattle.plane.specs.Centred.{Holds};
 ghost use Rattle.plane.specs.Plane.{after};
@@ -15,6 +15,9 @@ use crate::tables::OpenTable;
 use plane::{Bounds, Refusal};
 use squares::Sq;
 use std::alloc::Global;
+use std::sync::Wait;
+use std::thread::Threads;
+use worker_split::{Gate, Team};
 
 /// Live cells in the range, as a square at an open table whose centre corner is (0,0).
 #[derive(Drop)]
@@ -23,6 +26,13 @@ pub(crate) struct Scene {
     pub(crate) root: Sq,
     ghost known: { IsKnown (known_at table) root.level root },
     ghost level: { (3 < root.level) × (root.level ≤ 63) },
+}
+
+// What came of one step: the cells after it, or, where the table was full, before it.
+#[derive(Drop)]
+pub(crate) enum Stepped {
+    Done(Scene),
+    Full(Scene),
 }
 
 // What came of copying the cells into another table: they are there, and the table where they were
@@ -35,7 +45,7 @@ pub(crate) enum Moved {
 
 impl Scene {
     ghost use Rattle.universe.specs.Cells.{cells_of, resting_cells, still_of};
-    ghost use Rattle.universe.specs.Scenes.{IsFullHere, IsMoved, IsNext};
+    ghost use Rattle.universe.specs.Scenes.{IsMoved, IsStepped};
 
     /// Whether no cell is live.
     pub(crate) fn is_empty(&self) -> bool
@@ -79,18 +89,22 @@ impl Scene {
         Ok((resting.resume(alloc)?, found))
     }
 
-    // The cells after one step of the table, or, where it is full, the cells before it.
-    pub(crate) fn step(self) -> Result<Scene, Scene>
+    // Takes one step of the table, by a team.
+    pub(crate) fn step<R: Threads + Wait + Sync, G: Gate>(
+        self,
+        team: &Team<'_, R, G>,
+    ) -> Result<Stepped, Refusal>
         requires exponent { self.table.key.exponent ≤ 62 }
         requires held { Holds 63 (after self.table.key.rule (cells_of self) (2 ^ self.table.key.exponent)) }
-        ensures ok { IfOk result (IsNext self) }
-        ensures full { IfErr result (IsFullHere self) }
+        ensures ok { IfOk result (IsStepped self) }
+        ensures memory { IsOkUnless result Refusal.NoMemory }
     {
         let Scene { table, root } = self;
-        let (table, made) = table.step(root);
+        let (table, made) = table.step(team, root);
         match made {
-            Ok(later) => Ok(Scene { table, root: later }),
-            Err(_) => Err(Scene { table, root }),
+            Ok(later) => Ok(Stepped::Done(Scene { table, root: later })),
+            Err(Refusal::NodesFull) => Ok(Stepped::Full(Scene { table, root })),
+            Err(_) => Err(Refusal::NoMemory),
         }
     }
 

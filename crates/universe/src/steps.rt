@@ -10,35 +10,45 @@ use crate::attempts::Attempt;
 use crate::universe::Universe;
 use hashlife_step::plan;
 use plane::Refusal;
-use std::alloc::Global;
+use std::sync::Wait;
+use std::thread::Threads;
+use worker_split::{Gate, Team};
 
 impl Universe {
     ghost use Rattle.universe.specs.Cells.{limit_of, live_cells, rule_of};
 
     // The cells after 2^exponent generations. Where the largest table is full the step is taken in two
     // halves; `NodesFull` where a single generation has no room, and `NoMemory`.
-    fn step(self, alloc: Global, exponent: u8) -> Result<Universe, Refusal>
+    fn step<R: Threads + Wait + Sync, G: Gate>(
+        self,
+        team: &Team<'_, R, G>,
+        exponent: u8,
+    ) -> Result<Universe, Refusal>
         requires exponent { exponent ≤ 62 }
         requires held { StaysHeld (rule_of self) (live_cells self) (2 ^ exponent) }
         ensures ok { IfOk result (IsLater self (2 ^ exponent)) }
         ensures full { IfErr result (λ refusal. refusal ≡ Refusal.NodesFull → IsStuck self (2 ^ exponent)) }
         ensures refusal { IfErr result (λ refusal. (refusal ≡ Refusal.NoMemory) ⊎ (refusal ≡ Refusal.NodesFull)) }
     {
-        let start = match self.turned(alloc, exponent)?.attempt(alloc)? {
+        let start = match self.turned(team.alloc, exponent)?.attempt(team)? {
             Attempt::Done(later) => return Ok(later),
             Attempt::Full(start) => start,
         };
         if exponent == 0 {
             return Err(Refusal::NodesFull);
         }
-        let middle = start.step(alloc, exponent - 1)?;
-        middle.step(alloc, exponent - 1)
+        let middle = start.step(team, exponent - 1)?;
+        middle.step(team, exponent - 1)
     }
 
-    /// The cells after so many generations: a step for each binary digit of their number. The empty
-    /// universe takes no step. `NodesFull` where the largest table has no room for one generation, and
+    /// The cells after so many generations: a step for each binary digit of their number, taken
+    /// by a team. The empty universe takes no step. `NodesFull` where the largest table has no room for one generation, and
     /// `NoMemory`.
-    pub fn after(self, alloc: Global, generations: u64) -> Result<Universe, Refusal>
+    pub fn after<R: Threads + Wait + Sync, G: Gate>(
+        self,
+        team: &Team<'_, R, G>,
+        generations: u64,
+    ) -> Result<Universe, Refusal>
         requires held { StaysHeld (rule_of self) (live_cells self) generations }
         requires short { (IsSame (live_cells self) empty → ⊥) → generations < 2 ^ 63 }
         ensures ok { IfOk result (λ later. IsSame (live_cells later) (after (rule_of self) (live_cells self) generations)) }
@@ -53,7 +63,7 @@ impl Universe {
         let mut universe = self;
         let steps = plan(generations);
         'steps: for exponent in steps.as_slice() {
-            universe = universe.step(alloc, *exponent)?;
+            universe = universe.step(team, *exponent)?;
         }
         Ok(universe)
     }

@@ -12,15 +12,17 @@ ghost use Rattle.viewport.specs.Population.{HasPopulation};
 
 use crate::build::Build;
 use crate::sizes::pair_count;
-use hashlife_step::{Tally, step};
 use node_sweep::enlarge;
 use node_table::{Desk, NodeTable, Still};
 use plane::Refusal;
 use rule_text::Rule;
 use squares::{Num, Sq, copy_between};
 use std::alloc::Global;
+use std::sync::Wait;
+use std::thread::Threads;
 use table_core::{Key, Kind, Shape};
 use viewport::population;
+use worker_split::{Gate, Team, step};
 
 // How many pair slots make a table large, as a power of two: more of it than a processor keeps near.
 const LARGE_BITS: u8 = 18;
@@ -155,14 +157,18 @@ impl OpenTable {
         table.close(desk)
     }
 
-    /// One step of 2^exponent generations from a square. The table comes back, at a refusal too.
-    pub(crate) fn step(self, root: Sq) -> (OpenTable, Result<Sq, Refusal>)
+    /// One step of 2^exponent generations from a square, by a team. The table comes back, at a refusal too.
+    pub(crate) fn step<R: Threads + Wait + Sync, G: Gate>(
+        self,
+        team: &Team<'_, R, G>,
+        root: Sq,
+    ) -> (OpenTable, Result<Sq, Refusal>)
         requires known { IsKnown (known_at self) root.level root }
         requires level { (3 < root.level) × (root.level ≤ 63) }
         requires exponent { self.key.exponent ≤ 62 }
         ensures stays { StaysOpen self result.0 }
         ensures ok { IfOk result.1 (IsRound (known_at result.0) (after self.key.rule (centred root.level ((known_at self).cells root)) (2 ^ self.key.exponent))) }
-        ensures full { IfErr result.1 (λ refusal. IsTrue (known_at result.0).is_full) }
+        ensures refusal { IfErr result.1 (λ refusal. (refusal ≡ Refusal.NoMemory) ⊎ ((refusal ≡ Refusal.NodesFull) × IsTrue (known_at result.0).is_full)) }
     {
         let OpenTable {
             table,
@@ -170,9 +176,7 @@ impl OpenTable {
             key,
             steps,
         } = self;
-        let mut at = table.at(desk);
-        let made = step(&mut at, root, &mut Tally { expansions: 0 });
-        let desk = at.leave();
+        let (desk, made) = step(team, &table, desk, root);
         let stepped = OpenTable {
             table,
             desk,

@@ -10,3 +10,4 @@ mod refused;
 mod rows;
 mod sipping;
 mod want_of_memory;
+mod workers;

@@ -3,6 +3,7 @@ mod cells;
 mod futures;
 mod leaves;
 mod numbered_squares;
+mod orders;
 mod places;
 mod rows;
 mod table_words;

@@ -5,6 +5,8 @@ use engine::{Options, Summary, run};
 use plane::Fault;
 use std::alloc::AllocError;
 use std::process::Abort;
+use std::sync::Wait;
+use std::thread::Threads;
 use table_core::Shape;
 
 /// How a run ended, and what it wrote.
@@ -17,7 +19,7 @@ pub(crate) struct Ended {
 
 impl Ended {
     /// Runs a file with devices that take all that is written.
-    pub(crate) fn of<R: Abort + AllocGlobal>(
+    pub(crate) fn of<R: Abort + AllocGlobal + Threads + Wait + Sync>(
         rt: &R,
         file: &str,
         options: &Options,
@@ -27,7 +29,7 @@ impl Ended {
 
     /// Runs a file with devices that take so many bytes at a time, of which the report and the file fail
     /// at these calls, or at none for 0.
-    pub(crate) fn with_devices<R: Abort + AllocGlobal>(
+    pub(crate) fn with_devices<R: Abort + AllocGlobal + Threads + Wait + Sync>(
         rt: &R,
         file: &str,
         options: &Options,
@@ -35,6 +37,7 @@ impl Ended {
         calls: (u64, u64),
     ) -> Result<Ended, AllocError> {
         assert!(rt; Shape::is_pair_count(options.pairs));
+        assert!(rt; options.workers >= 1 && options.workers <= 64);
         let mut report = Sipping::new(rt.alloc(), most, calls.0)?;
         let mut written = Sipping::new(rt.alloc(), most, calls.1)?;
         let bytes = file.as_bytes();

@@ -17,7 +17,7 @@ const FULL: Fault = Fault {
 };
 
 // The last generations of the R-pentomino.
-const SETTLED: Row = Row {
+pub(crate) const SETTLED: Row = Row {
     generations: 1103,
     report: "0: 5\n1103: 116\n",
     text: "#CXRLE Pos=-240,-258 Gen=1103\n\
@@ -33,7 +33,7 @@ const SETTLED: Row = Row {
 };
 
 // The same, with a line for every hundredth generation.
-const REPORTED: Row = Row {
+pub(crate) const REPORTED: Row = Row {
     step: 100,
     report: "0: 5\n100: 121\n200: 120\n300: 168\n400: 195\n500: 174\n600: 213\n700: 194\n\
      800: 228\n900: 204\n1000: 156\n1100: 122\n1103: 116\n",

@@ -5,6 +5,8 @@ use engine::{Format, Options};
 use plane::{Fault, Refusal};
 use std::alloc::AllocError;
 use std::process::Abort;
+use std::sync::Wait;
+use std::thread::Threads;
 
 /// What is asked for where no word asks for anything.
 pub(crate) const PLAIN: Options = Options {
@@ -14,6 +16,7 @@ pub(crate) const PLAIN: Options = Options {
     window: None,
     format: None,
     pairs: 4194304,
+    workers: 1,
     quiet: false,
 };
 
@@ -25,6 +28,7 @@ pub(crate) struct Row {
     pub step: u64,
     pub format: Option<Format>,
     pub pairs: u32,
+    pub workers: usize,
     pub refusal: Option<Refusal>,
     pub place: Option<u64>,
     pub report: &'static str,
@@ -38,6 +42,7 @@ impl Row {
             step: self.step,
             format: self.format,
             pairs: self.pairs,
+            workers: self.workers,
             ..PLAIN
         }
     }
@@ -55,6 +60,7 @@ pub(crate) const RLE: Row = Row {
     step: 0,
     format: Some(Format::Rle),
     pairs: PLAIN.pairs,
+    workers: PLAIN.workers,
     refusal: None,
     place: None,
     report: "",
@@ -117,6 +123,15 @@ pub(crate) const FAR_REPLICATOR: Row = Row {
     ..RLE
 };
 
+/// The same, for fewer generations.
+pub(crate) const NEAR_REPLICATOR: Row = Row {
+    generations: 1 << 8,
+    report: "0: 1\n256: 8\n",
+    text: "#CXRLE Pos=-256,-256 Gen=256\nx = 513, y = 513, rule = B1357/S1357\n\
+     o255bo255bo256$o511bo256$o255bo255bo!\n",
+    ..FAR_REPLICATOR
+};
+
 /// Compares how a run of a file ended, the report and what was written with what they are to be.
 pub(crate) fn assert_told<R: Abort>(
     rt: &R,
@@ -155,7 +170,10 @@ pub(crate) fn assert_whole_or_refused<R: Abort>(
 }
 
 /// Runs rows, with their reports and without, and compares what is written with what they say.
-pub(crate) fn assert_rows<R: Abort + AllocGlobal>(rt: &R, rows: &[Row]) -> Result<(), AllocError> {
+pub(crate) fn assert_rows<R: Abort + AllocGlobal + Threads + Wait + Sync>(
+    rt: &R,
+    rows: &[Row],
+) -> Result<(), AllocError> {
     for row in rows {
         for (quiet, report) in [(false, row.report), (true, "")] {
             let options = Options {

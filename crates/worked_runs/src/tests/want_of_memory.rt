@@ -5,15 +5,22 @@
 //! none of them prints a line of its own.
 
 use crate::tests::ended::Ended;
-use crate::tests::rows::{BLINKER, COMMENTED_GLIDER, R_PENTOMINO, Row, assert_whole_or_refused};
+use crate::tests::rows::{
+    BLINKER, COMMENTED_GLIDER, NEAR_REPLICATOR, R_PENTOMINO, Row, assert_whole_or_refused,
+};
 use engine::load;
 use plane::{Memory, Refusal};
 use std::process::Abort;
+use std::sync::Wait;
 use std::test::Fail;
+use std::thread::Threads;
 
 /// Runs a row: it writes its whole texts, or is refused between two lines of the report, with nothing
 /// in the file.
-fn assert_runs_or_refuses<R: Abort + AllocGlobal + Print>(rt: &R, row: &Row) -> Result<(), Fail> {
+fn assert_runs_or_refuses<R: Abort + AllocGlobal + Print + Threads + Wait + Sync>(
+    rt: &R,
+    row: &Row,
+) -> Result<(), Fail> {
     let Ok(end) = Ended::of(rt, row.file, &row.options()) else {
         return Ok(println!(rt; "no devices")?);
     };
@@ -36,6 +43,15 @@ fn refuses_the_r_pentomino_for_want_of_memory(rt: HostRuntime) -> Result<(), Fai
 #[test]
 fn refuses_a_commented_glider_for_want_of_memory(rt: HostRuntime) -> Result<(), Fail> {
     assert_runs_or_refuses(&rt, &COMMENTED_GLIDER)
+}
+
+#[test]
+fn refuses_two_workers_for_want_of_memory(rt: HostRuntime) -> Result<(), Fail> {
+    for row in [R_PENTOMINO, NEAR_REPLICATOR] {
+        let row = Row { workers: 2, ..row };
+        assert_runs_or_refuses(&rt, &row)?;
+    }
+    Ok(())
 }
 
 #[test]

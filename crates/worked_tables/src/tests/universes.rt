@@ -7,9 +7,12 @@ use rule_text::Rule;
 use squares::{Sq, Squares, runs_to_square};
 use std::alloc::Global;
 use std::process::Abort;
+use std::sync::Wait;
 use std::test::Fail;
+use std::thread::Threads;
 use table_core::Shape;
 use universe::{Build, Universe};
+use worker_split::{OpenGate, Team};
 
 /// Live cells as runs: rising, disjoint and in the range.
 #[derive(Clone, Copy)]
@@ -42,21 +45,31 @@ const GLIDER: [(Cell, u64); 3] = [
 const ONE_CELL: [(Cell, u64); 1] = [(Cell { x: 0, y: 0 }, 1)];
 
 // The universe so many generations later, if these stay in the range.
-fn later(alloc: Global, universe: Universe, generations: u64) -> Result<Universe, Refusal> {
-    let (universe, bounds) = universe.bounds(alloc)?;
+fn later<R: Threads + Wait + Sync + AllocGlobal>(
+    rt: &R,
+    universe: Universe,
+    generations: u64,
+) -> Result<Universe, Refusal> {
+    let team = Team {
+        runtime: rt,
+        alloc: rt.alloc(),
+        workers: 1,
+        gate: &OpenGate,
+    };
+    let (universe, bounds) = universe.bounds(rt.alloc())?;
     reach(bounds, 0, generations)?;
-    universe.after(alloc, generations)
+    universe.after(&team, generations)
 }
 
 // Goes on by so many generations, again and again, and asserts the population that each comes to.
-fn assert_comes_to<R: Abort + AllocGlobal>(
+fn assert_comes_to<R: Threads + Wait + Sync + Abort + AllocGlobal>(
     rt: &R,
     start: Universe,
     reports: &[(u64, u128)],
 ) -> Result<(), Fail> {
     let mut universe = start;
     for (generations, population) in reports {
-        universe = later(rt.alloc(), universe, *generations)?;
+        universe = later(rt, universe, *generations)?;
         let (same, count) = universe.population(rt.alloc())?;
         universe = same;
         assert_eq!(rt; count, *population);
@@ -105,7 +118,7 @@ fn r_pentomino_at_each_generation(rt: HostRuntime) -> Result<(), Fail> {
     for limit in LIMITS {
         let mut universe = of_runs(&rt, b"B3/S23", &R_PENTOMINO, limit)?;
         for _ in 0..100usize {
-            universe = later(rt.alloc(), universe, 1)?;
+            universe = later(&rt, universe, 1)?;
         }
         assert_comes_to(&rt, universe, &[(0, 121)])?;
     }
@@ -115,7 +128,7 @@ fn r_pentomino_at_each_generation(rt: HostRuntime) -> Result<(), Fail> {
 #[test]
 fn glider_far_away(rt: HostRuntime) -> Result<(), Fail> {
     let universe = of_runs(&rt, b"B3/S23", &GLIDER, 4096)?;
-    let universe = later(rt.alloc(), universe, 1 << 40)?;
+    let universe = later(&rt, universe, 1 << 40)?;
     let (universe, bounds) = universe.bounds(rt.alloc())?;
     let far = 1 << 38;
     let there = Bounds {
@@ -138,7 +151,7 @@ fn replicator(rt: HostRuntime) -> Result<(), Fail> {
 fn tables_are_let_go(rt: HostRuntime) -> Result<(), Fail> {
     let mut universe = of_runs(&rt, b"B3/S23", &GLIDER, 16384)?;
     for exponent in 0..12u32 {
-        universe = later(rt.alloc(), universe, 1 << exponent)?;
+        universe = later(&rt, universe, 1 << exponent)?;
         assert!(rt; universe.pairs() <= 16384);
     }
     assert_eq!(rt; universe.pairs(), 16384);
@@ -148,7 +161,7 @@ fn tables_are_let_go(rt: HostRuntime) -> Result<(), Fail> {
 #[test]
 fn words_at_rest(rt: HostRuntime) -> Result<(), Fail> {
     let universe = of_runs(&rt, b"B3/S23", &R_PENTOMINO, 4096)?;
-    let (universe, bounds) = later(rt.alloc(), universe, 1103)?.bounds(rt.alloc())?;
+    let (universe, bounds) = later(&rt, universe, 1103)?.bounds(rt.alloc())?;
     assert_eq!(rt; universe.rest().bounds(rt.alloc())?, bounds);
     Ok(())
 }
@@ -157,7 +170,7 @@ fn words_at_rest(rt: HostRuntime) -> Result<(), Fail> {
 fn nothing_stays_nothing(rt: HostRuntime) -> Result<(), Fail> {
     let universe = of_runs(&rt, b"B3/S23", &[], 1024)?;
     assert!(rt; universe.is_empty());
-    let universe = later(rt.alloc(), universe, 1 << 62)?;
+    let universe = later(&rt, universe, 1 << 62)?;
     assert!(rt; universe.is_empty());
     Ok(())
 }

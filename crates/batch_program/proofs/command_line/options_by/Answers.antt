@@ -1,5 +1,5 @@
 use Rattle.std.proofs.Common.{◌≡◌, ◌∙◌, Err, codes, rules, subst, sym, inl, inr}
-use Rattle.batch_program.specs.CommandLine.{IsAskedRule, IsAskedWindow, IsFitWindow, IsFlag, IsFormat, IsNumber, IsPairNumber, IsRefusedRule, IsRefusedWindow}
+use Rattle.batch_program.specs.CommandLine.{IsAskedRule, IsAskedWindow, IsFitWindow, IsFlag, IsFormat, IsNumber, IsPairNumber, IsRefusedRule, IsRefusedWindow, IsWorkerNumber}
 use Rattle.batch_program.specs.declared.command_line.WordsFault.TheVariants.{Refused, Unfit}
 use Rattle.batch_program.proofs.AskedWords.{text_matched, value_matched}
 use Rattle.batch_program.proofs.WindowTexts.{asked_window, fit_window, refused_window}
@@ -22,6 +22,12 @@ returns-in_err-pairs-clause-faults c = λ words are file.
     let value = value_matched words c.args.matches.now are in
     let is : c.from_residual-in_err-pairs.result ≡ Err Unfit = search rules in
     rw is (are.0, λ fit. c.in_err-pairs.ensures.err.1 fit.pairs.0 (subst (λ given. IsPairNumber given fit.pairs.0) (sym (value (codes "nodes"))) fit.pairs.1))
+
+pub returns-in_err-workers-clause-faults : goal.returns-in_err-workers-clause-faults
+returns-in_err-workers-clause-faults c = λ words are file.
+    let value = value_matched words c.args.matches.now are in
+    let is : c.from_residual-in_err-workers.result ≡ Err Unfit = search rules in
+    rw is (are.0, λ fit. c.in_err-workers.ensures.err.1 fit.workers.0 (subst (λ given. IsWorkerNumber given fit.workers.0) (sym (value (codes "workers"))) fit.workers.1))
 
 pub returns-in_err-format-clause-faults : goal.returns-in_err-format-clause-faults
 returns-in_err-format-clause-faults c = λ words are file.
@@ -49,6 +55,7 @@ returns-in_err-rule-clause-faults c = λ words are file.
         format = (c.in_ok-format.format, subst (λ name. IsFormat name c.in_ok-format.format) (c.get_str.ensures ∙ text (codes "output")) c.in_ok-format.ensures.ok);
         window = subst IsFitWindow (c.get_str-2.ensures ∙ text (codes "window")) (fit_window _ c.in_ok-numbers.numbers c.in_ok-numbers.ensures.ok);
         pairs = (c.in_ok-pairs.pairs, subst (λ given. IsPairNumber given c.in_ok-pairs.pairs) (value (codes "nodes")) c.in_ok-pairs.ensures.ok);
+        workers = (c.in_ok-workers.workers, subst (λ given. IsWorkerNumber given c.in_ok-workers.workers) (value (codes "workers")) c.in_ok-workers.ensures.ok);
       };
       rule = subst (λ given. IsRefusedRule given c.in_err-rule.field-0.0) (c.get_str-3.ensures ∙ text (codes "rule")) c.in_err-rule.ensures.err;
     })))
@@ -67,6 +74,7 @@ returns-in_err-window-clause-faults c = λ words are file.
         format = (c.in_ok-format.format, subst (λ name. IsFormat name c.in_ok-format.format) (c.get_str.ensures ∙ text (codes "output")) c.in_ok-format.ensures.ok);
         window = subst IsFitWindow (c.get_str-2.ensures ∙ text (codes "window")) (fit_window _ c.in_ok-numbers.numbers c.in_ok-numbers.ensures.ok);
         pairs = (c.in_ok-pairs.pairs, subst (λ given. IsPairNumber given c.in_ok-pairs.pairs) (value (codes "nodes")) c.in_ok-pairs.ensures.ok);
+        workers = (c.in_ok-workers.workers, subst (λ given. IsWorkerNumber given c.in_ok-workers.workers) (value (codes "workers")) c.in_ok-workers.ensures.ok);
       };
       rule = (c.in_ok-rule.rule, subst (λ given. IsAskedRule given c.in_ok-rule.rule) (c.get_str-3.ensures ∙ text (codes "rule")) c.in_ok-rule.ensures.ok);
       window = subst IsRefusedWindow (c.get_str-2.ensures ∙ text (codes "window")) (refused_window _ c.in_ok-numbers.numbers c.in_ok-numbers.ensures.ok c.in_err-window.ensures.err.1);
@@ -88,4 +96,5 @@ returns-clause-asks c = λ words are asked file output.
       quiet = subst (λ given. IsFlag given c.is_set.result) (value (codes "quiet")) c.is_set.ensures;
       window = subst (λ given. IsAskedWindow given c.in_ok-window.window) (c.get_str-2.ensures ∙ text (codes "window")) (asked_window _ c.in_ok-numbers.numbers _ c.in_ok-numbers.ensures.ok c.in_ok-window.ensures.ok);
       pairs = subst (λ given. IsPairNumber given c.in_ok-pairs.pairs) (value (codes "nodes")) c.in_ok-pairs.ensures.ok;
+      workers = subst (λ given. IsWorkerNumber given c.in_ok-workers.workers) (value (codes "workers")) c.in_ok-workers.ensures.ok;
     }

@@ -39,12 +39,12 @@ loop-done-init g c =
     }
 
 pub after-requires-clause-held : goal.after-requires-clause-held
-after-requires-clause-held g c =
+after-requires-clause-held g c κs within =
     held_on c.args.options.now.gens c.loop-done.done (c.next_shown-next.result - c.loop-done.done) c.requires.held c.loop-done.invariant.later
     (omega (arith, c.next_shown-next.ensures.later, c.next_shown-next.ensures.within))
 
 pub after-requires-clause-short : goal.after-requires-clause-short
-after-requires-clause-short g c = λ some.
+after-requires-clause-short g c κs within = λ some.
     let short = c.requires.short (λ none. some (empty_later (rule_of c.args.start) c.requires.rule.no_birth_on_zero (live_cells c.args.start) (live_cells c.loop-done.universe) c.loop-done.done none c.loop-done.invariant.later.cells)) in
     omega (arith, short, c.next_shown-next.ensures.within)
 

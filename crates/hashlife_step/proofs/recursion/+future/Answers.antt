@@ -1,44 +1,44 @@
 use Rattle.std.proofs.Common.{rules, arith, ◌≡◌, ◌-◌, ◌<◌, length, sym, subst}
 use Rattle.std.proofs.lemmas.Result.{IfOk-weaker, on_ok_weaker}
 use Rattle.plane.specs.Square.{future}
-use Rattle.squares.specs.Book.{nth}
-use Rattle.squares.proofs.Kept.{keeps_trans, known_kept}
+use Rattle.squares.specs.Book.{IsKnown, nth, numbered}
+use Rattle.squares.proofs.Kept.{keeps_none, keeps_trans, known_kept}
 use Rattle.squares.proofs.Results.{future_kept}
 use Rattle.hashlife_step.specs.Tallies.{Tallies}
 use Rattle.hashlife_step.proofs.Counted.{made_and_kept, made_between, made_twice, results_none, tallies_learned, tallies_none, tallies_trans}
 use Rattle.hashlife_step.proofs.FourKnown.{known_as}
 use Rattle.hashlife_step.proofs.LeafSquares.{future_later}
 use Rattle.hashlife_step.proofs.NineFutures.{IsFinished, finished_each, finished_known, futures_known, nine_futures, ninths_known, overlaps_known}
-use Rattle.hashlife_step.proofs.Replaced.{IsReplaced, all_futures, future_shown, next_known, next_made, replaced_more, replaced_none}
+use Rattle.hashlife_step.proofs.Replaced.{IsReplaced, all_futures, future_shown, next_known, next_made, replaced_kept, replaced_more}
 use Rattle.hashlife_step.proofs.recursion.+future.Goals as goal
 
-pub future-returns-in-Some-clause-tally : goal.future-returns-in-Some-clause-tally
-future-returns-in-Some-clause-tally g t c =
+pub future_in_order-returns-in-Some-clause-tally : goal.future_in_order-returns-in-Some-clause-tally
+future_in_order-returns-in-Some-clause-tally g t c =
     tallies_learned (g.S.Squares.book c.args.book.now) (g.S.Squares.book c.recall.new.self) c.args.sq c.args.sq.level c.args.tally.now.expansions (omega arith) c.in-Some.ensures.results
 
-pub future-returns-in_err-future-clause-tally : goal.future-returns-in_err-future-clause-tally
-future-returns-in_err-future-clause-tally g t c =
+pub future_in_order-returns-in_err-future-clause-tally : goal.future_in_order-returns-in_err-future-clause-tally
+future_in_order-returns-in_err-future-clause-tally g t c =
     made_between (g.S.Squares.book c.args.book.now) (g.S.Squares.book c.recall.new.self) (g.S.Squares.book c.make.new.book) (g.S.Squares.book c.make.new.book)
     (c.args.sq.level - 1) c.args.sq.level c.args.tally.now.expansions c.make.new.tally.expansions (omega arith) c.in_default.ensures.results c.make.ensures.tally (results_none _)
 
-pub future-returns-in_err-keep-clause-keeps : goal.future-returns-in_err-keep-clause-keeps
-future-returns-in_err-keep-clause-keeps g t c = keeps_trans c.recall.ensures.keeps (keeps_trans c.make.ensures.keeps c.keep.ensures.keeps)
+pub future_in_order-returns-in_err-keep-clause-keeps : goal.future_in_order-returns-in_err-keep-clause-keeps
+future_in_order-returns-in_err-keep-clause-keeps g t c = keeps_trans c.recall.ensures.keeps (keeps_trans c.make.ensures.keeps c.keep.ensures.keeps)
 
-pub future-returns-in_err-keep-clause-tally : goal.future-returns-in_err-keep-clause-tally
-future-returns-in_err-keep-clause-tally g t c =
+pub future_in_order-returns-in_err-keep-clause-tally : goal.future_in_order-returns-in_err-keep-clause-tally
+future_in_order-returns-in_err-keep-clause-tally g t c =
     made_between (g.S.Squares.book c.args.book.now) (g.S.Squares.book c.recall.new.self) (g.S.Squares.book c.make.new.book) (g.S.Squares.book c.keep.new.self)
     (c.args.sq.level - 1) c.args.sq.level c.args.tally.now.expansions c.make.new.tally.expansions (omega arith) c.in_default.ensures.results c.make.ensures.tally c.in_err-keep.ensures.err
 
-pub future-returns-clause-ok : goal.future-returns-clause-ok
-future-returns-clause-ok g t c =
+pub future_in_order-returns-clause-ok : goal.future_in_order-returns-clause-ok
+future_in_order-returns-clause-ok g t c =
     future_kept (g.S.Squares.book c.make.new.book) (g.S.Squares.book c.keep.new.self) c.args.sq c.in_ok-future.future c.keep.ensures.keeps
     (known_kept (keeps_trans c.recall.ensures.keeps c.make.ensures.keeps) c.requires.known) c.in_ok-future.ensures.ok
 
-pub future-returns-clause-keeps : goal.future-returns-clause-keeps
-future-returns-clause-keeps g t c = keeps_trans c.recall.ensures.keeps (keeps_trans c.make.ensures.keeps c.keep.ensures.keeps)
+pub future_in_order-returns-clause-keeps : goal.future_in_order-returns-clause-keeps
+future_in_order-returns-clause-keeps g t c = keeps_trans c.recall.ensures.keeps (keeps_trans c.make.ensures.keeps c.keep.ensures.keeps)
 
-pub future-returns-clause-tally : goal.future-returns-clause-tally
-future-returns-clause-tally g t c =
+pub future_in_order-returns-clause-tally : goal.future_in_order-returns-clause-tally
+future_in_order-returns-clause-tally g t c =
     made_and_kept (g.S.Squares.book c.args.book.now) (g.S.Squares.book c.recall.new.self) (g.S.Squares.book c.make.new.book) (g.S.Squares.book c.keep.new.self) c.args.sq
     c.args.tally.now.expansions c.make.new.tally.expansions c.add.new.self.expansions c.requires.low c.in_default.ensures.results c.in_default.ensures.none c.make.ensures.tally c.in_ok-keep.ensures.ok c.add.ensures
 
@@ -111,8 +111,8 @@ replace_by_futures-returns-in_err-squares-clause-tally g t c =
     let replaced = c.loop-i.invariant.0 in
     let same = replaced.same_length in
     let known = next_known _ (book c.args.book.now) (book c.loop-i.book) c.args.level c.loop-i.i c.args.squares.now c.loop-i.squares replaced (omega arith) c.requires.known in
-    tallies_trans (book c.args.book.now) (book c.loop-i.book) (book c.future.new.book) c.args.level c.args.level _ _ _ (omega arith) c.loop-i.invariant.1
-    (subst (λ n. Tallies (book c.loop-i.book) (book c.future.new.book) n c.loop-i.tally.expansions c.future.new.tally.expansions) known.at_level c.future.ensures.tally)
+    tallies_trans (book c.args.book.now) (book c.loop-i.book) (book c.future_in_order.new.book) c.args.level c.args.level _ _ _ (omega arith) c.loop-i.invariant.1
+    (subst (λ n. Tallies (book c.loop-i.book) (book c.future_in_order.new.book) n c.loop-i.tally.expansions c.future_in_order.new.tally.expansions) known.at_level c.future_in_order.ensures.tally)
 
 pub replace_by_futures-loop-i-preserved : goal.replace_by_futures-loop-i-preserved
 replace_by_futures-loop-i-preserved g t c =
@@ -122,18 +122,18 @@ replace_by_futures-loop-i-preserved g t c =
     let same = replaced.same_length in
     let inside : c.loop-i.i < length c.args.squares.now = omega arith in
     let known = next_known (future old.rule old.exponent c.args.level) old (book c.loop-i.book) c.args.level c.loop-i.i c.args.squares.now c.loop-i.squares replaced inside c.requires.known in
-    let shown = future_shown old (book c.loop-i.book) (book c.future.new.book) c.args.level (nth c.loop-i.squares c.loop-i.i) c.in_ok-squares.field-0 replaced.keeps c.future.ensures.keeps known c.in_ok-squares.ensures.ok in
-    let made = next_made (future old.rule old.exponent c.args.level) old (book c.loop-i.book) (book c.future.new.book) c.args.level c.loop-i.i c.args.squares.now c.loop-i.squares c.in_ok-squares.field-0 replaced inside c.requires.known shown in (
-      replaced_more (future old.rule old.exponent c.args.level) old (book c.loop-i.book) (book c.future.new.book) c.args.level c.loop-i.i c.args.squares.now c.loop-i.squares c.in_ok-squares.field-0 replaced inside c.future.ensures.keeps made,
-      tallies_trans old (book c.loop-i.book) (book c.future.new.book) c.args.level c.args.level _ _ _ (omega arith) c.loop-i.invariant.1
-          (subst (λ n. Tallies (book c.loop-i.book) (book c.future.new.book) n c.loop-i.tally.expansions c.future.new.tally.expansions) known.at_level c.future.ensures.tally),
+    let shown = future_shown old (book c.loop-i.book) (book c.future_in_order.new.book) c.args.level (nth c.loop-i.squares c.loop-i.i) c.in_ok-squares.field-0 replaced.keeps c.future_in_order.ensures.keeps known c.in_ok-squares.ensures.ok in
+    let made = next_made (future old.rule old.exponent c.args.level) old (book c.loop-i.book) (book c.future_in_order.new.book) c.args.level c.loop-i.i c.args.squares.now c.loop-i.squares c.in_ok-squares.field-0 replaced inside c.requires.known shown in (
+      replaced_more (future old.rule old.exponent c.args.level) old (book c.loop-i.book) (book c.future_in_order.new.book) c.args.level c.loop-i.i c.args.squares.now c.loop-i.squares c.in_ok-squares.field-0 replaced inside c.future_in_order.ensures.keeps made,
+      tallies_trans old (book c.loop-i.book) (book c.future_in_order.new.book) c.args.level c.args.level _ _ _ (omega arith) c.loop-i.invariant.1
+          (subst (λ n. Tallies (book c.loop-i.book) (book c.future_in_order.new.book) n c.loop-i.tally.expansions c.future_in_order.new.tally.expansions) known.at_level c.future_in_order.ensures.tally),
     )
 
-pub future-returns-in_err-future-clause-keeps : goal.future-returns-in_err-future-clause-keeps
-future-returns-in_err-future-clause-keeps g t c = keeps_trans c.recall.ensures.keeps c.make.ensures.keeps
+pub future_in_order-returns-in_err-future-clause-keeps : goal.future_in_order-returns-in_err-future-clause-keeps
+future_in_order-returns-in_err-future-clause-keeps g t c = keeps_trans c.recall.ensures.keeps c.make.ensures.keeps
 
-pub future-keep-requires-clause-known : goal.future-keep-requires-clause-known
-future-keep-requires-clause-known g t c = known_kept (keeps_trans c.recall.ensures.keeps c.make.ensures.keeps) c.requires.known
+pub future_in_order-keep-requires-clause-known : goal.future_in_order-keep-requires-clause-known
+future_in_order-keep-requires-clause-known g t c = known_kept (keeps_trans c.recall.ensures.keeps c.make.ensures.keeps) c.requires.known
 
 pub finish-returns-else-exponent-level-clause-tally : goal.finish-returns-else-exponent-level-clause-tally
 finish-returns-else-exponent-level-clause-tally g t c = tallies_none _ _ _ _ c.replace_by_centres.ensures.results
@@ -168,10 +168,10 @@ make-quad-requires-clause-level g t c =
     let at_level = first.at_level in let high = c.requires.known.high in omega arith
 
 pub replace_by_futures-loop-i-init : goal.replace_by_futures-loop-i-init
-replace_by_futures-loop-i-init g t c = (replaced_none _ _ _ _, tallies_none _ _ _ _ (results_none _))
+replace_by_futures-loop-i-init g t c = (replaced_kept _ _ _ _ _ c.visit.ensures.keeps, c.visit.ensures.tally)
 
-pub replace_by_futures-future-requires : goal.replace_by_futures-future-requires
-replace_by_futures-future-requires g t c κs within =
+pub replace_by_futures-future_in_order-requires : goal.replace_by_futures-future_in_order-requires
+replace_by_futures-future_in_order-requires g t c κs within =
     let book = g.S.Squares.book in
     let replaced = c.loop-i.invariant.0 in
     let same = replaced.same_length in
@@ -181,7 +181,7 @@ replace_by_futures-future-requires g t c κs within =
     search rules
 
 pub replace_by_futures-returns-in_err-squares-clause-keeps : goal.replace_by_futures-returns-in_err-squares-clause-keeps
-replace_by_futures-returns-in_err-squares-clause-keeps g t c = keeps_trans c.loop-i.invariant.0.keeps c.future.ensures.keeps
+replace_by_futures-returns-in_err-squares-clause-keeps g t c = keeps_trans c.loop-i.invariant.0.keeps c.future_in_order.ensures.keeps
 
 pub replace_by_futures-returns-clause-ok : goal.replace_by_futures-returns-clause-ok
 replace_by_futures-returns-clause-ok g t c =
@@ -204,3 +204,33 @@ finish-returns-else-exponent-level-clause-futures g t c = on_ok_weaker c.replace
 
 pub finish-returns-else-exponent-level-clause-centres : goal.finish-returns-else-exponent-level-clause-centres
 finish-returns-else-exponent-level-clause-centres g t c = on_ok_weaker c.replace_by_centres.result (λ are. λ short. are) c.replace_by_centres.ensures.ok
+
+pub visit-returns-then-order-eq0-clause-tally : goal.visit-returns-then-order-eq0-clause-tally
+visit-returns-then-order-eq0-clause-tally g t c = tallies_none _ _ _ _ (results_none _)
+
+pub visit-loop-k-init : goal.visit-loop-k-init
+visit-loop-k-init g t c = (keeps_none _, tallies_none _ _ _ _ (results_none _))
+
+pub visit-future_in_order-requires : goal.visit-future_in_order-requires
+visit-future_in_order-requires g t c κs within =
+    let book = g.S.Squares.book in
+    let known : IsKnown (book c.loop-k.book) c.args.level (nth c.args.squares.now c.turn.result) = known_kept c.loop-k.invariant.0 (c.requires.known c.turn.result (numbered 0 0) c.turn.ensures) in
+    let at_level = known.at_level in let low = c.requires.low in
+    let own = known_as (sym at_level) known in
+    search rules
+
+pub visit-returns-in_err-future_in_order-clause-tally : goal.visit-returns-in_err-future_in_order-clause-tally
+visit-returns-in_err-future_in_order-clause-tally g t c =
+    let book = g.S.Squares.book in
+    let known : IsKnown (book c.loop-k.book) c.args.level (nth c.args.squares.now c.turn.result) = known_kept c.loop-k.invariant.0 (c.requires.known c.turn.result (numbered 0 0) c.turn.ensures) in
+    tallies_trans (book c.args.book.now) (book c.loop-k.book) (book c.future_in_order.new.book) c.args.level c.args.level _ _ _ (omega arith) c.loop-k.invariant.1
+    (subst (λ n. Tallies (book c.loop-k.book) (book c.future_in_order.new.book) n c.loop-k.tally.expansions c.future_in_order.new.tally.expansions) known.at_level c.future_in_order.ensures.tally)
+
+pub visit-loop-k-preserved : goal.visit-loop-k-preserved
+visit-loop-k-preserved g t c =
+    let book = g.S.Squares.book in
+    let known : IsKnown (book c.loop-k.book) c.args.level (nth c.args.squares.now c.turn.result) = known_kept c.loop-k.invariant.0 (c.requires.known c.turn.result (numbered 0 0) c.turn.ensures) in (
+      keeps_trans c.loop-k.invariant.0 c.future_in_order.ensures.keeps,
+      tallies_trans (book c.args.book.now) (book c.loop-k.book) (book c.future_in_order.new.book) c.args.level c.args.level _ _ _ (omega arith) c.loop-k.invariant.1
+          (subst (λ n. Tallies (book c.loop-k.book) (book c.future_in_order.new.book) n c.loop-k.tally.expansions c.future_in_order.new.tally.expansions) known.at_level c.future_in_order.ensures.tally),
+    )

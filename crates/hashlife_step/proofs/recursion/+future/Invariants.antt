@@ -1,22 +1,30 @@
 use Rattle.std.proofs.Common.{◌+◌, ◌*◌}
 use Rattle.plane.specs.Square.{future}
+use Rattle.squares.specs.Book.{Keeps}
 use Rattle.hashlife_step.specs.Tallies.{Tallies}
 use Rattle.hashlife_step.proofs.Replaced.{IsReplaced}
 use Rattle.hashlife_step.proofs.recursion.+future.Given as goal
 
-abbrev pub decreases-future : goal.decreases-future
-decreases-future g l = 4 * l.sq.level + 3
+abbrev pub decreases-future_in_order : goal.decreases-future_in_order
+decreases-future_in_order g l = 5 * l.sq.level + 3
 
 abbrev pub decreases-make : goal.decreases-make
-decreases-make g l = 4 * l.sq.level + 2
+decreases-make g l = 5 * l.sq.level + 2
 
 abbrev pub decreases-finish : goal.decreases-finish
-decreases-finish g l = 4 * l.level + 5
+decreases-finish g l = 5 * l.level + 6
 
 abbrev pub decreases-replace_by_futures : goal.decreases-replace_by_futures
-decreases-replace_by_futures g l = 4 * l.level + 4
+decreases-replace_by_futures g l = 5 * l.level + 5
+
+abbrev pub decreases-visit : goal.decreases-visit
+decreases-visit g l = 5 * l.level + 4
 
 abbrev pub invariant-replace_by_futures-loop-i : goal.invariant-replace_by_futures-loop-i
 invariant-replace_by_futures-loop-i g l =
     IsReplaced (future (g.S.Squares.book l.fn.book).rule (g.S.Squares.book l.fn.book).exponent l.fn.level) (g.S.Squares.book l.fn.book) (g.S.Squares.book l.book) l.fn.level l.i l.fn.squares l.squares
     × Tallies (g.S.Squares.book l.fn.book) (g.S.Squares.book l.book) l.fn.level l.fn.tally.expansions l.tally.expansions
+
+abbrev pub invariant-visit-loop-k : goal.invariant-visit-loop-k
+invariant-visit-loop-k g l =
+    Keeps (g.S.Squares.book l.fn.book) (g.S.Squares.book l.book) × Tallies (g.S.Squares.book l.fn.book) (g.S.Squares.book l.book) l.fn.level l.fn.tally.expansions l.tally.expansions

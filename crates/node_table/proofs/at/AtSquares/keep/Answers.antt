@@ -3,8 +3,9 @@ use Rattle.plane.specs.Square.{future}
 use Rattle.table_core.specs.Blocks.{square_rank}
 use Rattle.table_core.proofs.Knowing.{knows_same}
 use Rattle.node_table.specs.Books.{cells_in}
-use Rattle.node_table.proofs.Desks.{keeps_at, known_block, square_slot}
+use Rattle.node_table.proofs.Desks.{known_block, square_slot}
 use Rattle.node_table.proofs.Telling.{may_tell, book_adds, told_some}
+use Rattle.node_table.proofs.Working.{keeps_working, adds_working}
 use Rattle.node_table.proofs.at.AtSquares.keep.Goals as goal
 
 pub result_index-index-requires : goal.result_index-index-requires
@@ -26,8 +27,9 @@ tell-requires-clause-lawful c =
 pub returns-then-sq-ne0-clause-ok : goal.returns-then-sq-ne0-clause-ok
 returns-then-sq-ne0-clause-ok c =
     let at = c.args.self.now in
-    book_adds at.table.now at.desk c.args.sq at.of_table c.requires.level c.if-sq-ne0.true c.requires.known.known c.result_index-index.ensures.index
-    c.tell.new.self c.tell.ensures.table c.tell.ensures.met.grows (c.tell.ensures.met.learns.some (told_some c.tell.result c.args.future.num.0)) refl
+    adds_working at.expansions at.table.now at.desk c.tell.new.self c.args.sq
+    (book_adds at.table.now at.desk c.args.sq at.of_table c.requires.level c.if-sq-ne0.true c.requires.known.known c.result_index-index.ensures.index
+    c.tell.new.self c.tell.ensures.table c.tell.ensures.met.grows (c.tell.ensures.met.learns.some (told_some c.tell.result c.args.future.num.0)) refl)
 
 pub returns-then-sq-ne0-clause-keeps : goal.returns-then-sq-ne0-clause-keeps
-returns-then-sq-ne0-clause-keeps c = keeps_at c.args.self.now.table.now c.args.self.now.desk c.tell.new.self c.tell.ensures.table c.tell.ensures.met.grows
+returns-then-sq-ne0-clause-keeps c = keeps_working c.args.self.now.expansions c.args.self.now.table.now c.args.self.now.desk c.tell.new.self c.tell.ensures.table c.tell.ensures.met.grows

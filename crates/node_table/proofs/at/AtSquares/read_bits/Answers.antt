@@ -3,7 +3,8 @@ use Rattle.table_core.specs.Blocks.{square_rank}
 use Rattle.table_core.specs.Knowledge.{KnowsBlock}
 use Rattle.node_table.specs.Books.{cells_in}
 use Rattle.node_table.proofs.Entries.{block_of}
-use Rattle.node_table.proofs.Desks.{coherent_at, keeps_at, in_table, leaf_slot, leaf_read}
+use Rattle.node_table.proofs.Desks.{coherent_at, in_table, leaf_slot, leaf_read}
+use Rattle.node_table.proofs.Working.{keeps_working}
 use Rattle.node_table.proofs.at.AtSquares.read_bits.Goals as goal
 
 pub look-requires-clause-range : goal.look-requires-clause-range
@@ -26,4 +27,4 @@ returns-clause-value c =
     }
 
 pub returns-clause-keeps : goal.returns-clause-keeps
-returns-clause-keeps c = keeps_at c.args.self.now.table.now c.args.self.now.desk c.look.new.self c.look.ensures.table c.look.ensures.met.grows
+returns-clause-keeps c = keeps_working c.args.self.now.expansions c.args.self.now.table.now c.args.self.now.desk c.look.new.self c.look.ensures.table c.look.ensures.met.grows

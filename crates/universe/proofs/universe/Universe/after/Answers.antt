@@ -13,15 +13,15 @@ use Rattle.universe.proofs.Onward.{held_on, later_on, none_later, same_universe,
 use Rattle.universe.proofs.universe.Universe.after.Goals as goal
 
 pub returns-then-is_empty-clause-ok : goal.returns-then-is_empty-clause-ok
-returns-then-is_empty-clause-ok c =
+returns-then-is_empty-clause-ok g c =
     let rule : IsRule (rule_of c.args.self) = search rules in
     empty_stays (rule_of c.args.self) rule.no_birth_on_zero (live_cells c.args.self) c.args.generations (c.if-is_empty.ensures.0 refl)
 
 pub steps-init : goal.steps-init
-steps-init c = none_later (same_universe c.args.self)
+steps-init g c = none_later (same_universe c.args.self)
 
 pub step-requires-clause-exponent : goal.step-requires-clause-exponent
-step-requires-clause-exponent c =
+step-requires-clause-exponent g c κs within =
     let exponents = c.as_slice-exponent-items.result.now in
     let i = c.steps.exponent-index in
     let sum = ap (sum_by (λ exponent. 2 ^ exponent)) c.as_slice-exponent-items.ensures.value ∙ c.plan-steps.ensures.sum in
@@ -30,7 +30,7 @@ step-requires-clause-exponent c =
     (next_within exponents c.args.generations i sum c.steps-test.true) (c.requires.short some)
 
 pub step-requires-clause-held : goal.step-requires-clause-held
-step-requires-clause-held c =
+step-requires-clause-held g c κs within =
     let exponents = c.as_slice-exponent-items.result.now in
     let i = c.steps.exponent-index in
     let sum = ap (sum_by (λ exponent. 2 ^ exponent)) c.as_slice-exponent-items.ensures.value ∙ c.plan-steps.ensures.sum in
@@ -38,14 +38,14 @@ step-requires-clause-held c =
     (next_within exponents c.args.generations i sum c.steps-test.true)
 
 pub steps-preserved : goal.steps-preserved
-steps-preserved c =
+steps-preserved g c =
     let exponents = c.as_slice-exponent-items.result.now in
     let i = c.steps.exponent-index in
     subst (λ n. IsLater c.args.self n c.in_ok-universe.universe) (sym (sum_by_more (λ exponent. 2 ^ exponent) exponents i 0 c.steps-test.true))
     (later_on (sum_by (λ exponent. 2 ^ exponent) (take i exponents)) (2 ^ get_or exponents i 0) c.steps.invariant c.in_ok-universe.ensures.ok)
 
 pub returns-clause-ok : goal.returns-clause-ok
-returns-clause-ok c =
+returns-clause-ok g c =
     let exponents = c.as_slice-exponent-items.result.now in
     let i = c.steps.exponent-index in
     let sum = ap (sum_by (λ exponent. 2 ^ exponent)) c.as_slice-exponent-items.ensures.value ∙ c.plan-steps.ensures.sum in
@@ -53,13 +53,13 @@ returns-clause-ok c =
     (subst (λ n. IsLater c.args.self n c.steps.universe) (ap (sum_by (λ exponent. 2 ^ exponent)) all ∙ sum) c.steps.invariant).cells
 
 pub returns-clause-rule : goal.returns-clause-rule
-returns-clause-rule c = c.steps.invariant.rule
+returns-clause-rule g c = c.steps.invariant.rule
 
 pub returns-clause-limit : goal.returns-clause-limit
-returns-clause-limit c = ap (λ (s : Shape). 2 ^ s.bits) c.steps.invariant.limit
+returns-clause-limit g c = ap (λ (s : Shape). 2 ^ s.bits) c.steps.invariant.limit
 
 pub returns-in_err-universe-clause-full : goal.returns-in_err-universe-clause-full
-returns-in_err-universe-clause-full c =
+returns-in_err-universe-clause-full g c =
     let exponents = c.as_slice-exponent-items.result.now in
     let i = c.steps.exponent-index in
     let done = sum_by (λ exponent. 2 ^ exponent) (take i exponents) in

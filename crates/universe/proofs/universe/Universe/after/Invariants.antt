@@ -5,4 +5,4 @@ use Rattle.universe.proofs.universe.Universe.after.Given as goal
 
 -- the universe after the steps so far
 abbrev pub invariant-steps : goal.invariant-steps
-invariant-steps l = IsLater l.fn.self (sum_by (λ exponent. 2 ^ exponent) (take l.exponent-index l.exponent-items)) l.universe
+invariant-steps g l = IsLater l.fn.self (sum_by (λ exponent. 2 ^ exponent) (take l.exponent-index l.exponent-items)) l.universe

@@ -7,19 +7,19 @@ use Rattle.universe.proofs.Onward.{attempt_again, step_again}
 use Rattle.universe.proofs.universe.Universe.attempt.Goals as goal
 
 pub tried_larger-requires-clause-step : goal.tried_larger-requires-clause-step
-tried_larger-requires-clause-step c = step_again c.requires c.sizes.invariant
+tried_larger-requires-clause-step g c κs within = step_again c.requires c.sizes.invariant
 
 pub returns-in_default-2-clause-ok : goal.returns-in_default-2-clause-ok
-returns-in_default-2-clause-ok c = attempt_again c.in_ok-done-2.done c.sizes.invariant c.in_ok-done-2.ensures.ok
+returns-in_default-2-clause-ok g c = attempt_again c.in_ok-done-2.done c.sizes.invariant c.in_ok-done-2.ensures.ok
 
 pub sizes-preserved : goal.sizes-preserved
-sizes-preserved c =
+sizes-preserved g c =
     let again = subst (λ (a : Attempt). IsAttempt c.sizes.start a) c.in-Full-2.is c.in_ok-done-2.ensures.ok in
     attempt_again (Full c.in-Full-2.start) c.sizes.invariant again
 
 pub tried_swept-requires-clause-step : goal.tried_swept-requires-clause-step
-tried_swept-requires-clause-step c = step_again c.requires c.sizes.invariant
+tried_swept-requires-clause-step g c κs within = step_again c.requires c.sizes.invariant
 
 pub returns-clause-ok : goal.returns-clause-ok
-returns-clause-ok c =
+returns-clause-ok g c =
     ok_then (IsAttempt c.sizes.start) (IsAttempt c.args.self) c.tried_swept.result (λ attempt is. attempt_again attempt c.sizes.invariant is) c.tried_swept.ensures.ok

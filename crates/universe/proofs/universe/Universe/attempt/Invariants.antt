@@ -5,7 +5,7 @@ use Rattle.universe.proofs.universe.Universe.attempt.Given as goal
 
 -- the same cells, at a table of the same exponent
 abbrev pub invariant-sizes : goal.invariant-sizes
-invariant-sizes l = IsTurned (exponent_of l.fn.self) l.fn.self l.start
+invariant-sizes g l = IsTurned (exponent_of l.fn.self) l.fn.self l.start
 
 abbrev pub decreases-sizes : goal.decreases-sizes
-decreases-sizes l = l.most.bits - l.shape.bits
+decreases-sizes g l = l.most.bits - l.shape.bits

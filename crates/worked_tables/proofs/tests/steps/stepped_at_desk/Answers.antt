@@ -1,23 +1,17 @@
-use Rattle.std.proofs.Common.{refl, subst, sym}
-use Rattle.std.specs.Prelude.{IsTrue}
-use Rattle.squares.specs.Book.{Book, Keeps}
-use Rattle.node_table.specs.Desks.{book_at}
+use Rattle.std.proofs.Common.{refl}
+use Rattle.node_table.proofs.AtWork.{is_back}
 use Rattle.worked_tables.proofs.tests.steps.stepped_at_desk.Goals as goal
 
 pub close-words-requires : goal.close-words-requires
 close-words-requires g c =
-    let at = c.stepped-made.new.book in
-    let keeps = subst (λ (b : Book). Keeps b (book_at at.table.now at.desk)) c.at-at.ensures c.stepped-made.ensures.keeps in
-    (c.leave-desk.ensures.returns c.in_ok-table.table c.in_ok-table.desk keeps).0
+    (is_back c.in_ok-table.table c.in_ok-table.desk c.leave-desk.result _ _ c.at-at.ensures c.stepped-made.ensures.keeps c.leave-desk.ensures).of_table
 
 pub returns : goal.returns
 returns g c =
     let known = c.in_ok-sq.ensures.known in
-    let at = c.stepped-made.new.book in
-    let keeps = subst (λ (b : Book). Keeps b (book_at at.table.now at.desk)) c.at-at.ensures c.stepped-made.ensures.keeps in
-    let returned = c.leave-desk.ensures.returns c.in_ok-table.table c.in_ok-table.desk keeps in
+    let back = is_back c.in_ok-table.table c.in_ok-table.desk c.leave-desk.result _ _ c.at-at.ensures c.stepped-made.ensures.keeps c.leave-desk.ensures in
     record {
-      known = c.close-words.ensures.says.known c.in_ok-sq.sq (subst (λ (b : Book). IsTrue (b.knows c.in_ok-sq.sq)) (sym returned.1) known.known);
+      known = c.close-words.ensures.says.known c.in_ok-sq.sq (back.known c.in_ok-sq.sq.level c.in_ok-sq.sq known).known;
       at_level = refl;
       low = known.low;
       high = known.high;

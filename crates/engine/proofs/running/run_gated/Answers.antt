@@ -1,0 +1,79 @@
+use Rattle.std.proofs.Common.{◌≡◌, ◌+◌, ◌≤◌, Err, rules, refl, sym, ◌∙◌, ap, subst, inl, inr}
+use Rattle.plane.specs.declared.range.TheConstants.{GENERATION_LIMIT}
+use Rattle.plane.specs.declared.refusal.Refusal.TheVariants.{NoMemory}
+use Rattle.plane.specs.Device.{HasFailed}
+use Rattle.rule_text.specs.CountRule.{CountRule}
+use Rattle.plane.proofs.Same.{same_trans}
+use Rattle.patterns.specs.FileText.{Writes}
+use Rattle.patterns.specs.Meaning.{placeless}
+use Rattle.patterns.specs.Pattern.{plane_of}
+use Rattle.patterns.specs.PatternFile.{meaning_of}
+use Rattle.engine.proofs.Acceptance.{refused_at_once}
+use Rattle.engine.proofs.Endings.{begun_lines, ends_well, refused_reporting, refused_writing}
+use Rattle.engine.proofs.Held.{held, short_run}
+use Rattle.universe.specs.Cells.{live_cells, rule_of}
+use Rattle.engine.proofs.running.run_gated.Goals as goal
+
+pub returns-in_err-begun-clause-refused : goal.returns-in_err-begun-clause-refused
+returns-in_err-begun-clause-refused g c =
+    let is : c.from_residual.result ≡ Err c.in_err-begun.field-0.0 = search rules in
+    rw is (refused_at_once c.args.bytes.now c.args.options.now c.in_err-begun.field-0.0 _ _ _ _ _ refl refl c.in_err-begun.ensures.refused)
+
+pub run_reported-requires-clause-rule : goal.run_reported-requires-clause-rule
+run_reported-requires-clause-rule g c κs within = c.in_ok-begun.ensures.accepted.lawful
+
+pub run_reported-requires-clause-held : goal.run_reported-requires-clause-held
+run_reported-requires-clause-held g c κs within =
+    let run = c.in_ok-begun.ensures.accepted in
+    λ n less. held (rule_of c.in_ok-begun.begun.universe) run.lawful.no_birth_on_zero run.cells (live_cells c.in_ok-begun.begun.universe) c.args.options.now.gens n run.listing run.accepted.1.coordinates less
+
+pub run_reported-requires-clause-short : goal.run_reported-requires-clause-short
+run_reported-requires-clause-short g c κs within =
+    let run = c.in_ok-begun.ensures.accepted in
+    short_run run.cells (live_cells c.in_ok-begun.begun.universe) c.args.options.now.gens run.listing run.accepted.1.coordinates
+
+pub run_reported-requires-clause-last : goal.run_reported-requires-clause-last
+run_reported-requires-clause-last g c κs within =
+    subst (λ n. n + c.args.options.now.gens ≤ GENERATION_LIMIT) (sym c.generation-start.ensures) c.in_ok-begun.ensures.accepted.accepted.1.last_generation
+
+pub returns-in_err-universe-clause-refused : goal.returns-in_err-universe-clause-refused
+returns-in_err-universe-clause-refused g c =
+    let is : c.from_residual-in_err-universe.result ≡ Err (placeless c.in_err-universe.field-0.0) = search rules in
+    rw is (refused_reporting c.args.bytes.now c.args.options.now (meaning_of c.in_ok-begun.begun.text) (rule_of c.in_ok-begun.begun.universe) (live_cells c.in_ok-begun.begun.universe) c.in_ok-begun.ensures.accepted
+    c.generation-start.result c.in_err-universe.field-0.0 _ _ _ _ _ _ _ _ refl c.generation-start.ensures c.in_err-universe.ensures.refused)
+
+pub returns-in_err-last-clause-refused : goal.returns-in_err-last-clause-refused
+returns-in_err-last-clause-refused g c =
+    let is : c.from_residual-in_err-last.result ≡ Err (placeless NoMemory) = search rules in
+    let begun = begun_lines c.args.bytes.now c.args.options.now (meaning_of c.in_ok-begun.begun.text) (rule_of c.in_ok-begun.begun.universe) (live_cells c.in_ok-begun.begun.universe) c.in_ok-begun.ensures.accepted
+    c.generation-start.result (live_cells c.in_ok-universe.universe) _ _ c.generation-start.ensures c.in_ok-universe.ensures.cells c.in_ok-universe.ensures.reported in
+    rw is (inr (inr (inl (refl, (begun.0, inl (refl, begun.1), begun.2)))))
+
+pub returns-in_err-draw-clause-refused : goal.returns-in_err-draw-clause-refused
+returns-in_err-draw-clause-refused g c =
+    let is : c.from_residual-in_err-draw.result ≡ Err (placeless c.in_err-draw.field-0.0) = search rules in
+    let refused = c.in_err-draw.ensures.refused in
+    rw is (inr (inr (inr (ap placeless refused.0, inl (subst (λ n. HasFailed n (g.W.Sink.failure_count c.draw.new.report)) c.in_ok-universe.ensures.unfailed refused.1)))))
+
+pub returns-in_err-write-clause-refused : goal.returns-in_err-write-clause-refused
+returns-in_err-write-clause-refused g c =
+    let is : c.from_residual-in_err-write.result ≡ Err (placeless c.in_err-write.field-0.0) = search rules in
+    rw is (refused_writing c.args.bytes.now c.args.options.now (meaning_of c.in_ok-begun.begun.text) (rule_of c.in_ok-begun.begun.universe) (live_cells c.in_ok-begun.begun.universe) c.in_ok-begun.ensures.accepted
+    c.generation-start.result (plane_of c.in_ok-last.last) _ _ c.generation-start.ensures (same_trans c.in_ok-last.ensures.same c.in_ok-universe.ensures.cells) c.in_ok-universe.ensures.reported _ c.in_ok-draw.ensures.drawn
+    c.args.options.now.format c.in_err-write.field-0.0 _ _ _ _ _ refl c.in_err-write.ensures.refused)
+
+pub returns-clause-finished : goal.returns-clause-finished
+returns-clause-finished g c =
+    ends_well c.args.bytes.now c.args.options.now (meaning_of c.in_ok-begun.begun.text) (rule_of c.in_ok-begun.begun.universe) (live_cells c.in_ok-begun.begun.universe) c.in_ok-begun.ensures.accepted
+    c.generation-start.result (plane_of c.in_ok-last.last) _ _ c.generation-start.ensures (same_trans c.in_ok-last.ensures.same c.in_ok-universe.ensures.cells) c.in_ok-universe.ensures.reported _ c.in_ok-draw.ensures.drawn
+    c.comments.result c.in_ok-last.summary _ _ c.comments.ensures c.in_ok-last.ensures.ok
+    (subst (λ (r : CountRule). Writes c.args.options.now.format (plane_of c.in_ok-last.last) c.comments.result r c.in_ok-last.summary.generation (g.V.Sink.taken c.args.file.now) (g.V.Sink.taken c.write.new.file)) (sym c.in_ok-begun.ensures.rule) c.in_ok-write.ensures.written)
+
+pub returns-in_err-write-clause-no_format : goal.returns-in_err-write-clause-no_format
+returns-in_err-write-clause-no_format g c = c.in_err-write.ensures.no_format
+
+pub returns-clause-no_format : goal.returns-clause-no_format
+returns-clause-no_format g c = c.in_ok-write.ensures.no_format
+
+pub returns-clause-unfailed : goal.returns-clause-unfailed
+returns-clause-unfailed g c = (c.in_ok-write.ensures.unfailed, c.in_ok-draw.ensures.unfailed ∙ c.in_ok-universe.ensures.unfailed)

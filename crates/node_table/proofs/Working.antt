@@ -1,0 +1,32 @@
+-- What a desk at work knows is what the desk knows.
+use Rattle.std.proofs.Common.{ℕ, List, [], ◌∷◌, ⊎_elim, inl, inr}
+use Rattle.std.specs.List.{AllByRecursion}
+use Rattle.plane.specs.Plane.{Plane}
+use Rattle.squares.specs.declared.sq.Sq.{Sq}
+use Rattle.squares.specs.Book.{Keeps, Shows, IsKnown, Learns, AddsResult}
+use Rattle.table_core.specs.Knowledge.{Grows}
+use Rattle.node_table.specs.declared.desk.Desk.{Desk}
+use Rattle.node_table.specs.declared.table.NodeTable.{NodeTable}
+use Rattle.node_table.specs.Desks.{IsDeskOf, book_at, work_store, work_at}
+use Rattle.node_table.proofs.Books.{grows_keeps}
+use Rattle.node_table.proofs.Desks.{coherent_at}
+
+-- a desk that learns at work keeps its book
+pub keeps_working : (expansions : ℕ) (table : NodeTable) (old new : Desk) → IsDeskOf table new → Grows old.seat.me.0.known new.seat.me.0.known → Keeps (work_at expansions table old) (work_at expansions table new)
+keeps_working expansions table old new d grows = grows_keeps (work_store expansions table) table.key old.seat.me.0.known new.seat.me.0.known (coherent_at table new d) grows
+
+pub all_known_at : (expansions : ℕ) (table : NodeTable) (desk : Desk) (level : ℕ) (squares : List Sq) → AllByRecursion (IsKnown (work_at expansions table desk) level) squares → AllByRecursion (IsKnown (book_at table desk) level) squares
+all_known_at expansions table desk level [] h = h
+all_known_at expansions table desk level (sq ∷ squares) h =
+    (record { known = h.0.known; at_level = h.0.at_level; low = h.0.low; high = h.0.high }, all_known_at expansions table desk level squares h.1)
+
+pub shows_working : (expansions : ℕ) (table : NodeTable) (desk : Desk) (level : ℕ) (plane : Plane) (sq : Sq) → Shows (book_at table desk) level plane sq → Shows (work_at expansions table desk) level plane sq
+shows_working expansions table desk level plane sq s =
+    record { known = record { known = s.known.known; at_level = s.known.at_level; low = s.known.low; high = s.known.high }; cells = s.cells }
+
+pub learns_working : (expansions : ℕ) (table : NodeTable) (old new : Desk) (sq : Sq) → Learns (book_at table old) (book_at table new) sq → Learns (work_at expansions table old) (work_at expansions table new) sq
+learns_working expansions table old new sq l =
+    record { known = l.known; told = ⊎_elim (λ k. inl (record { results = k.results; learned = k.learned })) (λ g. inr g) l.told }
+
+pub adds_working : (expansions : ℕ) (table : NodeTable) (old new : Desk) (sq : Sq) → AddsResult (book_at table old) (book_at table new) sq → AddsResult (work_at expansions table old) (work_at expansions table new) sq
+adds_working expansions table old new sq l = record { known = l.known; learned = l.learned; results = l.results }

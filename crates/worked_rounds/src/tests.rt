@@ -1,0 +1,6 @@
+mod full_table;
+mod futures;
+mod gates;
+mod jobs;
+mod tables;
+mod want_of_memory;

@@ -1,0 +1,46 @@
+//! A future asked for in each order of the smaller squares: one square, after as many expansions.
+
+ghost use Rattle.std.specs.Prelude.{IfOk};
+ghost use Rattle.squares.specs.Book.{IsKnown};
+
+use crate::tests::books::{book_of, square_of};
+use hashlife_step::{Tally, future_in_order, pad};
+use plane::Refusal;
+use squares::{PlainBook, Sq, Squares, copy_square};
+use std::alloc::Global;
+
+// The leaves of a square with the R-pentomino in its columns and rows 8 to 10.
+const R_PENTOMINO: [u64; 4] = [0, 0, 0, 0x20306];
+
+// The future of the padded R-pentomino.
+fn future_of_pentomino<S: Squares>(
+    book: &mut S,
+    order: u8,
+    tally: &mut Tally,
+) -> Result<Sq, Refusal>
+    ensures { IfOk result (λ sq. IsKnown (S.book book.new) sq.level sq) }
+{
+    let root = square_of(book, R_PENTOMINO)?;
+    let padded = pad(book, root, 6)?;
+    future_in_order(book, padded, order, tally)
+}
+
+// The future that a book of its own gives in this order, as a square of the first book, and the
+// expansions that it took.
+fn asked_in_order(alloc: Global, first: &mut PlainBook, order: u8) -> Result<(Sq, u64), Refusal> {
+    let mut book = book_of(alloc, "B3/S23", 6)?;
+    let mut tally = Tally { expansions: 0 };
+    let sq = future_of_pentomino(&mut book, order, &mut tally)?;
+    Ok((copy_square(alloc, &book, sq, first)?, tally.expansions))
+}
+
+#[test]
+fn all_orders_give_one_future(rt: HostRuntime) -> Result<(), Refusal> {
+    let mut first = book_of(rt.alloc(), "B3/S23", 6)?;
+    let in_turn = asked_in_order(rt.alloc(), &mut first, 0)?;
+    assert!(rt; in_turn.1 > 0);
+    for order in 1..=64 {
+        assert_eq!(rt; asked_in_order(rt.alloc(), &mut first, order)?, in_turn);
+    }
+    Ok(())
+}

@@ -1,0 +1,7 @@
+mod AtWork
+mod Books
+mod Counting
+mod Padded
+mod Pieces
+mod Places
+mod Workers

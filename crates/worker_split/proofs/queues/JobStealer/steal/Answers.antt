@@ -1,0 +1,5 @@
+use Rattle.worker_split.proofs.Pieces.{takes}
+use Rattle.worker_split.proofs.queues.JobStealer.steal.Goals as goal
+
+pub steal_as-requires-clause-takes : goal.steal_as-requires-clause-takes
+steal_as-requires-clause-takes g c = takes _ _

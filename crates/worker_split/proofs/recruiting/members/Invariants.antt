@@ -1,0 +1,6 @@
+use Rattle.std.proofs.Common.{◌≡◌, ◌≤◌, length, All}
+use Rattle.worker_split.specs.Rounds.{IsIdle}
+use Rattle.worker_split.proofs.recruiting.members.Given as goal
+
+abbrev pub invariant-loop-k : goal.invariant-loop-k
+invariant-loop-k l = (l.low ≤ l.count) × (length l.all.items ≡ l.k) × All (IsIdle l.count) l.all.items

@@ -1,0 +1,24 @@
+-- What a job is, what came of it, and what is counted.
+use Rattle.std.specs.Prelude.{◌≡◌, ◌-◌, ◌<◌, ◌⊎◌, ℕ, IsTrue, length}
+use Rattle.plane.specs.declared.refusal.Refusal.{Refusal}
+use Rattle.plane.specs.declared.refusal.Refusal.TheVariants.{NoMemory, NodesFull}
+use Rattle.squares.specs.declared.sq.Sq.{Sq}
+use Rattle.squares.specs.Book.{Book, IsKnown, IsFuture, HasResult}
+
+-- a known square that has a future
+pub record IsJob (book : Book) (sq : Sq) : Type 0 where
+  pub known : IsKnown book sq.level sq
+  pub above : 3 < sq.level
+
+-- the second square is the future of the first, whose result is known
+pub record HasFuture (book : Book) (sq future : Sq) : Type 0 where
+  pub is : IsFuture book sq future
+  pub known : HasResult book sq
+
+-- how many results are new
+abbrev pub new_results : Book → Book → ℕ
+new_results old new = length new.results - length old.results
+
+-- memory ran out, or the book is full
+abbrev pub Refuses : Book → Refusal → Type 0
+Refuses book refusal = (refusal ≡ NoMemory) ⊎ ((refusal ≡ NodesFull) × IsTrue book.is_full)

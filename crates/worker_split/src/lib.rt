@@ -1,0 +1,24 @@
+//! Rounds of jobs: the futures of many squares by a team of workers at one table, who take jobs from
+//! one another and help one another; and the future of one square by such rounds.
+#![tactic(auto)]
+
+mod batches;
+mod filling;
+mod gate;
+mod gathering;
+mod helping;
+mod jobs;
+mod members;
+mod queues;
+mod recruiting;
+mod rounds;
+mod serving;
+mod stages;
+mod steps;
+mod team;
+
+pub use batches::batch_future;
+pub use gate::{Gate, OpenGate};
+pub use rounds::round;
+pub use steps::step;
+pub use team::Team;

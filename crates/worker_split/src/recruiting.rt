@@ -1,0 +1,109 @@
+//! What a round takes memory for: its workers, the places of their answers, and the list of futures.
+ghost use Rattle.std.specs.Prelude.{◌≡◌, ◌<◌, ◌≤◌, All, IfOk, length};
+ghost use Rattle.worker_split.specs.Rounds.{HasRoom, IsIdle};
+
+use crate::members::Member;
+use crate::queues::JobQueue;
+use plane::Refusal;
+use squares::Sq;
+use std::alloc::{AllocError, Global};
+
+/// The workers of a round, each with its share of the jobs, and room for what they find.
+#[derive(Drop)]
+pub(crate) struct Room {
+    pub(crate) members: Vec<Member>,
+    pub(crate) places: Vec<Option<Result<Sq, Refusal>>>,
+    pub(crate) futures: Vec<Sq>,
+}
+
+// A worker with the jobs from `low` to `high` of `count`.
+fn member(
+    alloc: Global,
+    low: usize,
+    high: usize,
+    count: usize,
+    order: u8,
+) -> Result<Member, AllocError>
+    requires { (low ≤ high) × (high ≤ count) }
+    ensures { IfOk result (IsIdle count) }
+{
+    let own = JobQueue::with_share(alloc, low, high, count)?;
+    let answers = Vec::with_capacity(alloc, count)?;
+    Ok(Member {
+        own,
+        others: Vec::new(alloc),
+        order,
+        start: high,
+        desk: None,
+        answers,
+    })
+}
+
+// Where the next of `rest` shares ends: their lengths differ by at most one.
+fn share_end(low: usize, count: usize, rest: usize) -> usize
+    requires { (low ≤ count) × (0 < rest) }
+    ensures { (low ≤ result) × (result ≤ count) }
+{
+    low + (count - low) / rest
+}
+
+// The workers, each with a contiguous share of the jobs.
+fn members(alloc: Global, count: usize, workers: usize) -> Result<Vec<Member>, AllocError>
+    requires { workers ≤ 64 }
+    ensures len { IfOk result (λ members. length members.items ≡ workers) }
+    ensures idle { IfOk result (λ members. All (IsIdle count) members.items) }
+{
+    let mut all = Vec::new(alloc);
+    let mut low = 0;
+    for k in 0..workers {
+        let high = share_end(low, count, workers - k);
+        all.push(member(alloc, low, high, count, k as u8)?)?;
+        low = high;
+    }
+    Ok(all)
+}
+
+// Worker i can steal from worker j.
+fn link(members: &mut [Member], count: usize, i: usize, j: usize) -> Result<(), AllocError>
+    requires places { (i < length members.old) × (j < length members.old) }
+    requires idle { All (IsIdle count) members.old }
+    ensures idle { All (IsIdle count) members.new }
+    ensures len { length members.new ≡ length members.old }
+{
+    let stealer = members[j].stealer(count)?;
+    members[i].add(count, stealer)
+}
+
+// Each worker can steal from each other one, and begins with the next one.
+fn link_all(members: &mut [Member], count: usize) -> Result<(), AllocError>
+    requires { All (IsIdle count) members.old }
+    ensures idle { All (IsIdle count) members.new }
+    ensures len { length members.new ≡ length members.old }
+{
+    let workers = members.len();
+    for i in 0..workers {
+        for j in i + 1..workers {
+            link(members, count, i, j)?;
+        }
+        for j in 0..i {
+            link(members, count, i, j)?;
+        }
+    }
+    Ok(())
+}
+
+/// All the memory that a round of `count` jobs takes.
+pub(crate) fn room_for(alloc: Global, count: usize, workers: usize) -> Result<Room, AllocError>
+    requires { workers ≤ 64 }
+    ensures { IfOk result (HasRoom count workers) }
+{
+    let mut members = members(alloc, count, workers)?;
+    link_all(members.as_mut_slice(), count)?;
+    let places = Vec::from_elem(alloc, None::<Result<Sq, Refusal>>, count)?;
+    let futures = Vec::with_capacity(alloc, count)?;
+    Ok(Room {
+        members,
+        places,
+        futures,
+    })
+}
