@@ -11,3 +11,4 @@ pub mod PictureLines
 pub mod Quarters
 pub mod RowsOfSquares
 pub mod RunsBeside
+pub mod RunsOfLeaves

@@ -175,14 +175,6 @@ quarter_room left half level low least e f room = let g = ap (λ n. 2 ^ n) f in 
 next_place : (n : ℕ) → suc n ≡ n + 1
 next_place n = omega arith
 
--- one bit of a leaf's row that is set
-pub step_taken : (word y n : ℕ) (left : ℤ) (old mid new : List (ℤ × ℕ)) → n < 8 → y < 8 → bit_at word (8 * y + n) ≡ 1 → AddsCells left n (cells_before word left y n) old mid →
-    AddsCells (left +ℤ pos n) 1 (run_cells (left +ℤ pos n) 1) mid new → AddsCells left (n + 1) (cells_before word left y (n + 1)) old new
-step_taken word y n left old mid new wide tall set h k =
-    subst (λ m. AddsCells left (n + 1) (cells_before word left y m) old new) (next_place n)
-    (adds_then left n 1 (cells_before word left y n) (run_cells (left +ℤ pos n) 1) (cells_before word left y (suc n)) old mid new h k
-    (λ x. cell_taken word y n left x wide tall (ap (λ b. b == 1) set)))
-
 not_one : (n : ℕ) → n ≢ 1 → (n == 1) ≡ false
 not_one n h = grind (arith, nat_tests)
 

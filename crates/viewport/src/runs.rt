@@ -73,10 +73,14 @@ fn add_leaf_row(word: u64, left: i64, y: u64, runs: &mut Vec<(i64, u64)>) -> Res
     requires before { EndBy left runs.old.items }
     ensures ok { OnOk result (AddsCells left 8 (cells_at (bits_plane word) left y) runs.old.items runs.new.items) }
 {
-    for x in 0..8u8 {
-        if (word >> (8 * y + u64::from(x))) & 1 == 1 {
-            add_run(left + i64::from(x), 1, runs)?;
-        }
+    let mut rest = (word >> (8 * y)) & 255;
+    let mut x = 0;
+    while rest != 0 {
+        let dead = rest.trailing_zeros();
+        let live = (rest >> dead).trailing_ones();
+        add_run(left + i64::from(x + dead), u64::from(live), runs)?;
+        rest = rest >> dead >> live;
+        x += dead + live;
     }
     Ok(())
 }
