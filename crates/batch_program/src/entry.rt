@@ -19,6 +19,7 @@ use plane::{Counted, Fault, Refusal, Sink, write_all};
 use std::alloc::Global;
 use std::fs;
 use std::rt::Files;
+use std::thread::Threads;
 
 // The name of standard input. It is read as such, so also where its device may not be opened.
 const STANDARD_INPUT: &str = "/dev/stdin";
@@ -47,7 +48,7 @@ impl From<Fault> for Stop {
 /// - 3: the input could not be read, or the report or the output could not be written.
 ///
 /// The output file is created at its first byte. A failure of `err` changes nothing else.
-pub fn program<R: Files + Input, O: Sink, E: Sink>(
+pub fn program<R: Files + Input + Threads + Sync, O: Sink, E: Sink>(
     rt: &R,
     alloc: Global,
     words: &[&str],
@@ -83,7 +84,7 @@ pub fn program<R: Files + Input, O: Sink, E: Sink>(
 }
 
 // Does what the words ask for. What it then tells has no part in it.
-fn perform<R: Files + Input, O: Sink>(
+fn perform<R: Files + Input + Threads + Sync, O: Sink>(
     rt: &R,
     alloc: Global,
     words: &[&str],
@@ -105,7 +106,7 @@ fn perform<R: Files + Input, O: Sink>(
 }
 
 // Reads the file and runs it.
-fn run_asked<R: Files + Input, O: Sink>(
+fn run_asked<R: Files + Input + Threads + Sync, O: Sink>(
     rt: &R,
     alloc: Global,
     asked: &Asked,

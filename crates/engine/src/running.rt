@@ -17,6 +17,7 @@ use patterns::Pattern;
 use plane::{Bounds, Fault, Refusal, Sink};
 use rule_text::RuleFault;
 use std::alloc::Global;
+use std::thread::Threads;
 use universe::Universe;
 
 /// What a run ends with.
@@ -40,8 +41,8 @@ pub struct Summary {
 /// pattern's box is 2^31 or more, `NoMemory`, and `NodesFull`, where the cells of the file or those after a single
 /// generation have no room in the tables that the options allow, leave `file` as it was. `WriteFailed` comes where a
 /// sink failed.
-pub fn run<R, W: Sink, V: Sink>(
-    _rt: &R,
+pub fn run<R: Threads + Sync, W: Sink, V: Sink>(
+    rt: &R,
     alloc: Global,
     bytes: &[u8],
     options: &Options,
@@ -77,6 +78,7 @@ pub fn run<R, W: Sink, V: Sink>(
     let (last, summary) = ended(alloc, universe, start + options.gens)?;
     last.draw(options.window, report)?;
     last.write(
+        rt,
         alloc,
         options.format,
         begun.text.comments(),

@@ -9,6 +9,7 @@ use batch_program::{program, refused_status, tell_fault};
 use plane::{Counted, Fault, Refusal, Sink};
 use std::process::ExitCode;
 use std::rt::{Env, Files};
+use std::thread::Threads;
 use std::{env, io};
 
 fn main(rt: HostRuntime) -> ExitCode {
@@ -34,7 +35,7 @@ const NO_MEMORY: Fault = Fault {
 };
 
 // Runs the program on its words, and answers its exit status. An error says that there are no words.
-fn run_words<R: Env + Files + Input + AllocGlobal, O: Sink, E: Sink>(
+fn run_words<R: Env + Files + Input + AllocGlobal + Threads + Sync, O: Sink, E: Sink>(
     rt: &R,
     out: &mut O,
     err: &mut E,

@@ -7,6 +7,7 @@ use plane::{FailAt, Fault, Memory, Refusal};
 use std::alloc::{AllocError, Global};
 use std::process::Abort;
 use std::test::Fail;
+use std::thread::Threads;
 
 const ROWS: &[Row] = &[BLINKER, R_PENTOMINO, COMMENTED_GLIDER];
 
@@ -138,7 +139,7 @@ fn is_cut(row: &Row, end: &Ended, failing: Failing) -> bool {
 }
 
 /// Runs a row with sinks that take so many bytes at a time, of which one fails at this call.
-fn ended<R: Abort + AllocGlobal>(
+fn ended<R: Abort + AllocGlobal + Threads + Sync>(
     rt: &R,
     row: &Row,
     most: usize,
@@ -150,7 +151,7 @@ fn ended<R: Abort + AllocGlobal>(
 
 /// How many calls a run makes of a sink: at least one, and one for each byte where it takes one at a
 /// time.
-fn calls_of<R: Abort + AllocGlobal>(
+fn calls_of<R: Abort + AllocGlobal + Threads + Sync>(
     rt: &R,
     row: &Row,
     most: usize,
@@ -165,7 +166,7 @@ fn calls_of<R: Abort + AllocGlobal>(
 
 /// The first call at which, if it fails, a run with so many calls of the sink does not end as it should;
 /// call 0, and one behind the last, fail at none.
-fn first_wrong_call<R: Abort + AllocGlobal>(
+fn first_wrong_call<R: Abort + AllocGlobal + Threads + Sync>(
     rt: &R,
     row: &Row,
     most: usize,
@@ -188,7 +189,7 @@ fn first_wrong_call<R: Abort + AllocGlobal>(
 }
 
 /// Fails each call of a sink in turn, and none, for each row.
-fn assert_fails<R: Abort + AllocGlobal>(
+fn assert_fails<R: Abort + AllocGlobal + Threads + Sync>(
     rt: &R,
     most: usize,
     failing: Failing,

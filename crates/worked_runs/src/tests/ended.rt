@@ -5,6 +5,7 @@ use engine::{Options, Summary, run};
 use plane::Fault;
 use std::alloc::AllocError;
 use std::process::Abort;
+use std::thread::Threads;
 use table_core::Shape;
 
 /// How a run ended, and what it wrote.
@@ -17,7 +18,7 @@ pub(crate) struct Ended {
 
 impl Ended {
     /// Runs a file with devices that take all that is written.
-    pub(crate) fn of<R: Abort + AllocGlobal>(
+    pub(crate) fn of<R: Abort + AllocGlobal + Threads + Sync>(
         rt: &R,
         file: &str,
         options: &Options,
@@ -27,7 +28,7 @@ impl Ended {
 
     /// Runs a file with devices that take so many bytes at a time, of which the report and the file fail
     /// at these calls, or at none for 0.
-    pub(crate) fn with_devices<R: Abort + AllocGlobal>(
+    pub(crate) fn with_devices<R: Abort + AllocGlobal + Threads + Sync>(
         rt: &R,
         file: &str,
         options: &Options,

@@ -6,6 +6,7 @@ use engine::{Format, Options};
 use plane::{Fault, Refusal, Window};
 use std::process::Abort;
 use std::test::Fail;
+use std::thread::Threads;
 
 /// A file, how many generations it runs, which window is drawn, the report, and its picture.
 struct Pictured {
@@ -80,7 +81,10 @@ fn asked(generations: u64, window: (i64, i64, u32, u32), quiet: bool) -> Result<
 }
 
 /// Runs a row with its lines and without.
-fn assert_pictured<R: Abort + AllocGlobal>(rt: &R, row: &Pictured) -> Result<(), Fail> {
+fn assert_pictured<R: Abort + AllocGlobal + Threads + Sync>(
+    rt: &R,
+    row: &Pictured,
+) -> Result<(), Fail> {
     for (quiet, report) in [(false, row.report), (true, row.picture)] {
         let options = asked(row.generations, row.window, quiet)?;
         let end = Ended::of(rt, row.file, &options)?;

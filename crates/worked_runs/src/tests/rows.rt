@@ -5,6 +5,7 @@ use engine::{Format, Options};
 use plane::{Fault, Refusal};
 use std::alloc::AllocError;
 use std::process::Abort;
+use std::thread::Threads;
 
 /// What is asked for where no word asks for anything.
 pub(crate) const PLAIN: Options = Options {
@@ -155,7 +156,10 @@ pub(crate) fn assert_whole_or_refused<R: Abort>(
 }
 
 /// Runs rows, with their reports and without, and compares what is written with what they say.
-pub(crate) fn assert_rows<R: Abort + AllocGlobal>(rt: &R, rows: &[Row]) -> Result<(), AllocError> {
+pub(crate) fn assert_rows<R: Abort + AllocGlobal + Threads + Sync>(
+    rt: &R,
+    rows: &[Row],
+) -> Result<(), AllocError> {
     for row in rows {
         for (quiet, report) in [(false, row.report), (true, "")] {
             let options = Options {

@@ -10,10 +10,14 @@ use engine::load;
 use plane::{Memory, Refusal};
 use std::process::Abort;
 use std::test::Fail;
+use std::thread::Threads;
 
 /// Runs a row: it writes its whole texts, or is refused between two lines of the report, with nothing
 /// in the file.
-fn assert_runs_or_refuses<R: Abort + AllocGlobal + Print>(rt: &R, row: &Row) -> Result<(), Fail> {
+fn assert_runs_or_refuses<R: Abort + AllocGlobal + Print + Threads + Sync>(
+    rt: &R,
+    row: &Row,
+) -> Result<(), Fail> {
     let Ok(end) = Ended::of(rt, row.file, &row.options()) else {
         return Ok(println!(rt; "no devices")?);
     };
