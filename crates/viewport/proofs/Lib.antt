@@ -12,3 +12,4 @@ pub mod Quarters
 pub mod RowsOfSquares
 pub mod RunsBeside
 pub mod RunsOfLeaves
+pub mod RowsOfHalves
