@@ -1,4 +1,8 @@
 //! Rows that are written in bands: patterns of few rows and of many, and of rows that lie far apart.
+//!
+//! In a plain run of the tests there is memory. `rt try --test --fail-alloc N -- banded_rows` makes the Nth
+//! allocation of each of these tests fail, and is run for each N from 1 up to the first at which neither of
+//! them prints a line of its own.
 
 use pattern_writers::write_rle;
 use plane::{Cell, CellSet, Memory, Refusal};
