@@ -4,6 +4,7 @@
     bench/compare.py                           each row, the best of three rounds, one worker
     bench/compare.py --rounds 5 --rows gun     the rows with "gun" in their names, the best of five
     bench/compare.py --set formats             the rows that read, write and count, and run little
+    bench/compare.py --processors 2            on two processors
 
 Build the program first: `./lifebatch --help`. Golly's patterns are sought where the package `golly` installs them; rows
 whose pattern or peer is missing say so. In a round each program runs once, one after the other, so that both
@@ -14,11 +15,14 @@ import gzip
 import math
 import os
 import pathlib
+import random
+import re
 import shutil
 import subprocess
 import sys
 import tempfile
 import time
+from collections.abc import Callable
 from dataclasses import dataclass
 
 ROOT = pathlib.Path(__file__).resolve().parent.parent
@@ -32,10 +36,10 @@ SECONDS = 300
 
 @dataclass
 class Row:
-    """A run of both programs. The source is a file of Golly's, or a text of one's own."""
+    """A run of both programs. The source is a file of Golly's, a text of one's own, or what makes one."""
 
     name: str
-    source: str
+    source: str | Callable[[], str]
     generations: int
     step: int = 0
     output: str = ""
@@ -43,6 +47,16 @@ class Row:
 
 R_PENTOMINO = "x = 3, y = 3, rule = B3/S23\nb2o$2o$bo!\n"
 REPLICATOR = "x = 1, y = 1, rule = B1357/S1357\no!\n"
+
+
+
+def soup(side=4096):
+    """A square of cells, each live or dead by the throw of a coin that falls alike at every call."""
+    coin = random.Random(side)
+    rows = (f"{coin.getrandbits(side):0{side}b}" for _ in range(side))
+    runs = (re.sub("0+|1+", lambda run: f"{len(run[0])}{'bo'[int(run[0][0])]}", row) for row in rows)
+    return f"x = {side}, y = {side}\n" + "$\n".join(runs) + "!\n"
+
 
 SETS = {
     "runs": [
@@ -64,6 +78,8 @@ SETS = {
         Row("R-pentomino, written", R_PENTOMINO, 1103, output="out.rle"),
         Row("replicator, written", REPLICATOR, 2**20, output="out.rle"),
         Row("one run of 2^28 cells", "x = 268435456, y = 1\n268435456o!\n", 0),
+        Row("one run of 2^28 cells, written", "x = 268435456, y = 1\n268435456o!\n", 0, output="out.rle"),
+        Row("soup of 4096 by 4096 cells, written", soup, 0, output="out.rle"),
         Row("breeder", "Life/Breeders/switch-engine-breeder.rle", 2**16),
         Row("spacefiller", "Life/Breeders/spacefiller.rle", 2**14),
         Row("Turing machine", "Life/Signal-Circuitry/Turing-Machine-3-state.rle", 2**14),
@@ -74,6 +90,8 @@ SETS = {
 
 def pattern_file(source, folder):
     """The path of a row's pattern, or None if Golly's patterns are not there."""
+    if callable(source):
+        source = source()
     if "\n" in source:
         path = folder / "pattern.rle"
         path.write_text(source)
@@ -178,7 +196,10 @@ def main():
     parser.add_argument("--rows", nargs="+", default=[], help="only the rows with one of these words in their names")
     parser.add_argument("--program", type=pathlib.Path, default=LIFEBATCH, help="another build of lifebatch")
     parser.add_argument("--words", default="", help="further words for lifebatch, as '--nodes 65536'")
+    parser.add_argument("--processors", type=int, help="how many processors both may use (all)")
     options = parser.parse_args()
+    if options.processors:
+        os.sched_setaffinity(0, sorted(os.sched_getaffinity(0))[: options.processors])
     if not options.program.is_file():
         sys.exit("build the program first: ./lifebatch --help")
     bgolly = shutil.which("bgolly")

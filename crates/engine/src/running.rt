@@ -125,6 +125,7 @@ pub fn run_gated<R: Threads + Wait + Sync, G: Gate, W: Sink, V: Sink>(
     let (last, summary) = ended(alloc, universe, start + options.gens)?;
     last.draw(options.window, report)?;
     last.write(
+        rt,
         alloc,
         options.format,
         begun.text.comments(),

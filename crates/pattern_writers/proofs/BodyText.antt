@@ -1,5 +1,5 @@
 -- How the body of an RLE text grows item by item.
-use Rattle.std.proofs.Common.{◌≡◌, ℕ, ◌+◌, ◌<◌, ◌≤◌, List, [], ◌∷◌, ◌++◌, length, map, take, drop, get_or, codes, ap, sym, ◌∙◌, refl, append_assoc, add-one, drop-cons}
+use Rattle.std.proofs.Common.{◌≡◌, ℕ, ◌+◌, ◌<◌, ◌≤◌, List, [], ◌∷◌, ◌++◌, length, map, flat_map, take, drop, get_or, codes, Vec, Global, ap, sym, ◌∙◌, refl, append_assoc, add-one, drop-cons}
 use Rattle.std.proofs.Common.{arith}
 use Rattle.std.specs.Bool.{Decides}
 use Rattle.std.proofs.lemmas.Bool.{cond-true, cond-false, le-leb, lt-leb}
@@ -11,7 +11,7 @@ use Rattle.std.specs.Ordering.{int_eq}
 use Rattle.rle_reader.specs.declared.item.Tag.TheVariants.{Dead, Live, Row}
 use Rattle.pattern_writers.specs.declared.rle_text.items.Item.{Item}
 use Rattle.pattern_writers.specs.declared.rle_text.row_run.RowRun.{RowRun}
-use Rattle.pattern_writers.specs.Items.{item_text, items_of, next_cell, run_items, counted, distance}
+use Rattle.pattern_writers.specs.Items.{item_text, cell_after, items_of, next_cell, run_items, counted, distance}
 use Rattle.pattern_writers.specs.Layout.{laid_out, body_text, LaysOut}
 
 -- pieces and then more pieces
@@ -58,6 +58,32 @@ pub items_of-more : (left : ℤ) (next : Cell) (runs : List RowRun) (i : ℕ) (d
 items_of-more left next runs i d done h =
     ap (λ l. done ++ items_of left next l) (drop_step runs i d h)
     ∙ sym (append_assoc done (run_items left next (get_or runs i d)) (items_of left (next_cell (get_or runs i d)) (drop (i + 1) runs)))
+
+-- the cell after one run more
+pub cell_after-more : (next : Cell) (runs : List RowRun) (i : ℕ) (d : RowRun) → i < length runs →
+    cell_after next (drop i runs) ≡ cell_after (next_cell (get_or runs i d)) (drop (i + 1) runs)
+cell_after-more next runs i d h = ap (cell_after next) (drop_step runs i d h)
+
+-- the items of some runs and then of others
+items_of-append : (left : ℤ) (next : Cell) (runs more : List RowRun) → items_of left next (runs ++ more) ≡ items_of left next runs ++ items_of left (cell_after next runs) more
+items_of-append left next [] more = refl
+items_of-append left next (run ∷ runs) more =
+    ap (λ l. run_items left next run ++ l) (items_of-append left (next_cell run) runs more)
+    ∙ sym (append_assoc (run_items left next run) (items_of left (next_cell run) runs) (items_of left (cell_after (next_cell run) runs) more))
+
+-- the items of the runs of one band more
+pub items_of-band : (left : ℤ) (next after : Cell) (bands : List (Vec RowRun Global)) (i : ℕ) (d : Vec RowRun Global) (done later : List Item) → i < length bands →
+    later ≡ done ++ items_of left next (get_or bands i d).items → after ≡ cell_after next (get_or bands i d).items →
+    done ++ items_of left next (flat_map (λ (band : Vec RowRun Global). band.items) (drop i bands))
+    ≡ later ++ items_of left after (flat_map (λ (band : Vec RowRun Global). band.items) (drop (i + 1) bands))
+items_of-band left next after bands i d done later h is behind =
+    let band = get_or bands i d in
+    let rest = flat_map (λ (b : Vec RowRun Global). b.items) (drop (i + 1) bands) in
+    ap (λ l. done ++ items_of left next (flat_map (λ (b : Vec RowRun Global). b.items) l)) (drop_step bands i d h)
+    ∙ ap (λ l. done ++ l) (items_of-append left next band.items rest)
+    ∙ sym (append_assoc done (items_of left next band.items) (items_of left (cell_after next band.items) rest))
+    ∙ ap (λ l. l ++ items_of left (cell_after next band.items) rest) (sym is)
+    ∙ ap (λ cell. later ++ items_of left cell rest) (sym behind)
 
 -- what the items of a run are pushed as
 pub run_items-pushed : (before one two three : List Item) (left : ℤ) (next : Cell) (run : RowRun) (start : ℤ) (rows dead live : ℕ) →

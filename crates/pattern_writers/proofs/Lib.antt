@@ -35,3 +35,5 @@ pub mod WrittenNumbers
 pub mod PositionLines
 pub mod HeaderLines
 pub mod RleTextReading
+pub mod RowsBetween
+pub mod BandsDown

@@ -151,20 +151,13 @@ next_row plane from (Some next) runs far first = (
   first.1,
 )
 
-out_of_square : (y : ℤ) → y <ℤ (pos 0 -ℤ pos (2 ^ 63)) → spans (2 ^ 63) (y +ℤ pos (2 ^ 62)) ≡ false
-out_of_square y low = grind (arith, ints)
-
-none_above : (plane : Plane) (from x y : ℤ) → from ≤ℤ (pos 0 -ℤ pos (2 ^ 63)) → Holds 63 plane → false ≡ (int_lt y from && plane x y)
-none_above plane from x y low is =
-    by_test (λ b. false ≡ (b && plane x y)) (int_lt y from)
-    (λ above.
-    let outside = out_of_square y (grind (arith, ints, low)) in
-    sym (is.dead x y (ap (λ b. spans (2 ^ 63) (x +ℤ pos (2 ^ 62)) && b) outside ∙ and_nothing (spans (2 ^ 63) (x +ℤ pos (2 ^ 62))))))
-    (λ _. refl)
-
 -- before the first row there is no run
-pub no_runs : (plane : Plane) (from : ℤ) (runs : List RowRun) → from ≤ℤ (pos 0 -ℤ pos (2 ^ 63)) → Holds 63 plane → runs ≡ [] → AreRunsAbove plane from runs
-no_runs plane from runs low is none = subst (AreRunsAbove plane from) (sym none) (record { apart = tt; above = tt; cells = λ x y. none_above plane from x y low is })
+pub no_runs : (plane : Plane) (from : ℤ) (runs : List RowRun) → ((x y : ℤ) → y <ℤ from → plane x y ≡ false) → runs ≡ [] → AreRunsAbove plane from runs
+no_runs plane from runs dead none = subst (AreRunsAbove plane from) (sym none) (record {
+  apart = tt;
+  above = tt;
+  cells = λ x y. by_test (λ b. false ≡ (b && plane x y)) (int_lt y from) (λ above. sym (dead x y (grind (arith, ints, above)))) (λ _. refl);
+})
 
 -- ---- all rows
 

@@ -40,3 +40,8 @@ run_items left next run =
 abbrev pub items_of : ℤ → Cell → List RowRun → List Item
 items_of left next [] = []
 items_of left next (run ∷ runs) = run_items left next run ++ items_of left (next_cell run) runs
+
+-- the cell after the last of some runs, which follow a cell
+abbrev pub cell_after : Cell → List RowRun → Cell
+cell_after next [] = next
+cell_after next (run ∷ runs) = cell_after (next_cell run) runs

@@ -46,6 +46,13 @@ pub record IsTooLarge (plane : Plane) : Type 0 where
   pub listing : IsListing cells plane
   pub unfit : ¬ FitsRle (bounds_of cells)
 
+-- the frame of the plane's cells, which have a text
+pub record HasFrame (plane : Plane) (frame : Frame) : Type 0 where
+  pub cells : List Cell
+  pub listing : IsListing cells plane
+  pub fits : FitsRle (bounds_of cells)
+  pub frame_is : frame ≡ frame_of (bounds_of cells)
+
 -- the runs of the plane's cells
 pub record HasRuns (plane : Plane) (runs : List RowRun) : Type 0 where
   pub cells : List Cell

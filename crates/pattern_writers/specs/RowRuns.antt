@@ -1,5 +1,5 @@
 -- The runs of live cells in rows.
-use Rattle.std.specs.Prelude.{◌≡◌, ℕ, ℤ, pos, ◌+ℤ◌, List, [], ◌∷◌, ◌++◌, map, if◌then◌else◌}
+use Rattle.std.specs.Prelude.{◌≡◌, ℕ, ℤ, pos, ◌+ℤ◌, int_le, int_lt, ◌&&◌, List, [], ◌∷◌, ◌++◌, map, if◌then◌else◌}
 use Rattle.plane.specs.declared.cell.Cell.{Cell}
 use Rattle.plane.specs.Listing.{is_at}
 use Rattle.plane.specs.Plane.{Plane}
@@ -33,3 +33,7 @@ pub record AddsRow (plane : Plane) (y : ℤ) (old new : List RowRun) : Type 0 wh
   pub runs : List (ℤ × ℕ)
   pub of_row : AreRowRuns plane y runs
   pub added : new ≡ old ++ map (run_in y) runs
+
+-- the plane's rows from one on and above another, and no other cell
+abbrev pub rows_between : ℤ → ℤ → Plane → Plane
+rows_between from end plane x y = (int_le from y && int_lt y end) && plane x y

@@ -7,6 +7,7 @@ ghost use Rattle.squares.specs.Book.{IsKnown};
 ghost use Rattle.std.specs.Io.KnownBytes.{Appends};
 ghost use Rattle.pattern_writers.specs.RleText.{IsTooLarge, WritesRle, items_text};
 
+mod bands;
 mod frame;
 mod framing;
 mod items;
@@ -27,11 +28,13 @@ use rle_reader::Comments;
 use rule_text::Rule;
 use squares::{Look, Sq};
 use std::alloc::Global;
+use std::thread::Threads;
 
 /// Writes the cells of a square of a level up to 63, whose centre corner is (0,0), with the comments, the rule and
 /// the generation. It refuses `NoMemory`, or `BoxTooLarge` where a side of the cells' box is 2^31 or more, both
-/// before the first byte, and `WriteFailed` where the sink failed.
-pub fn write_rle<L: Look, V: Sink>(
+/// before the first byte, and `WriteFailed` where the sink failed. The runs of the rows are found in threads.
+pub fn write_rle<R: Threads + Sync, L: Look + Sync, V: Sink>(
+    rt: &R,
     look: &L,
     alloc: Global,
     sq: Sq,
@@ -49,7 +52,7 @@ pub fn write_rle<L: Look, V: Sink>(
         ⊎ (refusal ≡ Refusal.NoMemory × file.new ≡ file.old)
         ⊎ IsWriteRefusal (V.failure_count file.old) (V.failure_count file.new) refusal) }
 {
-    let (frame, items) = framed_items(look, alloc, sq)?;
+    let (frame, items) = framed_items(rt, look, alloc, sq)?;
     write_items(file, frame, items.as_slice(), comments, rule, generation)
 }
 

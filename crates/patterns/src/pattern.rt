@@ -10,6 +10,7 @@ use pattern_writers::{write_mc, write_rle};
 use plane::{Bounds, Refusal, Sink, Window};
 use rule_text::Rule;
 use std::alloc::Global;
+use std::thread::Threads;
 use text_lines::Comments;
 use universe::{Resting, Universe};
 use viewport::picture;
@@ -58,9 +59,10 @@ impl Pattern {
 
     /// Writes the pattern in the format that is asked for, if one is, with the comments, the rule and the generation. It
     /// refuses `BoxTooLarge` where RLE is asked for and a side of its box is 2^31 or more, and `NoMemory`, both before
-    /// the first byte, and `WriteFailed`.
-    pub fn write<V: Sink>(
+    /// the first byte, and `WriteFailed`. The runs of RLE's rows are found in threads.
+    pub fn write<R: Threads + Sync, V: Sink>(
         &self,
+        rt: &R,
         alloc: Global,
         format: Option<Format>,
         comments: Comments<'_>,
@@ -78,7 +80,7 @@ impl Pattern {
     {
         let (book, root) = (self.cells.still(), self.cells.root());
         match format {
-            Some(Format::Rle) => write_rle(book, alloc, root, comments, rule, generation, file),
+            Some(Format::Rle) => write_rle(rt, book, alloc, root, comments, rule, generation, file),
             Some(Format::Macrocell) => write_mc(
                 book, alloc, root, comments, rule, generation, file,
             ),

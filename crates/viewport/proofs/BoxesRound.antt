@@ -21,7 +21,8 @@ use Rattle.plane.proofs.Paddings.{centred_moved}
 use Rattle.plane.proofs.Same.{plane_equal, same_sym}
 use Rattle.viewport.specs.BoundingBox.{HasBounds, IsBoxOf, IsInside, IsLocalBox, FitsMoved, box_round, joined_boxes, moved_box}
 use Rattle.viewport.proofs.Counts.{by_cases, centred_listing}
-use Rattle.viewport.proofs.Quarters.{either, beside, dead_column, dead_row, from_nothing, IsQuartered, over}
+use Rattle.viewport.specs.Halves.{either, beside}
+use Rattle.viewport.proofs.Quarters.{dead_column, dead_row, from_nothing, IsQuartered, over}
 
 -- the box of a plane, if it has any live cell
 abbrev pub BoxMatches : Plane → Option Bounds → Type 0

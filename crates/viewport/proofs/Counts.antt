@@ -26,7 +26,7 @@ pub by_cases : {A : Type 0} (b : Bool) → (b ≡ true → A) → (b ≡ false �
 by_cases true h k = h refl
 by_cases false h k = k refl
 
-same_sq : (a b : Sq) → a.level ≡ b.level → a.num.0 ≡ b.num.0 → a ≡ b
+pub same_sq : (a b : Sq) → a.level ≡ b.level → a.num.0 ≡ b.num.0 → a ≡ b
 same_sq a b e f = λ i. record { level = e i; num = record { 0 = f i } }
 
 -- number 0 is empty

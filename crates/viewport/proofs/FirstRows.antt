@@ -14,7 +14,8 @@ use Rattle.plane.proofs.Same.{plane_equal, same_sym}
 use Rattle.viewport.specs.Rows.{AreDeadRows, IsDeadFrom, IsFirstRow, IsFirstRowBelow, IsLiveRow}
 use Rattle.viewport.proofs.BoxesRound.{or_left, or_right, both_dead, there_and_back}
 use Rattle.viewport.proofs.Counts.{by_cases}
-use Rattle.viewport.proofs.Quarters.{either, beside, dead_row, from_nothing, IsQuartered, over}
+use Rattle.viewport.specs.Halves.{either, beside}
+use Rattle.viewport.proofs.Quarters.{dead_row, from_nothing, IsQuartered, over}
 
 -- two planes with no live cell in these rows
 both_rows : (p q : Plane) (from end : ℤ) → AreDeadRows p from end → AreDeadRows q from end → AreDeadRows (either p q) from end
@@ -139,7 +140,7 @@ lower_rows u w h from end (Some s) in_u in_w none is =
     )
 
 -- the first row of the half that two squares make
-half_rows : (h : ℕ) (p q : Plane) (from end bound : ℕ) (left right half : Option ℕ) → IsFirstRowBelow p from end left → bound ≡ unwrap_or left end → IsFirstRowBelow q from bound right → half ≡ option_or right left →
+pub half_rows : (h : ℕ) (p q : Plane) (from end bound : ℕ) (left right half : Option ℕ) → IsFirstRowBelow p from end left → bound ≡ unwrap_or left end → IsFirstRowBelow q from bound right → half ≡ option_or right left →
     IsFirstRowBelow (beside h p q) from end half
 half_rows h p q from end bound left right half is e are f =
     subst (λ (o : Option ℕ). IsFirstRowBelow (beside h p q) from end o) (sym f)
@@ -154,24 +155,22 @@ none_of u from end None e is = is
 none_of u from end (Some r) e is = absurd (false≢true (sym e))
 
 -- a square whose upper half has a live cell below the row, and one whose upper half has none
-module _ (h : ℕ) (p nw ne sw se : Plane) (quarters : IsQuartered h p nw ne sw se) (from end left_end bound : ℕ) (left right upper : Option ℕ)
-    (least : left_end ≡ min end h) (at_left : IsFirstRowBelow nw from left_end left) (bound_is : bound ≡ unwrap_or left left_end) (at_right : IsFirstRowBelow ne from bound right) (upper_is : upper ≡ option_or right left) where
+module _ (h : ℕ) (p nw ne sw se : Plane) (quarters : IsQuartered h p nw ne sw se) (from end top : ℕ) (upper : Option ℕ) (least : top ≡ min end h) (at_upper : IsFirstRowBelow (beside h nw ne) from top upper) where
   in_upper : IsFirstRowBelow (beside h nw ne) from (min end h) upper
-  in_upper = subst (λ n. IsFirstRowBelow (beside h nw ne) from n upper) least (half_rows h nw ne from left_end bound left right upper at_left bound_is at_right upper_is)
+  in_upper = subst (λ n. IsFirstRowBelow (beside h nw ne) from n upper) least at_upper
 
   pub upper_part : is_some upper ≡ true → IsFirstRowBelow p from end upper
   upper_part e =
       subst (λ q. IsFirstRowBelow q from end upper) (sym (over h p nw ne sw se quarters))
       (some_upper (beside h nw ne) (beside h sw se) h from end upper (rows_beside h sw se quarters.in_sw quarters.in_se) e in_upper)
 
-  pub lower_part : is_some upper ≡ false → (from' end' bound' : ℕ) (left' right' lower : Option ℕ) → from' ≡ from - h → end' ≡ end - h → IsFirstRowBelow sw from' end' left' →
-      bound' ≡ unwrap_or left' end' → IsFirstRowBelow se from' bound' right' → lower ≡ option_or right' left' → IsFirstRowBelow p from end (option_map (λ s. s + h) lower)
-  lower_part e from' end' bound' left' right' lower from_is end_is at_left' bound_is' at_right' lower_is =
-      let half = half_rows h sw se from' end' bound' left' right' lower at_left' bound_is' at_right' lower_is in
+  pub lower_part : is_some upper ≡ false → (from' end' : ℕ) (lower : Option ℕ) → from' ≡ from - h → end' ≡ end - h → IsFirstRowBelow (beside h sw se) from' end' lower →
+      IsFirstRowBelow p from end (option_map (λ s. s + h) lower)
+  lower_part e from' end' lower from_is end_is at_lower =
       subst (λ q. IsFirstRowBelow q from end (option_map (λ s. s + h) lower)) (sym (over h p nw ne sw se quarters))
       (lower_rows (beside h nw ne) (beside h sw se) h from end lower (rows_beside h nw ne quarters.in_nw quarters.in_ne) (rows_beside h sw se quarters.in_sw quarters.in_se)
       (none_of (beside h nw ne) from (min end h) upper e in_upper)
-      (subst (λ n. IsFirstRowBelow (beside h sw se) n (end - h) lower) from_is (subst (λ n. IsFirstRowBelow (beside h sw se) from' n lower) end_is half)))
+      (subst (λ n. IsFirstRowBelow (beside h sw se) n (end - h) lower) from_is (subst (λ n. IsFirstRowBelow (beside h sw se) from' n lower) end_is at_lower)))
 
 -- the rows of a leaf, of the cells that it shows
 pub rows_as : (p q : Plane) (from end : ℕ) (o : Option ℕ) → IsSame p q → IsFirstRowBelow q from end o → IsFirstRowBelow p from end o

@@ -14,7 +14,8 @@ use Rattle.plane.proofs.Same.{plane_equal}
 use Rattle.viewport.specs.BoundingBox.{box_round}
 use Rattle.viewport.proofs.BoxesRound.{BoxMatches, either_box}
 use Rattle.viewport.proofs.Counts.{by_cases}
-use Rattle.viewport.proofs.Quarters.{either, and_dead_right}
+use Rattle.viewport.specs.Halves.{either}
+use Rattle.viewport.proofs.Quarters.{and_dead_right}
 
 abbrev pub place_of : ℤ → ℤ → ℕ
 place_of x y = 8 * unsigned_abs y + unsigned_abs x

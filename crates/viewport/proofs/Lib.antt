@@ -11,3 +11,5 @@ pub mod PictureLines
 pub mod Quarters
 pub mod RowsOfSquares
 pub mod RunsBeside
+pub mod RunsOfLeaves
+pub mod RowsOfHalves

@@ -8,12 +8,9 @@ use Rattle.plane.specs.Square.{IsSame, IsSquare, spans, joined}
 use Rattle.plane.proofs.Paddings.{twice_half}
 use Rattle.plane.proofs.Rounds.{whole_joined}
 use Rattle.plane.proofs.Same.{plane_equal, same_sym}
+use Rattle.viewport.specs.Halves.{either, beside}
 use Rattle.squares.specs.Book.{Book, IsBook, IsKnown, AreQuarters, nth}
 use Rattle.squares.specs.declared.sq.Sq.{Sq}
-
--- the cells of two planes
-abbrev pub either : Plane → Plane → Plane
-either p q x y = p x y || q x y
 
 or_false : (a : Bool) → (a || false) ≡ a
 or_false true = refl
@@ -54,10 +51,6 @@ dead_row h p is x y e = is.dead x y (and_dead_right (spans h x) (spans h y) e)
 
 pub from_nothing : (z : ℤ) → z -ℤ pos 0 ≡ z
 from_nothing z = omega (arith, ints)
-
--- the upper half of a square, and the lower one before it is moved
-abbrev pub beside : ℕ → Plane → Plane → Plane
-beside h p q = either p (moved (pos h) (pos 0) q)
 
 -- four squares joined are laid over one another
 pub laid_over : (h : ℕ) (nw ne sw se : Plane) → IsSquare h nw → IsSquare h ne → IsSquare h sw → IsSquare h se →

@@ -9,14 +9,15 @@ use Rattle.plane.specs.Centred.{centred}
 use Rattle.plane.specs.Plane.{Plane}
 use Rattle.plane.specs.Square.{IsSame, IsSquare, spans, bits_plane, bit}
 use Rattle.plane.proofs.Paddings.{twice_half}
-use Rattle.viewport.specs.RowRuns.{AddsCells, AreRowRuns, EndBy, cells_at, is_in_some, run_cells}
+use Rattle.viewport.specs.RowRuns.{AddsCells, AreRowRuns, cells_at, is_in_some, run_cells}
 use Rattle.viewport.proofs.BoxesRound.{or_false}
 use Rattle.viewport.proofs.Counts.{by_cases}
 use Rattle.viewport.proofs.FirstRows.{rows_beside, outside_low, outside_high}
 use Rattle.viewport.proofs.LeafBoxes.{eq_true}
 use Rattle.viewport.proofs.Leaves.{shows}
-use Rattle.viewport.proofs.Quarters.{beside, dead_row, from_nothing, IsQuartered, over}
-use Rattle.viewport.proofs.RunsBeside.{adds_as, adds_no_more, adds_then}
+use Rattle.viewport.specs.Halves.{beside, IsHalfRow}
+use Rattle.viewport.proofs.Quarters.{dead_row, from_nothing, IsQuartered, over}
+use Rattle.viewport.proofs.RunsBeside.{adds_as, adds_no_more}
 
 no_cells : (x : ℤ) → is_in_some [] x ≡ false
 unfolding is_in_some
@@ -37,25 +38,27 @@ lower_row y h e = omega (arith, ints)
 second : (b c d : Bool) → b ≡ false → (b || c) ≡ c
 second b c d e = ap (λ t. t || c) e
 
--- the row of a half, in its two squares
-half_row : (h : ℕ) (p q : Plane) (left x : ℤ) (y : ℕ) → beside h p q (x -ℤ left) (pos y) ≡ (cells_at p left y x || cells_at q (left +ℤ pos h) y x)
+-- a row of a half, in its two squares
+pub half_row : (h : ℕ) (p q : Plane) (left x : ℤ) (y : ℕ) → beside h p q (x -ℤ left) (pos y) ≡ (cells_at p left y x || cells_at q (left +ℤ pos h) y x)
 half_row h p q left x y =
     ap (λ v. p (x -ℤ left) (pos y) || q ((x -ℤ left) -ℤ pos h) v) (from_nothing (pos y)) ∙ ap (λ u. p (x -ℤ left) (pos y) || q u (pos y)) (further_left x left h)
 
-module _ (h : ℕ) (p nw ne sw se : Plane) (quarters : IsQuartered h p nw ne sw se) (left : ℤ) (y : ℕ) where
-  whole : (x : ℤ) → cells_at p left y x ≡ (beside h nw ne (x -ℤ left) (pos y) || beside h sw se ((x -ℤ left) -ℤ pos 0) (pos y -ℤ pos h))
-  whole x = λ i. over h p nw ne sw se quarters i (x -ℤ left) (pos y)
+module _ (h : ℕ) (p nw ne sw se : Plane) (quarters : IsQuartered h p nw ne sw se) (y : ℕ) where
+  whole : (x : ℤ) → p x (pos y) ≡ (beside h nw ne x (pos y) || beside h sw se (x -ℤ pos 0) (pos y -ℤ pos h))
+  whole x = λ i. over h p nw ne sw se quarters i x (pos y)
 
-  upper_row : y < h → (x : ℤ) → cells_at p left y x ≡ (cells_at nw left y x || cells_at ne (left +ℤ pos h) y x)
-  upper_row low x =
-      whole x ∙ or_false _ _ ((rows_beside h sw se quarters.in_sw quarters.in_se).above _ _ (above_half y h low))
-      ∙ half_row h nw ne left x y
+  -- a row of the upper half
+  pub upper_row : y < h → IsHalfRow h p nw ne y y
+  upper_row low = record { inside = low; cells = λ x. whole x ∙ or_false _ _ ((rows_beside h sw se quarters.in_sw quarters.in_se).above _ _ (above_half y h low)) }
 
-  under_row : h ≤ y → (x : ℤ) → cells_at p left y x ≡ (cells_at sw left (y - h) x || cells_at se (left +ℤ pos h) (y - h) x)
-  under_row high x =
-      whole x ∙ ap (λ t. t || beside h sw se ((x -ℤ left) -ℤ pos 0) (pos y -ℤ pos h)) ((rows_beside h nw ne quarters.in_nw quarters.in_ne).below _ _ (below_half y h high))
-      ∙ ap (λ u. beside h sw se u (pos y -ℤ pos h)) (from_nothing (x -ℤ left)) ∙ ap (beside h sw se (x -ℤ left)) (lower_row y h high)
-      ∙ half_row h sw se left x (y - h)
+  -- a row of the lower half
+  pub under_row : h ≤ y → y < h + h → IsHalfRow h p sw se y (y - h)
+  under_row high inside = record {
+    inside = omega (arith, high, inside);
+    cells = λ x.
+        whole x ∙ ap (λ t. t || beside h sw se (x -ℤ pos 0) (pos y -ℤ pos h)) ((rows_beside h nw ne quarters.in_nw quarters.in_ne).below _ _ (below_half y h high))
+        ∙ ap (λ u. beside h sw se u (pos y -ℤ pos h)) (from_nothing x) ∙ ap (beside h sw se x) (lower_row y h high);
+  }
 
 -- the cells of a leaf's row whose bits stand before this one
 abbrev pub cells_before : ℕ → ℤ → ℕ → ℕ → ℤ → Bool
@@ -160,28 +163,11 @@ column_fits left place n fits e low room = omega (arith, ints)
 pub middle_fits : (left half : ℤ) (level : ℕ) → 1 ≤ level → SFits w64 left → half ≡ pos (2 ^ (level - 1)) → (left +ℤ pos (2 ^ level)) ≤ℤ pos (2 ^ 62) → SFits w64 (left +ℤ half)
 middle_fits left half level least fits e room = let twice = twice_half level least in omega (arith, ints, twice)
 
-pub quarter_low : (y half level low : ℕ) → y < half → half ≡ 2 ^ (level - 1) → low ≡ level - 1 → y < 2 ^ low
-quarter_low y half level low h e f = let g = ap (λ n. 2 ^ n) f in omega (arith, g)
-
-pub quarter_high : (y half level low : ℕ) → 1 ≤ level → half ≤ y → y < 2 ^ level → half ≡ 2 ^ (level - 1) → low ≡ level - 1 → y - half < 2 ^ low
-quarter_high y half level low least h k e f = let g = ap (λ n. 2 ^ n) f in let twice = twice_half level least in omega (arith, g, twice)
-
-pub first_room : (left : ℤ) (level low : ℕ) → 1 ≤ level → low ≡ level - 1 → (left +ℤ pos (2 ^ level)) ≤ℤ pos (2 ^ 62) → (left +ℤ pos (2 ^ low)) ≤ℤ pos (2 ^ 62)
-first_room left level low least f room = let g = ap (λ n. 2 ^ n) f in let twice = twice_half level least in omega (arith, ints, g, twice)
-
 pub quarter_room : (left half : ℤ) (level low : ℕ) → 1 ≤ level → half ≡ pos (2 ^ (level - 1)) → low ≡ level - 1 → (left +ℤ pos (2 ^ level)) ≤ℤ pos (2 ^ 62) → ((left +ℤ half) +ℤ pos (2 ^ low)) ≤ℤ pos (2 ^ 62)
 quarter_room left half level low least e f room = let g = ap (λ n. 2 ^ n) f in let twice = twice_half level least in omega (arith, ints, g, twice)
 
 next_place : (n : ℕ) → suc n ≡ n + 1
 next_place n = omega arith
-
--- one bit of a leaf's row that is set
-pub step_taken : (word y n : ℕ) (left : ℤ) (old mid new : List (ℤ × ℕ)) → n < 8 → y < 8 → bit_at word (8 * y + n) ≡ 1 → AddsCells left n (cells_before word left y n) old mid →
-    AddsCells (left +ℤ pos n) 1 (run_cells (left +ℤ pos n) 1) mid new → AddsCells left (n + 1) (cells_before word left y (n + 1)) old new
-step_taken word y n left old mid new wide tall set h k =
-    subst (λ m. AddsCells left (n + 1) (cells_before word left y m) old new) (next_place n)
-    (adds_then left n 1 (cells_before word left y n) (run_cells (left +ℤ pos n) 1) (cells_before word left y (suc n)) old mid new h k
-    (λ x. cell_taken word y n left x wide tall (ap (λ b. b == 1) set)))
 
 not_one : (n : ℕ) → n ≢ 1 → (n == 1) ≡ false
 not_one n h = grind (arith, nat_tests)
@@ -198,32 +184,3 @@ step_passed word y n left old new wide tall clear h =
 pub whole_row : (word y n : ℕ) (left : ℤ) (old new : List (ℤ × ℕ)) → n ≡ 8 → AddsCells left n (cells_before word left y n) old new → AddsCells left 8 (cells_at (bits_plane word) left y) old new
 whole_row word y n left old new e h =
     adds_as left 8 8 (cells_before word left y 8) (cells_at (bits_plane word) left y) old new refl (all_taken word y left) (subst (λ m. AddsCells left m (cells_before word left y m) old new) e h)
-
--- a row of a square by its two quarters there
-quarter_rows : (level low next h : ℕ) (left middle : ℤ) (cells first others : ℤ → Bool) (old mid new : List (ℤ × ℕ)) → h ≡ 2 ^ (level - 1) → 1 ≤ level → low ≡ level - 1 → next ≡ level - 1 → middle ≡ left +ℤ pos h →
-    ((x : ℤ) → cells x ≡ (first x || others x)) → AddsCells left (2 ^ low) first old mid → AddsCells middle (2 ^ next) others mid new → AddsCells left (2 ^ level) cells old new
-quarter_rows level low next h left middle cells first others old mid new side least e f at is one two =
-    let twice : h + h ≡ 2 ^ level = ap (λ n. n + n) side ∙ sym (twice_half level least) in
-    let a : AddsCells left h first old mid = subst (λ n. AddsCells left n first old mid) (ap (λ n. 2 ^ n) e ∙ sym side) one in
-    let b : AddsCells (left +ℤ pos h) h others mid new = subst (λ z. AddsCells z h others mid new) at (subst (λ n. AddsCells middle n others mid new) (ap (λ n. 2 ^ n) f ∙ sym side) two) in
-    subst (λ n. AddsCells left n cells old new) twice (adds_then left h h first others cells old mid new a b is)
-
--- two squares beside one another in a row, where the second begins so far behind left
-module _ (level low : ℕ) (far left : ℤ) (far_is : far ≡ pos (2 ^ (level - 1))) (low_is : low ≡ level - 1) (old mid : List (ℤ × ℕ)) where
-  -- the runs of the first end where the second begins
-  pub ends_between : (cells : ℤ → Bool) → AddsCells left (2 ^ low) cells old mid → EndBy (left +ℤ far) mid
-  ends_between cells one = subst (λ z. EndBy (left +ℤ z) mid) (ap (λ n. pos (2 ^ n)) low_is ∙ sym far_is) one.end
-
-  module _ (next half : ℕ) (p nw ne sw se : Plane) (quarters : IsQuartered half p nw ne sw se) (side : half ≡ 2 ^ (level - 1)) (least : 1 ≤ level) (next_is : next ≡ level - 1) (y : ℕ) (new : List (ℤ × ℕ)) where
-    middle : left +ℤ far ≡ left +ℤ pos half
-    middle = ap (λ z. left +ℤ z) (far_is ∙ ap pos (sym side))
-
-    -- a row of the upper half of a square, from those of its quarters
-    pub upper_adds : y < half → AddsCells left (2 ^ low) (cells_at nw left y) old mid → AddsCells (left +ℤ far) (2 ^ next) (cells_at ne (left +ℤ far) y) mid new → AddsCells left (2 ^ level) (cells_at p left y) old new
-    upper_adds above = quarter_rows level low next half left (left +ℤ far) (cells_at p left y) (cells_at nw left y) (cells_at ne (left +ℤ far) y) old mid new side least low_is next_is middle
-        (λ x. upper_row half p nw ne sw se quarters left y above x ∙ ap (λ z. cells_at nw left y x || cells_at ne z y x) (sym middle))
-
-    -- one of the lower half
-    pub lower_adds : half ≤ y → AddsCells left (2 ^ low) (cells_at sw left (y - half)) old mid → AddsCells (left +ℤ far) (2 ^ next) (cells_at se (left +ℤ far) (y - half)) mid new → AddsCells left (2 ^ level) (cells_at p left y) old new
-    lower_adds below = quarter_rows level low next half left (left +ℤ far) (cells_at p left y) (cells_at sw left (y - half)) (cells_at se (left +ℤ far) (y - half)) old mid new side least low_is next_is middle
-        (λ x. under_row half p nw ne sw se quarters left y below x ∙ ap (λ z. cells_at sw left (y - half) x || cells_at se z (y - half) x) (sym middle))

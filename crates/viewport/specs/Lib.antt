@@ -1,4 +1,5 @@
 pub mod BoundingBox
+pub mod Halves
 pub mod Picture
 pub mod Places
 pub mod Population

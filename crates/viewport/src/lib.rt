@@ -5,6 +5,7 @@
 #![tactic(auto)]
 
 mod boxes;
+mod halves;
 mod laws;
 mod pictures;
 mod populations;

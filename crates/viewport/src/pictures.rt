@@ -5,6 +5,7 @@ ghost use Rattle.plane.specs.Device.{IsWriteRefusal};
 ghost use Rattle.squares.specs.Book.{IsKnown};
 ghost use Rattle.viewport.specs.Picture.{mark_of, picture_text, row_text};
 
+use crate::halves::half_with_row;
 use crate::sides::{place, side};
 use plane::{Refusal, Sink, WINDOW_SIDE_LIMIT, Window, write_all};
 use squares::{Look, Sq};
@@ -89,17 +90,12 @@ fn has_cell<L: Look>(look: &L, sq: Sq, x: u64, y: u64) -> bool
     if sq.level == 3 {
         return (look.bits(sq) >> (8 * y + x)) & 1 == 1;
     }
-    let [nw, ne, sw, se] = look.parts(sq);
+    let (first, second, row) = half_with_row(look, sq, y);
     let half = side(sq.level - 1);
-    if y < half {
-        if x < half {
-            has_cell(look, nw, x, y)
-        } else {
-            has_cell(look, ne, x - half, y)
-        }
-    } else if x < half {
-        has_cell(look, sw, x, y - half)
+    let (quarter, column) = if x < half {
+        (first, x)
     } else {
-        has_cell(look, se, x - half, y - half)
-    }
+        (second, x - half)
+    };
+    has_cell(look, quarter, column, row)
 }

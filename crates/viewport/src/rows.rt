@@ -1,7 +1,8 @@
-ghost use Rattle.std.specs.Prelude.{◌≡◌, ◌≤◌, ◌<◌};
+ghost use Rattle.std.specs.Prelude.{◌≡◌, ◌≤◌, ◌<◌, ◌^◌};
 ghost use Rattle.plane.specs.Centred.{centred};
 ghost use Rattle.plane.specs.Square.{bits_plane};
 ghost use Rattle.squares.specs.Book.{IsKnown};
+ghost use Rattle.viewport.specs.Halves.{beside};
 ghost use Rattle.viewport.specs.Rows.{IsFirstRow, IsFirstRowBelow};
 
 use crate::sides::{half_side, row_at, rows_above, side};
@@ -25,6 +26,7 @@ pub fn first_row<L: Look>(look: &L, sq: Sq, y: i64) -> Option<i64>
 }
 
 // The first row with a live cell, from one row on and above another, counted from the square's top.
+#[cycle(first_row_below)]
 fn first_row_below<L: Look>(look: &L, sq: Sq, from: u64, end: u64) -> Option<u64>
     requires known { IsKnown (L.book look.now) sq.level sq }
     requires level { sq.level ≤ 63 }
@@ -38,19 +40,26 @@ fn first_row_below<L: Look>(look: &L, sq: Sq, from: u64, end: u64) -> Option<u64
     }
     let half = side(sq.level - 1);
     let [nw, ne, sw, se] = look.parts(sq);
-    let left_end = end.min(half);
-    let left = first_row_below(look, nw, from, left_end);
-    let right = first_row_below(look, ne, from, left.unwrap_or(left_end));
-    let upper = right.or(left);
+    let upper = first_row_beside(look, nw, ne, from, end.min(half));
     if upper.is_some() {
         return upper;
     }
     let from = from.saturating_sub(half);
-    let left_end = end.saturating_sub(half);
-    let left = first_row_below(look, sw, from, left_end);
-    let right = first_row_below(look, se, from, left.unwrap_or(left_end));
-    let lower = right.or(left)?;
+    let end = end.saturating_sub(half);
+    let lower = first_row_beside(look, sw, se, from, end)?;
     Some(lower + half)
+}
+
+// The same of two squares beside one another.
+#[cycle(first_row_below)]
+fn first_row_beside<L: Look>(look: &L, left: Sq, right: Sq, from: u64, end: u64) -> Option<u64>
+    requires left { IsKnown (L.book look.now) left.level left }
+    requires right { IsKnown (L.book look.now) left.level right }
+    requires level { left.level ≤ 63 }
+    ensures { IsFirstRowBelow (beside (2 ^ left.level) ((L.book look.now).cells left) ((L.book look.now).cells right)) from end result }
+{
+    let found = first_row_below(look, left, from, end);
+    first_row_below(look, right, from, found.unwrap_or(end)).or(found)
 }
 
 // The first row of a leaf with a live cell, from one row on and above another.

@@ -1,9 +1,10 @@
-ghost use Rattle.std.specs.Prelude.{◌≡◌, ◌≤◌, ◌<◌, ◌^◌, ◌+◌, ◌+ℤ◌, ◌≤ℤ◌, ◌↔◌, pos, IfOk, IsOkUnless, IsTrue, OnOk};
+ghost use Rattle.std.specs.Prelude.{◌≡◌, ◌≤◌, ◌<◌, ◌^◌, ◌+◌, ◌+ℤ◌, ◌≤ℤ◌, ◌<ℤ◌, ◌↔◌, ℤ, pos, IfOk, IsOkUnless, IsTrue, OnOk, true};
 ghost use Rattle.plane.specs.Centred.{centred};
 ghost use Rattle.plane.specs.Square.{bits_plane};
 ghost use Rattle.squares.specs.Book.{IsKnown};
-ghost use Rattle.viewport.specs.RowRuns.{AddsCells, AreRowRuns, EndBy, cells_at, end_of, run_cells};
+ghost use Rattle.viewport.specs.RowRuns.{AddsCells, AreRowRuns, EndBy, cells_at, end_of, is_in_some, run_cells};
 
+use crate::halves::half_with_row;
 use crate::sides::{half_side, place, side};
 use plane::Refusal;
 use squares::{Look, Sq};
@@ -54,15 +55,22 @@ fn add_row<L: Look>(
     if sq.level == 3 {
         return add_leaf_row(look.bits(sq), left, y, runs);
     }
-    let [nw, ne, sw, se] = look.parts(sq);
-    let half = side(sq.level - 1);
+    let (first, second, row) = half_with_row(look, sq, y);
     let middle = left + half_side(sq.level);
-    if y < half {
-        add_row(look, nw, left, y, runs)?;
-        add_row(look, ne, middle, y, runs)
-    } else {
-        add_row(look, sw, left, y - half, runs)?;
-        add_row(look, se, middle, y - half, runs)
+    add_row(look, first, left, row, runs)?;
+    if second == first && is_covered(runs, left, middle) {
+        return add_run(middle, side(sq.level - 1), runs);
+    }
+    add_row(look, second, middle, row, runs)
+}
+
+// Whether the last run has all cells from one place up to another, with which it ends.
+fn is_covered(runs: &[(i64, u64)], left: i64, end: i64) -> bool
+    ensures { IsTrue result → (x : ℤ) → left ≤ℤ x → x <ℤ end → is_in_some runs.now x ≡ true }
+{
+    match runs.last() {
+        Some(last) => last.0 <= left && ends_at(*last, end),
+        None => false,
     }
 }
 
@@ -73,10 +81,14 @@ fn add_leaf_row(word: u64, left: i64, y: u64, runs: &mut Vec<(i64, u64)>) -> Res
     requires before { EndBy left runs.old.items }
     ensures ok { OnOk result (AddsCells left 8 (cells_at (bits_plane word) left y) runs.old.items runs.new.items) }
 {
-    for x in 0..8u8 {
-        if (word >> (8 * y + u64::from(x))) & 1 == 1 {
-            add_run(left + i64::from(x), 1, runs)?;
-        }
+    let mut rest = (word >> (8 * y)) & 255;
+    let mut x = 0;
+    while rest != 0 {
+        let dead = rest.trailing_zeros();
+        let live = (rest >> dead).trailing_ones();
+        add_run(left + i64::from(x + dead), u64::from(live), runs)?;
+        rest = rest >> dead >> live;
+        x += dead + live;
     }
     Ok(())
 }

@@ -1,3 +1,4 @@
+mod banded_rows;
 mod macrocell_nodes;
 mod macrocell_texts;
 mod rle_items;

@@ -1,10 +1,13 @@
-ghost use Rattle.std.specs.Prelude.{◌≡◌, ◌+◌, ◌^◌, ◌<◌, ◌↔◌, IfOk, IsOk, IsOkUnless, SomeIff};
-ghost use Rattle.pattern_writers.specs.Frame.{frame_of, FitsRle, side};
+ghost use Rattle.std.specs.Prelude.{◌≡◌, ◌+◌, ◌^◌, ◌<◌, ◌≤◌, ◌↔◌, IfOk, IsOk, IsOkUnless, SomeIff};
+ghost use Rattle.pattern_writers.specs.Frame.{FitsRle, HasRoom, band_row, frame_of, side};
 
 use plane::{Bounds, Cell, Refusal};
 
 // A box that is written has sides below this.
 const SIDE_LIMIT: u64 = 1 << 31;
+
+// How many bands the rows of a frame are cut into.
+pub(crate) const BANDS: u64 = 64;
 
 // Where a pattern lies: its upper left corner and its two sides.
 #[derive(Clone, Copy)]
@@ -42,6 +45,15 @@ impl Frame {
             width,
             height,
         })
+    }
+
+    // The row that a band begins with, or the row after the last one.
+    pub(crate) fn band_row(self, band: u64) -> i64
+        requires band { band ≤ 64 }
+        requires room { HasRoom self }
+        ensures { result ≡ band_row self band }
+    {
+        self.corner.y + (self.height * band / BANDS) as i64
     }
 }
 

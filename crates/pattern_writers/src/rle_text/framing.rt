@@ -1,18 +1,21 @@
 ghost use Rattle.std.specs.Prelude.{◌≡◌, ◌⊎◌, ◌≤◌, IfOk, IfErr};
 ghost use Rattle.plane.specs.Centred.{centred};
 ghost use Rattle.squares.specs.Book.{IsKnown};
-ghost use Rattle.pattern_writers.specs.RleText.{HasItems, IsTooLarge};
+ghost use Rattle.pattern_writers.specs.Frame.{HasRoom};
+ghost use Rattle.pattern_writers.specs.RleText.{HasFrame, HasItems, IsTooLarge};
 
+use super::bands::banded_runs;
 use super::frame::Frame;
 use super::items::{Item, items};
-use super::row_run::row_runs;
 use plane::Refusal;
 use squares::{Look, Sq};
 use std::alloc::Global;
+use std::thread::Threads;
 use viewport::bounds;
 
 // The frame of a square's cells, and their items in it.
-pub(crate) fn framed_items<L: Look>(
+pub(crate) fn framed_items<R: Threads + Sync, L: Look + Sync>(
+    rt: &R,
     look: &L,
     alloc: Global,
     sq: Sq,
@@ -24,10 +27,25 @@ pub(crate) fn framed_items<L: Look>(
         (refusal ≡ Refusal.BoxTooLarge × IsTooLarge (centred sq.level ((L.book look.now).cells sq)))
         ⊎ refusal ≡ Refusal.NoMemory) }
 {
-    let frame = Frame::round(bounds(look, alloc, sq)?)?;
-    let runs = row_runs(look, alloc, sq)?;
-    let Ok(items) = items(alloc, frame.corner, runs.as_slice()) else {
+    let frame = cells_frame(look, alloc, sq)?;
+    let Ok(bands) = banded_runs(rt, look, alloc, sq, frame) else {
+        return Err(Refusal::NoMemory);
+    };
+    let Ok(items) = items(alloc, frame.corner, bands.as_slice()) else {
         return Err(Refusal::NoMemory);
     };
     Ok((frame, items))
+}
+
+// The frame of a square's cells.
+fn cells_frame<L: Look>(look: &L, alloc: Global, sq: Sq) -> Result<Frame, Refusal>
+    requires known { IsKnown (L.book look.now) sq.level sq }
+    requires level { sq.level ≤ 63 }
+    ensures frame { IfOk result (HasFrame (centred sq.level ((L.book look.now).cells sq))) }
+    ensures room { IfOk result HasRoom }
+    ensures refused { IfErr result (λ refusal.
+        (refusal ≡ Refusal.BoxTooLarge × IsTooLarge (centred sq.level ((L.book look.now).cells sq)))
+        ⊎ refusal ≡ Refusal.NoMemory) }
+{
+    Frame::round(bounds(look, alloc, sq)?)
 }

@@ -1,5 +1,5 @@
-ghost use Rattle.std.specs.Prelude.{◌≡◌, ◌+◌, ◌≤◌, ◌++◌, length, IfOk, OnOk};
-ghost use Rattle.pattern_writers.specs.Items.{counted, item_text, items_of, run_items};
+ghost use Rattle.std.specs.Prelude.{◌≡◌, ◌+◌, ◌≤◌, ◌++◌, flat_map, length, IfOk, OnOk};
+ghost use Rattle.pattern_writers.specs.Items.{cell_after, counted, item_text, items_of, run_items};
 
 use super::row_run::RowRun;
 use arrayvec::ArrayString;
@@ -37,18 +37,39 @@ impl Item {
     }
 }
 
-// The items of the rows from the corner on: no dead cells before the end of a row, and the ends of
-// empty rows counted with those of the row before them.
-pub(crate) fn items(alloc: Global, corner: Cell, runs: &[RowRun]) -> Result<Vec<Item>, AllocError>
-    ensures { IfOk result (λ items. items.items ≡ items_of corner.x corner runs.now) }
+// The items of the rows from the corner on, whose runs come in bands: no dead cells before the end of a row, and the
+// ends of empty rows counted with those of the row before them.
+pub(crate) fn items(
+    alloc: Global,
+    corner: Cell,
+    bands: &[Vec<RowRun>],
+) -> Result<Vec<Item>, AllocError>
+    ensures { IfOk result (λ items. items.items ≡ items_of corner.x corner (flat_map (λ band. band.items) bands.now)) }
 {
     let mut items = Vec::new(alloc);
     let mut next = corner;
-    for run in runs {
-        push_run(&mut items, corner.x, next, *run)?;
-        next = run.next_cell();
+    'bands: for band in bands {
+        next = push_runs(&mut items, corner.x, next, band)?;
     }
     Ok(items)
+}
+
+// Adds the items from a cell on to the end of the last of some runs, and answers the cell after it.
+fn push_runs(
+    items: &mut Vec<Item>,
+    left: i64,
+    start: Cell,
+    runs: &[RowRun],
+) -> Result<Cell, AllocError>
+    ensures items { OnOk result (items.new.items ≡ items.old.items ++ items_of left start runs.now) }
+    ensures next { IfOk result (λ next. next ≡ cell_after start runs.now) }
+{
+    let mut next = start;
+    'runs: for run in runs {
+        push_run(items, left, next, *run)?;
+        next = run.next_cell();
+    }
+    Ok(next)
 }
 
 // Adds the items from a cell on to the end of a run, in rows that begin in the column `left`.

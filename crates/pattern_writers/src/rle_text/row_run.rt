@@ -1,14 +1,15 @@
-ghost use Rattle.std.specs.Prelude.{◌≡◌, ◌≤◌, ◌+ℤ◌, pos, FitsSigned, IfOk, OnOk, IsOkUnless};
+ghost use Rattle.std.specs.Prelude.{◌≡◌, ◌≤◌, ◌+ℤ◌, pos, FitsSigned, IfOk, OnOk};
 ghost use Rattle.std.specs.Int.{w64};
 ghost use Rattle.plane.specs.Centred.{centred};
 ghost use Rattle.squares.specs.Book.{IsKnown};
 ghost use Rattle.pattern_writers.specs.Items.{next_cell};
 ghost use Rattle.pattern_writers.specs.RleText.{HasRuns};
-ghost use Rattle.pattern_writers.specs.RowRuns.{AddsRow, run_in};
+ghost use Rattle.pattern_writers.specs.RowRuns.{AddsRow, rows_between, run_in};
+ghost use Rattle.viewport.specs.Rows.{IsFirstRow};
 
-use plane::{Cell, Refusal};
+use plane::Cell;
 use squares::{Look, Sq};
-use std::alloc::Global;
+use std::alloc::{AllocError, Global};
 use viewport::first_row;
 
 // Live cells side by side in a row.
@@ -45,21 +46,35 @@ impl RowRun {
     }
 }
 
-// The longest runs of a square's cells, row by row and from left to right. `NoMemory` if there is no room for
-// them.
-pub(crate) fn row_runs<L: Look>(look: &L, alloc: Global, sq: Sq) -> Result<Vec<RowRun>, Refusal>
+// The longest runs of a square's cells in the rows from one on and above another, row by row and from left to right.
+pub(crate) fn runs_between<L: Look>(
+    look: &L,
+    alloc: Global,
+    sq: Sq,
+    from: i64,
+    end: i64,
+) -> Result<Vec<RowRun>, AllocError>
     requires known { IsKnown (L.book look.now) sq.level sq }
     requires level { sq.level ≤ 63 }
-    ensures ok { IfOk result (λ runs. HasRuns (centred sq.level ((L.book look.now).cells sq)) runs.items) }
-    ensures memory { IsOkUnless result Refusal.NoMemory }
+    ensures { IfOk result (λ runs. HasRuns (rows_between from end (centred sq.level ((L.book look.now).cells sq))) runs.items) }
 {
     let mut runs = Vec::new(alloc);
-    let mut next = first_row(look, sq, i64::MIN);
+    let mut next = next_row(look, sq, from, end);
     'rows: while let Some(row) = next {
         add_row(look, alloc, sq, row, &mut runs)?;
-        next = first_row(look, sq, row + 1);
+        next = next_row(look, sq, row + 1, end);
     }
     Ok(runs)
+}
+
+// The first row with a live cell, from one row on and above another.
+fn next_row<L: Look>(look: &L, sq: Sq, from: i64, end: i64) -> Option<i64>
+    requires known { IsKnown (L.book look.now) sq.level sq }
+    requires level { sq.level ≤ 63 }
+    ensures { IsFirstRow (rows_between from end (centred sq.level ((L.book look.now).cells sq))) from result }
+{
+    let row = first_row(look, sq, from)?;
+    if row < end { Some(row) } else { None }
 }
 
 // Adds the runs of a row.
@@ -69,17 +84,16 @@ fn add_row<L: Look>(
     sq: Sq,
     row: i64,
     runs: &mut Vec<RowRun>,
-) -> Result<(), Refusal>
+) -> Result<(), AllocError>
     requires known { IsKnown (L.book look.now) sq.level sq }
     requires level { sq.level ≤ 63 }
-    ensures ok { OnOk result (AddsRow (centred sq.level ((L.book look.now).cells sq)) row runs.old.items runs.new.items) }
-    ensures memory { IsOkUnless result Refusal.NoMemory }
+    ensures { OnOk result (AddsRow (centred sq.level ((L.book look.now).cells sq)) row runs.old.items runs.new.items) }
 {
-    let found = viewport::row_runs(look, alloc, sq, row)?;
+    let Ok(found) = viewport::row_runs(look, alloc, sq, row) else {
+        return Err(AllocError);
+    };
     'found: for run in &found {
-        if runs.push(RowRun::in_row(row, run.0, run.1)).is_err() {
-            return Err(Refusal::NoMemory);
-        }
+        runs.push(RowRun::in_row(row, run.0, run.1))?;
     }
     Ok(())
 }

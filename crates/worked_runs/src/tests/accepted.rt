@@ -51,6 +51,13 @@ const PATTERNS: &[Row] = &[
         text: "#CXRLE Pos=0,0 Gen=0\nx = 3, y = 1, rule = B3/S23\n3o!\n",
         ..RLE
     },
+    // Two of 10000 rows have cells.
+    Row {
+        file: "x = 1, y = 10000\no9999$o!",
+        report: "0: 2\n",
+        text: "#CXRLE Pos=0,0 Gen=0\nx = 1, y = 10000, rule = B3/S23\no9999$o!\n",
+        ..RLE
+    },
     Row {
         file: "x = 12, y = 1\n1\n2o\n#C here\n!junk",
         report: "0: 12\n",

@@ -9,6 +9,7 @@ use rle_reader::RleFile;
 use rule_text::Rule;
 use squares::{Num, PlainBook, Sq, Squares};
 use std::alloc::Global;
+use std::thread::Threads;
 
 // A file with kept comments and one that is not kept.
 const COMMENTED: &[u8] = b"#N Glider\n#r 23/3\nx = 3, y = 3\nbob$2bo$3o!";
@@ -136,7 +137,10 @@ fn macrocell_texts(rt: HostRuntime) {
 }
 
 // What is answered where the first write fails, and then where none does, and how many have failed.
-fn answers_of_writers(alloc: Global) -> Option<(Result<(), Refusal>, Result<(), Refusal>, u64)> {
+fn answers_of_writers<R: Threads + Sync>(
+    rt: &R,
+    alloc: Global,
+) -> Option<(Result<(), Refusal>, Result<(), Refusal>, u64)> {
     let (Ok(rule), Ok(read), Ok(memory)) = (
         Rule::read(b"23/3"),
         RleFile::open(NO_COMMENTS),
@@ -148,14 +152,14 @@ fn answers_of_writers(alloc: Global) -> Option<(Result<(), Refusal>, Result<(), 
     let sq = placed(&mut book, [1; 4], Place::Alone).ok()?;
     let mut file = FailAt::new(memory, 1);
     let first = write_mc(&book, alloc, sq, read.comments(), &rule, 0, &mut file);
-    let second = write_rle(&book, alloc, sq, read.comments(), &rule, 0, &mut file);
+    let second = write_rle(rt, &book, alloc, sq, read.comments(), &rule, 0, &mut file);
     Some((first, second, file.failures()))
 }
 
 #[test]
 fn a_failed_write_is_answered(rt: HostRuntime) {
     assert_eq!(rt;
-        answers_of_writers(rt.alloc()),
+        answers_of_writers(&rt, rt.alloc()),
         Some((Err(Refusal::WriteFailed), Ok(()), 1))
     );
 }

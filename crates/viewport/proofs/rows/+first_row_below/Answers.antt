@@ -1,41 +1,48 @@
-use Rattle.std.proofs.Common.{◌+◌, ℕ, sym, ◌∙◌, subst, arith}
+use Rattle.std.proofs.Common.{◌+◌, ◌^◌, ◌≡◌, ℕ, ap, sym, ◌∙◌, subst, arith}
 use Rattle.std.specs.Prelude.{Option}
 use Rattle.std.specs.Option.{option_map}
+use Rattle.squares.specs.Book.{nth}
 use Rattle.viewport.specs.Rows.{IsFirstRowBelow}
-use Rattle.viewport.proofs.FirstRows.{rows_as, upper_part, lower_part}
+use Rattle.viewport.proofs.FirstRows.{half_rows, rows_as, upper_part, lower_part}
 use Rattle.viewport.proofs.Quarters.{quartered_by}
 use Rattle.viewport.proofs.rows.+first_row_below.Goals as goal
 
-pub returns-then-is_some : goal.returns-then-is_some
-returns-then-is_some g t c =
+pub first_row_below-returns-then-is_some : goal.first_row_below-returns-then-is_some
+first_row_below-returns-then-is_some g t c =
     let book = g.L.Look.book c.args.look.now in
     let quarters = quartered_by book c.args.sq c.parts.result _ (g.met.L.Look.is_book c.args.look.now) c.requires.known (omega arith) c.parts.ensures c.side-half.ensures.side in
-    upper_part c.side-half.result (book.cells c.args.sq) _ _ _ _ quarters
-    c.args.from c.args.end c.min-left_end.result c.unwrap_or.result c.first_row_below-left.result c.first_row_below-right.result c.or-upper.result
-    c.min-left_end.ensures c.first_row_below-left.ensures c.unwrap_or.ensures c.first_row_below-right.ensures c.or-upper.ensures (sym c.is_some.ensures ∙ c.if-is_some.true)
+    let upper_side : 2 ^ (nth c.parts.result 0).level ≡ c.side-half.result = ap (λ n. 2 ^ n) c.parts.ensures.nw.known.at_level ∙ sym c.side-half.ensures.side in
+    upper_part c.side-half.result (book.cells c.args.sq) _ _ _ _ quarters c.args.from c.args.end c.min.result c.first_row_beside-upper.result c.min.ensures
+    (rw upper_side at c.first_row_beside-upper.ensures) (sym c.is_some.ensures ∙ c.if-is_some.true)
 
-pub returns-in_err-lower : goal.returns-in_err-lower
-returns-in_err-lower g t c =
+pub first_row_below-returns-in_err-lower : goal.first_row_below-returns-in_err-lower
+first_row_below-returns-in_err-lower g t c =
     let book = g.L.Look.book c.args.look.now in
     let quarters = quartered_by book c.args.sq c.parts.result _ (g.met.L.Look.is_book c.args.look.now) c.requires.known (omega arith) c.parts.ensures c.side-half.ensures.side in
-    let lower = lower_part c.side-half.result (book.cells c.args.sq) _ _ _ _ quarters
-    c.args.from c.args.end c.min-left_end.result c.unwrap_or.result c.first_row_below-left.result c.first_row_below-right.result c.or-upper.result
-    c.min-left_end.ensures c.first_row_below-left.ensures c.unwrap_or.ensures c.first_row_below-right.ensures c.or-upper.ensures (sym c.is_some.ensures ∙ c.if-is_some.false)
-    c.saturating_sub-from.result c.saturating_sub-left_end.result c.unwrap_or-2.result c.first_row_below-left-2.result c.first_row_below-right-2.result c.or.result
-    c.saturating_sub-from.ensures c.saturating_sub-left_end.ensures c.first_row_below-left-2.ensures c.unwrap_or-2.ensures c.first_row_below-right-2.ensures c.or.ensures in
+    let upper_side : 2 ^ (nth c.parts.result 0).level ≡ c.side-half.result = ap (λ n. 2 ^ n) c.parts.ensures.nw.known.at_level ∙ sym c.side-half.ensures.side in
+    let lower_side : 2 ^ (nth c.parts.result 2).level ≡ c.side-half.result = ap (λ n. 2 ^ n) c.parts.ensures.sw.known.at_level ∙ sym c.side-half.ensures.side in
+    let lower = lower_part c.side-half.result (book.cells c.args.sq) _ _ _ _ quarters c.args.from c.args.end c.min.result c.first_row_beside-upper.result c.min.ensures
+    (rw upper_side at c.first_row_beside-upper.ensures) (sym c.is_some.ensures ∙ c.if-is_some.false)
+    c.saturating_sub-from.result c.saturating_sub-end.result c.first_row_beside.result c.saturating_sub-from.ensures c.saturating_sub-end.ensures (rw lower_side at c.first_row_beside.ensures) in
     subst (λ (o : Option ℕ). IsFirstRowBelow (book.cells c.args.sq) c.args.from c.args.end o) (sym c.from_residual.ensures)
     (subst (λ (o : Option ℕ). IsFirstRowBelow (book.cells c.args.sq) c.args.from c.args.end (option_map (λ s. s + c.side-half.result) o)) c.in_err-lower.was lower)
 
-pub returns : goal.returns
-returns g t c =
+pub first_row_below-returns : goal.first_row_below-returns
+first_row_below-returns g t c =
     let book = g.L.Look.book c.args.look.now in
     let quarters = quartered_by book c.args.sq c.parts.result _ (g.met.L.Look.is_book c.args.look.now) c.requires.known (omega arith) c.parts.ensures c.side-half.ensures.side in
-    let lower = lower_part c.side-half.result (book.cells c.args.sq) _ _ _ _ quarters
-    c.args.from c.args.end c.min-left_end.result c.unwrap_or.result c.first_row_below-left.result c.first_row_below-right.result c.or-upper.result
-    c.min-left_end.ensures c.first_row_below-left.ensures c.unwrap_or.ensures c.first_row_below-right.ensures c.or-upper.ensures (sym c.is_some.ensures ∙ c.if-is_some.false)
-    c.saturating_sub-from.result c.saturating_sub-left_end.result c.unwrap_or-2.result c.first_row_below-left-2.result c.first_row_below-right-2.result c.or.result
-    c.saturating_sub-from.ensures c.saturating_sub-left_end.ensures c.first_row_below-left-2.ensures c.unwrap_or-2.ensures c.first_row_below-right-2.ensures c.or.ensures in
+    let upper_side : 2 ^ (nth c.parts.result 0).level ≡ c.side-half.result = ap (λ n. 2 ^ n) c.parts.ensures.nw.known.at_level ∙ sym c.side-half.ensures.side in
+    let lower_side : 2 ^ (nth c.parts.result 2).level ≡ c.side-half.result = ap (λ n. 2 ^ n) c.parts.ensures.sw.known.at_level ∙ sym c.side-half.ensures.side in
+    let lower = lower_part c.side-half.result (book.cells c.args.sq) _ _ _ _ quarters c.args.from c.args.end c.min.result c.first_row_beside-upper.result c.min.ensures
+    (rw upper_side at c.first_row_beside-upper.ensures) (sym c.is_some.ensures ∙ c.if-is_some.false)
+    c.saturating_sub-from.result c.saturating_sub-end.result c.first_row_beside.result c.saturating_sub-from.ensures c.saturating_sub-end.ensures (rw lower_side at c.first_row_beside.ensures) in
     subst (λ (o : Option ℕ). IsFirstRowBelow (book.cells c.args.sq) c.args.from c.args.end (option_map (λ s. s + c.side-half.result) o)) c.in_ok-lower.was lower
 
-pub returns-then-sq-eq3 : goal.returns-then-sq-eq3
-returns-then-sq-eq3 g t c = rows_as _ _ c.args.from c.args.end c.first_leaf_row.result c.bits.ensures.cells c.first_leaf_row.ensures
+pub first_row_below-returns-then-sq-eq3 : goal.first_row_below-returns-then-sq-eq3
+first_row_below-returns-then-sq-eq3 g t c = rows_as _ _ c.args.from c.args.end c.first_leaf_row.result c.bits.ensures.cells c.first_leaf_row.ensures
+
+pub first_row_beside-returns : goal.first_row_beside-returns
+first_row_beside-returns g t c =
+    let book = g.L.Look.book c.args.look.now in
+    half_rows (2 ^ c.args.left.level) (book.cells c.args.left) (book.cells c.args.right) c.args.from c.args.end c.unwrap_or.result c.first_row_below-found.result c.first_row_below.result c.or.result
+    c.first_row_below-found.ensures c.unwrap_or.ensures c.first_row_below.ensures c.or.ensures

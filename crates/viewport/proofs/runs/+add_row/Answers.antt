@@ -1,10 +1,14 @@
-use Rattle.std.proofs.Common.{◌^◌, ◌≤◌, pos, ◌+ℤ◌, ◌-ℤ◌, ap, arith, rules, w64, SFits}
+use Rattle.std.proofs.Common.{◌^◌, ◌≤◌, ◌-◌, ◌<◌, ◌≡◌, pos, ◌+ℤ◌, ◌-ℤ◌, true, refl, sym, subst, ap, arith, rules, w64, SFits}
 use Rattle.std.proofs.lemmas.Int.{to_z-of_z}
 use Rattle.std.proofs.lemmas.Result.{IfOk-weaker, on_ok_weaker}
+use Rattle.std.specs.Prelude.{IsTrue}
+use Rattle.std.proofs.lemmas.Bool.{eqb-true}
+use Rattle.plane.proofs.Cuts.{and_left, and_right}
 use Rattle.viewport.specs.RowRuns.{cells_at}
-use Rattle.viewport.proofs.Counts.{zero_is_empty}
-use Rattle.viewport.proofs.Quarters.{of_quarter, quartered_by}
-use Rattle.viewport.proofs.RowsOfSquares.{ends_between, first_room, lower_adds, middle_fits, quarter_high, quarter_low, quarter_room, row_as, upper_adds}
+use Rattle.viewport.proofs.Counts.{same_sq, zero_is_empty}
+use Rattle.viewport.proofs.Quarters.{known_square, of_quarter}
+use Rattle.viewport.proofs.RowsOfHalves.{again_adds, both_add, ends_between}
+use Rattle.viewport.proofs.RowsOfSquares.{middle_fits, quarter_room, row_as}
 use Rattle.viewport.proofs.RunsBeside.{adds_none}
 use Rattle.viewport.proofs.runs.+add_row.Goals as goal
 
@@ -16,84 +20,71 @@ returns-then-sq-eq0 g t c =
           (λ x. ap (λ p. p (x -ℤ c.args.left) (pos c.args.y)) (zero_is_empty book c.args.sq (g.met.L.Look.is_book c.args.look.now) c.if-sq-eq0.true));
     }
 
-pub add_row-requires : goal.add_row-requires
-add_row-requires g t c κs within =
-    let left : SFits w64 c.args.left = c.ranges.left in
-    let least : 1 ≤ c.args.sq.level = omega arith in
-    let at_level = c.parts.ensures.nw.known.at_level in
-    let row = quarter_low _ _ _ _ c.if-y-half.true c.side-half.ensures.side at_level in
-    let room = first_room c.args.left c.args.sq.level _ least at_level c.requires.room in
-    (search rules, (search rules, of_quarter _ _ _ c.requires.level c.parts.ensures.nw.known (row, (simp to_z-of_z room, simp to_z-of_z c.requires.before))))
-
-pub add_row-requires-then-y-half : goal.add_row-requires-then-y-half
-add_row-requires-then-y-half g t c κs within =
-    let left : SFits w64 c.args.left = c.ranges.left in
-    let half : SFits w64 c.half_side.result = search rules in
-    let least : 1 ≤ c.args.sq.level = omega arith in
-    let middle : SFits w64 (c.args.left +ℤ c.half_side.result) = middle_fits c.args.left c.half_side.result c.args.sq.level least left c.half_side.ensures.side c.requires.room in
-    let at_level = c.parts.ensures.ne.known.at_level in
-    let ends = ends_between c.args.sq.level _ c.half_side.result c.args.left c.half_side.ensures.side c.parts.ensures.nw.known.at_level c.args.runs.now.items c.add_row.new.runs.items _ (simp to_z-of_z at c.in_ok-add_row.ensures.ok) in
-    let row = quarter_low _ _ _ _ c.if-y-half.true c.side-half.ensures.side at_level in
-    let room = quarter_room c.args.left c.half_side.result c.args.sq.level _ least c.half_side.ensures.side at_level c.requires.room in
-    (search rules, (search rules, of_quarter _ _ _ c.requires.level c.parts.ensures.ne.known (row, (simp to_z-of_z room, simp to_z-of_z ends))))
-
-pub returns-in_ok-add_row : goal.returns-in_ok-add_row
-returns-in_ok-add_row g t c =
-    let book = g.L.Look.book c.args.look.now in
-    let left : SFits w64 c.args.left = c.ranges.left in
-    let half : SFits w64 c.half_side.result = search rules in
-    let least : 1 ≤ c.args.sq.level = omega arith in
-    let middle : SFits w64 (c.args.left +ℤ c.half_side.result) = middle_fits c.args.left c.half_side.result c.args.sq.level least left c.half_side.ensures.side c.requires.room in
-    let quarters = quartered_by book c.args.sq c.parts.result _ (g.met.L.Look.is_book c.args.look.now) c.requires.known (omega arith) c.parts.ensures c.side-half.ensures.side in
-    let one = simp to_z-of_z at c.in_ok-add_row.ensures.ok in
-    record {
-      ok = IfOk-weaker c.add_row-then-y-half.result _ _
-          (λ _ two. upper_adds c.args.sq.level _ c.half_side.result c.args.left c.half_side.ensures.side c.parts.ensures.nw.known.at_level c.args.runs.now.items c.add_row.new.runs.items
-          _ c.side-half.result (book.cells c.args.sq) _ _ _ _ quarters c.side-half.ensures.side least c.parts.ensures.ne.known.at_level c.args.y c.add_row-then-y-half.new.runs.items c.if-y-half.true one two)
-          (simp to_z-of_z at c.add_row-then-y-half.ensures.ok);
-    }
-
-pub add_row-requires-else-y-half : goal.add_row-requires-else-y-half
-add_row-requires-else-y-half g t c κs within =
-    let left : SFits w64 c.args.left = c.ranges.left in
-    let least : 1 ≤ c.args.sq.level = omega arith in
-    let at_level = c.parts.ensures.sw.known.at_level in
-    let row = quarter_high _ _ _ _ least c.if-y-half.false c.requires.row c.side-half.ensures.side at_level in
-    let room = first_room c.args.left c.args.sq.level _ least at_level c.requires.room in
-    (search rules, (search rules, of_quarter _ _ _ c.requires.level c.parts.ensures.sw.known (row, (simp to_z-of_z room, simp to_z-of_z c.requires.before))))
-
-pub add_row-requires-else-y-half-2 : goal.add_row-requires-else-y-half-2
-add_row-requires-else-y-half-2 g t c κs within =
-    let left : SFits w64 c.args.left = c.ranges.left in
-    let half : SFits w64 c.half_side.result = search rules in
-    let least : 1 ≤ c.args.sq.level = omega arith in
-    let middle : SFits w64 (c.args.left +ℤ c.half_side.result) = middle_fits c.args.left c.half_side.result c.args.sq.level least left c.half_side.ensures.side c.requires.room in
-    let at_level = c.parts.ensures.se.known.at_level in
-    let ends = ends_between c.args.sq.level _ c.half_side.result c.args.left c.half_side.ensures.side c.parts.ensures.sw.known.at_level c.args.runs.now.items c.add_row-else-y-half.new.runs.items _ (simp to_z-of_z at c.in_ok-add_row-2.ensures.ok) in
-    let row = quarter_high _ _ _ _ least c.if-y-half.false c.requires.row c.side-half.ensures.side at_level in
-    let room = quarter_room c.args.left c.half_side.result c.args.sq.level _ least c.half_side.ensures.side at_level c.requires.room in
-    (search rules, (search rules, of_quarter _ _ _ c.requires.level c.parts.ensures.se.known (row, (simp to_z-of_z room, simp to_z-of_z ends))))
-
-pub returns-in_ok-add_row-2 : goal.returns-in_ok-add_row-2
-returns-in_ok-add_row-2 g t c =
-    let book = g.L.Look.book c.args.look.now in
-    let left : SFits w64 c.args.left = c.ranges.left in
-    let half : SFits w64 c.half_side.result = search rules in
-    let least : 1 ≤ c.args.sq.level = omega arith in
-    let middle : SFits w64 (c.args.left +ℤ c.half_side.result) = middle_fits c.args.left c.half_side.result c.args.sq.level least left c.half_side.ensures.side c.requires.room in
-    let quarters = quartered_by book c.args.sq c.parts.result _ (g.met.L.Look.is_book c.args.look.now) c.requires.known (omega arith) c.parts.ensures c.side-half.ensures.side in
-    let one = simp to_z-of_z at c.in_ok-add_row-2.ensures.ok in
-    record {
-      ok = IfOk-weaker c.add_row-else-y-half-2.result _ _
-          (λ _ two. lower_adds c.args.sq.level _ c.half_side.result c.args.left c.half_side.ensures.side c.parts.ensures.sw.known.at_level c.args.runs.now.items c.add_row-else-y-half.new.runs.items
-          _ c.side-half.result (book.cells c.args.sq) _ _ _ _ quarters c.side-half.ensures.side least c.parts.ensures.se.known.at_level c.args.y c.add_row-else-y-half-2.new.runs.items c.if-y-half.false one two)
-          (simp to_z-of_z at c.add_row-else-y-half-2.ensures.ok);
-    }
-
 pub returns-then-sq-eq3 : goal.returns-then-sq-eq3
 returns-then-sq-eq3 g t c =
     let left : SFits w64 c.args.left = c.ranges.left in
     record {
       ok = on_ok_weaker c.add_leaf_row.result (row_as c.args.sq.level _ _ c.args.left c.args.y c.args.runs.now.items c.add_leaf_row.new.runs.items c.if-sq-eq3.true c.bits.ensures.cells)
           (simp to_z-of_z at c.add_leaf_row.ensures.ok);
+    }
+
+pub add_run-requires-clause-room : goal.add_run-requires-clause-room
+add_run-requires-clause-room g t c =
+    let left : SFits w64 c.args.left = c.ranges.left in
+    let half : SFits w64 c.half_side.result = search rules in
+    let least : 1 ≤ c.args.sq.level = omega arith in
+    let middle : SFits w64 (c.args.left +ℤ c.half_side.result) = middle_fits c.args.left c.half_side.result c.args.sq.level least left c.half_side.ensures.side c.requires.room in
+    rw c.side.ensures.side (simp to_z-of_z (quarter_room c.args.left c.half_side.result c.args.sq.level (c.args.sq.level - 1) least c.half_side.ensures.side refl c.requires.room))
+
+pub returns-then-is_covered : goal.returns-then-is_covered
+returns-then-is_covered g t c =
+    let book = g.L.Look.book c.args.look.now in
+    let first = c.half_with_row-row.result.0 in
+    let second = c.half_with_row-row.result.1 in
+    let left : SFits w64 c.args.left = c.ranges.left in
+    let half : SFits w64 c.half_side.result = search rules in
+    let least : 1 ≤ c.args.sq.level = omega arith in
+    let middle : SFits w64 (c.args.left +ℤ c.half_side.result) = middle_fits c.args.left c.half_side.result c.args.sq.level least left c.half_side.ensures.side c.requires.room in
+    let one = simp to_z-of_z at c.in_ok-add_row.ensures.ok in
+    let yes : IsTrue true = search rules in
+    let covered = rw c.deref.ensures.value at (simp to_z-of_z at (c.if-is_covered.ensures yes)) in
+    let run_is = simp to_z-of_z at c.add_run.ensures.ok in
+    let same : second ≡ first = same_sq second first (eqb-true _ _ (and_left _ _ (sym c.if-eq.ensures))) (eqb-true _ _ (and_right _ _ (sym c.if-eq.ensures))) in
+    let square = known_square book _ first (g.met.L.Look.is_book c.args.look.now) c.half_with_row-row.ensures.first in
+    record {
+      ok = IfOk-weaker c.add_run.result _ _
+          (λ _ run. again_adds c.args.sq.level c.args.left c.half_side.result c.half_side.ensures.side (book.cells c.args.sq) _ _ c.args.y _ c.half_with_row-row.ensures.row c.args.runs.now.items c.add_row.new.runs.items
+          _ c.half_with_row-row.ensures.first.at_level one covered c.requires.before c.side.result c.add_run.new.runs.items least square (ap book.cells same) c.side.ensures.side run)
+          run_is;
+    }
+
+pub add_row-requires-2 : goal.add_row-requires-2
+add_row-requires-2 g t c κs within =
+    let left : SFits w64 c.args.left = c.ranges.left in
+    let half : SFits w64 c.half_side.result = search rules in
+    let least : 1 ≤ c.args.sq.level = omega arith in
+    let middle : SFits w64 (c.args.left +ℤ c.half_side.result) = middle_fits c.args.left c.half_side.result c.args.sq.level least left c.half_side.ensures.side c.requires.room in
+    let book = g.L.Look.book c.args.look.now in
+    let second = c.half_with_row-row.result.1 in
+    let known = c.half_with_row-row.ensures.second in
+    let is = c.half_with_row-row.ensures.row in
+    let one = simp to_z-of_z at c.in_ok-add_row.ensures.ok in
+    let row = subst (λ n. c.half_with_row-row.result.2 < 2 ^ n) (sym known.at_level) is.inside in
+    let room = quarter_room c.args.left c.half_side.result c.args.sq.level second.level least c.half_side.ensures.side known.at_level c.requires.room in
+    let ends = ends_between c.args.sq.level c.args.left c.half_side.result c.half_side.ensures.side (book.cells c.args.sq) _ _ c.args.y _ is c.args.runs.now.items c.add_row.new.runs.items _ c.half_with_row-row.ensures.first.at_level one in
+    (search rules, (search rules, of_quarter _ _ _ c.requires.level known (row, (simp to_z-of_z room, simp to_z-of_z ends))))
+
+pub returns : goal.returns
+returns g t c =
+    let book = g.L.Look.book c.args.look.now in
+    let left : SFits w64 c.args.left = c.ranges.left in
+    let half : SFits w64 c.half_side.result = search rules in
+    let least : 1 ≤ c.args.sq.level = omega arith in
+    let middle : SFits w64 (c.args.left +ℤ c.half_side.result) = middle_fits c.args.left c.half_side.result c.args.sq.level least left c.half_side.ensures.side c.requires.room in
+    let one = simp to_z-of_z at c.in_ok-add_row.ensures.ok in
+    record {
+      ok = IfOk-weaker c.add_row-2.result _ _
+          (λ _ two. both_add c.args.sq.level c.args.left c.half_side.result c.half_side.ensures.side (book.cells c.args.sq) _ _ c.args.y _ c.half_with_row-row.ensures.row c.args.runs.now.items c.add_row.new.runs.items
+          _ c.half_with_row-row.ensures.first.at_level one _ c.add_row-2.new.runs.items least c.half_with_row-row.ensures.second.at_level two)
+          (simp to_z-of_z at c.add_row-2.ensures.ok);
     }

@@ -1,6 +1,9 @@
-use Rattle.viewport.specs.RowRuns.{AddsCells}
-use Rattle.viewport.proofs.RowsOfSquares.{cells_before}
+use Rattle.std.proofs.Common.{◌-◌}
+use Rattle.viewport.proofs.RunsOfLeaves.{AreTaken}
 use Rattle.viewport.proofs.runs.add_leaf_row.Given as goal
 
-abbrev pub invariant-loop-x : goal.invariant-loop-x
-invariant-loop-x l = AddsCells l.left l.x (cells_before l.word l.left l.y l.x) l.fn.runs.items l.runs.items
+abbrev pub invariant-loop-rest : goal.invariant-loop-rest
+invariant-loop-rest l = AreTaken l.word l.y l.x l.rest l.left l.fn.runs.items l.runs.items
+
+abbrev pub decreases-loop-rest : goal.decreases-loop-rest
+decreases-loop-rest l = 8 - l.x

@@ -1,9 +1,17 @@
-use Rattle.std.proofs.Common.{pos, ◌∙◌, rules}
-use Rattle.pattern_writers.proofs.BodyText.{items_of-more}
+use Rattle.std.proofs.Common.{◌≡◌, ◌++◌, ◌∙◌, get_or, ap, SFits, w64, rules}
+use Rattle.std.proofs.lemmas.Int.{to_z-of_z}
+use Rattle.pattern_writers.specs.Items.{cell_after, items_of}
+use Rattle.pattern_writers.proofs.BodyText.{items_of-band}
 use Rattle.pattern_writers.proofs.rle_text.items.items.Goals as goal
 
-pub loop-run-preserved : goal.loop-run-preserved
-loop-run-preserved c =
-    c.loop-run.invariant
-    ∙ items_of-more c.args.corner.x c.loop-run.next c.args.runs.now c.loop-run.run-index (record { row = pos 0; first = pos 0; end = pos 0 }) c.loop-run.items.items (search rules)
-    ∙ (search rules)
+pub bands-preserved : goal.bands-preserved
+bands-preserved c =
+    let x : SFits w64 c.args.corner.x = search rules in
+    let y : SFits w64 c.args.corner.y = search rules in
+    let left = to_z-of_z w64 c.args.corner.x x in
+    let band = get_or c.args.bands.now c.bands.band-index c.band-item.result in
+    let runs : c.deref.result.now ≡ band.items = search rules in
+    let pushed : c.push_runs.new.items.items ≡ c.bands.items.items ++ items_of c.args.corner.x c.bands.next band.items = (rw left at c.in_ok-next.ensures.items) ∙ ap (λ l. c.bands.items.items ++ items_of c.args.corner.x c.bands.next l) runs in
+    let after : c.in_ok-next.next ≡ cell_after c.bands.next band.items = c.in_ok-next.ensures.next ∙ ap (cell_after c.bands.next) runs in
+    c.bands.invariant
+    ∙ items_of-band c.args.corner.x c.bands.next c.in_ok-next.next c.args.bands.now c.bands.band-index c.band-item.result c.bands.items.items c.push_runs.new.items.items c.bands-test.true pushed after

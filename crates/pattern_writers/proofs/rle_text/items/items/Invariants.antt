@@ -1,7 +1,9 @@
-use Rattle.std.proofs.Common.{◌≡◌, ◌++◌, drop}
+use Rattle.std.proofs.Common.{◌≡◌, ◌++◌, drop, flat_map, Vec, Global}
 use Rattle.pattern_writers.specs.Items.{items_of}
+use Rattle.pattern_writers.specs.declared.rle_text.row_run.RowRun.{RowRun}
 use Rattle.pattern_writers.proofs.rle_text.items.items.Given as goal
 
-abbrev pub invariant-loop-run : goal.invariant-loop-run
-invariant-loop-run l =
-    items_of l.corner.x l.corner l.runs ≡ l.items.items ++ items_of l.corner.x l.next (drop l.run-index l.runs)
+abbrev pub invariant-bands : goal.invariant-bands
+invariant-bands l =
+    items_of l.corner.x l.corner (flat_map (λ (band : Vec RowRun Global). band.items) l.bands)
+    ≡ l.items.items ++ items_of l.corner.x l.next (flat_map (λ (band : Vec RowRun Global). band.items) (drop l.band-index l.bands))

@@ -13,7 +13,7 @@ in_row-requires g c =
     let plane = centred c.args.sq.level (book.cells c.args.sq) in
     let held = square_in_range book c.args.sq (g.met.L.Look.is_book c.args.look.now) c.requires.known c.requires.level in
     let row : SFits w64 c.args.row = c.ranges.row in
-    let of_row : AreRowRuns plane c.args.row c.deref-run-items.result.now = subst (AreRowRuns plane c.args.row) (sym c.deref-run-items.ensures.value) (rw (to_z-of_z w64 c.args.row row) at c.in_ok-found.ensures.ok) in
+    let of_row : AreRowRuns plane c.args.row c.deref-run-items.result.now = subst (AreRowRuns plane c.args.row) (sym c.deref-run-items.ensures.value) (rw (to_z-of_z w64 c.args.row row) at c.in-Ok.ensures.ok) in
     let fits = runs_fit plane c.args.row c.deref-run-items.result.now c.found.run-index held of_row c.found-test.true in
     rw (to_z-of_z w64 (get_or c.deref-run-items.result.now c.found.run-index (pos 0, 0)).0 fits.first) fits.end
 
@@ -25,20 +25,20 @@ found-preserved g c =
     let row : SFits w64 c.args.row = c.ranges.row in
     let here = to_z-of_z w64 c.args.row row in
     let runs = c.deref-run-items.result.now in
-    let of_row : AreRowRuns plane c.args.row runs = subst (AreRowRuns plane c.args.row) (sym c.deref-run-items.ensures.value) (rw here at c.in_ok-found.ensures.ok) in
+    let of_row : AreRowRuns plane c.args.row runs = subst (AreRowRuns plane c.args.row) (sym c.deref-run-items.ensures.value) (rw here at c.in-Ok.ensures.ok) in
     let fits = runs_fit plane c.args.row runs c.found.run-index held of_row c.found-test.true in
     let run : c.in_row.result ≡ run_in c.args.row (get_or runs c.found.run-index (pos 0, 0)) =
     rw (here, to_z-of_z w64 (get_or runs c.found.run-index (pos 0, 0)).0 fits.first) at c.in_row.ensures in
     let pushed : c.push.new.self.items ≡ c.found.runs.items ++ c.in_row.result ∷ [] = search rules in
     rw here (run_more c.args.row c.args.runs.now.items c.found.runs.items c.push.new.self.items runs c.found.run-index c.in_row.result c.found-test.true (rw here at c.found.invariant) run pushed)
 
-pub returns-clause-ok : goal.returns-clause-ok
-returns-clause-ok g c =
+pub returns : goal.returns
+returns g c =
     let book = g.L.Look.book c.args.look.now in
     let plane = centred c.args.sq.level (book.cells c.args.sq) in
     let row : SFits w64 c.args.row = c.ranges.row in
     let here = to_z-of_z w64 c.args.row row in
-    let of_row : AreRowRuns plane c.args.row c.deref-run-items.result.now = subst (AreRowRuns plane c.args.row) (sym c.deref-run-items.ensures.value) (rw here at c.in_ok-found.ensures.ok) in
+    let of_row : AreRowRuns plane c.args.row c.deref-run-items.result.now = subst (AreRowRuns plane c.args.row) (sym c.deref-run-items.ensures.value) (rw here at c.in-Ok.ensures.ok) in
     let all = take_all c.found.run-index c.deref-run-items.result.now c.found-test.false in
     record {
       runs = c.deref-run-items.result.now;
