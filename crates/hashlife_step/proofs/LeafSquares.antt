@@ -1,14 +1,15 @@
--- A square of level 4 and its four leaves.
-use Rattle.std.proofs.Common.{◌≡◌, ℕ, ◌+◌, ◌-◌, ◌^◌, min, List, arith, sym, subst, refl}
+-- A square of level 4 and its four leaves, and one of level 5 and its sixteen.
+use Rattle.std.proofs.Common.{◌≡◌, ℕ, ◌+◌, ◌-◌, ◌^◌, min, List, [], ◌∷◌, arith, sym, subst, refl}
 use Rattle.rule_text.specs.CountRule.{CountRule}
 use Rattle.plane.specs.Plane.{Plane, after}
 use Rattle.plane.specs.Square.{IsSame, IsSquare, bits_plane, joined, centre_of, future}
 use Rattle.plane.proofs.Rounds.{whole_joined}
 use Rattle.plane.proofs.Same.{same_trans, same_sym, plane_equal}
-use Rattle.squares.specs.Book.{Book, IsKnown, IsFuture, Shows, Keeps, AreQuarters, nth}
+use Rattle.squares.specs.Book.{Book, IsKnown, IsFuture, Shows, Keeps, AreQuarters, joined_squares, nth}
 use Rattle.squares.specs.declared.sq.Sq.{Sq}
 use Rattle.squares.proofs.Kept.{keeps_trans, same_later}
 use Rattle.squares.proofs.Centres.{lowered, shows_as}
+use Rattle.hashlife_step.proofs.Grown.{joined_as}
 
 -- four leaves that were read in turn
 pub leaves_shown : (level : ℕ) (plane : Plane) (b1 b2 b3 b4 : Book) (q : List Sq) (a b c d : ℕ) → level ≡ 4 → IsSquare (2 ^ level) plane →
@@ -33,18 +34,18 @@ future_later old new sq next keeps known shown =
     let two = subst (λ rule. Shows new (sq.level - 1) (future rule old.exponent sq.level (new.cells sq)) next) (sym keeps.rule) one in
     subst (λ exponent. Shows new (sq.level - 1) (future new.rule exponent sq.level (new.cells sq)) next) (sym keeps.exponent) two
 
-same_time : (exponent : ℕ) → min (min exponent 2) 2 ≡ min exponent 2
-same_time exponent = omega arith
-
--- the result of four leaves
-pub leaves_future : (book : Book) (rule : CountRule) (exponent short level word : ℕ) (plane leaves : Plane) (next : Sq) → level ≡ 4 → short ≡ min exponent 2 → IsSame leaves plane →
-    IsSame (bits_plane word) (future rule short 4 leaves) → Shows book 3 (bits_plane word) next → Shows book (level - 1) (future rule exponent level plane) next
-leaves_future book rule exponent short level word plane leaves next e time same is shown =
-    let one : IsSame (bits_plane word) (future rule short 4 plane) = subst (λ p. IsSame (bits_plane word) (future rule short 4 p)) (plane_equal _ _ same) is in
-    let two : IsSame (bits_plane word) (future rule (min exponent 2) 4 plane) = subst (λ n. IsSame (bits_plane word) (future rule n 4 plane)) time one in
-    let three : IsSame (bits_plane word) (future rule exponent 4 plane) = subst (λ n. IsSame (bits_plane word) (centre_of 4 (after rule plane (2 ^ n)))) (same_time exponent) two in
-    let four : Shows book (4 - 1) (future rule exponent 4 plane) next = shows_as book 3 (4 - 1) (bits_plane word) _ next refl three shown in
+-- what a kernel makes of the leaves of a square of its level, with an exponent that is cut at its level
+pub kernel_future : (book : Book) (rule : CountRule) (own exponent short level : ℕ) (result plane leaves : Plane) (next : Sq) → level ≡ own → short ≡ min exponent (own - 2) → IsSame leaves plane →
+    IsSame result (future rule short own leaves) → Shows book (own - 1) result next → Shows book (level - 1) (future rule exponent level plane) next
+kernel_future book rule own exponent short level result plane leaves next e time same is shown =
+    let one : IsSame result (future rule short own plane) = subst (λ p. IsSame result (future rule short own p)) (plane_equal _ _ same) is in
+    let two : IsSame result (future rule (min exponent (own - 2)) own plane) = subst (λ n. IsSame result (future rule n own plane)) time one in
+    let three : IsSame result (future rule exponent own plane) = subst (λ n. IsSame result (centre_of own (after rule plane (2 ^ n)))) (cut_once exponent (own - 2)) two in
+    let four : Shows book (own - 1) (future rule exponent own plane) next = shows_as book (own - 1) (own - 1) result _ next refl three shown in
     subst (λ n. Shows book (n - 1) (future rule exponent n plane) next) (sym e) four
+  where
+    cut_once : (exponent most : ℕ) → min (min exponent most) most ≡ min exponent most
+    cut_once exponent most = omega arith
 
 -- the centre of four leaves
 pub leaves_centre : (book : Book) (level word : ℕ) (plane leaves : Plane) (next : Sq) → level ≡ 4 → IsSame leaves plane →
@@ -53,3 +54,26 @@ leaves_centre book level word plane leaves next e same is shown =
     let one : IsSame (bits_plane word) (centre_of 4 plane) = subst (λ p. IsSame (bits_plane word) (centre_of 4 p)) (plane_equal _ _ same) is in
     let four : Shows book (4 - 1) (centre_of 4 plane) next = shows_as book 3 (4 - 1) (bits_plane word) _ next refl one shown in
     subst (λ n. Shows book (n - 1) (centre_of n plane) next) (sym e) four
+
+-- four squares of four leaves each that were read in turn
+pub sixteen_shown : (level : ℕ) (plane : Plane) (b1 b2 b3 b4 : Book) (q : List Sq) (a b c d : Plane) → level ≡ 5 → IsSquare (2 ^ level) plane →
+    AreQuarters b1 level plane q → Keeps b1 b2 → Keeps b2 b3 → Keeps b3 b4 →
+    IsSame a (b1.cells (nth q 0)) → IsSame b (b2.cells (nth q 1)) → IsSame c (b3.cells (nth q 2)) → IsSame d (b4.cells (nth q 3)) →
+    IsSame (joined 16 a b c d) plane
+sixteen_shown level plane b1 b2 b3 b4 q a b c d e square parts k2 k3 k4 is_a is_b is_c is_d =
+    let four : AreQuarters b1 5 plane q = lowered b1 level 5 plane q e parts in
+    let whole : IsSquare (16 + 16) plane = subst (λ n. IsSquare (2 ^ n) plane) e square in
+    whole_joined 16 plane a b c d whole
+    (same_trans is_a four.nw.cells)
+    (same_trans is_b (same_later k2 four.ne))
+    (same_trans is_c (same_later (keeps_trans k2 k3) four.sw))
+    (same_trans is_d (same_later (keeps_trans k2 (keeps_trans k3 k4)) four.se))
+
+-- four leaves that were numbered in turn
+pub leaves_joined : (a b c d : ℕ) (b1 b2 b3 b4 b5 : Book) (nw ne sw se whole : Sq) → Keeps b1 b2 → Keeps b2 b3 → Keeps b3 b4 →
+    Shows b1 3 (bits_plane a) nw → Shows b2 3 (bits_plane b) ne → Shows b3 3 (bits_plane c) sw → Shows b4 3 (bits_plane d) se →
+    Shows b5 (nw.level + 1) (joined_squares b4 nw.level (nw ∷ ne ∷ sw ∷ se ∷ [])) whole →
+    Shows b5 4 (joined 8 (bits_plane a) (bits_plane b) (bits_plane c) (bits_plane d)) whole
+leaves_joined a b c d b1 b2 b3 b4 b5 nw ne sw se whole k2 k3 k4 s1 s2 s3 s4 s =
+    joined_as b4 b5 3 (nw ∷ ne ∷ sw ∷ se ∷ []) (bits_plane a) (bits_plane b) (bits_plane c) (bits_plane d) whole s1.known.at_level
+    (same_later (keeps_trans k2 (keeps_trans k3 k4)) s1) (same_later (keeps_trans k3 k4) s2) (same_later k4 s3) s4.cells s

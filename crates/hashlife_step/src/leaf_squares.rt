@@ -1,11 +1,12 @@
 ghost use Rattle.std.specs.Prelude.{◌≡◌, ◌-◌, IfOk, IfErr};
-ghost use Rattle.leaf_kernels.specs.Rows.{leaves_plane};
+ghost use Rattle.leaf_kernels.specs.Life.{life};
+ghost use Rattle.leaf_kernels.specs.Rows.{leaves_plane, sixteen_plane};
 ghost use Rattle.plane.specs.Centred.{centred};
 ghost use Rattle.plane.specs.Square.{IsSame, centre_of};
 ghost use Rattle.squares.specs.Book.{IsFuture, IsKnown, Keeps, KeepsResults, MayRefuse, Shows};
 ghost use Rattle.hashlife_step.specs.Round.{ShowsRound};
 
-use leaf_kernels::{centre16, result16};
+use leaf_kernels::{centre16, life32, result16};
 use plane::Refusal;
 use squares::{Sq, Squares};
 
@@ -23,6 +24,52 @@ fn read_leaves<S: Squares>(book: &mut S, sq: Sq) -> [u64; 4]
     let lower_left = book.read_bits(sw);
     let lower_right = book.read_bits(se);
     [upper_left, upper_right, lower_left, lower_right]
+}
+
+// The sixteen leaves of a square of level 5, row by row.
+fn read_sixteen<S: Squares>(book: &mut S, sq: Sq) -> [u64; 16]
+    requires known { IsKnown (S.book book.old) sq.level sq }
+    requires level { sq.level ≡ 5 }
+    ensures value { IsSame (sixteen_plane result) ((S.book book.old).cells sq) }
+    ensures keeps { Keeps (S.book book.old) (S.book book.new) }
+    ensures results { KeepsResults (S.book book.old) (S.book book.new) }
+{
+    let [nw, ne, sw, se] = book.read_parts(sq);
+    let [a, b, e, f] = read_leaves(book, nw);
+    let [c, d, g, h] = read_leaves(book, ne);
+    let [i, j, m, n] = read_leaves(book, sw);
+    let [k, l, o, p] = read_leaves(book, se);
+    [a, b, c, d, e, f, g, h, i, j, k, l, m, n, o, p]
+}
+
+// The square of level 4 that four leaves make.
+fn join_leaves<S: Squares>(book: &mut S, leaves: [u64; 4]) -> Result<Sq, Refusal>
+    ensures ok { IfOk result (Shows (S.book book.new) 4 (leaves_plane leaves)) }
+    ensures refusal { IfErr result (MayRefuse (S.book book.new)) }
+    ensures keeps { Keeps (S.book book.old) (S.book book.new) }
+    ensures results { KeepsResults (S.book book.old) (S.book book.new) }
+{
+    let [a, b, c, d] = leaves;
+    let upper_left = book.leaf(a)?;
+    let upper_right = book.leaf(b)?;
+    let lower_left = book.leaf(c)?;
+    let lower_right = book.leaf(d)?;
+    book.quad([upper_left, upper_right, lower_left, lower_right])
+}
+
+/// The future of a square of level 5 by B3/S23.
+pub(crate) fn life_future<S: Squares>(book: &mut S, sq: Sq) -> Result<Sq, Refusal>
+    requires known { IsKnown (S.book book.old) sq.level sq }
+    requires level { sq.level ≡ 5 }
+    requires rule { (S.book book.old).rule ≡ life }
+    ensures ok { IfOk result (IsFuture (S.book book.new) sq) }
+    ensures refusal { IfErr result (MayRefuse (S.book book.new)) }
+    ensures keeps { Keeps (S.book book.old) (S.book book.new) }
+    ensures results { KeepsResults (S.book book.old) (S.book book.new) }
+{
+    let leaves = read_sixteen(book, sq);
+    let exponent = u8::min(book.exponent(), 3);
+    join_leaves(book, life32(leaves, exponent))
 }
 
 /// The future of a square of level 4.

@@ -3,10 +3,11 @@ ghost use Rattle.squares.specs.Book.{HasResult, IsFuture, IsKnown, Keeps, KeepsR
 ghost use Rattle.hashlife_step.specs.Futures.{AreCentres, AreFutures};
 ghost use Rattle.hashlife_step.specs.Tallies.{Tallies};
 
-use crate::leaf_squares::leaf_future;
+use crate::leaf_squares::{leaf_future, life_future};
 use crate::orders::turn;
 use crate::overlaps::{overlaps, replace_by_centres};
 use crate::tally::Tally;
+use leaf_kernels::is_life;
 use plane::Refusal;
 use squares::{Sq, Squares, nine};
 
@@ -64,6 +65,9 @@ fn make<S: Squares>(book: &mut S, sq: Sq, order: u8, tally: &mut Tally) -> Resul
 {
     if sq.level == 4 {
         return leaf_future(book, sq);
+    }
+    if sq.level == 5 && is_life(book.rule()) {
+        return life_future(book, sq);
     }
     let level = sq.level - 1;
     let mut parts = nine(book, sq)?;

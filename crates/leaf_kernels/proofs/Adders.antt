@@ -1,8 +1,10 @@
 -- Cells added as numbers: what half adders and full adders of rows show at each cell.
+use mir.Syntax.{Width}
+use mir.Val.{bits}
 use Rattle.std.proofs.Common.{◌≡◌, ℕ, ◌+◌, ◌*◌, ℤ, Bool, true, false, cond, List, length, refl, ◌∙◌, ap, arith, bit_and, bit_or}
 use Rattle.std.specs.Prelude.{bit_xor, ◌&&◌, ◌||◌}
 use lib.Lanes.{zip2}
-use Rattle.leaf_kernels.specs.Rows.{rows_plane}
+use Rattle.leaf_kernels.specs.Rows.{square_rows}
 use Rattle.leaf_kernels.specs.Sums.{number_at}
 use Rattle.leaf_kernels.proofs.Bits.{differ}
 use Rattle.leaf_kernels.proofs.Lanes.{zip_length, cells-and, cells-or, cells-xor}
@@ -27,30 +29,6 @@ add_three false true false = refl
 add_three false false true = refl
 add_three false false false = refl
 
-pub half_adder : (a b : List ℕ) → length a ≡ 16 → length b ≡ 16 → (x y : ℤ) →
-    number_at (zip2 bit_xor a b) x y + 2 * number_at (zip2 bit_and a b) x y ≡ number_at a x y + number_at b x y
-half_adder a b la lb x y =
-    ap (λ t. number t + 2 * number_at (zip2 bit_and a b) x y) (cells-xor a b la lb x y)
-    ∙ ap (λ t. number (differ (rows_plane a x y) (rows_plane b x y)) + 2 * number t) (cells-and a b la lb x y)
-    ∙ add_two (rows_plane a x y) (rows_plane b x y)
-
-pub full_adder : (a b c : List ℕ) → length a ≡ 16 → length b ≡ 16 → length c ≡ 16 → (x y : ℤ) →
-    number_at (zip2 bit_xor (zip2 bit_xor a b) c) x y + 2 * number_at (zip2 bit_or (zip2 bit_and a b) (zip2 bit_and (zip2 bit_xor a b) c)) x y
-    ≡ number_at a x y + number_at b x y + number_at c x y
-full_adder a b c la lb lc x y =
-    let odd = zip2 bit_xor a b in
-    let odd_length = zip_length bit_xor a b la lb in
-    let differ_cells = cells-xor a b la lb x y in
-    let sum : rows_plane (zip2 bit_xor odd c) x y ≡ differ (differ (rows_plane a x y) (rows_plane b x y)) (rows_plane c x y) =
-    cells-xor odd c odd_length lc x y ∙ ap (λ t. differ t (rows_plane c x y)) differ_cells in
-    let carry : rows_plane (zip2 bit_or (zip2 bit_and a b) (zip2 bit_and odd c)) x y ≡ ((rows_plane a x y && rows_plane b x y) || (differ (rows_plane a x y) (rows_plane b x y) && rows_plane c x y)) =
-    cells-or (zip2 bit_and a b) (zip2 bit_and odd c) (zip_length bit_and a b la lb) (zip_length bit_and odd c odd_length lc) x y
-    ∙ ap (λ t. t || rows_plane (zip2 bit_and odd c) x y) (cells-and a b la lb x y)
-    ∙ ap (λ t. (rows_plane a x y && rows_plane b x y) || t) (cells-and odd c odd_length lc x y ∙ ap (λ t. t && rows_plane c x y) differ_cells) in
-    ap (λ t. number t + 2 * number_at (zip2 bit_or (zip2 bit_and a b) (zip2 bit_and odd c)) x y) sum
-    ∙ ap (λ t. number (differ (differ (rows_plane a x y) (rows_plane b x y)) (rows_plane c x y)) + 2 * number t) carry
-    ∙ add_three (rows_plane a x y) (rows_plane b x y) (rows_plane c x y)
-
 -- two bits of a number, each moved from the same cell
 pub moved_sum : (s p q a b : Bool) → a ≡ (s && p) → b ≡ (s && q) → number a + 2 * number b ≡ cond s (number p + 2 * number q) 0
 moved_sum true p q a b e f = ap (λ t. number t + 2 * number b) e ∙ ap (λ t. number p + 2 * number t) f
@@ -60,3 +38,28 @@ moved_sum false p q a b e f = ap (λ t. number t + 2 * number b) e ∙ ap (λ t.
 pub carried_on : (a b c d e f one one' two two' carried carried' high high' : ℕ) → one + 2 * one' ≡ a + b + c → two + 2 * two' ≡ d + e + f →
     carried + 2 * carried' ≡ one' + two → high + 2 * high' ≡ carried' + two' → one + 2 * carried + 4 * high + 8 * high' ≡ (a + 2 * d) + (b + 2 * e) + (c + 2 * f)
 carried_on a b c d e f one one' two two' carried carried' high high' h k l m = omega arith
+
+module _ (w : Width) where
+  pub half_adder : (a b : List ℕ) → length a ≡ bits w → length b ≡ bits w → (x y : ℤ) →
+      number_at (bits w) (zip2 bit_xor a b) x y + 2 * number_at (bits w) (zip2 bit_and a b) x y ≡ number_at (bits w) a x y + number_at (bits w) b x y
+  half_adder a b la lb x y =
+      ap (λ t. number t + 2 * number_at (bits w) (zip2 bit_and a b) x y) (cells-xor w a b la lb x y)
+      ∙ ap (λ t. number (differ (square_rows (bits w) a x y) (square_rows (bits w) b x y)) + 2 * number t) (cells-and w a b la lb x y)
+      ∙ add_two (square_rows (bits w) a x y) (square_rows (bits w) b x y)
+
+  pub full_adder : (a b c : List ℕ) → length a ≡ bits w → length b ≡ bits w → length c ≡ bits w → (x y : ℤ) →
+      number_at (bits w) (zip2 bit_xor (zip2 bit_xor a b) c) x y + 2 * number_at (bits w) (zip2 bit_or (zip2 bit_and a b) (zip2 bit_and (zip2 bit_xor a b) c)) x y
+      ≡ number_at (bits w) a x y + number_at (bits w) b x y + number_at (bits w) c x y
+  full_adder a b c la lb lc x y =
+      let odd = zip2 bit_xor a b in
+      let odd_length = zip_length w bit_xor a b la lb in
+      let differ_cells = cells-xor w a b la lb x y in
+      let sum : square_rows (bits w) (zip2 bit_xor odd c) x y ≡ differ (differ (square_rows (bits w) a x y) (square_rows (bits w) b x y)) (square_rows (bits w) c x y) =
+      cells-xor w odd c odd_length lc x y ∙ ap (λ t. differ t (square_rows (bits w) c x y)) differ_cells in
+      let carry : square_rows (bits w) (zip2 bit_or (zip2 bit_and a b) (zip2 bit_and odd c)) x y ≡ ((square_rows (bits w) a x y && square_rows (bits w) b x y) || (differ (square_rows (bits w) a x y) (square_rows (bits w) b x y) && square_rows (bits w) c x y)) =
+      cells-or w (zip2 bit_and a b) (zip2 bit_and odd c) (zip_length w bit_and a b la lb) (zip_length w bit_and odd c odd_length lc) x y
+      ∙ ap (λ t. t || square_rows (bits w) (zip2 bit_and odd c) x y) (cells-and w a b la lb x y)
+      ∙ ap (λ t. (square_rows (bits w) a x y && square_rows (bits w) b x y) || t) (cells-and w odd c odd_length lc x y ∙ ap (λ t. t && square_rows (bits w) c x y) differ_cells) in
+      ap (λ t. number t + 2 * number_at (bits w) (zip2 bit_or (zip2 bit_and a b) (zip2 bit_and odd c)) x y) sum
+      ∙ ap (λ t. number (differ (differ (square_rows (bits w) a x y) (square_rows (bits w) b x y)) (square_rows (bits w) c x y)) + 2 * number t) carry
+      ∙ add_three (square_rows (bits w) a x y) (square_rows (bits w) b x y) (square_rows (bits w) c x y)

@@ -1,5 +1,7 @@
 -- The bits of numbers, as tests.
-use Rattle.std.proofs.Common.{◌≡◌, ℕ, zero, suc, ◌+◌, ◌-◌, ◌*◌, ◌/◌, ◌%◌, ◌^◌, ◌<◌, ◌≤◌, min, max, Bool, true, false, not, refl, sym, ◌∙◌, ap, arith, bit_and, bit_or, w16}
+use mir.Syntax.{Width, w8, w16, w32, w64, w128}
+use mir.Val.{bits}
+use Rattle.std.proofs.Common.{◌≡◌, ℕ, zero, suc, ◌+◌, ◌-◌, ◌*◌, ◌/◌, ◌%◌, ◌^◌, ◌<◌, ◌≤◌, min, max, Bool, true, false, not, refl, sym, ◌∙◌, ap, arith, bit_and, bit_or}
 use Rattle.std.specs.Prelude.{bit_xor, ◌==◌, ◌&&◌, ◌||◌}
 use Rattle.std.specs.Int.{bit_at, bit_not}
 use Rattle.std.proofs.lemmas.Nat.{shr-shr, shr_split}
@@ -36,9 +38,6 @@ less_one zero h = refl
 less_one (suc zero) h = refl
 less_one (suc (suc m)) h = absurd (omega arith)
 
-pub bit-not : (a i : ℕ) → a < 2 ^ 16 → i < 16 → bit (bit_not w16 a) i ≡ not (bit a i)
-bit-not a i h k = ap (λ n. n == 1) (bit_at_not w16 a i h k) ∙ less_one (bit_at a i) (bit_at-lt a i)
-
 -- a shift to the right
 pub bit-shr : (n k i : ℕ) → bit (n / 2 ^ k) i ≡ bit n (k + i)
 bit-shr n k i = ap (λ m. m % 2 == 1) (shr-shr n k i)
@@ -54,17 +53,28 @@ twice_half n = omega arith
 twice_even : (n : ℕ) → n * 2 % 2 ≡ 0
 twice_even n = omega arith
 
-pub bit-shl_first : (n : ℕ) → bit (n * 2 % 2 ^ 16) 0 ≡ false
-bit-shl_first n = bit-low (n * 2) 16 0 (omega arith) ∙ ap (λ m. m == 1) (bit_at_lowest (n * 2) ∙ twice_even n)
-
-pub bit-shl : (n i : ℕ) → suc i < 16 → bit (n * 2 % 2 ^ 16) (suc i) ≡ bit n i
-bit-shl n i h = bit-low (n * 2) 16 (suc i) h ∙ ap (λ m. m == 1) (bit_at-suc (n * 2) i) ∙ ap (λ m. bit m i) (twice_half n)
-
 pub bit-above : (n k i : ℕ) → n < 2 ^ k → k ≤ i → bit n i ≡ false
 bit-above n k i h le = ap (λ m. m == 1) (bit_at_above n k i h le)
 
 pub bit-none : (i : ℕ) → bit 0 i ≡ false
 bit-none i = ap (λ m. m == 1) (bit_at-zero i)
 
-pub bit-ones : (i : ℕ) → i < 16 → bit 65535 i ≡ true
-bit-ones i h = ap (λ m. m == 1) (bit_at_ones 16 i h)
+pub some_bits : (w : Width) → 0 < bits w
+some_bits w8 = omega arith
+some_bits w16 = omega arith
+some_bits w32 = omega arith
+some_bits w64 = omega arith
+some_bits w128 = omega arith
+
+module _ (w : Width) where
+  pub bit-not : (a i : ℕ) → a < 2 ^ bits w → i < bits w → bit (bit_not w a) i ≡ not (bit a i)
+  bit-not a i h k = ap (λ n. n == 1) (bit_at_not w a i h k) ∙ less_one (bit_at a i) (bit_at-lt a i)
+
+  pub bit-shl_first : (n : ℕ) → bit (n * 2 % 2 ^ bits w) 0 ≡ false
+  bit-shl_first n = bit-low (n * 2) (bits w) 0 (some_bits w) ∙ ap (λ m. m == 1) (bit_at_lowest (n * 2) ∙ twice_even n)
+
+  pub bit-shl : (n i : ℕ) → suc i < bits w → bit (n * 2 % 2 ^ bits w) (suc i) ≡ bit n i
+  bit-shl n i h = bit-low (n * 2) (bits w) (suc i) h ∙ ap (λ m. m == 1) (bit_at-suc (n * 2) i) ∙ ap (λ m. bit m i) (twice_half n)
+
+  pub bit-ones : (i : ℕ) → i < bits w → bit (2 ^ bits w - 1) i ≡ true
+  bit-ones i h = ap (λ m. m == 1) (bit_at_ones (bits w) i h)

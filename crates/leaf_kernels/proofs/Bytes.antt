@@ -62,3 +62,10 @@ each_of_eight f g a b c d e p q r (suc (suc (suc (suc (suc zero))))) h = p
 each_of_eight f g a b c d e p q r (suc (suc (suc (suc (suc (suc zero)))))) h = q
 each_of_eight f g a b c d e p q r (suc (suc (suc (suc (suc (suc (suc zero))))))) h = r
 each_of_eight f g a b c d e p q r (suc (suc (suc (suc (suc (suc (suc (suc k)))))))) h = absurd (omega arith)
+
+pub each_of_four : (f g : ℕ → ℕ) → f 0 ≡ g 0 → f 1 ≡ g 1 → f 2 ≡ g 2 → f 3 ≡ g 3 → (k : ℕ) → k < 4 → f k ≡ g k
+each_of_four f g a b c d zero h = a
+each_of_four f g a b c d (suc zero) h = b
+each_of_four f g a b c d (suc (suc zero)) h = c
+each_of_four f g a b c d (suc (suc (suc zero))) h = d
+each_of_four f g a b c d (suc (suc (suc (suc k)))) h = absurd (omega arith)

@@ -4,8 +4,11 @@ pub mod Bits
 pub mod Bytes
 pub mod Cells
 pub mod Futures
+pub mod Joined
 pub mod Lanes
+pub mod LifeCells
 pub mod Moves
 pub mod Neighbours
 pub mod Numbers
 pub mod Squares
+pub mod Squares32

@@ -1,21 +1,19 @@
 -- What shifts of lanes and in lanes do to the cells: each moves, and those that leave the square are gone.
-use Rattle.std.proofs.Common.{◌≡◌, ℕ, zero, suc, ◌+◌, ◌-◌, ◌*◌, ◌/◌, ◌%◌, ◌^◌, ◌<◌, ◌≤◌, ℤ, pos, ◌+ℤ◌, ◌-ℤ◌, Bool, true, false, List, ◌++◌, length, get_or, replicate, refl, sym, ◌∙◌, ap, arith, w16, Fits, inl, inr}
+use mir.Syntax.{Width}
+use mir.Val.{bits}
+use Rattle.std.proofs.Common.{◌≡◌, ℕ, zero, suc, ◌+◌, ◌-◌, ◌*◌, ◌/◌, ◌%◌, ◌^◌, ◌<◌, ◌≤◌, ℤ, pos, ◌+ℤ◌, ◌-ℤ◌, Bool, true, false, List, ◌++◌, length, get_or, replicate, refl, sym, ◌∙◌, ap, arith, Fits, inl, inr}
 use Rattle.std.specs.Prelude.{◌&&◌, unsigned_abs}
 use Rattle.std.specs.List.{range_with_len}
 use Rattle.std.proofs.lemmas.Bool.{cases_lt}
 use Rattle.std.proofs.lemmas.Int.{ints}
-use Rattle.std.proofs.lemmas.List.{get_or_append_left, get_or-append_right, get_or_past}
+use Rattle.std.proofs.lemmas.List.{length-replicate, get_or_append_left, get_or-append_right, get_or_past}
 use Rattle.std.proofs.Math.ListN.{length-append}
 use Rattle.std.proofs.lemmas.Simd.{get_or-zip2, get_or-replicate, Each1-get_or, pick_l-range_with_len, get_or-chunk}
 use lib.Lanes.{zip2, Each1, pick_l}
 use Rattle.plane.specs.Square.{spans, bit}
-use Rattle.leaf_kernels.specs.Rows.{rows_plane}
-use Rattle.leaf_kernels.proofs.Bits.{bit-shr, bit-shl, bit-shl_first, bit-above, bit-none}
+use Rattle.leaf_kernels.specs.Rows.{square_rows}
+use Rattle.leaf_kernels.proofs.Bits.{some_bits, bit-shr, bit-shl, bit-shl_first, bit-above, bit-none}
 use Rattle.leaf_kernels.proofs.Lanes.{cell_in, rows_show}
-
--- a lane after an operation with the same number at each lane
-pub with_each : (f : ℕ → ℕ → ℕ) (rows : List ℕ) (s j : ℕ) → length rows ≡ 16 → j < 16 → get_or (zip2 f rows (replicate 16 s)) j 0 ≡ f (get_or rows j 0) s
-with_each f rows s j long k = get_or-zip2 f rows (replicate 16 s) j 0 0 0 (omega arith) k ∙ ap (f (get_or rows j 0)) (get_or-replicate 16 j s 0 k)
 
 one_on : (i : ℕ) → pos (suc i) -ℤ pos 1 ≡ pos i
 one_on i = omega (arith, ints)
@@ -38,99 +36,111 @@ guard_rows true u t p = refl
 guard_rows false u true p = refl
 guard_rows false u false p = refl
 
-abbrev pub shl : ℕ → ℕ → ℕ
-shl a b = a * 2 ^ b % 2 ^ 16
-
 abbrev pub shr : ℕ → ℕ → ℕ
 shr a b = a / 2 ^ b
 
-left_cell : (rows : List ℕ) → length rows ≡ 16 → (i j : ℕ) → i < 16 → j < 16 → bit (get_or (zip2 shl rows (replicate 16 1)) j 0) i ≡ rows_plane rows (pos i -ℤ pos 1) (pos j)
-left_cell rows long zero j h k = ap (λ r. bit r 0) (with_each shl rows 1 j long k) ∙ bit-shl_first (get_or rows j 0)
-left_cell rows long (suc i) j h k =
-    ap (λ r. bit r (suc i)) (with_each shl rows 1 j long k) ∙ bit-shl (get_or rows j 0) i h
-    ∙ sym (cell_in rows i j (omega arith) k) ∙ ap (λ z. rows_plane rows z (pos j)) (sym (one_on i))
+module _ (w : Width) where
+  -- a lane after an operation with the same number at each lane
+  pub with_each : (f : ℕ → ℕ → ℕ) (rows : List ℕ) (s j : ℕ) → length rows ≡ bits w → j < bits w → get_or (zip2 f rows (replicate (bits w) s)) j 0 ≡ f (get_or rows j 0) s
+  with_each f rows s j long k = get_or-zip2 f rows (replicate (bits w) s) j 0 0 0 (omega arith) (omega (arith, length-replicate {A = ℕ} (bits w) s)) ∙ ap (f (get_or rows j 0)) (get_or-replicate (bits w) j s 0 k)
 
--- each cell as its left neighbour
-pub from_left_cells : (rows : List ℕ) → length rows ≡ 16 → (x y : ℤ) → rows_plane (zip2 shl rows (replicate 16 1)) x y ≡ (spans 16 x && rows_plane rows (x -ℤ pos 1) y)
-from_left_cells rows long x y =
-    rows_show (zip2 shl rows (replicate 16 1)) (λ u v. rows_plane rows (u -ℤ pos 1) v) (left_cell rows long) x y
-    ∙ guard_columns (spans 16 x) (spans 16 (x -ℤ pos 1)) (spans 16 y) (bit (get_or rows (unsigned_abs y) 0) (unsigned_abs (x -ℤ pos 1)))
+  abbrev pub shl : ℕ → ℕ → ℕ
+  shl a b = a * 2 ^ b % 2 ^ bits w
 
--- a cell in any column
-pub cell_in_row : (rows : List ℕ) (i j : ℕ) → length rows ≡ 16 → Each1 (Fits w16) rows → j < 16 → bit (get_or rows j 0) i ≡ rows_plane rows (pos i) (pos j)
-cell_in_row rows i j long fits k = elim (cases_lt i 16) [
-  | inl h ↦ sym (cell_in rows i j h k)
-  | inr h ↦
-      let lane : Fits w16 (get_or rows j 0) = Each1-get_or (Fits w16) rows j 0 (omega arith) fits in
-      bit-above (get_or rows j 0) 16 i lane.fits h ∙ ap (λ s. (s && spans 16 (pos j)) && bit (get_or rows j 0) i) (sym (outside 16 i h))
-]
+  left_cell : (rows : List ℕ) → length rows ≡ bits w → (i j : ℕ) → i < bits w → j < bits w → bit (get_or (zip2 shl rows (replicate (bits w) 1)) j 0) i ≡ square_rows (bits w) rows (pos i -ℤ pos 1) (pos j)
+  left_cell rows long zero j h k = ap (λ r. bit r 0) (with_each shl rows 1 j long k) ∙ bit-shl_first w (get_or rows j 0)
+  left_cell rows long (suc i) j h k =
+      ap (λ r. bit r (suc i)) (with_each shl rows 1 j long k) ∙ bit-shl w (get_or rows j 0) i h
+      ∙ sym (cell_in w rows i j (omega arith) k) ∙ ap (λ z. square_rows (bits w) rows z (pos j)) (sym (one_on i))
 
--- each cell as its right neighbour
-right_cell : (rows : List ℕ) → length rows ≡ 16 → Each1 (Fits w16) rows → (i j : ℕ) → i < 16 → j < 16 → bit (get_or (zip2 shr rows (replicate 16 1)) j 0) i ≡ rows_plane rows (pos i +ℤ pos 1) (pos j)
-right_cell rows long fits i j h k =
-    ap (λ r. bit r i) (with_each shr rows 1 j long k) ∙ bit-shr (get_or rows j 0) 1 i ∙ cell_in_row rows (1 + i) j long fits k ∙ ap (λ z. rows_plane rows z (pos j)) (later i)
-  where
-    later : (i : ℕ) → pos (1 + i) ≡ pos i +ℤ pos 1
-    later i = omega (arith, ints)
+  -- each cell as its left neighbour
+  pub from_left_cells : (rows : List ℕ) → length rows ≡ bits w → (x y : ℤ) → square_rows (bits w) (zip2 shl rows (replicate (bits w) 1)) x y ≡ (spans (bits w) x && square_rows (bits w) rows (x -ℤ pos 1) y)
+  from_left_cells rows long x y =
+      rows_show w (zip2 shl rows (replicate (bits w) 1)) (λ u v. square_rows (bits w) rows (u -ℤ pos 1) v) (left_cell rows long) x y
+      ∙ guard_columns (spans (bits w) x) (spans (bits w) (x -ℤ pos 1)) (spans (bits w) y) (bit (get_or rows (unsigned_abs y) 0) (unsigned_abs (x -ℤ pos 1)))
 
-pub from_right_cells : (rows : List ℕ) → length rows ≡ 16 → Each1 (Fits w16) rows → (x y : ℤ) → rows_plane (zip2 shr rows (replicate 16 1)) x y ≡ (spans 16 x && rows_plane rows (x +ℤ pos 1) y)
-from_right_cells rows long fits x y =
-    rows_show (zip2 shr rows (replicate 16 1)) (λ u v. rows_plane rows (u +ℤ pos 1) v) (right_cell rows long fits) x y
-    ∙ guard_columns (spans 16 x) (spans 16 (x +ℤ pos 1)) (spans 16 y) (bit (get_or rows (unsigned_abs y) 0) (unsigned_abs (x +ℤ pos 1)))
+  -- a cell in any column
+  pub cell_in_row : (rows : List ℕ) (i j : ℕ) → length rows ≡ bits w → Each1 (Fits w) rows → j < bits w → bit (get_or rows j 0) i ≡ square_rows (bits w) rows (pos i) (pos j)
+  cell_in_row rows i j long fits k = elim (cases_lt i (bits w)) [
+    | inl h ↦ sym (cell_in w rows i j h k)
+    | inr h ↦
+        let lane : Fits w (get_or rows j 0) = Each1-get_or (Fits w) rows j 0 (omega arith) fits in
+        bit-above (get_or rows j 0) (bits w) i lane.fits h ∙ ap (λ s. (s && spans (bits w) (pos j)) && bit (get_or rows j 0) i) (sym (outside (bits w) i h))
+  ]
 
--- a lane of sixteen neighbouring ones
-neighbouring : (both : List ℕ) (from j : ℕ) → from + 16 ≤ length both → j < 16 → get_or (pick_l 0 both (range_with_len from 16)) j 0 ≡ get_or both (from + j) 0
-neighbouring both from j room k = ap (λ l. get_or l j 0) (pick_l-range_with_len 0 both from 16 room) ∙ get_or-chunk from 16 both j 0 k
+  -- each cell as its right neighbour
+  right_cell : (rows : List ℕ) → length rows ≡ bits w → Each1 (Fits w) rows → (i j : ℕ) → i < bits w → j < bits w → bit (get_or (zip2 shr rows (replicate (bits w) 1)) j 0) i ≡ square_rows (bits w) rows (pos i +ℤ pos 1) (pos j)
+  right_cell rows long fits i j h k =
+      ap (λ r. bit r i) (with_each shr rows 1 j long k) ∙ bit-shr (get_or rows j 0) 1 i ∙ cell_in_row rows (1 + i) j long fits k ∙ ap (λ z. square_rows (bits w) rows z (pos j)) (later i)
+    where
+      later : (i : ℕ) → pos (1 + i) ≡ pos i +ℤ pos 1
+      later i = omega (arith, ints)
 
-above_cell : (rows : List ℕ) → length rows ≡ 16 → (i j : ℕ) → i < 16 → j < 16 → bit (get_or (pick_l 0 (replicate 16 0 ++ rows) (range_with_len 15 16)) j 0) i ≡ rows_plane rows (pos i) (pos j -ℤ pos 1)
-above_cell rows long i zero h k =
-    ap (λ r. bit r i) (neighbouring (replicate 16 0 ++ rows) 15 0 (omega (arith, length-append (replicate 16 0) rows)) k) ∙ bit-none i ∙ no_row (spans 16 (pos i)) (bit (get_or rows 1 0) i)
-  where
-    no_row : (s p : Bool) → false ≡ ((s && false) && p)
-    no_row true p = refl
-    no_row false p = refl
-above_cell rows long i (suc j) h k =
-    ap (λ r. bit r i) (neighbouring (replicate 16 0 ++ rows) 15 (suc j) (omega (arith, length-append (replicate 16 0) rows)) k
-    ∙ get_or-append_right (replicate 16 0) rows 16 (15 + suc j) 0 refl (omega arith) ∙ ap (λ n. get_or rows n 0) (back j))
-    ∙ sym (cell_in rows i j h (omega arith)) ∙ ap (λ z. rows_plane rows (pos i) z) (sym (one_on j))
-  where
-    back : (j : ℕ) → 15 + suc j - 16 ≡ j
-    back j = omega arith
+  pub from_right_cells : (rows : List ℕ) → length rows ≡ bits w → Each1 (Fits w) rows → (x y : ℤ) → square_rows (bits w) (zip2 shr rows (replicate (bits w) 1)) x y ≡ (spans (bits w) x && square_rows (bits w) rows (x +ℤ pos 1) y)
+  from_right_cells rows long fits x y =
+      rows_show w (zip2 shr rows (replicate (bits w) 1)) (λ u v. square_rows (bits w) rows (u +ℤ pos 1) v) (right_cell rows long fits) x y
+      ∙ guard_columns (spans (bits w) x) (spans (bits w) (x +ℤ pos 1)) (spans (bits w) y) (bit (get_or rows (unsigned_abs y) 0) (unsigned_abs (x +ℤ pos 1)))
 
--- each cell as its upper neighbour
-pub from_above_cells : (rows : List ℕ) → length rows ≡ 16 → (x y : ℤ) → rows_plane (pick_l 0 (replicate 16 0 ++ rows) (range_with_len 15 16)) x y ≡ (spans 16 y && rows_plane rows x (y -ℤ pos 1))
-from_above_cells rows long x y =
-    rows_show (pick_l 0 (replicate 16 0 ++ rows) (range_with_len 15 16)) (λ u v. rows_plane rows u (v -ℤ pos 1)) (above_cell rows long) x y
-    ∙ guard_rows (spans 16 x) (spans 16 (y -ℤ pos 1)) (spans 16 y) (bit (get_or rows (unsigned_abs (y -ℤ pos 1)) 0) (unsigned_abs x))
+  -- a lane of sixteen neighbouring ones
+  neighbouring : (both : List ℕ) (from j : ℕ) → from + bits w ≤ length both → j < bits w → get_or (pick_l 0 both (range_with_len from (bits w))) j 0 ≡ get_or both (from + j) 0
+  neighbouring both from j room k = ap (λ l. get_or l j 0) (pick_l-range_with_len 0 both from (bits w) room) ∙ get_or-chunk from (bits w) both j 0 k
 
--- a cell in any row
-pub cell_in_column : (rows : List ℕ) (i j : ℕ) → length rows ≡ 16 → i < 16 → bit (get_or rows j 0) i ≡ rows_plane rows (pos i) (pos j)
-cell_in_column rows i j long h = elim (cases_lt j 16) [
-  | inl k ↦ sym (cell_in rows i j h k)
-  | inr k ↦ ap (λ r. bit r i) (get_or_past rows j 0 (omega arith)) ∙ bit-none i ∙ no_row (spans 16 (pos i)) (bit (get_or rows j 0) i) ∙ ap (λ s. (spans 16 (pos i) && s) && bit (get_or rows j 0) i) (sym (outside 16 j k))
-]
-  where
-    no_row : (s p : Bool) → false ≡ ((s && false) && p)
-    no_row true p = refl
-    no_row false p = refl
+  first_lane : (rows : List ℕ) → get_or (replicate (bits w) 0 ++ rows) (bits w - 1 + 0) 0 ≡ 0
+  first_lane rows =
+      let some = some_bits w in
+      get_or_append_left (replicate (bits w) 0) rows 0 (bits w - 1 + 0) (omega (arith, length-replicate {A = ℕ} (bits w) 0)) ∙ get_or-replicate (bits w) (bits w - 1 + 0) 0 0 (omega arith)
 
-below_lane : (rows : List ℕ) (j : ℕ) → length rows ≡ 16 → j < 16 → get_or (rows ++ replicate 16 0) (1 + j) 0 ≡ get_or rows (1 + j) 0
-below_lane rows j long k = elim (cases_lt (1 + j) 16) [
-  | inl h ↦ get_or_append_left rows (replicate 16 0) 0 (1 + j) (omega arith)
-  | inr h ↦
-      get_or-append_right rows (replicate 16 0) 16 (1 + j) 0 long h ∙ get_or-replicate 16 (1 + j - 16) 0 0 (omega arith) ∙ sym (get_or_past rows (1 + j) 0 (omega arith))
-]
+  above_cell : (rows : List ℕ) → length rows ≡ bits w → (i j : ℕ) → i < bits w → j < bits w → bit (get_or (pick_l 0 (replicate (bits w) 0 ++ rows) (range_with_len (bits w - 1) (bits w))) j 0) i ≡ square_rows (bits w) rows (pos i) (pos j -ℤ pos 1)
+  above_cell rows long i zero h k =
+      let some = some_bits w in
+      ap (λ r. bit r i) (neighbouring (replicate (bits w) 0 ++ rows) (bits w - 1) 0 (omega (arith, length-replicate {A = ℕ} (bits w) 0, length-append (replicate (bits w) 0) rows)) k ∙ first_lane rows) ∙ bit-none i ∙ no_row (spans (bits w) (pos i)) (bit (get_or rows 1 0) i)
+    where
+      no_row : (s p : Bool) → false ≡ ((s && false) && p)
+      no_row true p = refl
+      no_row false p = refl
+  above_cell rows long i (suc j) h k =
+      let some = some_bits w in
+      ap (λ r. bit r i) (neighbouring (replicate (bits w) 0 ++ rows) (bits w - 1) (suc j) (omega (arith, length-replicate {A = ℕ} (bits w) 0, length-append (replicate (bits w) 0) rows)) k
+      ∙ get_or-append_right (replicate (bits w) 0) rows (bits w) (bits w - 1 + suc j) 0 (length-replicate {A = ℕ} (bits w) 0) (omega arith) ∙ ap (λ n. get_or rows n 0) (back j))
+      ∙ sym (cell_in w rows i j h (omega arith)) ∙ ap (λ z. square_rows (bits w) rows (pos i) z) (sym (one_on j))
+    where
+      back : (j : ℕ) → bits w - 1 + suc j - bits w ≡ j
+      back j = let some = some_bits w in omega arith
 
-below_cell : (rows : List ℕ) → length rows ≡ 16 → (i j : ℕ) → i < 16 → j < 16 → bit (get_or (pick_l 0 (rows ++ replicate 16 0) (range_with_len 1 16)) j 0) i ≡ rows_plane rows (pos i) (pos j +ℤ pos 1)
-below_cell rows long i j h k =
-    ap (λ r. bit r i) (neighbouring (rows ++ replicate 16 0) 1 j (omega (arith, length-append rows (replicate 16 0))) k ∙ below_lane rows j long k)
-    ∙ cell_in_column rows i (1 + j) long h ∙ ap (λ z. rows_plane rows (pos i) z) (later j)
-  where
-    later : (j : ℕ) → pos (1 + j) ≡ pos j +ℤ pos 1
-    later j = omega (arith, ints)
+  -- each cell as its upper neighbour
+  pub from_above_cells : (rows : List ℕ) → length rows ≡ bits w → (x y : ℤ) → square_rows (bits w) (pick_l 0 (replicate (bits w) 0 ++ rows) (range_with_len (bits w - 1) (bits w))) x y ≡ (spans (bits w) y && square_rows (bits w) rows x (y -ℤ pos 1))
+  from_above_cells rows long x y =
+      rows_show w (pick_l 0 (replicate (bits w) 0 ++ rows) (range_with_len (bits w - 1) (bits w))) (λ u v. square_rows (bits w) rows u (v -ℤ pos 1)) (above_cell rows long) x y
+      ∙ guard_rows (spans (bits w) x) (spans (bits w) (y -ℤ pos 1)) (spans (bits w) y) (bit (get_or rows (unsigned_abs (y -ℤ pos 1)) 0) (unsigned_abs x))
 
--- each cell as its lower neighbour
-pub from_below_cells : (rows : List ℕ) → length rows ≡ 16 → (x y : ℤ) → rows_plane (pick_l 0 (rows ++ replicate 16 0) (range_with_len 1 16)) x y ≡ (spans 16 y && rows_plane rows x (y +ℤ pos 1))
-from_below_cells rows long x y =
-    rows_show (pick_l 0 (rows ++ replicate 16 0) (range_with_len 1 16)) (λ u v. rows_plane rows u (v +ℤ pos 1)) (below_cell rows long) x y
-    ∙ guard_rows (spans 16 x) (spans 16 (y +ℤ pos 1)) (spans 16 y) (bit (get_or rows (unsigned_abs (y +ℤ pos 1)) 0) (unsigned_abs x))
+  -- a cell in any row
+  pub cell_in_column : (rows : List ℕ) (i j : ℕ) → length rows ≡ bits w → i < bits w → bit (get_or rows j 0) i ≡ square_rows (bits w) rows (pos i) (pos j)
+  cell_in_column rows i j long h = elim (cases_lt j (bits w)) [
+    | inl k ↦ sym (cell_in w rows i j h k)
+    | inr k ↦ ap (λ r. bit r i) (get_or_past rows j 0 (omega arith)) ∙ bit-none i ∙ no_row (spans (bits w) (pos i)) (bit (get_or rows j 0) i) ∙ ap (λ s. (spans (bits w) (pos i) && s) && bit (get_or rows j 0) i) (sym (outside (bits w) j k))
+  ]
+    where
+      no_row : (s p : Bool) → false ≡ ((s && false) && p)
+      no_row true p = refl
+      no_row false p = refl
+
+  below_lane : (rows : List ℕ) (j : ℕ) → length rows ≡ bits w → j < bits w → get_or (rows ++ replicate (bits w) 0) (1 + j) 0 ≡ get_or rows (1 + j) 0
+  below_lane rows j long k = elim (cases_lt (1 + j) (bits w)) [
+    | inl h ↦ get_or_append_left rows (replicate (bits w) 0) 0 (1 + j) (omega arith)
+    | inr h ↦
+        get_or-append_right rows (replicate (bits w) 0) (bits w) (1 + j) 0 long h ∙ get_or-replicate (bits w) (1 + j - (bits w)) 0 0 (omega arith) ∙ sym (get_or_past rows (1 + j) 0 (omega arith))
+  ]
+
+  below_cell : (rows : List ℕ) → length rows ≡ bits w → (i j : ℕ) → i < bits w → j < bits w → bit (get_or (pick_l 0 (rows ++ replicate (bits w) 0) (range_with_len 1 (bits w))) j 0) i ≡ square_rows (bits w) rows (pos i) (pos j +ℤ pos 1)
+  below_cell rows long i j h k =
+      ap (λ r. bit r i) (neighbouring (rows ++ replicate (bits w) 0) 1 j (omega (arith, length-replicate {A = ℕ} (bits w) 0, length-append rows (replicate (bits w) 0))) k ∙ below_lane rows j long k)
+      ∙ cell_in_column rows i (1 + j) long h ∙ ap (λ z. square_rows (bits w) rows (pos i) z) (later j)
+    where
+      later : (j : ℕ) → pos (1 + j) ≡ pos j +ℤ pos 1
+      later j = omega (arith, ints)
+
+  -- each cell as its lower neighbour
+  pub from_below_cells : (rows : List ℕ) → length rows ≡ bits w → (x y : ℤ) → square_rows (bits w) (pick_l 0 (rows ++ replicate (bits w) 0) (range_with_len 1 (bits w))) x y ≡ (spans (bits w) y && square_rows (bits w) rows x (y +ℤ pos 1))
+  from_below_cells rows long x y =
+      rows_show w (pick_l 0 (rows ++ replicate (bits w) 0) (range_with_len 1 (bits w))) (λ u v. square_rows (bits w) rows u (v +ℤ pos 1)) (below_cell rows long) x y
+      ∙ guard_rows (spans (bits w) x) (spans (bits w) (y +ℤ pos 1)) (spans (bits w) y) (bit (get_or rows (unsigned_abs (y +ℤ pos 1)) 0) (unsigned_abs x))

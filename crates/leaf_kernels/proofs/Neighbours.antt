@@ -66,56 +66,57 @@ sum_three s a b c a' b' c' h k l m = omega arith
 sum_two : (s a b a' b' : ℕ) → s ≡ a + b → a ≡ a' → b ≡ b' → s ≡ a' + b'
 sum_two s a b a' b' h k l = omega arith
 
--- The rows p, and the same as their left and their right neighbours.
-module _ (p left right : Plane) (is_left : (x y : ℤ) → left x y ≡ (spans 16 x && p (x -ℤ pos 1) y)) (is_right : (x y : ℤ) → right x y ≡ (spans 16 x && p (x +ℤ pos 1) y)) where
-  pub counts_eight : (three above beside below count : ℤ → ℤ → ℕ) →
-      ((x y : ℤ) → three x y ≡ number (left x y) + number (p x y) + number (right x y)) →
-      ((x y : ℤ) → above x y ≡ cond (spans 16 y) (three x (y -ℤ pos 1)) 0) →
-      ((x y : ℤ) → beside x y ≡ number (left x y) + number (right x y)) →
-      ((x y : ℤ) → below x y ≡ cond (spans 16 y) (three x (y +ℤ pos 1)) 0) →
-      ((x y : ℤ) → count x y ≡ above x y + beside x y + below x y) →
-      (x y : ℤ) → (spans 16 x && spans 16 y) ≡ true → count x y ≡ live_neighbours Moore p x y
-  counts_eight three above beside below count is_three is_above is_beside is_below is_count x y inside =
-      let in_x = and_left (spans 16 x) (spans 16 y) inside in
-      let in_y = and_right (spans 16 x) (spans 16 y) inside in
-      let three_at : (v : ℤ) → three x v ≡ number (p (x -ℤ pos 1) v) + number (p x v) + number (p (x +ℤ pos 1) v) =
-      λ v. sum_three (three x v) _ _ _ _ _ _ (is_three x v) (within (spans 16 x) _ _ in_x (is_left x v)) refl (within (spans 16 x) _ _ in_x (is_right x v)) in
-      add_eight (count x y) (above x y) (beside x y) (below x y) _ _ _ _ _ _ _ _ (is_count x y)
-      (moved (spans 16 y) (above x y) (three x (y -ℤ pos 1)) in_y (is_above x y) ∙ three_at (y -ℤ pos 1))
-      (sum_two (beside x y) _ _ _ _ (is_beside x y) (within (spans 16 x) _ _ in_x (is_left x y)) (within (spans 16 x) _ _ in_x (is_right x y)))
-      (moved (spans 16 y) (below x y) (three x (y +ℤ pos 1)) in_y (is_below x y) ∙ three_at (y +ℤ pos 1))
-      ∙ sym (eight_neighbours p x y)
+module _ (side : ℕ) where
+  -- The rows p, and the same as their left and their right neighbours.
+  module _ (p left right : Plane) (is_left : (x y : ℤ) → left x y ≡ (spans side x && p (x -ℤ pos 1) y)) (is_right : (x y : ℤ) → right x y ≡ (spans side x && p (x +ℤ pos 1) y)) where
+    pub counts_eight : (three above beside below count : ℤ → ℤ → ℕ) →
+        ((x y : ℤ) → three x y ≡ number (left x y) + number (p x y) + number (right x y)) →
+        ((x y : ℤ) → above x y ≡ cond (spans side y) (three x (y -ℤ pos 1)) 0) →
+        ((x y : ℤ) → beside x y ≡ number (left x y) + number (right x y)) →
+        ((x y : ℤ) → below x y ≡ cond (spans side y) (three x (y +ℤ pos 1)) 0) →
+        ((x y : ℤ) → count x y ≡ above x y + beside x y + below x y) →
+        (x y : ℤ) → (spans side x && spans side y) ≡ true → count x y ≡ live_neighbours Moore p x y
+    counts_eight three above beside below count is_three is_above is_beside is_below is_count x y inside =
+        let in_x = and_left (spans side x) (spans side y) inside in
+        let in_y = and_right (spans side x) (spans side y) inside in
+        let three_at : (v : ℤ) → three x v ≡ number (p (x -ℤ pos 1) v) + number (p x v) + number (p (x +ℤ pos 1) v) =
+        λ v. sum_three (three x v) _ _ _ _ _ _ (is_three x v) (within (spans side x) _ _ in_x (is_left x v)) refl (within (spans side x) _ _ in_x (is_right x v)) in
+        add_eight (count x y) (above x y) (beside x y) (below x y) _ _ _ _ _ _ _ _ (is_count x y)
+        (moved (spans side y) (above x y) (three x (y -ℤ pos 1)) in_y (is_above x y) ∙ three_at (y -ℤ pos 1))
+        (sum_two (beside x y) _ _ _ _ (is_beside x y) (within (spans side x) _ _ in_x (is_left x y)) (within (spans side x) _ _ in_x (is_right x y)))
+        (moved (spans side y) (below x y) (three x (y +ℤ pos 1)) in_y (is_below x y) ∙ three_at (y +ℤ pos 1))
+        ∙ sym (eight_neighbours p x y)
 
-  pub counts_four : (over under : Plane) (none beside upright count : ℤ → ℤ → ℕ) →
-      ((x y : ℤ) → over x y ≡ (spans 16 y && p x (y -ℤ pos 1))) → ((x y : ℤ) → under x y ≡ (spans 16 y && p x (y +ℤ pos 1))) →
-      ((x y : ℤ) → none x y ≡ 0) →
-      ((x y : ℤ) → beside x y ≡ number (left x y) + number (right x y)) →
-      ((x y : ℤ) → upright x y ≡ number (over x y) + number (under x y)) →
-      ((x y : ℤ) → count x y ≡ none x y + beside x y + upright x y) →
-      (x y : ℤ) → (spans 16 x && spans 16 y) ≡ true → count x y ≡ live_neighbours VonNeumann p x y
-  counts_four over under none beside upright count is_over is_under is_none is_beside is_upright is_count x y inside =
-      let in_x = and_left (spans 16 x) (spans 16 y) inside in
-      let in_y = and_right (spans 16 x) (spans 16 y) inside in
-      add_four (count x y) (none x y) (beside x y) (upright x y) _ _ _ _ (is_count x y) (is_none x y)
-      (sum_two (beside x y) _ _ _ _ (is_beside x y) (within (spans 16 x) _ _ in_x (is_left x y)) (within (spans 16 x) _ _ in_x (is_right x y)))
-      (sum_two (upright x y) _ _ _ _ (is_upright x y) (within (spans 16 y) _ _ in_y (is_over x y)) (within (spans 16 y) _ _ in_y (is_under x y)))
-      ∙ sym (four_neighbours p x y)
+    pub counts_four : (over under : Plane) (none beside upright count : ℤ → ℤ → ℕ) →
+        ((x y : ℤ) → over x y ≡ (spans side y && p x (y -ℤ pos 1))) → ((x y : ℤ) → under x y ≡ (spans side y && p x (y +ℤ pos 1))) →
+        ((x y : ℤ) → none x y ≡ 0) →
+        ((x y : ℤ) → beside x y ≡ number (left x y) + number (right x y)) →
+        ((x y : ℤ) → upright x y ≡ number (over x y) + number (under x y)) →
+        ((x y : ℤ) → count x y ≡ none x y + beside x y + upright x y) →
+        (x y : ℤ) → (spans side x && spans side y) ≡ true → count x y ≡ live_neighbours VonNeumann p x y
+    counts_four over under none beside upright count is_over is_under is_none is_beside is_upright is_count x y inside =
+        let in_x = and_left (spans side x) (spans side y) inside in
+        let in_y = and_right (spans side x) (spans side y) inside in
+        add_four (count x y) (none x y) (beside x y) (upright x y) _ _ _ _ (is_count x y) (is_none x y)
+        (sum_two (beside x y) _ _ _ _ (is_beside x y) (within (spans side x) _ _ in_x (is_left x y)) (within (spans side x) _ _ in_x (is_right x y)))
+        (sum_two (upright x y) _ _ _ _ (is_upright x y) (within (spans side y) _ _ in_y (is_over x y)) (within (spans side y) _ _ in_y (is_under x y)))
+        ∙ sym (four_neighbours p x y)
 
-  pub counts_six : (over above beside under below count : ℤ → ℤ → ℕ) →
-      ((x y : ℤ) → over x y ≡ number (left x y) + number (p x y)) →
-      ((x y : ℤ) → above x y ≡ cond (spans 16 y) (over x (y -ℤ pos 1)) 0) →
-      ((x y : ℤ) → beside x y ≡ number (left x y) + number (right x y)) →
-      ((x y : ℤ) → under x y ≡ number (p x y) + number (right x y)) →
-      ((x y : ℤ) → below x y ≡ cond (spans 16 y) (under x (y +ℤ pos 1)) 0) →
-      ((x y : ℤ) → count x y ≡ above x y + beside x y + below x y) →
-      (x y : ℤ) → (spans 16 x && spans 16 y) ≡ true → count x y ≡ live_neighbours Hexagonal p x y
-  counts_six over above beside under below count is_over is_above is_beside is_under is_below is_count x y inside =
-      let in_x = and_left (spans 16 x) (spans 16 y) inside in
-      let in_y = and_right (spans 16 x) (spans 16 y) inside in
-      add_six (count x y) (above x y) (beside x y) (below x y) _ _ _ _ _ _ (is_count x y)
-      (moved (spans 16 y) (above x y) (over x (y -ℤ pos 1)) in_y (is_above x y)
-      ∙ sum_two (over x (y -ℤ pos 1)) _ _ _ _ (is_over x (y -ℤ pos 1)) (within (spans 16 x) _ _ in_x (is_left x (y -ℤ pos 1))) refl)
-      (sum_two (beside x y) _ _ _ _ (is_beside x y) (within (spans 16 x) _ _ in_x (is_left x y)) (within (spans 16 x) _ _ in_x (is_right x y)))
-      (moved (spans 16 y) (below x y) (under x (y +ℤ pos 1)) in_y (is_below x y)
-      ∙ sum_two (under x (y +ℤ pos 1)) _ _ _ _ (is_under x (y +ℤ pos 1)) refl (within (spans 16 x) _ _ in_x (is_right x (y +ℤ pos 1))))
-      ∙ sym (six_neighbours p x y)
+    pub counts_six : (over above beside under below count : ℤ → ℤ → ℕ) →
+        ((x y : ℤ) → over x y ≡ number (left x y) + number (p x y)) →
+        ((x y : ℤ) → above x y ≡ cond (spans side y) (over x (y -ℤ pos 1)) 0) →
+        ((x y : ℤ) → beside x y ≡ number (left x y) + number (right x y)) →
+        ((x y : ℤ) → under x y ≡ number (p x y) + number (right x y)) →
+        ((x y : ℤ) → below x y ≡ cond (spans side y) (under x (y +ℤ pos 1)) 0) →
+        ((x y : ℤ) → count x y ≡ above x y + beside x y + below x y) →
+        (x y : ℤ) → (spans side x && spans side y) ≡ true → count x y ≡ live_neighbours Hexagonal p x y
+    counts_six over above beside under below count is_over is_above is_beside is_under is_below is_count x y inside =
+        let in_x = and_left (spans side x) (spans side y) inside in
+        let in_y = and_right (spans side x) (spans side y) inside in
+        add_six (count x y) (above x y) (beside x y) (below x y) _ _ _ _ _ _ (is_count x y)
+        (moved (spans side y) (above x y) (over x (y -ℤ pos 1)) in_y (is_above x y)
+        ∙ sum_two (over x (y -ℤ pos 1)) _ _ _ _ (is_over x (y -ℤ pos 1)) (within (spans side x) _ _ in_x (is_left x (y -ℤ pos 1))) refl)
+        (sum_two (beside x y) _ _ _ _ (is_beside x y) (within (spans side x) _ _ in_x (is_left x y)) (within (spans side x) _ _ in_x (is_right x y)))
+        (moved (spans side y) (below x y) (under x (y +ℤ pos 1)) in_y (is_below x y)
+        ∙ sum_two (under x (y +ℤ pos 1)) _ _ _ _ (is_under x (y +ℤ pos 1)) refl (within (spans side x) _ _ in_x (is_right x (y +ℤ pos 1))))
+        ∙ sym (six_neighbours p x y)

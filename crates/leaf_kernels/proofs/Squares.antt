@@ -1,7 +1,6 @@
 -- Four leaves as rows, and the middle of rows as a leaf.
-use Rattle.std.proofs.Common.{◌≡◌, ℕ, ◌+◌, ◌-◌, ◌*◌, ◌/◌, ◌%◌, ◌^◌, ◌<◌, ℤ, pos, ◌+ℤ◌, ◌-ℤ◌, Bool, true, false, List, length, get_or, replicate, refl, sym, ◌∙◌, ap, subst, arith, inl, inr}
-use Rattle.std.specs.Prelude.{◌&&◌, int_lt, unsigned_abs}
-use Rattle.std.proofs.lemmas.Bool.{cases_lt, cond-true, cond-false}
+use Rattle.std.proofs.Common.{◌≡◌, ℕ, ◌+◌, ◌*◌, ◌/◌, ◌%◌, ◌^◌, ◌<◌, ℤ, pos, ◌+ℤ◌, Bool, true, false, List, length, get_or, replicate, refl, sym, ◌∙◌, ap, arith, w16}
+use Rattle.std.specs.Prelude.{◌&&◌, unsigned_abs}
 use Rattle.std.proofs.lemmas.Int.{ints}
 use lib.Lanes.{zip2}
 use Rattle.plane.specs.Plane.{Plane}
@@ -11,60 +10,25 @@ use Rattle.leaf_kernels.specs.Rows.{rows_plane, leaves_plane}
 use Rattle.leaf_kernels.proofs.Bits.{bit-low, bit-shr}
 use Rattle.leaf_kernels.proofs.Bytes.{bit-first_byte, bit-next_bytes, bit-byte}
 use Rattle.leaf_kernels.proofs.Cells.{and_true, less_spans, same_squares}
+use Rattle.leaf_kernels.proofs.Joined.{four_squares}
 use Rattle.leaf_kernels.proofs.Lanes.{cell_in, rows_show}
 use Rattle.leaf_kernels.proofs.Moves.{with_each, shr}
 
 pub leaf_cell : (word i j : ℕ) → i < 8 → j < 8 → bits_plane word (pos i) (pos j) ≡ bit word (8 * j + i)
 leaf_cell word i j h k = and_true (spans 8 (pos i)) (spans 8 (pos j)) (bit word (8 * j + i)) (less_spans 8 i h) (less_spans 8 j k)
 
-leaf_square : (word : ℕ) → IsSquare 8 (bits_plane word)
+pub leaf_square : (word : ℕ) → IsSquare 8 (bits_plane word)
 leaf_square word = record { dead = λ x y e. ap (λ g. g && bit word (8 * unsigned_abs y + unsigned_abs x)) e }
 
-leaves_square : (leaves : List ℕ) → IsSquare 16 (leaves_plane leaves)
+pub leaves_square : (leaves : List ℕ) → IsSquare 16 (leaves_plane leaves)
 leaves_square leaves = joined_within 8 _ _ _ _ (leaf_square (get_or leaves 0 0)) (leaf_square (get_or leaves 1 0)) (leaf_square (get_or leaves 2 0)) (leaf_square (get_or leaves 3 0))
 
-in_square : (n : ℕ) (p : Plane) → IsSquare n p → (x y : ℤ) → ((spans n x && spans n y) && p x y) ≡ p x y
+pub in_square : (n : ℕ) (p : Plane) → IsSquare n p → (x y : ℤ) → ((spans n x && spans n y) && p x y) ≡ p x y
 in_square n p square x y = inside (spans n x && spans n y) (p x y) (square.dead x y)
   where
     inside : (g b : Bool) → (g ≡ false → b ≡ false) → (g && b) ≡ b
     inside true b h = refl
     inside false b h = sym (h refl)
-
-before_eight : (i : ℕ) → i < 8 → int_lt (pos i) (pos 8) ≡ true
-before_eight i h = grind (arith, ints)
-
-from_eight : (i : ℕ) → int_lt (pos (8 + i)) (pos 8) ≡ false
-from_eight i = grind (arith, ints)
-
-eight_back : (i : ℕ) → pos (8 + i) -ℤ pos 8 ≡ pos i
-eight_back i = omega (arith, ints)
-
--- the cells of each leaf
-module _ (leaves : List ℕ) (i j : ℕ) (h : i < 8) (k : j < 8) where
-  upper_left : leaves_plane leaves (pos i) (pos j) ≡ bits_plane (get_or leaves 0 0) (pos i) (pos j)
-  upper_left = cond-true (int_lt (pos j) (pos 8)) _ _ (before_eight j k) ∙ cond-true (int_lt (pos i) (pos 8)) _ _ (before_eight i h)
-
-  upper_right : leaves_plane leaves (pos (8 + i)) (pos j) ≡ bits_plane (get_or leaves 1 0) (pos i) (pos j)
-  upper_right =
-      cond-true (int_lt (pos j) (pos 8)) _ _ (before_eight j k) ∙ cond-false (int_lt (pos (8 + i)) (pos 8)) _ _ (from_eight i)
-      ∙ ap (λ z. bits_plane (get_or leaves 1 0) z (pos j)) (eight_back i)
-
-  lower_left : leaves_plane leaves (pos i) (pos (8 + j)) ≡ bits_plane (get_or leaves 2 0) (pos i) (pos j)
-  lower_left =
-      cond-false (int_lt (pos (8 + j)) (pos 8)) _ _ (from_eight j) ∙ cond-true (int_lt (pos i) (pos 8)) _ _ (before_eight i h)
-      ∙ ap (λ z. bits_plane (get_or leaves 2 0) (pos i) z) (eight_back j)
-
-  lower_right : leaves_plane leaves (pos (8 + i)) (pos (8 + j)) ≡ bits_plane (get_or leaves 3 0) (pos i) (pos j)
-  lower_right =
-      cond-false (int_lt (pos (8 + j)) (pos 8)) _ _ (from_eight j) ∙ cond-false (int_lt (pos (8 + i)) (pos 8)) _ _ (from_eight i)
-      ∙ ap (λ z. bits_plane (get_or leaves 3 0) z (pos (8 + j) -ℤ pos 8)) (eight_back i) ∙ ap (λ z. bits_plane (get_or leaves 3 0) (pos i) z) (eight_back j)
-
--- a number below 16 is below 8, or 8 more than one that is
-split : (P : ℕ → Type 0) → ((k : ℕ) → k < 8 → P k) → ((k : ℕ) → k < 8 → P (8 + k)) → (n : ℕ) → n < 16 → P n
-split P low high n h = elim (cases_lt n 8) [
-  | inl l ↦ low n l
-  | inr g ↦ let back : 8 + (n - 8) ≡ n = omega arith in subst P back (high (n - 8) (omega arith))
-]
 
 byte_less : (w k : ℕ) → w / 256 ^ k % 256 < 256
 byte_less w k = remainder (w / 256 ^ k)
@@ -108,16 +72,14 @@ module _ (leaves bytes pairs rows : List ℕ)
   right_bit r a b i k e h l = ap (λ n. bit n (8 + i)) e ∙ bit-next_bytes (a / 256 ^ k % 256) (b / 256 ^ k % 256) i (byte_less a k) ∙ bit-byte b k i h ∙ sym (leaf_cell b i k h l)
 
   leaf_cells : (i j : ℕ) → i < 16 → j < 16 → bit (get_or rows j 0) i ≡ leaves_plane leaves (pos i) (pos j)
-  leaf_cells i j h k = split (λ n. bit (get_or rows j 0) n ≡ leaves_plane leaves (pos n) (pos j))
-      (λ m l. split (λ n. bit (get_or rows n 0) m ≡ leaves_plane leaves (pos m) (pos n))
-      (λ n o. left_bit (get_or rows n 0) (get_or leaves 0 0) (get_or leaves 1 0) m n (upper_row n o) l o ∙ sym (upper_left leaves m n l o))
-      (λ n o. left_bit (get_or rows (8 + n) 0) (get_or leaves 2 0) (get_or leaves 3 0) m n (lower_row n o) l o ∙ sym (lower_left leaves m n l o)) j k)
-      (λ m l. split (λ n. bit (get_or rows n 0) (8 + m) ≡ leaves_plane leaves (pos (8 + m)) (pos n))
-      (λ n o. right_bit (get_or rows n 0) (get_or leaves 0 0) (get_or leaves 1 0) m n (upper_row n o) l o ∙ sym (upper_right leaves m n l o))
-      (λ n o. right_bit (get_or rows (8 + n) 0) (get_or leaves 2 0) (get_or leaves 3 0) m n (lower_row n o) l o ∙ sym (lower_right leaves m n l o)) j k) i h
+  leaf_cells = four_squares 8 (bits_plane (get_or leaves 0 0)) (bits_plane (get_or leaves 1 0)) (bits_plane (get_or leaves 2 0)) (bits_plane (get_or leaves 3 0)) (λ i j. bit (get_or rows j 0) i)
+      (λ i j h k. left_bit (get_or rows j 0) (get_or leaves 0 0) (get_or leaves 1 0) i j (upper_row j k) h k)
+      (λ i j h k. right_bit (get_or rows j 0) (get_or leaves 0 0) (get_or leaves 1 0) i j (upper_row j k) h k)
+      (λ i j h k. left_bit (get_or rows (8 + j) 0) (get_or leaves 2 0) (get_or leaves 3 0) i j (lower_row j k) h k)
+      (λ i j h k. right_bit (get_or rows (8 + j) 0) (get_or leaves 2 0) (get_or leaves 3 0) i j (lower_row j k) h k)
 
   pub rows_of_leaves : IsSame (rows_plane rows) (leaves_plane leaves)
-  rows_of_leaves = record { same = λ x y. rows_show rows (leaves_plane leaves) leaf_cells x y ∙ in_square 16 (leaves_plane leaves) (leaves_square leaves) x y }
+  rows_of_leaves = record { same = λ x y. rows_show w16 rows (leaves_plane leaves) leaf_cells x y ∙ in_square 16 (leaves_plane leaves) (leaves_square leaves) x y }
 
 four_on : (i : ℕ) → pos (4 + i) ≡ pos i +ℤ pos 4
 four_on i = omega (arith, ints)
@@ -131,8 +93,8 @@ module _ (rows bytes middle : List ℕ) (word : ℕ) (long : length rows ≡ 16)
   middle_cell i j h k =
       is_word i j h k ∙ ap (λ n. bit n i) (is_middle j k ∙ is_bytes (4 + j) (omega arith))
       ∙ bit-low (get_or (zip2 shr rows (replicate 16 4)) (4 + j) 0) 8 i h
-      ∙ ap (λ n. bit n i) (with_each shr rows 4 (4 + j) long (omega arith)) ∙ bit-shr (get_or rows (4 + j) 0) 4 i
-      ∙ sym (cell_in rows (4 + i) (4 + j) (omega arith) (omega arith))
+      ∙ ap (λ n. bit n i) (with_each w16 shr rows 4 (4 + j) long (omega arith)) ∙ bit-shr (get_or rows (4 + j) 0) 4 i
+      ∙ sym (cell_in w16 rows (4 + i) (4 + j) (omega arith) (omega arith))
       ∙ ap (λ z. rows_plane rows z (pos (4 + j))) (four_on i) ∙ ap (λ z. rows_plane rows (pos i +ℤ pos 4) z) (four_on j)
 
   pub middle_of_rows : IsSame (bits_plane word) (cut 8 4 4 (rows_plane rows))

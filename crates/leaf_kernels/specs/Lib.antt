@@ -1,2 +1,3 @@
+pub mod Life
 pub mod Rows
 pub mod Sums

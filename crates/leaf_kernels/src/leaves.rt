@@ -22,7 +22,7 @@ pub(crate) fn centre_of(rows: u16x16) -> u64
 
 /// The bytes of four words, the lowest byte of each first.
 #[inline(always)]
-fn bytes_of_words(words: u64x4) -> u8x32
+pub(crate) fn bytes_of_words(words: u64x4) -> u8x32
     ensures { (word place : ℕ) → word < 4 → place < 8
         → slice_index result (8 * word + place) ≡ slice_index words word / 256 ^ place % 256 }
 {
@@ -70,7 +70,7 @@ fn middle(bytes: u8x32) -> u8x8
 
 /// The word of eight bytes, the lowest first.
 #[inline(always)]
-fn word_of_bytes(bytes: u8x8) -> u64
+pub(crate) fn word_of_bytes(bytes: u8x8) -> u64
     ensures { (place row : ℕ) → place < 8 → row < 8 → bit result (8 * row + place) ≡ bit (slice_index bytes row) place }
 {
     u64x1::from_le_bytes(bytes).to_array()[0]

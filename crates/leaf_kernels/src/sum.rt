@@ -16,7 +16,7 @@ impl Sum {
     /// How many of two cells are live.
     #[inline(always)]
     pub(crate) fn of_two(first: u16x16, second: u16x16) -> Sum
-        ensures { (x y : ℤ) → sum_at result x y ≡ number_at first x y + number_at second x y }
+        ensures { (x y : ℤ) → sum_at result x y ≡ number_at 16 first x y + number_at 16 second x y }
     {
         Sum {
             ones: first ^ second,
@@ -27,7 +27,7 @@ impl Sum {
     /// How many of three cells are live.
     #[inline(always)]
     pub(crate) fn of_three(first: u16x16, second: u16x16, third: u16x16) -> Sum
-        ensures { (x y : ℤ) → sum_at result x y ≡ number_at first x y + number_at second x y + number_at third x y }
+        ensures { (x y : ℤ) → sum_at result x y ≡ number_at 16 first x y + number_at 16 second x y + number_at 16 third x y }
     {
         let odd = first ^ second;
         Sum {

@@ -14,7 +14,13 @@ use Rattle.table_core.proofs.Blocks.{one_rank}
 use Rattle.table_core.proofs.Claims.{same_or_other}
 use Rattle.table_core.proofs.Ways.{not_head, not_result}
 use Rattle.node_table.specs.declared.still.Still.{Still}
-use Rattle.node_table.specs.Stills.{words_of, KeepsAtRank}
+use Rattle.rule_text.specs.CountRule.{CountRule}
+use Rattle.table_core.specs.Laws.{KnowsAll}
+use Rattle.table_core.proofs.Reopenings.{every_reopening}
+use Rattle.node_table.specs.declared.desk.Desk.{Desk}
+use Rattle.node_table.specs.declared.table.NodeTable.{NodeTable}
+use Rattle.node_table.specs.Openings.{Opens, StartsFrom}
+use Rattle.node_table.specs.Stills.{words_of, IsReopened, KeepsAtRank}
 
 -- the results of so many pairs were gone through
 pub record IsThrough (was : Still) (key : Key) (new : List ℕ) (done : ℕ) : Type 0 where
@@ -164,3 +170,36 @@ module _ (was : Still) (key : Key) where
     results = λ i level s above block. h.results i level s (let below = s.below in omega arith) above block;
     vacant = h.vacant;
   }
+
+-- under their own head the words stay
+same_head : (was : Still) → Reopens was.key was.key (words_of was) (words_of was)
+same_head was = record {
+  shape = refl;
+  names = was.good.good.names;
+  fits = was.good.good.fits;
+  slots = λ kind i slot. refl;
+  results = λ i level slot above block. inl ((refl, inl refl), refl);
+  vacant = λ i slot z. z;
+}
+
+-- a table that begins with words that were reopened under this head
+pub opens_from : (was now : Still) (rule : CountRule) (exponent : ℕ) (table : NodeTable) (desk : Desk) →
+    IsReopened was (record { shape = was.key.shape; rule = rule; exponent = exponent }) now → StartsFrom now table desk → Opens was rule exponent table desk
+opens_from was now rule exponent table desk is starts =
+    let key : table.key ≡ record { shape = was.key.shape; rule = rule; exponent = exponent } = starts.key ∙ is.same_key in
+    let reopens : Reopens was.key table.key (words_of was) (words_of now) = subst (λ (k : Key). Reopens was.key k (words_of was) (words_of now)) (sym key) is.reopens in
+    record {
+      of_table = starts.of_table;
+      key = key;
+      words = now.words.items;
+      reopens = reopens;
+      opening = every_reopening was.key table.key (words_of was) (words_of now) was.good.good reopens;
+      known = subst (λ (k : Key). KnowsAll k.shape.bits (words_of now) desk.seat.me.0.known) (sym starts.key) starts.known;
+      no_expansions = starts.no_expansions;
+    }
+
+-- a table that begins with words that stood under this head
+pub opens_same : (was : Still) (rule : CountRule) (exponent : ℕ) (table : NodeTable) (desk : Desk) →
+    was.key ≡ record { shape = was.key.shape; rule = rule; exponent = exponent } → StartsFrom was table desk → Opens was rule exponent table desk
+opens_same was rule exponent table desk same starts = opens_from was was rule exponent table desk
+    (record { same_key = same; reopens = subst (λ (k : Key). Reopens was.key k (words_of was) (words_of was)) same (same_head was) }) starts

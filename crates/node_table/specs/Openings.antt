@@ -24,6 +24,13 @@ pub record Opens (still : Still) (rule : CountRule) (exponent : ℕ) (table : No
   pub known : KnowsAll table.key.shape.bits (slice_index words) desk.seat.me.0.known
   pub no_expansions : expansions_of desk ≡ 0
 
+-- a table begins with these words under their own head, and its first desk knows all that they say
+pub record StartsFrom (still : Still) (table : NodeTable) (desk : Desk) : Type 0 where
+  pub of_table : IsDeskOf table desk
+  pub key : table.key ≡ still.key
+  pub known : KnowsAll still.key.shape.bits (words_of still) desk.seat.me.0.known
+  pub no_expansions : expansions_of desk ≡ 0
+
 -- all squares of the one book are squares of the other, with the same cells, and so are those whose results are known
 pub record SaysAll (old new : Book) : Type 0 where
   pub rule : new.rule ≡ old.rule

@@ -90,6 +90,14 @@ impl Still {
         Ok(Still { key, words })
     }
 
+    // Whether the words stand under this head.
+    pub(crate) fn has_head(&self, key: &Key) -> bool
+        requires { key.now.shape ≡ self.now.key.shape }
+        ensures { IsTrue result → self.now.key ≡ key.now }
+    {
+        self.has_rule_of(key) && self.key.exponent == key.exponent
+    }
+
     // Whether both heads name one rule.
     fn has_rule_of(&self, key: &Key) -> bool
         ensures { IsTrue result ↔ (self.now.key.rule ≡ key.now.rule) }

@@ -30,7 +30,7 @@ pub struct NodeTable {
 impl NodeTable {
     ghost use Rattle.squares.specs.Book.{Keeps};
     ghost use Rattle.node_table.specs.Desks.{IsDeskOf, book_at, work_at, expansions_of};
-    ghost use Rattle.node_table.specs.Openings.{Opens, Closes};
+    ghost use Rattle.node_table.specs.Openings.{Opens, Closes, StartsFrom};
 
     /// A running table of these words under a rule and an exponent, and its first desk, which knows
     /// all that the words then say. The results that are the same under both heads stay, and no
@@ -49,13 +49,30 @@ impl NodeTable {
             rule,
             exponent,
         };
+        if still.has_head(&key) {
+            return match NodeTable::of_still(alloc, still) {
+                Ok(opened) => Ok(opened),
+                Err(still) => Err((still, Refusal::NoMemory)),
+            };
+        }
         let Ok(reopened) = still.reopened(alloc, key) else {
             return Err((still, Refusal::NoMemory));
         };
-        let Ok((table, seat)) = Table::of_words(alloc, reopened.words.as_slice(), &reopened) else {
-            return Err((still, Refusal::NoMemory));
+        match NodeTable::of_still(alloc, reopened) {
+            Ok(opened) => Ok(opened),
+            Err(_) => Err((still, Refusal::NoMemory)),
+        }
+    }
+
+    // A running table of these words, under their own head. Where memory is wanting, the words come back.
+    fn of_still(alloc: Global, still: Still) -> Result<(NodeTable, Desk), Still>
+        ensures ok { IfOk result (λ opened. StartsFrom still opened.0 opened.1) }
+        ensures err { IfErr result (λ same. same ≡ still) }
+    {
+        let Ok((table, seat)) = Table::of_words(alloc, still.words.as_slice(), &still) else {
+            return Err(still);
         };
-        let Still { key, words } = reopened;
+        let Still { key, words } = still;
         Ok((
             NodeTable {
                 table,

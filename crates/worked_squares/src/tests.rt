@@ -6,5 +6,8 @@ mod numbered_squares;
 mod orders;
 mod places;
 mod rows;
+mod sixteen_leaves;
+mod soup_futures;
+mod soups;
 mod table_words;
 mod views;

@@ -3,7 +3,7 @@ use Rattle.std.proofs.Common.{◌≡◌, ◌∙◌, ap, min, subst}
 use Rattle.leaf_kernels.specs.Rows.{leaves_plane}
 use Rattle.plane.specs.Square.{IsSame, bits_plane, future}
 use Rattle.squares.proofs.Kept.{keeps_trans}
-use Rattle.hashlife_step.proofs.LeafSquares.{future_later, leaves_future}
+use Rattle.hashlife_step.proofs.LeafSquares.{future_later, kernel_future}
 use Rattle.hashlife_step.proofs.leaf_squares.leaf_future.Goals as goal
 
 pub returns-clause-ok : goal.returns-clause-ok
@@ -17,6 +17,6 @@ returns-clause-ok g c =
     subst (λ r. IsSame (bits_plane c.result16-word.result) (future r c.min-exponent.result 4 (leaves_plane c.read_leaves-leaves.result))) rule c.result16-word.ensures in
     IfOk-weaker c.leaf.result _ _
     (λ next shown. future_later old (book c.leaf.new.self) c.args.sq next (keeps_trans c.read_leaves-leaves.ensures.keeps c.leaf.ensures.keeps) c.requires.known
-    (leaves_future (book c.leaf.new.self) old.rule old.exponent c.min-exponent.result c.args.sq.level c.result16-word.result (old.cells c.args.sq) (leaves_plane c.read_leaves-leaves.result) next
+    (kernel_future (book c.leaf.new.self) old.rule 4 old.exponent c.min-exponent.result c.args.sq.level (bits_plane c.result16-word.result) (old.cells c.args.sq) (leaves_plane c.read_leaves-leaves.result) next
     c.requires.level time c.read_leaves-leaves.ensures.value made shown))
     c.leaf.ensures.ok

@@ -110,7 +110,7 @@ replace_by_futures-returns-in_err-squares-clause-tally g t c =
     let book = g.S.Squares.book in
     let replaced = c.loop-i.invariant.0 in
     let same = replaced.same_length in
-    let known = next_known _ (book c.args.book.now) (book c.loop-i.book) c.args.level c.loop-i.i c.args.squares.now c.loop-i.squares replaced (omega arith) c.requires.known in
+    let known = next_known (future (book c.args.book.now).rule (book c.args.book.now).exponent c.args.level) (book c.args.book.now) (book c.loop-i.book) c.args.level c.loop-i.i c.args.squares.now c.loop-i.squares replaced (omega arith) c.requires.known in
     tallies_trans (book c.args.book.now) (book c.loop-i.book) (book c.future_in_order.new.book) c.args.level c.args.level _ _ _ (omega arith) c.loop-i.invariant.1
     (subst (λ n. Tallies (book c.loop-i.book) (book c.future_in_order.new.book) n c.loop-i.tally.expansions c.future_in_order.new.tally.expansions) known.at_level c.future_in_order.ensures.tally)
 
@@ -175,7 +175,7 @@ replace_by_futures-future_in_order-requires g t c κs within =
     let book = g.S.Squares.book in
     let replaced = c.loop-i.invariant.0 in
     let same = replaced.same_length in
-    let known = next_known _ (book c.args.book.now) (book c.loop-i.book) c.args.level c.loop-i.i c.args.squares.now c.loop-i.squares replaced (omega arith) c.requires.known in
+    let known = next_known (future (book c.args.book.now).rule (book c.args.book.now).exponent c.args.level) (book c.args.book.now) (book c.loop-i.book) c.args.level c.loop-i.i c.args.squares.now c.loop-i.squares replaced (omega arith) c.requires.known in
     let at_level = known.at_level in let low = c.requires.low in
     let own = known_as (sym at_level) known in
     search rules

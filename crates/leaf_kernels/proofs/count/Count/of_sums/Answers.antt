@@ -4,7 +4,7 @@ use Rattle.leaf_kernels.proofs.count.Count.of_sums.Goals as goal
 
 pub returns : goal.returns
 returns c x y =
-    carried_on (number_at c.args.first.ones x y) (number_at c.args.second.ones x y) (number_at c.args.third.ones x y)
-    (number_at c.args.first.twos x y) (number_at c.args.second.twos x y) (number_at c.args.third.twos x y)
+    carried_on (number_at 16 c.args.first.ones x y) (number_at 16 c.args.second.ones x y) (number_at 16 c.args.third.ones x y)
+    (number_at 16 c.args.first.twos x y) (number_at 16 c.args.second.twos x y) (number_at 16 c.args.third.twos x y)
     _ _ _ _ _ _ _ _
     (c.of_three-ones.ensures x y) (c.of_three-twos.ensures x y) (c.of_two-carried.ensures x y) (c.of_two-high.ensures x y)

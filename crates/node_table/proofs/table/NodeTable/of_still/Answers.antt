@@ -1,0 +1,32 @@
+use Rattle.std.proofs.Common.{ap, sym, subst, refl, rules}
+use Rattle.rule_text.specs.CountRule.{IsRule}
+use Rattle.table_core.specs.declared.knowledge.Knowledge.{Knowledge}
+use Rattle.table_core.specs.Laws.{KnowsAll}
+use Rattle.node_table.specs.declared.view.View.{View}
+use Rattle.node_table.specs.Books.{IsSound}
+use Rattle.node_table.specs.Stills.{words_of}
+use Rattle.node_table.proofs.Openings.{everything_known, opened_sound, opening_holds}
+use Rattle.node_table.proofs.table.NodeTable.of_still.Goals as goal
+
+pub invariant_of-result-2 : goal.invariant_of-result-2
+invariant_of-result-2 c =
+    let still = c.args.still in
+    let rule : IsRule still.key.rule = search rules in
+    record {
+      free = ap (λ me. me.1) c.in-Ok.ensures.4;
+      sound = subst (λ (view : View). IsSound view) (sym (ap (λ me. me.0) c.in-Ok.ensures.4)) (opened_sound still rule);
+    }
+
+pub returns-clause-ok : goal.returns-clause-ok
+returns-clause-ok c =
+    let still = c.args.still in
+    let told = c.in-Ok.ensures in
+    record {
+      of_table = record { same_table = told.2; same_key = ap (λ me. me.0.key) told.4 };
+      key = refl;
+      known = subst (λ (k : Knowledge). KnowsAll still.key.shape.bits (words_of still) k) (sym (ap (λ me. me.0.known) told.4)) (everything_known still);
+      no_expansions = refl;
+    }
+
+pub of_words-requires : goal.of_words-requires
+of_words-requires c = opening_holds c.args.still c.as_slice.result.now c.as_slice.ensures.value
