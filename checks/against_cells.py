@@ -1,12 +1,13 @@
 #!/usr/bin/env python3
-"""Runs lifebatch on random patterns beside a program that goes cell by cell, and compares all that it writes.
+"""Runs lifebatch on random patterns beside a program that goes cell by cell, and compares all that comes of it.
 
-    checks/against_cells.py --runs 200 --seed 7
+    checks/against_cells.py --patterns 500 --seed 7
 
-Each run has a random pattern, a rule in one of the three neighbourhoods, generations, a step, a window, a limit of
-nodes and perhaps a number of workers; the report, the picture and the RLE text have to be the same to the byte, also when the pattern goes
-through a macrocell file on the way. Under a small limit a run may be refused `NodesFull`; its report is then a beginning of
-the right one, and there is no file. Build the program first: `./lifebatch --help`.
+Each run has a random pattern, a rule in one of the three neighbourhoods, generations, a step, perhaps a window, a limit of
+slots, a number of workers, an output file in one of the two formats, and an input file in one of them, spelled in odd forms and
+sometimes with a fault. Report, picture, output file, message and exit status have to be the same to the byte. Under a small limit a run
+may be refused `NodesFull`; then its report has to be a beginning of the right one, up to the end of a line, and there is no file.
+Such a run counts as skipped. Build the program first: `./lifebatch --help`. The status is 1 where something differs.
 """
 import argparse
 import pathlib
@@ -16,163 +17,183 @@ import sys
 import tempfile
 from collections import Counter
 
+import cells as plain
+import spellings
+
 ROOT = pathlib.Path(__file__).resolve().parent.parent
 LIFEBATCH = ROOT / "crates" / "lifebatch" / "out" / "lifebatch"
 
-MOORE = [(-1, -1), (0, -1), (1, -1), (-1, 0), (1, 0), (-1, 1), (0, 1), (1, 1)]
-NEIGHBOURHOODS = {
-    "": MOORE,
-    "V": [(0, -1), (-1, 0), (1, 0), (0, 1)],
-    "H": [(-1, -1), (0, -1), (-1, 0), (1, 0), (0, 1), (1, 1)],
-}
+# A pattern that has grown to so many cells runs no further.
+MOST_CELLS = 4000
+
+FULL = (1, "lifebatch: refused 17: NodesFull\n")
 
 
 def random_rule(chance):
-    suffix = chance.choice(["", "", "V", "H"])
-    most = len(NEIGHBOURHOODS[suffix])
-    if suffix == "" and chance.random() < 0.5:
-        return "B3/S23", {3}, {2, 3}, MOORE
+    letter = chance.choice(["", "V", "H"])
+    if chance.random() < 0.4:
+        return {"": plain.Rule({3}, {2, 3}), "V": plain.Rule({1}, {}, "V"), "H": plain.Rule({2}, {3, 4}, "H")}[letter]
+    most = len(plain.NEIGHBOURHOODS[letter])
     birth = {n for n in range(1, most + 1) if chance.random() < 0.3}
     survival = {n for n in range(most + 1) if chance.random() < 0.4}
-    text = f"B{''.join(map(str, sorted(birth)))}/S{''.join(map(str, sorted(survival)))}{suffix}"
-    return text, birth, survival, NEIGHBOURHOODS[suffix]
+    return plain.Rule(birth, survival, letter)
 
 
-def next_cells(cells, birth, survival, offsets):
-    counts = Counter((x - dx, y - dy) for x, y in cells for dx, dy in offsets)
-    born = {cell for cell, count in counts.items() if count in birth and cell not in cells}
-    return born | {cell for cell in cells if counts[cell] in survival}
+def random_corner(chance):
+    """Where a pattern begins, mostly near (0,0)."""
+    near = chance.randint(-60, 60), chance.randint(-60, 60)
+    if chance.random() < 0.75:
+        return near
+    far = chance.choice([2**33, -(2**40), plain.END - 60, 60 - plain.END, plain.END - 200, 2**61])
+    return chance.choice([(far, near[1]), (near[0], far), (far, far)])
 
 
-def row_items(row, left):
-    """The runs of a row from its left end to its last live cell."""
-    items, column = [], left
-    for x in row:
-        if x > column:
-            items.append((x - column, "b"))
-        if items and items[-1][1] == "o" and x == column:
-            items[-1] = (items[-1][0] + 1, "o")
-        else:
-            items.append((1, "o"))
-        column = x + 1
-    return items
-
-
-def rle_text(cells, rule, generation):
-    """The RLE text of the cells, as docs/formats.md has it."""
-    if not cells:
-        return f"#CXRLE Pos=0,0 Gen={generation}\nx = 0, y = 0, rule = {rule}\n!\n"
-    left, top = min(x for x, _ in cells), min(y for _, y in cells)
-    width, height = max(x for x, _ in cells) - left + 1, max(y for _, y in cells) - top + 1
-    rows = {}
-    for x, y in sorted(cells, key=lambda cell: (cell[1], cell[0])):
-        rows.setdefault(y, []).append(x)
-    items, last = [], None
-    for y, row in rows.items():
-        if last is not None:
-            items.append((y - last, "$"))
-        items += row_items(row, left)
-        last = y
-    lines, line = [], ""
-    for text in [(str(count) if count > 1 else "") + tag for count, tag in items] + ["!"]:
-        if len(line) + len(text) > 70:
-            lines.append(line)
-            line = ""
-        line += text
-    body = "\n".join([*lines, line])
-    return f"#CXRLE Pos={left},{top} Gen={generation}\nx = {width}, y = {height}, rule = {rule}\n{body}\n"
-
-
-def picture(cells, window):
-    x, y, width, height = window
-    rows = ("".join("*" if (x + i, y + j) in cells else "." for i in range(width)) for j in range(height))
-    return "".join(row + "\n" for row in rows)
-
-
-def random_cells(chance):
+def soup(chance, corner):
     width, height = chance.randint(1, 40), chance.randint(1, 40)
-    density = chance.choice([0.05, 0.2, 0.35, 0.5])
-    left, top = chance.randint(-50, 50), chance.randint(-50, 50)
+    density = chance.choice([0, 0.05, 0.2, 0.35, 0.5])
+    places = ((corner[0] + x, corner[1] + y) for x in range(width) for y in range(height))
     return {
-        (left + x, top + y) for x in range(width) for y in range(height) if chance.random() < density
+        (x, y) for x, y in places if chance.random() < density and max(x, y) < plain.END and min(x, y) >= -plain.END
     }
 
 
+def random_cells(chance):
+    corner = random_corner(chance)
+    found = soup(chance, corner)
+    if chance.random() < 0.1:
+        found |= soup(chance, (corner[0] + plain.TOO_WIDE - chance.choice([30, 300, 3000]), corner[1]))
+    return found
+
+
 class Case:
-    """A random run, and what has to come of it."""
+    """A random run, and what has to come of it: status, report, message and output file."""
 
     def __init__(self, chance, workers):
-        self.rule, *self.digits = random_rule(chance)
-        self.cells = random_cells(chance)
-        self.start = chance.choice([0, 0, 7])
+        self.rule, self.cells = random_rule(chance), random_cells(chance)
+        self.start = chance.choice([0, 0, 7, plain.LAST - 20])
         self.generations = chance.choice([0, 1, 2, 3, 10, 33, 64, 100])
         self.step = chance.choice([0, 0, 1, 5, 16])
-        self.window = (chance.randint(-60, 10), chance.randint(-60, 10), chance.randint(1, 70), chance.randint(1, 70))
-        self.nodes = chance.choice([1024, 2048, 4096, 32768, None, None])
+        self.is_quiet = chance.random() < 0.15
+        self.nodes = chance.choice([1024, 2048, 4096, 32768, None, None, None])
         self.workers = chance.choice(workers)
-        self.report, cells = "", self.cells
+        self.output = chance.choice([".rle", ".mc", None])
+        self.window = self.random_window(chance)
+        self.make_file(chance)
+        self.told = self.refused_at_once() or self.ending()
+
+    def random_window(self, chance):
+        if chance.random() < 0.4:
+            return None
+        left, top = plain.box(self.cells)[:2] if self.cells else (0, 0)
+        corner = (max(-plain.END, min(plain.END, part + chance.randint(-40, 10))) for part in (left, top))
+        return *corner, chance.randint(1, 70), chance.randint(1, 70)
+
+    def make_file(self, chance):
+        """The input file, in one of the formats, with its comments and perhaps a fault or a rule that is none."""
+        self.is_given = chance.random() < 0.2
+        self.is_bad_rule = chance.random() < 0.1
+        text = chance.choice(["B03/S23", "Life", ""]) if self.is_bad_rule else self.rule.text()
+        self.rule_fault = (4, "BirthOnZero") if text == "B03/S23" else (3, "BadRule")
+        self.comments = [chance.choice(spellings.KEPT) for _ in range(chance.choice([0, 0, 1, 3]))]
+        is_near = all(abs(part) < 2**32 for cell in self.cells for part in cell)
+        fault = chance.choice(["tag", "states", "zero", "range", "cells"]) if is_near and chance.random() < 0.12 else None
+        spelled = chance.choice([spellings.rle_file, spellings.macrocell_file])
+        self.file, self.rule_place, self.fault = spelled(self.cells, text, self.start, self.comments, chance, fault)
+
+    def refused_at_once(self):
+        """What comes of a run that is refused before its first line, if it is."""
+        if self.fault:
+            number, name, place = self.fault
+            return 1, "", f"lifebatch: refused {number} at {place}: {name}\n", None
+        if self.is_bad_rule and not self.is_given:
+            number, name = self.rule_fault
+            return 1, "", f"lifebatch: refused {number} at {self.rule_place}: {name}\n", None
+        if plain.is_too_far(self.cells, self.start, self.generations):
+            return 1, "", "lifebatch: refused 14: TooFar\n", None
+        return None
+
+    def shows(self, done):
+        is_end = done in (0, self.generations)
+        return not self.is_quiet and (is_end or self.step > 0 and done % self.step == 0)
+
+    def ending(self):
+        """What comes of a run that is accepted, cell by cell."""
+        report, found = "", self.cells
         for done in range(self.generations + 1):
-            last = done == self.generations
-            if last or done == 0 or (self.step and done % self.step == 0):
-                self.report += f"{self.start + done}: {len(cells)}\n"
-            if not last:
-                cells = next_cells(cells, *self.digits)
-        self.report += picture(cells, self.window)
-        self.text = rle_text(cells, self.rule, self.start + self.generations)
+            if len(found) > MOST_CELLS:
+                self.generations = done
+            if self.shows(done):
+                report += f"{self.start + done}: {len(found)}\n"
+            if done == self.generations:
+                break
+            found = self.rule.next(found)
+        if self.window:
+            report += plain.picture(found, self.window)
+        if self.output == ".rle" and plain.is_too_wide(found):
+            return 1, report, "lifebatch: refused 15: BoxTooLarge\n", None
+        written = {".rle": plain.rle_text, ".mc": plain.macrocell_text, None: lambda *_: None}[self.output]
+        return 0, report, "", written(found, self.rule.text(), self.start + self.generations, self.comments)
 
-    def words(self, name, output):
-        words = ["-m", str(self.generations), "-i", str(self.step), "-o", output, name]
-        words.append("--window=" + ",".join(map(str, self.window)))
-        if self.nodes:
-            words += ["--nodes", str(self.nodes)]
-        if self.workers > 1:
-            words += ["--workers", str(self.workers)]
-        return words
+    def words(self):
+        words = ["-m", str(self.generations), "-i", str(self.step), *(["-q"] if self.is_quiet else [])]
+        words += ["-o", "out" + self.output] if self.output else []
+        words += ["--window=" + ",".join(map(str, self.window))] if self.window else []
+        words += ["--nodes", str(self.nodes)] if self.nodes else []
+        words += ["--workers", str(self.workers)] if self.workers > 1 else []
+        return words + (["-r", self.rule.text()] if self.is_given else [])
 
 
-def fails(program, case, folder, name):
-    """What is wrong with the run of a case, if something is."""
-    output = folder / "out.rle"
+def compare(program, case, folder, seconds):
+    """What came of a case: same, full, or what differs."""
+    output = folder / f"out{case.output}"
     output.unlink(missing_ok=True)
-    found = subprocess.run([program, *case.words(name, "out.rle")], cwd=folder, capture_output=True, text=True)
-    if case.nodes and found.returncode == 1 and found.stderr == "lifebatch: refused 17: NodesFull\n":
-        whole = case.report.startswith(found.stdout) and found.stdout.endswith(("\n", ""))
-        return None if whole and not output.exists() else "a full table leaves something wrong"
-    if found.returncode:
-        return f"status {found.returncode}: {found.stderr}"
-    if found.stdout != case.report:
-        return "the report or the picture differs"
-    return None if output.read_text() == case.text else "the pattern differs"
+    (folder / "in").write_bytes(case.file)
+    try:
+        words = [program, *case.words(), "in"]
+        found = subprocess.run(words, cwd=folder, capture_output=True, timeout=seconds)
+    except subprocess.TimeoutExpired:
+        return "it takes too long"
+    report, message = found.stdout.decode(), found.stderr.decode()
+    written = output.read_bytes().decode() if output.exists() else None
+    if case.nodes and (found.returncode, message) == FULL:
+        is_beginning = case.told[1].startswith(report) and (not report or report.endswith("\n"))
+        return "full" if is_beginning and written is None else "a full table leaves something wrong"
+    names = ["the status", "the report or the picture", "the message", "the output file"]
+    told = (found.returncode, report, message, written)
+    differing = [name for name, ours, wanted in zip(names, told, case.told) if ours != wanted]
+    return " and ".join(differing) + " differ" if differing else "same"
 
 
-def through_macrocell(program, case, folder):
-    """The start of a case as a macrocell file, written by the program."""
-    found = subprocess.run([program, "-q", "-o", "start.mc", "start.rle"], cwd=folder, capture_output=True, text=True)
-    return None if found.returncode == 0 else f"no macrocell file: {found.stderr}"
+def told_of(counts):
+    differ = sum(count for answer, count in counts.items() if answer not in ("same", "refused", "full"))
+    compared = sum(counts.values()) - counts["full"]
+    print(
+        f"{compared} patterns compared, {counts['refused']} of them refused by name and place; "
+        f"{counts['full']} skipped, which met a full table and left what they may; {differ} differ"
+    )
+    return differ
 
 
 def main():
     parser = argparse.ArgumentParser(description=__doc__, formatter_class=argparse.RawDescriptionHelpFormatter)
-    parser.add_argument("--runs", type=int, default=100)
+    parser.add_argument("--patterns", type=int, default=200)
     parser.add_argument("--seed", type=int, default=1)
-    parser.add_argument("--workers", type=int, nargs="+", default=[1], help="numbers of workers to choose from")
+    parser.add_argument("--workers", type=int, nargs="+", default=[1, 2, 4, 64], help="numbers of workers to choose from")
+    parser.add_argument("--seconds", type=float, default=120, help="how long a run may take")
     parser.add_argument("--program", type=pathlib.Path, default=LIFEBATCH)
     options = parser.parse_args()
-    program = str(options.program.resolve())
-    chance = random.Random(options.seed)
-    full = 0
+    program, chance, counts = str(options.program.resolve()), random.Random(options.seed), Counter()
     with tempfile.TemporaryDirectory() as name:
         folder = pathlib.Path(name)
-        for number in range(options.runs):
+        for number in range(options.patterns):
             case = Case(chance, options.workers)
-            (folder / "start.rle").write_text(rle_text(case.cells, case.rule, case.start))
-            wrong = fails(program, case, folder, "start.rle")
-            wrong = wrong or through_macrocell(program, case, folder) or fails(program, case, folder, "start.mc")
-            if wrong:
-                (ROOT / "failed.rle").write_text((folder / "start.rle").read_text())
-                sys.exit(f"run {number} of seed {options.seed}: {wrong}; {' '.join(case.words('failed.rle', 'out.rle'))}")
-            full += not (folder / "out.rle").exists()
-    print(f"{options.runs} patterns, each read from RLE and from macrocell: no difference; {full} met a full table")
+            answer = compare(program, case, folder, options.seconds)
+            if answer not in ("same", "full"):
+                failed = pathlib.Path(tempfile.gettempdir()) / f"failed-{options.seed}-{number}"
+                failed.write_bytes(case.file)
+                print(f"{answer}: pattern {number} of seed {options.seed}: {' '.join(case.words())} {failed}", flush=True)
+            counts["refused" if answer == "same" and case.told[0] else answer] += 1
+    sys.exit(1 if told_of(counts) else 0)
 
 
 if __name__ == "__main__":
