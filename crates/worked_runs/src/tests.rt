@@ -1,6 +1,8 @@
 mod accepted;
+mod bad_files;
 mod devices;
 mod ended;
+mod full_tables;
 mod full_squares;
 mod macrocell;
 mod many_leaves;

@@ -9,7 +9,7 @@ use rule_text::Rule;
 use std::alloc::AllocError;
 use std::process::Abort;
 
-const PATTERNS: &[Row] = &[
+pub(crate) const PATTERNS: &[Row] = &[
     Row {
         file: "x = 0, y = 0, rule = B3/S23\n!\n",
         generations: 1000,
@@ -95,7 +95,7 @@ const PATTERNS: &[Row] = &[
 ];
 
 // The ends of the range and of the generations, and the position that was the last one of a smaller range.
-const LIMITS: &[Row] = &[
+pub(crate) const LIMITS: &[Row] = &[
     Row {
         file: "#CXRLE Pos=4611686018427387903,0\nx = 1, y = 1\no!",
         report: "0: 1\n",
@@ -138,7 +138,7 @@ const NONE_LEFT: &str = "#CXRLE Pos=0,0 Gen=9223372036854775808\nx = 0, y = 0, r
 
 // The 36 cells at (0,0), (2,0), .. (70,0), and the 34 cells at (0,0), .. (66,0) with (68,0), (69,0):
 // a body line takes an item, or the `!`, where it then has at most 70 bytes.
-const LONG_ROWS: &[Row] = &[
+pub(crate) const LONG_ROWS: &[Row] = &[
     Row {
         file: "x = 71, y = 1\nobobobobobobobobobobobobobobobobobobobobobobobobobobobobobobobobobobobo!",
         report: "0: 36\n",
@@ -159,7 +159,7 @@ const UPRIGHT: &str = "#CXRLE Pos=1,-1 Gen=5\nx = 1, y = 3, rule = B3/S23\no$o$o
 
 const FLAT: &str = "#CXRLE Pos=0,0 Gen=4\nx = 3, y = 1, rule = B3/S23\n3o!\n";
 
-const STEPS: &[Row] = &[
+pub(crate) const STEPS: &[Row] = &[
     Row {
         file: "x = 3, y = 1\n3o!",
         generations: 5,
@@ -220,7 +220,7 @@ const STEPS: &[Row] = &[
 ];
 
 // Runs that no engine comes through cell by cell.
-const FAR: &[Row] = &[
+pub(crate) const FAR: &[Row] = &[
     FAR_GLIDER,
     Row {
         file: "x = 3, y = 3, rule = B3/S23\nbob$2bo$3o!",

@@ -1,7 +1,9 @@
 //! Devices that fail at one of their calls, or take few bytes at a time.
 
 use crate::tests::ended::Ended;
-use crate::tests::rows::{BLINKER, COMMENTED_GLIDER, R_PENTOMINO, Row};
+use crate::tests::rows::{
+    BLINKER, COMMENTED_GLIDER, NEAR_REPLICATOR, R_PENTOMINO, Row, SHARED_LEAF, SHARED_LEAF_AGAIN,
+};
 use engine::load;
 use plane::{FailAt, Fault, Memory, Refusal};
 use std::alloc::{AllocError, Global};
@@ -10,7 +12,17 @@ use std::sync::Wait;
 use std::test::Fail;
 use std::thread::Threads;
 
-const ROWS: &[Row] = &[BLINKER, R_PENTOMINO, COMMENTED_GLIDER];
+const ROWS: &[Row] = &[
+    BLINKER,
+    R_PENTOMINO,
+    COMMENTED_GLIDER,
+    SHARED_LEAF,
+    SHARED_LEAF_AGAIN,
+    Row {
+        workers: 2,
+        ..NEAR_REPLICATOR
+    },
+];
 
 // How many bytes a sink takes at a time.
 const SIPS: [usize; 3] = [1, 7, usize::MAX];
@@ -151,7 +163,8 @@ fn ended<R: Abort + AllocGlobal + Threads + Wait + Sync>(
     failing: Failing,
     call: u64,
 ) -> Result<Ended, AllocError> {
-    Ended::with_devices(rt, row.file, &row.options(), most, failing.at(call))
+    let file = row.file.as_bytes();
+    Ended::with_devices(rt, file, &row.options(), most, failing.at(call))
 }
 
 /// How many calls a run makes of a sink: at least one, and one for each byte where it takes one at a

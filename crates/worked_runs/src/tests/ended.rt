@@ -24,6 +24,15 @@ impl Ended {
         file: &str,
         options: &Options,
     ) -> Result<Ended, AllocError> {
+        Ended::of_bytes(rt, file.as_bytes(), options)
+    }
+
+    /// The same for a file that need not be a text.
+    pub(crate) fn of_bytes<R: Abort + AllocGlobal + Threads + Wait + Sync>(
+        rt: &R,
+        file: &[u8],
+        options: &Options,
+    ) -> Result<Ended, AllocError> {
         Ended::with_devices(rt, file, options, usize::MAX, (0, 0))
     }
 
@@ -31,7 +40,7 @@ impl Ended {
     /// at these calls, or at none for 0.
     pub(crate) fn with_devices<R: Abort + AllocGlobal + Threads + Wait + Sync>(
         rt: &R,
-        file: &str,
+        file: &[u8],
         options: &Options,
         most: usize,
         calls: (u64, u64),
@@ -40,8 +49,7 @@ impl Ended {
         assert!(rt; options.workers >= 1 && options.workers <= 64);
         let mut report = Sipping::new(rt.alloc(), most, calls.0)?;
         let mut written = Sipping::new(rt.alloc(), most, calls.1)?;
-        let bytes = file.as_bytes();
-        let outcome = run(rt, rt.alloc(), bytes, options, &mut report, &mut written);
+        let outcome = run(rt, rt.alloc(), file, options, &mut report, &mut written);
         Ok(Ended {
             outcome,
             report,

@@ -15,7 +15,7 @@ const TOO_LARGE: Row = Row {
 
 // The line behind the file of a full square, and how it runs. After one generation the corners live, and along each
 // side the cells outside it that have three neighbours.
-const SQUARES: &[(&str, Row)] = &[
+pub(crate) const SQUARES: &[(&str, Row)] = &[
     (
         "61 58",
         Row {
@@ -42,7 +42,7 @@ const SQUARES: &[(&str, Row)] = &[
 ];
 
 // The file up to a line.
-fn full_square(line_behind: &str) -> &'static str {
+pub(crate) fn full_square(line_behind: &str) -> &'static str {
     match FULL.split_once(line_behind) {
         Some((file, _)) => file,
         None => "",

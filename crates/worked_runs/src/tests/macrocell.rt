@@ -1,7 +1,9 @@
 //! Runs of macrocell files, and runs that write them.
 
 use crate::tests::ended::Ended;
-use crate::tests::rows::{MACROCELL, PLAIN, RLE, Row, assert_rows, assert_told};
+use crate::tests::rows::{
+    MACROCELL, PLAIN, RLE, Row, SHARED_LEAF, SHARED_LEAF_AGAIN, assert_rows, assert_told,
+};
 use engine::Options;
 use plane::Refusal;
 use std::alloc::AllocError;
@@ -37,7 +39,7 @@ const WIDE: &str =
      25 0 50 0 0\n26 0 51 0 0\n27 0 52 0 0\n28 0 53 0 0\n29 0 54 0 0\n30 0 55 0 0\n\
      31 28 56 0 0\n32 0 0 0 57\n";
 
-const ROWS: &[Row] = &[
+pub(crate) const WRITTEN: &[Row] = &[
     Row {
         file: "[M2]",
         generations: 5,
@@ -58,18 +60,8 @@ const ROWS: &[Row] = &[
         text: "#CXRLE Pos=0,0 Gen=0\nx = 1, y = 1, rule = B3/S23\no!\n",
         ..RLE
     },
-    Row {
-        file: "[M2]\n*$\n4 1 1 1 1\n",
-        report: "0: 4\n",
-        text: "#CXRLE Pos=-8,-8 Gen=0\nx = 9, y = 9, rule = B3/S23\no7bo8$o7bo!\n",
-        ..RLE
-    },
-    Row {
-        file: "[M2]\n*$\n4 1 1 1 1\n",
-        report: "0: 4\n",
-        text: "[M2] (lifebatch 1)\n#R B3/S23\n#G 0\n*$\n4 1 1 1 1\n",
-        ..MACROCELL
-    },
+    SHARED_LEAF,
+    SHARED_LEAF_AGAIN,
     // A root of side 8 covers -4 to 3.
     Row {
         file: "[M2]\n*$\n",
@@ -206,13 +198,13 @@ const REFUSED: &[Row] = &[
 
 #[test]
 fn reads_and_writes_macrocell_files(rt: HostRuntime) -> Result<(), AllocError> {
-    assert_rows(&rt, ROWS)
+    assert_rows(&rt, WRITTEN)
 }
 
 // What was written is written again, byte for byte.
 #[test]
 fn writes_again_what_it_wrote(rt: HostRuntime) -> Result<(), AllocError> {
-    for row in ROWS {
+    for row in WRITTEN {
         let options = Options {
             format: row.format,
             ..PLAIN

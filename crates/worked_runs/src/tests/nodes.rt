@@ -4,14 +4,13 @@ use crate::tests::ended::Ended;
 use crate::tests::many_leaves::many_leaves;
 use crate::tests::rows::{
     FAR_GLIDER, FAR_REPLICATOR, PLAIN, R_PENTOMINO, RLE, Row, assert_rows, assert_told,
-    assert_whole_or_refused,
 };
 use engine::Options;
 use plane::{Fault, Refusal};
 use std::alloc::{AllocError, Global};
 use std::process::Abort;
 
-const FULL: Fault = Fault {
+pub(crate) const FULL: Fault = Fault {
     refusal: Refusal::NodesFull,
     place: None,
 };
@@ -41,7 +40,7 @@ pub(crate) const REPORTED: Row = Row {
 };
 
 // 1024 generations of the glider.
-const GLIDER: Row = Row {
+pub(crate) const GLIDER: Row = Row {
     generations: 1024,
     report: "0: 5\n1024: 5\n",
     text: "#CXRLE Pos=256,256 Gen=1024\nx = 3, y = 3, rule = B3/S23\nbo$2bo$3o!\n",
@@ -72,17 +71,6 @@ const SMALL: &[Row] = &[
 #[test]
 fn runs_in_few_slots(rt: HostRuntime) -> Result<(), AllocError> {
     assert_rows(&rt, SMALL)
-}
-
-// In the fewest slots a run writes the same, or is refused with no output.
-#[test]
-fn runs_in_the_fewest_slots_or_is_refused(rt: HostRuntime) -> Result<(), AllocError> {
-    for row in [SETTLED, REPORTED, GLIDER] {
-        let row = Row { pairs: 1024, ..row };
-        let end = Ended::of(&rt, row.file, &row.options())?;
-        let _ = assert_whole_or_refused(&rt, &row, &end, Refusal::NodesFull);
-    }
-    Ok(())
 }
 
 // The leaves of the words 1 to 300 side by side: bit j of the word i is the cell (8i + j mod 8, j div 8).
@@ -162,9 +150,15 @@ fn refuses_the_first_generation_of_160_leaves(rt: HostRuntime) -> Result<(), All
     let end = Ended::of(&rt, file.as_str(), &none)?;
     assert!(rt; end.is_summed_up_by(0, 562));
     assert_eq!(rt; end.report.text(), "0: 562\n");
-    let one = Options { gens: 1, ..none };
-    let end = Ended::of(&rt, file.as_str(), &one)?;
-    assert_told(&rt, "", &end, (Some(FULL), "0: 562\n", ""));
+    for workers in [1, 2] {
+        let one = Options {
+            gens: 1,
+            workers,
+            ..none
+        };
+        let end = Ended::of(&rt, file.as_str(), &one)?;
+        assert_told(&rt, "", &end, (Some(FULL), "0: 562\n", ""));
+    }
     let end = Ended::of(&rt, file.as_str(), &Options { gens: 1, ..PLAIN })?;
     assert_told(&rt, "", &end, (None, "0: 562\n1: 1736\n", ""));
     Ok(())

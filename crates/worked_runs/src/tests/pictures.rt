@@ -1,7 +1,7 @@
 //! Pictures of windows, behind the lines of the report.
 
 use crate::tests::ended::Ended;
-use crate::tests::rows::{PLAIN, assert_told};
+use crate::tests::rows::{PLAIN, RLE, Row, assert_told, assert_whole_or_refused};
 use engine::{Format, Options};
 use plane::{Fault, Refusal, Window};
 use std::process::Abort;
@@ -98,6 +98,33 @@ fn assert_pictured<R: Abort + AllocGlobal + Threads + Wait + Sync>(
 fn draws_the_window_behind_the_lines(rt: HostRuntime) -> Result<(), Fail> {
     for row in PICTURES {
         assert_pictured(&rt, row)?;
+    }
+    Ok(())
+}
+
+/// Runs a row in the fewest slots.
+fn assert_pictured_in_the_fewest<R: Abort + AllocGlobal + Threads + Wait + Sync>(
+    rt: &R,
+    row: &Pictured,
+) -> Result<(), Fail> {
+    let options = Options {
+        pairs: 1024,
+        ..asked(row.generations, row.window, false)?
+    };
+    let end = Ended::of(rt, row.file, &options)?;
+    let told = Row {
+        file: row.file,
+        report: row.report,
+        ..RLE
+    };
+    let _ = assert_whole_or_refused(rt, &told, &end, Refusal::NodesFull);
+    Ok(())
+}
+
+#[test]
+fn draws_the_window_in_the_fewest_slots(rt: HostRuntime) -> Result<(), Fail> {
+    for row in PICTURES {
+        assert_pictured_in_the_fewest(&rt, row)?;
     }
     Ok(())
 }

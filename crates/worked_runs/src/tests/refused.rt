@@ -4,7 +4,7 @@ use crate::tests::rows::{RLE, Row, assert_rows};
 use plane::Refusal;
 use std::alloc::AllocError;
 
-const ROWS: &[Row] = &[
+pub(crate) const REFUSED: &[Row] = &[
     Row {
         file: "x = 1, y = 1\n0o!",
         refusal: Some(Refusal::BadCount),
@@ -118,5 +118,5 @@ const ROWS: &[Row] = &[
 
 #[test]
 fn names_what_is_wrong(rt: HostRuntime) -> Result<(), AllocError> {
-    assert_rows(&rt, ROWS)
+    assert_rows(&rt, REFUSED)
 }

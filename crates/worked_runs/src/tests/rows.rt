@@ -47,7 +47,8 @@ impl Row {
         }
     }
 
-    fn fault(&self) -> Option<Fault> {
+    /// The refusal with its place, if the run is refused.
+    pub(crate) fn fault(&self) -> Option<Fault> {
         let place = self.place;
         self.refusal.map(|refusal| Fault { refusal, place })
     }
@@ -102,6 +103,21 @@ pub(crate) const COMMENTED_GLIDER: Row = Row {
     ..RLE
 };
 
+/// A macrocell file whose one leaf stands in each quarter.
+pub(crate) const SHARED_LEAF: Row = Row {
+    file: "[M2]\n*$\n4 1 1 1 1\n",
+    report: "0: 4\n",
+    text: "#CXRLE Pos=-8,-8 Gen=0\nx = 9, y = 9, rule = B3/S23\no7bo8$o7bo!\n",
+    ..RLE
+};
+
+/// The same, written as a macrocell file.
+pub(crate) const SHARED_LEAF_AGAIN: Row = Row {
+    text: "[M2] (lifebatch 1)\n#R B3/S23\n#G 0\n*$\n4 1 1 1 1\n",
+    format: Some(Format::Macrocell),
+    ..SHARED_LEAF
+};
+
 /// A run that no engine comes through cell by cell.
 pub(crate) const FAR_GLIDER: Row = Row {
     file: "x = 3, y = 3, rule = B3/S23\nbob$2bo$3o!",
@@ -147,16 +163,16 @@ fn is_between_lines(said: &str, report: &str) -> bool {
     report.starts_with(said) && (said.is_empty() || said.ends_with("\n"))
 }
 
-/// Compares how a run of a row ended: it wrote the whole texts, or was refused by this refusal between two lines of the
-/// report, with nothing in the file. It answers whether it was refused.
+/// Compares how a run of a row ended: as the row says, or refused by this refusal between two lines of the
+/// report, with nothing in the file. It answers whether it was refused so.
 pub(crate) fn assert_whole_or_refused<R: Abort>(
     rt: &R,
     row: &Row,
     end: &Ended,
     refusal: Refusal,
 ) -> bool {
-    if end.outcome.is_ok() {
-        assert_told(rt, row.file, end, (None, row.report, row.text));
+    if end.outcome.err() == row.fault() {
+        assert_told(rt, row.file, end, (row.fault(), row.report, row.text));
         return false;
     }
     let said = end.report.text();

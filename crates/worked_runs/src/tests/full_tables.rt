@@ -1,0 +1,78 @@
+//! The fewest slots: a run writes what it writes in many, or is refused with a beginning of its report
+//! and no output.
+
+use crate::tests::accepted::{FAR, LIMITS, LONG_ROWS, PATTERNS, STEPS};
+use crate::tests::ended::Ended;
+use crate::tests::full_squares::{SQUARES, full_square};
+use crate::tests::macrocell::WRITTEN;
+use crate::tests::many_leaves::many_leaves;
+use crate::tests::nodes::{FULL, GLIDER, REPORTED, SETTLED};
+use crate::tests::refused::REFUSED;
+use crate::tests::rows::{
+    COMMENTED_GLIDER, MACROCELL, NEAR_REPLICATOR, Row, assert_told, assert_whole_or_refused,
+};
+use plane::Refusal;
+use std::alloc::AllocError;
+use std::process::Abort;
+use std::sync::Wait;
+use std::thread::Threads;
+
+const FEWEST: u32 = 1024;
+
+/// Runs rows in the fewest slots, by one worker and by two.
+fn assert_in_the_fewest<R: Abort + AllocGlobal + Threads + Wait + Sync>(
+    rt: &R,
+    rows: &[Row],
+) -> Result<(), AllocError> {
+    for row in rows {
+        for workers in [1, 2] {
+            let few = Row {
+                pairs: FEWEST,
+                workers,
+                ..*row
+            };
+            let end = Ended::of(rt, few.file, &few.options())?;
+            let _ = assert_whole_or_refused(rt, &few, &end, Refusal::NodesFull);
+        }
+    }
+    Ok(())
+}
+
+#[test]
+fn runs_each_pattern_in_the_fewest_slots(rt: HostRuntime) -> Result<(), AllocError> {
+    for rows in [PATTERNS, LIMITS, LONG_ROWS, STEPS, FAR, WRITTEN, REFUSED] {
+        assert_in_the_fewest(&rt, rows)?;
+    }
+    let rows = [
+        SETTLED,
+        REPORTED,
+        GLIDER,
+        COMMENTED_GLIDER,
+        NEAR_REPLICATOR,
+    ];
+    assert_in_the_fewest(&rt, &rows)
+}
+
+#[test]
+fn runs_full_squares_in_the_fewest_slots(rt: HostRuntime) -> Result<(), AllocError> {
+    for (line_behind, row) in SQUARES {
+        let file = full_square(line_behind);
+        assert_in_the_fewest(&rt, &[Row { file, ..*row }])?;
+    }
+    Ok(())
+}
+
+#[test]
+fn refuses_65536_leaves_in_the_fewest_slots(rt: HostRuntime) -> Result<(), AllocError> {
+    let file = many_leaves(rt.alloc())?;
+    for workers in [1, 2] {
+        let few = Row {
+            pairs: FEWEST,
+            workers,
+            ..MACROCELL
+        };
+        let end = Ended::of(&rt, file.as_str(), &few.options())?;
+        assert_told(&rt, "", &end, (Some(FULL), "", ""));
+    }
+    Ok(())
+}
