@@ -2,6 +2,7 @@
 //! and its files.
 
 mod ended;
+mod failing;
 mod files;
 mod folder;
 mod programs;
