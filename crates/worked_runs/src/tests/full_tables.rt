@@ -19,45 +19,58 @@ use std::thread::Threads;
 
 const FEWEST: u32 = 1024;
 
-/// Runs rows in the fewest slots, by one worker and by two.
+/// Runs rows in the fewest slots, by so many workers.
 fn assert_in_the_fewest<R: Abort + AllocGlobal + Threads + Wait + Sync>(
     rt: &R,
     rows: &[Row],
+    workers: usize,
 ) -> Result<(), AllocError> {
     for row in rows {
+        let few = Row {
+            pairs: FEWEST,
+            workers,
+            ..*row
+        };
+        let end = Ended::of(rt, few.file, &few.options())?;
+        let _ = assert_whole_or_refused(rt, &few, &end, Refusal::NodesFull);
+    }
+    Ok(())
+}
+
+/// The rows of short runs.
+const SHORT: [&[Row]; 6] = [PATTERNS, LIMITS, LONG_ROWS, STEPS, WRITTEN, REFUSED];
+
+#[test]
+fn runs_each_pattern_in_the_fewest_slots(rt: HostRuntime) -> Result<(), AllocError> {
+    for rows in SHORT {
         for workers in [1, 2] {
-            let few = Row {
-                pairs: FEWEST,
-                workers,
-                ..*row
-            };
-            let end = Ended::of(rt, few.file, &few.options())?;
-            let _ = assert_whole_or_refused(rt, &few, &end, Refusal::NodesFull);
+            assert_in_the_fewest(&rt, rows, workers)?;
         }
     }
     Ok(())
 }
 
 #[test]
-fn runs_each_pattern_in_the_fewest_slots(rt: HostRuntime) -> Result<(), AllocError> {
-    for rows in [PATTERNS, LIMITS, LONG_ROWS, STEPS, FAR, WRITTEN, REFUSED] {
-        assert_in_the_fewest(&rt, rows)?;
+fn runs_far_in_the_fewest_slots(rt: HostRuntime) -> Result<(), AllocError> {
+    for workers in [1, 2] {
+        assert_in_the_fewest(&rt, FAR, workers)?;
+        assert_in_the_fewest(&rt, &[GLIDER, COMMENTED_GLIDER, NEAR_REPLICATOR], workers)?;
     }
-    let rows = [
-        SETTLED,
-        REPORTED,
-        GLIDER,
-        COMMENTED_GLIDER,
-        NEAR_REPLICATOR,
-    ];
-    assert_in_the_fewest(&rt, &rows)
+    Ok(())
+}
+
+#[test]
+fn runs_the_r_pentomino_in_the_fewest_slots(rt: HostRuntime) -> Result<(), AllocError> {
+    assert_in_the_fewest(&rt, &[SETTLED, REPORTED], 1)
 }
 
 #[test]
 fn runs_full_squares_in_the_fewest_slots(rt: HostRuntime) -> Result<(), AllocError> {
     for (line_behind, row) in SQUARES {
         let file = full_square(line_behind);
-        assert_in_the_fewest(&rt, &[Row { file, ..*row }])?;
+        for workers in [1, 2] {
+            assert_in_the_fewest(&rt, &[Row { file, ..*row }], workers)?;
+        }
     }
     Ok(())
 }
