@@ -61,7 +61,8 @@ def start(words, folder, options):
     os.chdir(folder)
     for number, name in ((1, "report"), (2, "message")):
         os.dup2(os.open(name, os.O_WRONLY | os.O_CREAT | os.O_TRUNC), number)
-    resource.setrlimit(resource.RLIMIT_AS, (options.memory << 20, options.memory << 20))
+    if options.memory:
+        resource.setrlimit(resource.RLIMIT_AS, (options.memory << 20, options.memory << 20))
     signal.alarm(options.seconds)
     os.execv(words[0], words)
 
@@ -109,7 +110,7 @@ def main():
     parser = argparse.ArgumentParser(description=__doc__, formatter_class=argparse.RawDescriptionHelpFormatter)
     parser.add_argument("--megabytes", type=int, default=100, help="how many millions of bytes the larger files have")
     parser.add_argument("--seconds", type=int, default=120, help="how long a run may take")
-    parser.add_argument("--memory", type=int, default=6144, help="how many MB of addresses a run may have")
+    parser.add_argument("--memory", type=int, default=6144, help="how many MB of addresses a run may have, 0 for any")
     parser.add_argument("--rows", default="", help="only rows with this in their names")
     parser.add_argument("--program", type=pathlib.Path, default=LIFEBATCH)
     options = parser.parse_args()

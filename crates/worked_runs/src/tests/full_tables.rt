@@ -1,5 +1,5 @@
-//! The fewest slots: a run writes what it writes in many, or is refused with a beginning of its report
-//! and no output.
+//! Few slots: a run writes what it writes in many, or is refused with a beginning of its report and no
+//! output.
 
 use crate::tests::accepted::{FAR, LIMITS, LONG_ROWS, PATTERNS, STEPS};
 use crate::tests::ended::Ended;
@@ -17,7 +17,11 @@ use std::process::Abort;
 use std::sync::Wait;
 use std::thread::Threads;
 
-const FEWEST: u32 = 1024;
+// The fewest slots there can be for a run of so many generations. In half as many as a glider for 2^40 generations
+// is given, its steps would be halved until they are too many to be taken.
+fn fewest(generations: u64) -> u32 {
+    if generations < 1 << 39 { 1024 } else { 2048 }
+}
 
 /// Runs rows in the fewest slots, by so many workers.
 fn assert_in_the_fewest<R: Abort + AllocGlobal + Threads + Wait + Sync>(
@@ -27,7 +31,7 @@ fn assert_in_the_fewest<R: Abort + AllocGlobal + Threads + Wait + Sync>(
 ) -> Result<(), AllocError> {
     for row in rows {
         let few = Row {
-            pairs: FEWEST,
+            pairs: fewest(row.generations),
             workers,
             ..*row
         };
@@ -80,7 +84,7 @@ fn refuses_65536_leaves_in_the_fewest_slots(rt: HostRuntime) -> Result<(), Alloc
     let file = many_leaves(rt.alloc())?;
     for workers in [1, 2] {
         let few = Row {
-            pairs: FEWEST,
+            pairs: 1024,
             workers,
             ..MACROCELL
         };
