@@ -10,6 +10,7 @@ docs/formats.md and README.md say. Build the program first: `./lifebatch --help`
 import argparse
 import os
 import pathlib
+import resource
 import shutil
 import subprocess
 import sys
@@ -74,6 +75,8 @@ class Row:
     # What the output file holds then, if there is one.
     output: str | None = None
     is_error_closed: bool = False
+    # How many MB of addresses there are.
+    memory: int | None = None
 
 
 RUN = ["-m", "1", "in.rle"]
@@ -89,6 +92,7 @@ ROWS = [
     Row("a link to itself", ["loop.rle"], UNREAD, endless_link),
     Row("a name that is too long", ["x" * 5000], UNREAD),
     Row("no name", [""], UNREAD),
+    Row("a file without an end", ["/dev/zero"], (1, "", "lifebatch: refused 18: NoMemory\n"), memory=512),
     Row("a folder as standard input", ["/dev/stdin"], UNREAD, read="."),
     Row("standard input that is closed", ["/dev/stdin"], UNREAD, read="closed"),
     Row("standard input that is closed, and a file", RUN, (0, REPORT, ""), read="closed"),
@@ -123,8 +127,10 @@ def closed_pipe():
     return write
 
 
-def closed_descriptors(row):
-    """Closes what a row has closed, in the process of its run."""
+def prepare_process(row):
+    """Closes what a row has closed, and takes memory away, in the process of its run."""
+    if row.memory:
+        resource.setrlimit(resource.RLIMIT_AS, (row.memory << 20, row.memory << 20))
     for number, is_closed in enumerate((row.read == "closed", row.out == "closed", row.is_error_closed)):
         if is_closed:
             os.close(number)
@@ -151,7 +157,7 @@ def run(program, row, folder):
         stderr=subprocess.PIPE,
         timeout=60,
         user="nobody" if os.geteuid() == 0 else None,
-        preexec_fn=lambda: closed_descriptors(row),
+        preexec_fn=lambda: prepare_process(row),
     )
 
 

@@ -15,6 +15,7 @@ import pathlib
 import subprocess
 import sys
 import tempfile
+import threading
 from collections import Counter
 from dataclasses import dataclass
 
@@ -145,19 +146,24 @@ class Machine:
             old.unlink()
         read, write = os.pipe()
         told = {"REFUSED": kind, "FIRST": str(first), "LAST": str(last), "TOLD": str(write)}
-        found = subprocess.run(
+        process = subprocess.Popen(
             [self.program, *run.words],
             cwd=self.folder,
             env={"LD_PRELOAD": str(self.library), **told},
-            capture_output=True,
+            stdout=subprocess.PIPE,
+            stderr=subprocess.PIPE,
             pass_fds=[write],
-            timeout=60,
         )
         os.close(write)
+        # A run that hangs is ended, and its status is then another one.
+        ending = threading.Timer(60, process.kill)
+        ending.start()
+        report, message = process.communicate()
+        ending.cancel()
         with os.fdopen(read, "rb") as pipe:
             is_refused = bool(pipe.read())
         output = next((path.read_text() for path in self.folder.glob("out.*")), None)
-        return (found.returncode, found.stdout.decode(), found.stderr.decode(), output), is_refused
+        return (process.returncode, report.decode(), message.decode(), output), is_refused
 
 
 def is_no_memory(told, plain):
