@@ -2,6 +2,7 @@
 """Times lifebatch beside Golly's bgolly, compares their last populations, and prints a table.
 
     bench/compare.py                           each row, the best of three rounds, one worker
+    bench/compare.py --workers 1 4             by one worker and by four
     bench/compare.py --rounds 5 --rows gun     the rows with "gun" in their names, the best of five
     bench/compare.py --set formats             the rows that read, write and count, and run little
     bench/compare.py --processors 2            on two processors
@@ -47,7 +48,6 @@ class Row:
 
 R_PENTOMINO = "x = 3, y = 3, rule = B3/S23\nb2o$2o$bo!\n"
 REPLICATOR = "x = 1, y = 1, rule = B1357/S1357\no!\n"
-
 
 
 def soup(side=4096):
@@ -177,11 +177,24 @@ def words_of(row, path):
     return [*words, str(path)]
 
 
-def compared(ours, theirs):
-    """The ratio of the times, and whether both programs found one population."""
+def ratio(ours, theirs):
+    """The ratio of the times, if both programs ended well."""
     if not isinstance(ours, Run) or not isinstance(theirs, Run):
-        return None, "not compared"
-    return ours.seconds / theirs.seconds, "same" if ours.last == theirs.last else f"{ours.last} and {theirs.last}"
+        return None
+    return ours.seconds / theirs.seconds
+
+
+def populations(found):
+    """Whether all runs reported one last population."""
+    if not all(isinstance(run, Run) for run in found):
+        return "not compared"
+    lasts = sorted({run.last for run in found})
+    return "same" if len(lasts) == 1 else " and ".join(lasts)
+
+
+def mean(ratios):
+    """The geometric mean."""
+    return math.exp(sum(map(math.log, ratios)) / len(ratios))
 
 
 def chosen(options):
@@ -189,11 +202,48 @@ def chosen(options):
     return [row for row in rows if not options.rows or any(part in row.name for part in options.rows)]
 
 
+def compared(row, options, bgolly, folder):
+    """The cells of a row of the table, and the ratio for each number of workers."""
+    path = pattern_file(row.source, folder)
+    cells = [row.name, f"{row.generations}, every {row.step}" if row.step else str(row.generations)]
+    if path is None:
+        return [*cells, "Golly's patterns are not installed"], [None for _ in options.workers]
+    words = words_of(row, path)
+    ours = [str(options.program.resolve()), *options.words.split()]
+    commands = [[*ours, "--workers", str(workers), *words] for workers in options.workers]
+    commands.append([bgolly, "-a", "HashLife", *words])
+    *found, theirs = best_of_rounds(commands, options.rounds, folder)
+    ratios = [ratio(run, theirs) for run in found]
+    for run, times in zip(found, ratios):
+        cells += [str(run), "" if times is None else f"{times:.2f}"]
+    return [*cells, str(theirs), populations([*found, theirs])], ratios
+
+
+def print_table(options, bgolly):
+    """The table of the chosen rows, and the mean for each number of workers."""
+    heads = ["Pattern", "Generations"]
+    for workers in options.workers:
+        heads += [f"{workers} worker{'s' if workers > 1 else ''}", "Ratio"]
+    heads += ["bgolly, HashLife", "Last population"]
+    print(f"| {' | '.join(heads)} |\n{'|---' * len(heads)}|")
+    rows = []
+    with tempfile.TemporaryDirectory() as name:
+        for row in chosen(options):
+            cells, ratios = compared(row, options, bgolly, pathlib.Path(name))
+            rows.append(ratios)
+            print(f"| {' | '.join(cells)} |", flush=True)
+    for workers, ratios in zip(options.workers, zip(*rows)):
+        ratios = [ratio for ratio in ratios if ratio is not None]
+        if ratios:
+            print(f"\nGeometric mean of the ratios, --workers {workers}: {mean(ratios):.2f}")
+
+
 def main():
     parser = argparse.ArgumentParser(description=__doc__, formatter_class=argparse.RawDescriptionHelpFormatter)
     parser.add_argument("--rounds", type=int, default=3, help="how many runs of each, of which the best counts (3)")
     parser.add_argument("--set", nargs="+", choices=sorted(SETS), default=["runs"], help="which rows")
     parser.add_argument("--rows", nargs="+", default=[], help="only the rows with one of these words in their names")
+    parser.add_argument("--workers", type=int, nargs="+", default=[1], help="by how many workers, one number or several (1)")
     parser.add_argument("--program", type=pathlib.Path, default=LIFEBATCH, help="another build of lifebatch")
     parser.add_argument("--words", default="", help="further words for lifebatch, as '--nodes 65536'")
     parser.add_argument("--processors", type=int, help="how many processors both may use (all)")
@@ -203,30 +253,9 @@ def main():
     if not options.program.is_file():
         sys.exit("build the program first: ./lifebatch --help")
     bgolly = shutil.which("bgolly")
-    ratios = []
-    print("| Pattern | Generations | lifebatch | bgolly, HashLife | Ratio | Last population |")
-    print("|---|---|---|---|---|---|")
-    with tempfile.TemporaryDirectory() as name:
-        folder = pathlib.Path(name)
-        for row in chosen(options):
-            path = pattern_file(row.source, folder)
-            generations = f"{row.generations}, every {row.step}" if row.step else str(row.generations)
-            if path is None:
-                print(f"| {row.name} | {generations} | Golly's patterns are not installed | | | |")
-                continue
-            words = words_of(row, path)
-            commands = [[str(options.program.resolve()), *options.words.split(), *words]]
-            if bgolly:
-                commands.append([bgolly, "-a", "HashLife", *words])
-            found = best_of_rounds(commands, options.rounds, folder)
-            theirs = found[1] if bgolly else "not installed"
-            ratio, populations = compared(found[0], theirs)
-            if ratio is not None:
-                ratios.append(ratio)
-            shown = "" if ratio is None else f"{ratio:.2f}"
-            print(f"| {row.name} | {generations} | {found[0]} | {theirs} | {shown} | {populations} |", flush=True)
-    if ratios:
-        print(f"\nGeometric mean of the ratios: {math.exp(sum(map(math.log, ratios)) / len(ratios)):.2f}")
+    if not bgolly:
+        sys.exit("bgolly is not on the path: Debian's package golly has it")
+    print_table(options, bgolly)
 
 
 if __name__ == "__main__":

@@ -4,7 +4,7 @@ ghost use Rattle.node_table.specs.Stills.{book_in};
 
 use crate::at::square;
 use crate::still::Still;
-use squares::{Look, Sq};
+use squares::{ReadSquares, Sq};
 use table_core::parts;
 
 impl Still {
@@ -20,7 +20,7 @@ impl Still {
     }
 }
 
-impl Look for Still {
+impl ReadSquares for Still {
     ghost book = { book_in };
 
     fn bits(&self, sq: Sq) -> u64 {

@@ -20,13 +20,13 @@ use opening::opening_lines;
 use plane::{Refusal, Sink, write_all};
 use rle_reader::Comments;
 use rule_text::Rule;
-use squares::{Look, Sq};
+use squares::{ReadSquares, Sq};
 use std::alloc::Global;
 
 /// Writes the cells of a square of a level from 4 to 63, whose centre corner is (0,0), with the comments, the rule
 /// and the generation. It refuses `NoMemory` before the first byte, and `WriteFailed` where the sink failed.
-pub fn write_mc<L: Look, V: Sink>(
-    look: &L,
+pub fn write_mc<B: ReadSquares, V: Sink>(
+    book: &B,
     alloc: Global,
     sq: Sq,
     comments: Comments<'_>,
@@ -34,16 +34,16 @@ pub fn write_mc<L: Look, V: Sink>(
     generation: u64,
     file: &mut V,
 ) -> Result<(), Refusal>
-    requires known { IsKnown (L.book look.now) sq.level sq }
+    requires known { IsKnown (B.book book.now) sq.level sq }
     requires low { 4 ≤ sq.level }
     requires high { sq.level ≤ 63 }
-    ensures written { OnOk result (WritesMc (centred sq.level ((L.book look.now).cells sq)) comments.entry rule.now generation (V.taken file.old) (V.taken file.new)) }
+    ensures written { OnOk result (WritesMc (centred sq.level ((B.book book.now).cells sq)) comments.entry rule.now generation (V.taken file.old) (V.taken file.new)) }
     ensures unfailed { OnOk result (V.failure_count file.new ≡ V.failure_count file.old) }
     ensures refused { IfErr result (λ refusal.
         (refusal ≡ Refusal.NoMemory × file.new ≡ file.old)
         ⊎ IsWriteRefusal (V.failure_count file.old) (V.failure_count file.new) refusal) }
 {
-    let nodes = listed_nodes(look, alloc, sq)?;
+    let nodes = listed_nodes(book, alloc, sq)?;
     let opening = opening_lines(rule.text().as_str(), generation);
     let mut block = ArrayVec::new();
     begin(file, &mut block, opening.as_str(), comments)?;

@@ -26,16 +26,16 @@ use opening::{header_line, position_line};
 use plane::{Refusal, Sink, write_all};
 use rle_reader::Comments;
 use rule_text::Rule;
-use squares::{Look, Sq};
+use squares::{ReadSquares, Sq};
 use std::alloc::Global;
 use std::thread::Threads;
 
 /// Writes the cells of a square of a level up to 63, whose centre corner is (0,0), with the comments, the rule and
 /// the generation. It refuses `NoMemory`, or `BoxTooLarge` where a side of the cells' box is 2^31 or more, both
 /// before the first byte, and `WriteFailed` where the sink failed. The runs of the rows are found in threads.
-pub fn write_rle<R: Threads + Sync, L: Look + Sync, V: Sink>(
+pub fn write_rle<R: Threads + Sync, B: ReadSquares + Sync, V: Sink>(
     rt: &R,
-    look: &L,
+    book: &B,
     alloc: Global,
     sq: Sq,
     comments: Comments<'_>,
@@ -43,16 +43,16 @@ pub fn write_rle<R: Threads + Sync, L: Look + Sync, V: Sink>(
     generation: u64,
     file: &mut V,
 ) -> Result<(), Refusal>
-    requires known { IsKnown (L.book look.now) sq.level sq }
+    requires known { IsKnown (B.book book.now) sq.level sq }
     requires level { sq.level ≤ 63 }
-    ensures written { OnOk result (WritesRle (centred sq.level ((L.book look.now).cells sq)) comments.entry rule.now generation (V.taken file.old) (V.taken file.new)) }
+    ensures written { OnOk result (WritesRle (centred sq.level ((B.book book.now).cells sq)) comments.entry rule.now generation (V.taken file.old) (V.taken file.new)) }
     ensures unfailed { OnOk result (V.failure_count file.new ≡ V.failure_count file.old) }
     ensures refused { IfErr result (λ refusal.
-        (refusal ≡ Refusal.BoxTooLarge × IsTooLarge (centred sq.level ((L.book look.now).cells sq)) × file.new ≡ file.old)
+        (refusal ≡ Refusal.BoxTooLarge × IsTooLarge (centred sq.level ((B.book book.now).cells sq)) × file.new ≡ file.old)
         ⊎ (refusal ≡ Refusal.NoMemory × file.new ≡ file.old)
         ⊎ IsWriteRefusal (V.failure_count file.old) (V.failure_count file.new) refusal) }
 {
-    let (frame, items) = framed_items(rt, look, alloc, sq)?;
+    let (frame, items) = framed_items(rt, book, alloc, sq)?;
     write_items(file, frame, items.as_slice(), comments, rule, generation)
 }
 

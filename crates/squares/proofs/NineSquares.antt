@@ -2,12 +2,13 @@
 use Rattle.std.proofs.Common.{◌≡◌, ℕ, zero, suc, ◌+◌, ◌-◌, ◌*◌, ◌^◌, ◌<◌, ◌≤◌, List, [], ◌∷◌, sym, ap, subst, arith, refl}
 use Rattle.std.specs.List.{AllByRecursion}
 use Rattle.plane.specs.Plane.{Plane}
-use Rattle.plane.specs.Square.{IsSame, cut, ninth}
+use Rattle.plane.specs.Square.{IsSame, centre_of, cut, ninth}
 use Rattle.plane.proofs.Ninths.{nw_ninth, ne_ninth, sw_ninth, se_ninth, upper_ninth, left_ninth, middle_ninth, right_ninth, lower_ninth}
 use Rattle.plane.proofs.Same.{plane_equal}
 use Rattle.squares.specs.Book.{Book, IsKnown, Shows, Keeps, AreQuarters, AreNinths, joined_squares, nth}
 use Rattle.squares.specs.Parts.{ArePartsOfParts}
 use Rattle.squares.specs.declared.sq.Sq.{Sq}
+use Rattle.squares.specs.declared.subsquares.Parts.{Parts}
 use Rattle.squares.proofs.KnownQuarters.{quarters_of_level}
 use Rattle.squares.proofs.Kept.{keeps_trans, shows_kept}
 use Rattle.squares.proofs.Centres.{lowered, shows_as}
@@ -19,28 +20,28 @@ quarters_kept keeps h = record { nw = shows_kept keeps h.nw; ne = shows_kept kee
 later : (old new : Book) (level : ℕ) (plane : Plane) (sq : Sq) (quarters : List Sq) → Keeps old new → Shows old level plane sq → AreQuarters new level (old.cells sq) quarters → AreQuarters new level (new.cells sq) quarters
 later old new level plane sq quarters keeps known h = subst (λ p. AreQuarters new level p quarters) (sym (plane_equal _ _ (keeps.cells sq known.known.known))) h
 
-pub read_kept : {old new : Book} {level : ℕ} {plane : Plane} {q a b c d : List Sq} → Keeps old new → ArePartsOfParts old level plane q a b c d → ArePartsOfParts new level plane q a b c d
-read_kept {old = old} {new = new} {level = level} {q = q} {a = a} {b = b} {c = c} {d = d} keeps r = record {
+pub read_kept : {old new : Book} {level : ℕ} {plane : Plane} {parts : Parts} → Keeps old new → ArePartsOfParts old level plane parts → ArePartsOfParts new level plane parts
+read_kept {old = old} {new = new} {level = level} {parts = parts} keeps r = record {
   whole = quarters_kept keeps r.whole;
-  nw = later old new (level - 1) _ (nth q 0) a keeps r.whole.nw (quarters_kept keeps r.nw);
-  ne = later old new (level - 1) _ (nth q 1) b keeps r.whole.ne (quarters_kept keeps r.ne);
-  sw = later old new (level - 1) _ (nth q 2) c keeps r.whole.sw (quarters_kept keeps r.sw);
-  se = later old new (level - 1) _ (nth q 3) d keeps r.whole.se (quarters_kept keeps r.se);
+  nw = later old new (level - 1) _ (nth parts.whole 0) parts.nw keeps r.whole.nw (quarters_kept keeps r.nw);
+  ne = later old new (level - 1) _ (nth parts.whole 1) parts.ne keeps r.whole.ne (quarters_kept keeps r.ne);
+  sw = later old new (level - 1) _ (nth parts.whole 2) parts.sw keeps r.whole.sw (quarters_kept keeps r.sw);
+  se = later old new (level - 1) _ (nth parts.whole 3) parts.se keeps r.whole.se (quarters_kept keeps r.se);
 }
 
 -- what five reads in turn give
-pub read_all : (level : ℕ) (b1 b2 b3 b4 b5 : Book) (plane : Plane) (q a b c d : List Sq) →
-    AreQuarters b1 level plane q →
-    Keeps b1 b2 → AreQuarters b2 (nth q 0).level (b1.cells (nth q 0)) a →
-    Keeps b2 b3 → AreQuarters b3 (nth q 1).level (b2.cells (nth q 1)) b →
-    Keeps b3 b4 → AreQuarters b4 (nth q 2).level (b3.cells (nth q 2)) c →
-    Keeps b4 b5 → AreQuarters b5 (nth q 3).level (b4.cells (nth q 3)) d →
-    ArePartsOfParts b5 level plane q a b c d
-read_all level b1 b2 b3 b4 b5 plane q a b c d all k2 in_a k3 in_b k4 in_c k5 in_d =
-    let a2 = lowered b2 _ (level - 1) _ a all.nw.known.at_level in_a in
-    let b3q = lowered b3 _ (level - 1) _ b all.ne.known.at_level in_b in
-    let c4 = lowered b4 _ (level - 1) _ c all.sw.known.at_level in_c in
-    let d5 = lowered b5 _ (level - 1) _ d all.se.known.at_level in_d in
+pub read_all : (level : ℕ) (b1 b2 b3 b4 b5 : Book) (plane : Plane) (parts : Parts) →
+    AreQuarters b1 level plane parts.whole →
+    Keeps b1 b2 → AreQuarters b2 (nth parts.whole 0).level (b1.cells (nth parts.whole 0)) parts.nw →
+    Keeps b2 b3 → AreQuarters b3 (nth parts.whole 1).level (b2.cells (nth parts.whole 1)) parts.ne →
+    Keeps b3 b4 → AreQuarters b4 (nth parts.whole 2).level (b3.cells (nth parts.whole 2)) parts.sw →
+    Keeps b4 b5 → AreQuarters b5 (nth parts.whole 3).level (b4.cells (nth parts.whole 3)) parts.se →
+    ArePartsOfParts b5 level plane parts
+read_all level b1 b2 b3 b4 b5 plane parts all k2 in_a k3 in_b k4 in_c k5 in_d =
+    let a2 = lowered b2 _ (level - 1) _ parts.nw all.nw.known.at_level in_a in
+    let b3q = lowered b3 _ (level - 1) _ parts.ne all.ne.known.at_level in_b in
+    let c4 = lowered b4 _ (level - 1) _ parts.sw all.sw.known.at_level in_c in
+    let d5 = lowered b5 _ (level - 1) _ parts.se all.se.known.at_level in_d in
     let k24 = keeps_trans k3 k4 in
     let k25 = keeps_trans k3 (keeps_trans k4 k5) in
     let k35 = keeps_trans k4 k5 in
@@ -49,10 +50,10 @@ read_all level b1 b2 b3 b4 b5 plane q a b c d all k2 in_a k3 in_b k4 in_c k5 in_
     let k15 = keeps_trans k2 k25 in
     record {
       whole = quarters_kept k15 all;
-      nw = later b1 b5 (level - 1) _ (nth q 0) a k15 all.nw (quarters_kept k25 a2);
-      ne = later b2 b5 (level - 1) _ (nth q 1) b k25 (shows_kept k2 all.ne) (quarters_kept k35 b3q);
-      sw = later b3 b5 (level - 1) _ (nth q 2) c k35 (shows_kept k13 all.sw) (quarters_kept k5 c4);
-      se = later b4 b5 (level - 1) _ (nth q 3) d k5 (shows_kept k14 all.se) d5;
+      nw = later b1 b5 (level - 1) _ (nth parts.whole 0) parts.nw k15 all.nw (quarters_kept k25 a2);
+      ne = later b2 b5 (level - 1) _ (nth parts.whole 1) parts.ne k25 (shows_kept k2 all.ne) (quarters_kept k35 b3q);
+      sw = later b3 b5 (level - 1) _ (nth parts.whole 2) parts.sw k35 (shows_kept k13 all.sw) (quarters_kept k5 c4);
+      se = later b4 b5 (level - 1) _ (nth parts.whole 3) parts.se k5 (shows_kept k14 all.se) d5;
     }
 
 -- the square of four squares that an earlier book knows
@@ -65,7 +66,7 @@ pub record MakeNinth (book : Book) (level row column : ℕ) (plane : Plane) (qua
   pub known : AllByRecursion (IsKnown book (nth quarters 0).level) quarters
   pub shown : (new : Book) (sq : Sq) → IsJoined book new quarters sq → Shows new (level - 1) (ninth level row column plane) sq
 
-module _ {book : Book} {level : ℕ} {plane : Plane} {q a b c d : List Sq} (above : 4 < level) (high : level ≤ 65) (r : ArePartsOfParts book level plane q a b c d) where
+module _ {book : Book} {level : ℕ} {plane : Plane} {parts : Parts} (above : 4 < level) (high : level ≤ 65) (r : ArePartsOfParts book level plane parts) where
   side_is : 2 ^ (level - 1 - 1) ≡ 2 ^ (level - 2)
   side_is = ap (λ n. 2 ^ n) (let e : level - 1 - 1 ≡ level - 2 = omega arith in e)
 
@@ -80,57 +81,61 @@ module _ {book : Book} {level : ℕ} {plane : Plane} {q a b c d : List Sq} (abov
         shows_as new (level - 1 - 1 + 1) (level - 1) _ _ sq (omega arith) same here;
   }
 
-  pub make_upper : MakeNinth book level 0 1 plane (nth a 1 ∷ nth b 0 ∷ nth a 3 ∷ nth b 2 ∷ [])
-  make_upper = make_ninth 0 1 (nth a 1) (nth b 0) (nth a 3) (nth b 2) r.nw.ne.known r.ne.nw.known r.nw.se.known r.ne.sw.known
-      (upper_ninth level (2 ^ (level - 1 - 1)) plane (omega arith) side_is _ _ (book.cells (nth q 2)) (book.cells (nth q 3)) _ _ _ _ r.whole.nw.cells r.whole.ne.cells r.nw.ne.cells r.ne.nw.cells r.nw.se.cells r.ne.sw.cells)
+  pub make_upper : MakeNinth book level 0 1 plane (nth parts.nw 1 ∷ nth parts.ne 0 ∷ nth parts.nw 3 ∷ nth parts.ne 2 ∷ [])
+  make_upper = make_ninth 0 1 (nth parts.nw 1) (nth parts.ne 0) (nth parts.nw 3) (nth parts.ne 2) r.nw.ne.known r.ne.nw.known r.nw.se.known r.ne.sw.known
+      (upper_ninth level (2 ^ (level - 1 - 1)) plane (omega arith) side_is _ _ (book.cells (nth parts.whole 2)) (book.cells (nth parts.whole 3)) _ _ _ _ r.whole.nw.cells r.whole.ne.cells r.nw.ne.cells r.ne.nw.cells r.nw.se.cells r.ne.sw.cells)
 
-  pub make_left : MakeNinth book level 1 0 plane (nth a 2 ∷ nth a 3 ∷ nth c 0 ∷ nth c 1 ∷ [])
-  make_left = make_ninth 1 0 (nth a 2) (nth a 3) (nth c 0) (nth c 1) r.nw.sw.known r.nw.se.known r.sw.nw.known r.sw.ne.known
-      (left_ninth level (2 ^ (level - 1 - 1)) plane (omega arith) side_is _ (book.cells (nth q 1)) _ (book.cells (nth q 3)) _ _ _ _ r.whole.nw.cells r.whole.sw.cells r.nw.sw.cells r.nw.se.cells r.sw.nw.cells r.sw.ne.cells)
+  pub make_left : MakeNinth book level 1 0 plane (nth parts.nw 2 ∷ nth parts.nw 3 ∷ nth parts.sw 0 ∷ nth parts.sw 1 ∷ [])
+  make_left = make_ninth 1 0 (nth parts.nw 2) (nth parts.nw 3) (nth parts.sw 0) (nth parts.sw 1) r.nw.sw.known r.nw.se.known r.sw.nw.known r.sw.ne.known
+      (left_ninth level (2 ^ (level - 1 - 1)) plane (omega arith) side_is _ (book.cells (nth parts.whole 1)) _ (book.cells (nth parts.whole 3)) _ _ _ _ r.whole.nw.cells r.whole.sw.cells r.nw.sw.cells r.nw.se.cells r.sw.nw.cells r.sw.ne.cells)
 
-  pub make_middle : MakeNinth book level 1 1 plane (nth a 3 ∷ nth b 2 ∷ nth c 1 ∷ nth d 0 ∷ [])
-  make_middle = make_ninth 1 1 (nth a 3) (nth b 2) (nth c 1) (nth d 0) r.nw.se.known r.ne.sw.known r.sw.ne.known r.se.nw.known
+  pub make_middle : MakeNinth book level 1 1 plane (nth parts.nw 3 ∷ nth parts.ne 2 ∷ nth parts.sw 1 ∷ nth parts.se 0 ∷ [])
+  make_middle = make_ninth 1 1 (nth parts.nw 3) (nth parts.ne 2) (nth parts.sw 1) (nth parts.se 0) r.nw.se.known r.ne.sw.known r.sw.ne.known r.se.nw.known
       (middle_ninth level (2 ^ (level - 1 - 1)) plane (omega arith) side_is _ _ _ _ _ _ _ _ r.whole.nw.cells r.whole.ne.cells r.whole.sw.cells r.whole.se.cells r.nw.se.cells r.ne.sw.cells r.sw.ne.cells r.se.nw.cells)
 
-  pub make_right : MakeNinth book level 1 2 plane (nth b 2 ∷ nth b 3 ∷ nth d 0 ∷ nth d 1 ∷ [])
-  make_right = make_ninth 1 2 (nth b 2) (nth b 3) (nth d 0) (nth d 1) r.ne.sw.known r.ne.se.known r.se.nw.known r.se.ne.known
-      (right_ninth level (2 ^ (level - 1 - 1)) plane (omega arith) side_is (book.cells (nth q 0)) _ (book.cells (nth q 2)) _ _ _ _ _ r.whole.ne.cells r.whole.se.cells r.ne.sw.cells r.ne.se.cells r.se.nw.cells r.se.ne.cells)
+  pub make_right : MakeNinth book level 1 2 plane (nth parts.ne 2 ∷ nth parts.ne 3 ∷ nth parts.se 0 ∷ nth parts.se 1 ∷ [])
+  make_right = make_ninth 1 2 (nth parts.ne 2) (nth parts.ne 3) (nth parts.se 0) (nth parts.se 1) r.ne.sw.known r.ne.se.known r.se.nw.known r.se.ne.known
+      (right_ninth level (2 ^ (level - 1 - 1)) plane (omega arith) side_is (book.cells (nth parts.whole 0)) _ (book.cells (nth parts.whole 2)) _ _ _ _ _ r.whole.ne.cells r.whole.se.cells r.ne.sw.cells r.ne.se.cells r.se.nw.cells r.se.ne.cells)
 
-  pub make_lower : MakeNinth book level 2 1 plane (nth c 1 ∷ nth d 0 ∷ nth c 3 ∷ nth d 2 ∷ [])
-  make_lower = make_ninth 2 1 (nth c 1) (nth d 0) (nth c 3) (nth d 2) r.sw.ne.known r.se.nw.known r.sw.se.known r.se.sw.known
-      (lower_ninth level (2 ^ (level - 1 - 1)) plane (omega arith) side_is (book.cells (nth q 0)) (book.cells (nth q 1)) _ _ _ _ _ _ r.whole.sw.cells r.whole.se.cells r.sw.ne.cells r.se.nw.cells r.sw.se.cells r.se.sw.cells)
+  pub make_lower : MakeNinth book level 2 1 plane (nth parts.sw 1 ∷ nth parts.se 0 ∷ nth parts.sw 3 ∷ nth parts.se 2 ∷ [])
+  make_lower = make_ninth 2 1 (nth parts.sw 1) (nth parts.se 0) (nth parts.sw 3) (nth parts.se 2) r.sw.ne.known r.se.nw.known r.sw.se.known r.se.sw.known
+      (lower_ninth level (2 ^ (level - 1 - 1)) plane (omega arith) side_is (book.cells (nth parts.whole 0)) (book.cells (nth parts.whole 1)) _ _ _ _ _ _ r.whole.sw.cells r.whole.se.cells r.sw.ne.cells r.se.nw.cells r.sw.se.cells r.se.sw.cells)
 
   corner_shown : (row column : ℕ) (sq : Sq) (left top : ℕ) → Shows book (level - 1) (cut (2 ^ (level - 1)) left top plane) sq → (IsSame (book.cells sq) (cut (2 ^ (level - 1)) left top plane) → IsSame (book.cells sq) (ninth level row column plane)) → Shows book (level - 1) (ninth level row column plane) sq
   corner_shown row column sq left top h f = record { known = h.known; cells = f h.cells }
 
   all_nine : (upper left middle right lower : Sq) → Shows book (level - 1) (ninth level 0 1 plane) upper → Shows book (level - 1) (ninth level 1 0 plane) left → Shows book (level - 1) (ninth level 1 1 plane) middle →
-      Shows book (level - 1) (ninth level 1 2 plane) right → Shows book (level - 1) (ninth level 2 1 plane) lower → AreNinths book level plane (nth q 0 ∷ upper ∷ nth q 1 ∷ left ∷ middle ∷ right ∷ nth q 2 ∷ lower ∷ nth q 3 ∷ [])
+      Shows book (level - 1) (ninth level 1 2 plane) right → Shows book (level - 1) (ninth level 2 1 plane) lower → AreNinths book level plane (nth parts.whole 0 ∷ upper ∷ nth parts.whole 1 ∷ left ∷ middle ∷ right ∷ nth parts.whole 2 ∷ lower ∷ nth parts.whole 3 ∷ [])
   all_nine upper left middle right lower up le mi ri lo = record { shown = each }
     where
-      each : (row column : ℕ) → row < 3 → column < 3 → Shows book (level - 1) (ninth level row column plane) (nth (nth q 0 ∷ upper ∷ nth q 1 ∷ left ∷ middle ∷ right ∷ nth q 2 ∷ lower ∷ nth q 3 ∷ []) (3 * row + column))
-      each zero zero h k = corner_shown 0 0 (nth q 0) 0 0 r.whole.nw (nw_ninth level (2 ^ (level - 2)) plane (omega arith) refl _)
+      each : (row column : ℕ) → row < 3 → column < 3 → Shows book (level - 1) (ninth level row column plane) (nth (nth parts.whole 0 ∷ upper ∷ nth parts.whole 1 ∷ left ∷ middle ∷ right ∷ nth parts.whole 2 ∷ lower ∷ nth parts.whole 3 ∷ []) (3 * row + column))
+      each zero zero h k = corner_shown 0 0 (nth parts.whole 0) 0 0 r.whole.nw (nw_ninth level (2 ^ (level - 2)) plane (omega arith) refl _)
       each zero (suc zero) h k = up
-      each zero (suc (suc zero)) h k = corner_shown 0 2 (nth q 1) (2 ^ (level - 1)) 0 r.whole.ne (ne_ninth level (2 ^ (level - 2)) plane (omega arith) refl _)
+      each zero (suc (suc zero)) h k = corner_shown 0 2 (nth parts.whole 1) (2 ^ (level - 1)) 0 r.whole.ne (ne_ninth level (2 ^ (level - 2)) plane (omega arith) refl _)
       each zero (suc (suc (suc column))) h k = absurd (omega arith)
       each (suc zero) zero h k = le
       each (suc zero) (suc zero) h k = mi
       each (suc zero) (suc (suc zero)) h k = ri
       each (suc zero) (suc (suc (suc column))) h k = absurd (omega arith)
-      each (suc (suc zero)) zero h k = corner_shown 2 0 (nth q 2) 0 (2 ^ (level - 1)) r.whole.sw (sw_ninth level (2 ^ (level - 2)) plane (omega arith) refl _)
+      each (suc (suc zero)) zero h k = corner_shown 2 0 (nth parts.whole 2) 0 (2 ^ (level - 1)) r.whole.sw (sw_ninth level (2 ^ (level - 2)) plane (omega arith) refl _)
       each (suc (suc zero)) (suc zero) h k = lo
-      each (suc (suc zero)) (suc (suc zero)) h k = corner_shown 2 2 (nth q 3) (2 ^ (level - 1)) (2 ^ (level - 1)) r.whole.se (se_ninth level (2 ^ (level - 2)) plane (omega arith) refl _)
+      each (suc (suc zero)) (suc (suc zero)) h k = corner_shown 2 2 (nth parts.whole 3) (2 ^ (level - 1)) (2 ^ (level - 1)) r.whole.se (se_ninth level (2 ^ (level - 2)) plane (omega arith) refl _)
       each (suc (suc zero)) (suc (suc (suc column))) h k = absurd (omega arith)
       each (suc (suc (suc row))) column h k = absurd (omega arith)
 
+-- the middle one is the centre
+pub middle_is_centre : {book : Book} (level : ℕ) (plane : Plane) (sq : Sq) → Shows book (level - 1) (ninth level 1 1 plane) sq → Shows book (level - 1) (centre_of level plane) sq
+middle_is_centre {book = book} level plane sq shown = subst (λ n. Shows book (level - 1) (cut (2 ^ (level - 1)) n n plane) sq) (let e : 1 * 2 ^ (level - 2) ≡ 2 ^ (level - 2) = omega arith in e) shown
+
 -- the nine squares, five of which are made one after the other
-module _ (level : ℕ) (plane : Plane) (q a b c d : List Sq) (above : 4 < level) (high : level ≤ 65) (b0 b1 b2 b3 b4 b5 : Book) (upper left middle right lower : Sq) where
-  pub nine_made : ArePartsOfParts b0 level plane q a b c d →
-      Keeps b0 b1 → IsJoined b0 b1 (nth a 1 ∷ nth b 0 ∷ nth a 3 ∷ nth b 2 ∷ []) upper →
-      Keeps b1 b2 → IsJoined b1 b2 (nth a 2 ∷ nth a 3 ∷ nth c 0 ∷ nth c 1 ∷ []) left →
-      Keeps b2 b3 → IsJoined b2 b3 (nth a 3 ∷ nth b 2 ∷ nth c 1 ∷ nth d 0 ∷ []) middle →
-      Keeps b3 b4 → IsJoined b3 b4 (nth b 2 ∷ nth b 3 ∷ nth d 0 ∷ nth d 1 ∷ []) right →
-      Keeps b4 b5 → IsJoined b4 b5 (nth c 1 ∷ nth d 0 ∷ nth c 3 ∷ nth d 2 ∷ []) lower →
-      AreNinths b5 level plane (nth q 0 ∷ upper ∷ nth q 1 ∷ left ∷ middle ∷ right ∷ nth q 2 ∷ lower ∷ nth q 3 ∷ [])
+module _ (level : ℕ) (plane : Plane) (parts : Parts) (above : 4 < level) (high : level ≤ 65) (b0 b1 b2 b3 b4 b5 : Book) (upper left middle right lower : Sq) where
+  pub nine_made : ArePartsOfParts b0 level plane parts →
+      Keeps b0 b1 → IsJoined b0 b1 (nth parts.nw 1 ∷ nth parts.ne 0 ∷ nth parts.nw 3 ∷ nth parts.ne 2 ∷ []) upper →
+      Keeps b1 b2 → IsJoined b1 b2 (nth parts.nw 2 ∷ nth parts.nw 3 ∷ nth parts.sw 0 ∷ nth parts.sw 1 ∷ []) left →
+      Keeps b2 b3 → IsJoined b2 b3 (nth parts.nw 3 ∷ nth parts.ne 2 ∷ nth parts.sw 1 ∷ nth parts.se 0 ∷ []) middle →
+      Keeps b3 b4 → IsJoined b3 b4 (nth parts.ne 2 ∷ nth parts.ne 3 ∷ nth parts.se 0 ∷ nth parts.se 1 ∷ []) right →
+      Keeps b4 b5 → IsJoined b4 b5 (nth parts.sw 1 ∷ nth parts.se 0 ∷ nth parts.sw 3 ∷ nth parts.se 2 ∷ []) lower →
+      AreNinths b5 level plane (nth parts.whole 0 ∷ upper ∷ nth parts.whole 1 ∷ left ∷ middle ∷ right ∷ nth parts.whole 2 ∷ lower ∷ nth parts.whole 3 ∷ [])
   nine_made r0 k1 up k2 le k3 mi k4 ri k5 lo =
       let r1 = read_kept k1 r0 in let r2 = read_kept k2 r1 in let r3 = read_kept k3 r2 in let r4 = read_kept k4 r3 in
       let k45 = keeps_trans k4 k5 in let k35 = keeps_trans k3 k45 in let k25 = keeps_trans k2 k35 in

@@ -11,7 +11,8 @@ use plane::Refusal;
 use std::alloc::Global;
 use std::collections::BTreeMap;
 
-// Copies a square, and notes the copies that are made on the way.
+// Copies a square, and notes the copies that are made on the way, but for those of leaves: a note costs more
+// than a leaf that the book knows.
 fn copy_read<A: Squares, B: Squares>(
     from: &mut A,
     sq: Sq,
@@ -32,12 +33,11 @@ fn copy_read<A: Squares, B: Squares>(
     if sq.num.0 == 0 {
         return Ok(sq);
     }
+    if level == 3 {
+        return to.leaf(from.read_bits(sq));
+    }
     if let Some(num) = copies.get(&sq) {
         return Ok(Sq { level, num: *num });
-    }
-    if level == 3 {
-        let copy = to.leaf(from.read_bits(sq))?;
-        return noted(copies, sq, copy);
     }
     let mut quarters = from.read_parts(sq);
     for quarter in quarters.iter_mut() {
@@ -47,8 +47,8 @@ fn copy_read<A: Squares, B: Squares>(
     noted(copies, sq, copy)
 }
 
-/// The square with the same level and the same cells in another book; each number is read and copied
-/// once. Both books go on knowing what they knew. `NoMemory` where memory ran out, and what the second
+/// The square with the same level and the same cells in another book; each number of a larger square
+/// than a leaf is read and copied once. Both books go on knowing what they knew. `NoMemory` where memory ran out, and what the second
 /// book refuses.
 pub fn copy_between<A: Squares, B: Squares>(
     alloc: Global,

@@ -7,9 +7,9 @@ use crate::sq::Sq;
 use plane::Refusal;
 use rule_text::Rule;
 
-/// Squares that can be looked at. Number 0 is known at each level, and two known squares of one
+/// Squares that can be read, and where none is made. Number 0 is known at each level, and two known squares of one
 /// level have one number exactly if they have the same cells.
-pub trait Look {
+pub trait ReadSquares {
     // What is known.
     ghost book: { Self → Book };
 

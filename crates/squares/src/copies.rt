@@ -3,7 +3,7 @@ ghost use Rattle.std.specs.BTreeMap.{IsUnchanged, Updates};
 ghost use Rattle.squares.specs.Book.{IsKnown, Keeps, KeepsResults, MayRefuse, Shows};
 ghost use Rattle.squares.specs.Copies.{AreCopies, sq_order};
 
-use crate::book::{Look, Squares};
+use crate::book::{ReadSquares, Squares};
 use crate::sq::{Num, Sq};
 use plane::Refusal;
 use std::alloc::Global;
@@ -23,16 +23,16 @@ pub(crate) fn noted(copies: &mut BTreeMap<Sq, Num>, sq: Sq, copy: Sq) -> Result<
 }
 
 // Copies a square, and notes the copies that are made on the way.
-fn copy_into<L: Look, S: Squares>(
-    from: &L,
+fn copy_into<B: ReadSquares, S: Squares>(
+    from: &B,
     sq: Sq,
     to: &mut S,
     copies: &mut BTreeMap<Sq, Num>,
 ) -> Result<Sq, Refusal>
-    requires known { IsKnown (L.book from.now) sq.level sq }
-    requires copies { AreCopies (L.book from.now) (S.book to.old) copies.old }
-    ensures ok { IfOk result (Shows (S.book to.new) sq.level ((L.book from.now).cells sq)) }
-    ensures copies { AreCopies (L.book from.now) (S.book to.new) copies.new }
+    requires known { IsKnown (B.book from.now) sq.level sq }
+    requires copies { AreCopies (B.book from.now) (S.book to.old) copies.old }
+    ensures ok { IfOk result (Shows (S.book to.new) sq.level ((B.book from.now).cells sq)) }
+    ensures copies { AreCopies (B.book from.now) (S.book to.new) copies.new }
     ensures refusal { IfErr result (λ refusal. (refusal ≡ Refusal.NoMemory) ⊎ MayRefuse (S.book to.new) refusal) }
     ensures keeps { Keeps (S.book to.old) (S.book to.new) }
     ensures results { KeepsResults (S.book to.old) (S.book to.new) }
@@ -58,14 +58,14 @@ fn copy_into<L: Look, S: Squares>(
 
 /// The square with the same level and the same cells in another book; each number is copied once.
 /// `NoMemory` where memory ran out, and what that book refuses.
-pub fn copy_square<L: Look, S: Squares>(
+pub fn copy_square<B: ReadSquares, S: Squares>(
     alloc: Global,
-    from: &L,
+    from: &B,
     sq: Sq,
     to: &mut S,
 ) -> Result<Sq, Refusal>
-    requires { IsKnown (L.book from.now) sq.level sq }
-    ensures ok { IfOk result (Shows (S.book to.new) sq.level ((L.book from.now).cells sq)) }
+    requires { IsKnown (B.book from.now) sq.level sq }
+    ensures ok { IfOk result (Shows (S.book to.new) sq.level ((B.book from.now).cells sq)) }
     ensures refusal { IfErr result (λ refusal. (refusal ≡ Refusal.NoMemory) ⊎ MayRefuse (S.book to.new) refusal) }
     ensures keeps { Keeps (S.book to.old) (S.book to.new) }
     ensures results { KeepsResults (S.book to.old) (S.book to.new) }

@@ -12,7 +12,7 @@ mod sq;
 mod subsquares;
 
 pub use between::copy_between;
-pub use book::{Look, Squares};
+pub use book::{ReadSquares, Squares};
 pub use copies::copy_square;
 pub use plain_book::PlainBook;
 pub use runs::{cells_to_square, runs_to_square};

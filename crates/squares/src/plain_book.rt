@@ -5,7 +5,7 @@ ghost use Rattle.squares.specs.Nodes.{AreFutures, HasNumbers, IsGood, node_at, n
 ghost use Rattle.squares.specs.declared.node.Node.TheVariants.{Leaf, Inner};
 ghost use Rattle.std.specs.Ordering.{nat_cmp};
 
-use crate::book::{Look, Squares};
+use crate::book::{ReadSquares, Squares};
 use crate::node::{Node, Quarters, Record};
 use crate::sq::{Num, Sq};
 use plane::Refusal;
@@ -100,7 +100,7 @@ impl PlainBook {
     }
 }
 
-impl Look for PlainBook {
+impl ReadSquares for PlainBook {
     ghost book = { λ s. plain_book s.rule s.exponent s.records.items };
 
     fn bits(&self, sq: Sq) -> u64 {

@@ -17,12 +17,12 @@ pub fn centre<S: Squares>(book: &mut S, sq: Sq) -> Result<Sq, Refusal>
     ensures keeps { Keeps (S.book book.old) (S.book book.new) }
     ensures results { KeepsResults (S.book book.old) (S.book book.new) }
 {
-    let [nw, ne, sw, se] = book.read_parts(sq);
-    let [_, _, _, a] = book.read_parts(nw);
-    let [_, _, b, _] = book.read_parts(ne);
-    let [_, c, _, _] = book.read_parts(sw);
-    let [d, _, _, _] = book.read_parts(se);
-    book.quad([a, b, c, d])
+    let parts = read_twice(book, sq);
+    let [_, _, _, nw] = parts.nw;
+    let [_, _, ne, _] = parts.ne;
+    let [_, sw, _, _] = parts.sw;
+    let [se, _, _, _] = parts.se;
+    book.quad([nw, ne, sw, se])
 }
 
 // The quarters of a square, and the quarters of each.
@@ -39,7 +39,7 @@ struct Parts {
 fn read_twice<S: Squares>(book: &mut S, sq: Sq) -> Parts
     requires known { IsKnown (S.book book.old) sq.level sq }
     requires level { 4 < sq.level }
-    ensures value { ArePartsOfParts (S.book book.new) sq.level ((S.book book.old).cells sq) result.whole result.nw result.ne result.sw result.se }
+    ensures value { ArePartsOfParts (S.book book.new) sq.level ((S.book book.old).cells sq) result }
     ensures keeps { Keeps (S.book book.old) (S.book book.new) }
     ensures results { KeepsResults (S.book book.old) (S.book book.new) }
 {

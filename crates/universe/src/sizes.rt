@@ -7,6 +7,9 @@ use table_core::{Kind, Shape};
 /// With how many pair slots a table begins, as a power of two, where it may have so many.
 const START_BITS: u8 = 12;
 
+// How many pair slots make a table large, as a power of two: more of it than a processor keeps near.
+pub(crate) const LARGE_BITS: u8 = 18;
+
 /// The shape with which a table begins: 4096 pair slots, or the largest.
 pub(crate) fn smallest(most: Shape) -> Shape
     ensures { result.bits ≡ min 12 most.bits }
@@ -16,17 +19,22 @@ pub(crate) fn smallest(most: Shape) -> Shape
     }
 }
 
-/// The shape with four times as many pair slots, or the largest. There is none above the largest.
+/// The shape of the table that follows one that is full: with sixteen times as many pair slots, from a
+/// large one on with four times as many, or the largest. There is none above the largest.
 pub(crate) fn larger(shape: Shape, most: Shape) -> Option<Shape>
-    ensures some { IfSome result (λ larger. larger.bits ≡ min (shape.bits + 2) most.bits) }
-    ensures above { IfSome result (λ _. shape.bits < most.bits) }
+    ensures some { IfSome result (λ larger. (shape.bits < larger.bits) × (larger.bits ≤ most.bits)) }
     ensures none { IfNone result (most.bits ≤ shape.bits) }
 {
     if shape.bits >= most.bits {
         return None;
     }
+    let bits = if shape.bits < LARGE_BITS {
+        shape.bits + 4
+    } else {
+        shape.bits + 2
+    };
     Some(Shape {
-        bits: most.bits.min(shape.bits + 2),
+        bits: most.bits.min(bits),
     })
 }
 

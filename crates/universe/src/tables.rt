@@ -11,7 +11,7 @@ ghost use Rattle.squares.specs.Rounds.{IsRound};
 ghost use Rattle.viewport.specs.Population.{HasPopulation};
 
 use crate::build::Build;
-use crate::sizes::pair_count;
+use crate::sizes::{LARGE_BITS, pair_count};
 use node_sweep::enlarge;
 use node_table::{Desk, NodeTable, Still};
 use plane::Refusal;
@@ -23,9 +23,6 @@ use std::thread::Threads;
 use table_core::{Key, Kind, Shape};
 use viewport::population;
 use worker_split::{Gate, Team, step};
-
-// How many pair slots make a table large, as a power of two: more of it than a processor keeps near.
-const LARGE_BITS: u8 = 18;
 
 // After how many steps a large table is swept before it grows.
 const WORN_AFTER: u32 = 4;

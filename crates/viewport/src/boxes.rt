@@ -7,7 +7,7 @@ ghost use Rattle.viewport.specs.BoundingBox.{AreBoxes, FitsMoved, HasBounds, IsI
 
 use crate::sides::half_side;
 use plane::{Bounds, Refusal};
-use squares::{Look, Sq};
+use squares::{ReadSquares, Sq};
 use std::alloc::Global;
 use std::collections::HashMap;
 
@@ -16,39 +16,39 @@ type Boxes = HashMap<(u8, u32), Option<Bounds>>;
 
 /// The smallest box round the live cells of a square of a level up to 63, if it has any. Each number
 /// above level 3 is visited once. `NoMemory` where there is no room for one more box.
-pub fn bounds<L: Look>(look: &L, alloc: Global, sq: Sq) -> Result<Option<Bounds>, Refusal>
-    requires known { IsKnown (L.book look.now) sq.level sq }
+pub fn bounds<B: ReadSquares>(book: &B, alloc: Global, sq: Sq) -> Result<Option<Bounds>, Refusal>
+    requires known { IsKnown (B.book book.now) sq.level sq }
     requires level { sq.level ≤ 63 }
-    ensures ok { IfOk result (HasBounds (centred sq.level ((L.book look.now).cells sq))) }
+    ensures ok { IfOk result (HasBounds (centred sq.level ((B.book book.now).cells sq))) }
     ensures memory { IsOkUnless result Refusal.NoMemory }
 {
     let mut boxes = HashMap::new(alloc);
-    let local = local_box(look, sq, &mut boxes)?;
+    let local = local_box(book, sq, &mut boxes)?;
     let half = half_side(sq.level);
     Ok(moved(local, -half, -half))
 }
 
 // The box of the square's live cells, by the boxes that are known; it adds what it finds to them.
 #[cycle(local_box)]
-fn local_box<L: Look>(look: &L, sq: Sq, boxes: &mut Boxes) -> Result<Option<Bounds>, Refusal>
-    requires known { IsKnown (L.book look.now) sq.level sq }
+fn local_box<B: ReadSquares>(book: &B, sq: Sq, boxes: &mut Boxes) -> Result<Option<Bounds>, Refusal>
+    requires known { IsKnown (B.book book.now) sq.level sq }
     requires level { sq.level ≤ 63 }
-    requires boxed { AreBoxes (L.book look.now) boxes.old }
-    ensures ok { IfOk result (IsLocalBox (2 ^ sq.level) ((L.book look.now).cells sq)) }
-    ensures boxed { AreBoxes (L.book look.now) boxes.new }
+    requires boxed { AreBoxes (B.book book.now) boxes.old }
+    ensures ok { IfOk result (IsLocalBox (2 ^ sq.level) ((B.book book.now).cells sq)) }
+    ensures boxed { AreBoxes (B.book book.now) boxes.new }
     ensures memory { IsOkUnless result Refusal.NoMemory }
 {
     if sq.num.0 == 0 {
         return Ok(None);
     }
     if sq.level == 3 {
-        return Ok(leaf_box(look.bits(sq)));
+        return Ok(leaf_box(book.bits(sq)));
     }
     let key = (sq.level, sq.num.0);
     if let Some(known) = boxes.get(&key) {
         return Ok(*known);
     }
-    let whole = quarters_box(look, sq, boxes)?;
+    let whole = quarters_box(book, sq, boxes)?;
     let Ok(_) = boxes.insert(key, whole) else {
         return Err(Refusal::NoMemory);
     };
@@ -57,20 +57,20 @@ fn local_box<L: Look>(look: &L, sq: Sq, boxes: &mut Boxes) -> Result<Option<Boun
 
 // The box of the live cells of a square's quarters.
 #[cycle(local_box)]
-fn quarters_box<L: Look>(look: &L, sq: Sq, boxes: &mut Boxes) -> Result<Option<Bounds>, Refusal>
-    requires known { IsKnown (L.book look.now) sq.level sq }
+fn quarters_box<B: ReadSquares>(book: &B, sq: Sq, boxes: &mut Boxes) -> Result<Option<Bounds>, Refusal>
+    requires known { IsKnown (B.book book.now) sq.level sq }
     requires low { 3 < sq.level }
     requires high { sq.level ≤ 63 }
-    requires boxed { AreBoxes (L.book look.now) boxes.old }
-    ensures ok { IfOk result (IsLocalBox (2 ^ sq.level) ((L.book look.now).cells sq)) }
-    ensures boxed { AreBoxes (L.book look.now) boxes.new }
+    requires boxed { AreBoxes (B.book book.now) boxes.old }
+    ensures ok { IfOk result (IsLocalBox (2 ^ sq.level) ((B.book book.now).cells sq)) }
+    ensures boxed { AreBoxes (B.book book.now) boxes.new }
     ensures memory { IsOkUnless result Refusal.NoMemory }
 {
-    let [nw, ne, sw, se] = look.parts(sq);
-    let nw = local_box(look, nw, boxes)?;
-    let ne = local_box(look, ne, boxes)?;
-    let sw = local_box(look, sw, boxes)?;
-    let se = local_box(look, se, boxes)?;
+    let [nw, ne, sw, se] = book.parts(sq);
+    let nw = local_box(book, nw, boxes)?;
+    let ne = local_box(book, ne, boxes)?;
+    let sw = local_box(book, sw, boxes)?;
+    let se = local_box(book, se, boxes)?;
     Ok(box_of_quarters(sq.level, nw, ne, sw, se))
 }
 

@@ -8,7 +8,7 @@ ghost use Rattle.viewport.specs.Picture.{mark_of, picture_text, row_text};
 use crate::halves::half_with_row;
 use crate::sides::{place, side};
 use plane::{Refusal, Sink, WINDOW_SIDE_LIMIT, Window, write_all};
-use squares::{Look, Sq};
+use squares::{ReadSquares, Sq};
 
 // Room for the widest row and its line end.
 const LINE_ROOM: usize = WINDOW_SIDE_LIMIT as usize + 1;
@@ -16,40 +16,40 @@ const LINE_ROOM: usize = WINDOW_SIDE_LIMIT as usize + 1;
 /// Draws the cells of a window that looks at a square of a level up to 63: a line for each row, with
 /// `*` for each live cell and `.` for each dead one. What lies outside the square is dead. It takes no
 /// memory. `WriteFailed` where the sink failed in this call; it may have taken some of the text then.
-pub fn picture<L: Look, W: Sink>(
-    look: &L,
+pub fn picture<B: ReadSquares, W: Sink>(
+    book: &B,
     sq: Sq,
     window: &Window,
     sink: &mut W,
 ) -> Result<(), Refusal>
-    requires known { IsKnown (L.book look.now) sq.level sq }
+    requires known { IsKnown (B.book book.now) sq.level sq }
     requires level { sq.level ≤ 63 }
     ensures drawn { OnOk result (Appends (W.taken sink.old) (W.taken sink.new)
-        (picture_text (centred sq.level ((L.book look.now).cells sq)) window.now)) }
+        (picture_text (centred sq.level ((B.book book.now).cells sq)) window.now)) }
     ensures unfailed { OnOk result (W.failure_count sink.new ≡ W.failure_count sink.old) }
     ensures refused { IfErr result (IsWriteRefusal (W.failure_count sink.old) (W.failure_count sink.new)) }
 {
     let mut room = [0; LINE_ROOM];
     let line = &mut room[..window.width() as usize + 1];
     for row in 0..window.height() {
-        draw_row(look, sq, window, row, line);
+        draw_row(book, sq, window, row, line);
         write_all(sink, line)?;
     }
     Ok(())
 }
 
 // Draws a row of the window, counted from its first one, and the line end behind it.
-fn draw_row<L: Look>(look: &L, sq: Sq, window: &Window, row: u32, line: &mut [u8])
-    requires known { IsKnown (L.book look.now) sq.level sq }
+fn draw_row<B: ReadSquares>(book: &B, sq: Sq, window: &Window, row: u32, line: &mut [u8])
+    requires known { IsKnown (B.book book.now) sq.level sq }
     requires level { sq.level ≤ 63 }
     requires row { row < window.now.height }
     requires line { length line.old ≡ window.now.width + 1 }
-    ensures { line.new ≡ row_text (centred sq.level ((L.book look.now).cells sq)) (window.now.y +ℤ pos row) window.now.x window.now.width }
+    ensures { line.new ≡ row_text (centred sq.level ((B.book book.now).cells sq)) (window.now.y +ℤ pos row) window.now.x window.now.width }
 {
     let y = window.y() + i64::from(row);
     for column in 0..window.width() {
         let x = window.x() + i64::from(column);
-        line[column as usize] = mark(is_live(look, sq, x, y));
+        line[column as usize] = mark(is_live(book, sq, x, y));
     }
     line[window.width() as usize] = b'\n';
 }
@@ -62,10 +62,10 @@ fn mark(live: bool) -> u8
 }
 
 // Whether the cell (x, y) is live; outside the square none is.
-fn is_live<L: Look>(look: &L, sq: Sq, x: i64, y: i64) -> bool
-    requires known { IsKnown (L.book look.now) sq.level sq }
+fn is_live<B: ReadSquares>(book: &B, sq: Sq, x: i64, y: i64) -> bool
+    requires known { IsKnown (B.book book.now) sq.level sq }
     requires level { sq.level ≤ 63 }
-    ensures { result ≡ centred sq.level ((L.book look.now).cells sq) x y }
+    ensures { result ≡ centred sq.level ((B.book book.now).cells sq) x y }
 {
     let Some(column) = place(x, sq.level) else {
         return false;
@@ -73,29 +73,29 @@ fn is_live<L: Look>(look: &L, sq: Sq, x: i64, y: i64) -> bool
     let Some(row) = place(y, sq.level) else {
         return false;
     };
-    has_cell(look, sq, column, row)
+    has_cell(book, sq, column, row)
 }
 
 // Whether the cell is live that lies so far from the left side and from the top of the square.
-fn has_cell<L: Look>(look: &L, sq: Sq, x: u64, y: u64) -> bool
-    requires known { IsKnown (L.book look.now) sq.level sq }
+fn has_cell<B: ReadSquares>(book: &B, sq: Sq, x: u64, y: u64) -> bool
+    requires known { IsKnown (B.book book.now) sq.level sq }
     requires level { sq.level ≤ 63 }
     requires column { x < 2 ^ sq.level }
     requires row { y < 2 ^ sq.level }
-    ensures { result ≡ (L.book look.now).cells sq (pos x) (pos y) }
+    ensures { result ≡ (B.book book.now).cells sq (pos x) (pos y) }
 {
     if sq.num.0 == 0 {
         return false;
     }
     if sq.level == 3 {
-        return (look.bits(sq) >> (8 * y + x)) & 1 == 1;
+        return (book.bits(sq) >> (8 * y + x)) & 1 == 1;
     }
-    let (first, second, row) = half_with_row(look, sq, y);
+    let (first, second, row) = half_with_row(book, sq, y);
     let half = side(sq.level - 1);
     let (quarter, column) = if x < half {
         (first, x)
     } else {
         (second, x - half)
     };
-    has_cell(look, quarter, column, row)
+    has_cell(book, quarter, column, row)
 }

@@ -12,7 +12,10 @@ use std::collections::HashMap;
 // The numbers of live cells of squares, by level and number.
 type Counts = HashMap<(u8, u32), u128>;
 
-/// How many live cells a square of a level up to 63 has: up to 2^126. Each number above level 3 is
+// The lowest level of which counts are noted. Counting a lower square again costs no more than a note.
+const LOWEST_NOTED: u8 = 5;
+
+/// How many live cells a square of a level up to 63 has: up to 2^126. Each number above level 4 is
 /// counted once. The book goes on knowing what it knew. `NoMemory` where there is no room for one more count.
 pub fn population<S: Squares>(book: &mut S, alloc: Global, sq: Sq) -> Result<u128, Refusal>
     requires known { IsKnown (S.book book.old) sq.level sq }
@@ -43,6 +46,9 @@ fn count<S: Squares>(book: &mut S, sq: Sq, counts: &mut Counts) -> Result<u128, 
     }
     if sq.level == 3 {
         return Ok(leaf_count(book.read_bits(sq)));
+    }
+    if sq.level < LOWEST_NOTED {
+        return count_quarters(book, sq, counts);
     }
     let key = (sq.level, sq.num.0);
     if let Some(known) = counts.get(&key) {

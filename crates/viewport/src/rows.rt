@@ -6,60 +6,60 @@ ghost use Rattle.viewport.specs.Halves.{beside};
 ghost use Rattle.viewport.specs.Rows.{IsFirstRow, IsFirstRowBelow};
 
 use crate::sides::{half_side, row_at, rows_above, side};
-use squares::{Look, Sq};
+use squares::{ReadSquares, Sq};
 
 /// The first row, from row y on downwards, in which a square of a level up to 63 has a live cell.
 /// Empty squares are passed over, so that its time follows what the square has near the rows from y to
 /// that one, and not how many rows lie between.
-pub fn first_row<L: Look>(look: &L, sq: Sq, y: i64) -> Option<i64>
-    requires known { IsKnown (L.book look.now) sq.level sq }
+pub fn first_row<B: ReadSquares>(book: &B, sq: Sq, y: i64) -> Option<i64>
+    requires known { IsKnown (B.book book.now) sq.level sq }
     requires level { sq.level ≤ 63 }
-    ensures { IsFirstRow (centred sq.level ((L.book look.now).cells sq)) y result }
+    ensures { IsFirstRow (centred sq.level ((B.book book.now).cells sq)) y result }
 {
     let half = half_side(sq.level);
     if y >= half {
         return None;
     }
     let from = rows_above(y, half);
-    let row = first_row_below(look, sq, from, side(sq.level))?;
+    let row = first_row_below(book, sq, from, side(sq.level))?;
     Some(row_at(row, half))
 }
 
 // The first row with a live cell, from one row on and above another, counted from the square's top.
 #[cycle(first_row_below)]
-fn first_row_below<L: Look>(look: &L, sq: Sq, from: u64, end: u64) -> Option<u64>
-    requires known { IsKnown (L.book look.now) sq.level sq }
+fn first_row_below<B: ReadSquares>(book: &B, sq: Sq, from: u64, end: u64) -> Option<u64>
+    requires known { IsKnown (B.book book.now) sq.level sq }
     requires level { sq.level ≤ 63 }
-    ensures { IsFirstRowBelow ((L.book look.now).cells sq) from end result }
+    ensures { IsFirstRowBelow ((B.book book.now).cells sq) from end result }
 {
     if sq.num.0 == 0 || end <= from {
         return None;
     }
     if sq.level == 3 {
-        return first_leaf_row(look.bits(sq), from, end);
+        return first_leaf_row(book.bits(sq), from, end);
     }
     let half = side(sq.level - 1);
-    let [nw, ne, sw, se] = look.parts(sq);
-    let upper = first_row_beside(look, nw, ne, from, end.min(half));
+    let [nw, ne, sw, se] = book.parts(sq);
+    let upper = first_row_beside(book, nw, ne, from, end.min(half));
     if upper.is_some() {
         return upper;
     }
     let from = from.saturating_sub(half);
     let end = end.saturating_sub(half);
-    let lower = first_row_beside(look, sw, se, from, end)?;
+    let lower = first_row_beside(book, sw, se, from, end)?;
     Some(lower + half)
 }
 
 // The same of two squares beside one another.
 #[cycle(first_row_below)]
-fn first_row_beside<L: Look>(look: &L, left: Sq, right: Sq, from: u64, end: u64) -> Option<u64>
-    requires left { IsKnown (L.book look.now) left.level left }
-    requires right { IsKnown (L.book look.now) left.level right }
+fn first_row_beside<B: ReadSquares>(book: &B, left: Sq, right: Sq, from: u64, end: u64) -> Option<u64>
+    requires left { IsKnown (B.book book.now) left.level left }
+    requires right { IsKnown (B.book book.now) left.level right }
     requires level { left.level ≤ 63 }
-    ensures { IsFirstRowBelow (beside (2 ^ left.level) ((L.book look.now).cells left) ((L.book look.now).cells right)) from end result }
+    ensures { IsFirstRowBelow (beside (2 ^ left.level) ((B.book book.now).cells left) ((B.book book.now).cells right)) from end result }
 {
-    let found = first_row_below(look, left, from, end);
-    first_row_below(look, right, from, found.unwrap_or(end)).or(found)
+    let found = first_row_below(book, left, from, end);
+    first_row_below(book, right, from, found.unwrap_or(end)).or(found)
 }
 
 // The first row of a leaf with a live cell, from one row on and above another.

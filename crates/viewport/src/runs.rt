@@ -7,61 +7,61 @@ ghost use Rattle.viewport.specs.RowRuns.{AddsCells, AreRowRuns, EndBy, cells_at,
 use crate::halves::half_with_row;
 use crate::sides::{half_side, place, side};
 use plane::Refusal;
-use squares::{Look, Sq};
+use squares::{ReadSquares, Sq};
 use std::alloc::{AllocError, Global};
 
 /// The runs of live cells in row y of a square of a level up to 63, from left to right, each as long
 /// as it can be: its first cell, and how many there are. Empty squares are passed over. `NoMemory`
 /// where there is no room for one more run.
-pub fn row_runs<L: Look>(
-    look: &L,
+pub fn row_runs<B: ReadSquares>(
+    book: &B,
     alloc: Global,
     sq: Sq,
     y: i64,
 ) -> Result<Vec<(i64, u64)>, Refusal>
-    requires known { IsKnown (L.book look.now) sq.level sq }
+    requires known { IsKnown (B.book book.now) sq.level sq }
     requires level { sq.level ≤ 63 }
-    ensures ok { IfOk result (λ runs. AreRowRuns (centred sq.level ((L.book look.now).cells sq)) y runs.items) }
+    ensures ok { IfOk result (λ runs. AreRowRuns (centred sq.level ((B.book book.now).cells sq)) y runs.items) }
     ensures memory { IsOkUnless result Refusal.NoMemory }
 {
     let mut runs = Vec::new(alloc);
     let Some(row) = place(y, sq.level) else {
         return Ok(runs);
     };
-    let Ok(_) = add_row(look, sq, -half_side(sq.level), row, &mut runs) else {
+    let Ok(_) = add_row(book, sq, -half_side(sq.level), row, &mut runs) else {
         return Err(Refusal::NoMemory);
     };
     Ok(runs)
 }
 
 // Adds the cells of a row of the square that begins at left; the runs so far end there or before.
-fn add_row<L: Look>(
-    look: &L,
+fn add_row<B: ReadSquares>(
+    book: &B,
     sq: Sq,
     left: i64,
     y: u64,
     runs: &mut Vec<(i64, u64)>,
 ) -> Result<(), AllocError>
-    requires known { IsKnown (L.book look.now) sq.level sq }
+    requires known { IsKnown (B.book book.now) sq.level sq }
     requires level { sq.level ≤ 63 }
     requires row { y < 2 ^ sq.level }
     requires room { (left +ℤ pos (2 ^ sq.level)) ≤ℤ pos (2 ^ 62) }
     requires before { EndBy left runs.old.items }
-    ensures ok { OnOk result (AddsCells left (2 ^ sq.level) (cells_at ((L.book look.now).cells sq) left y) runs.old.items runs.new.items) }
+    ensures ok { OnOk result (AddsCells left (2 ^ sq.level) (cells_at ((B.book book.now).cells sq) left y) runs.old.items runs.new.items) }
 {
     if sq.num.0 == 0 {
         return Ok(());
     }
     if sq.level == 3 {
-        return add_leaf_row(look.bits(sq), left, y, runs);
+        return add_leaf_row(book.bits(sq), left, y, runs);
     }
-    let (first, second, row) = half_with_row(look, sq, y);
+    let (first, second, row) = half_with_row(book, sq, y);
     let middle = left + half_side(sq.level);
-    add_row(look, first, left, row, runs)?;
+    add_row(book, first, left, row, runs)?;
     if second == first && is_covered(runs, left, middle) {
         return add_run(middle, side(sq.level - 1), runs);
     }
-    add_row(look, second, middle, row, runs)
+    add_row(book, second, middle, row, runs)
 }
 
 // Whether the last run has all cells from one place up to another, with which it ends.

@@ -9,7 +9,7 @@ ghost use Rattle.pattern_writers.specs.Roots.{AreKnown};
 use super::node::Node;
 use super::root::Root;
 use plane::Refusal;
-use squares::{Look, Sq};
+use squares::{ReadSquares, Sq};
 use std::alloc::Global;
 use std::collections::HashMap;
 
@@ -51,18 +51,18 @@ impl NodeList {
 
 // The nodes of the squares in a square of a level from 4 to 63, whose centre corner is (0,0), in the smallest square
 // that has its cells.
-pub(crate) fn listed_nodes<L: Look>(look: &L, alloc: Global, sq: Sq) -> Result<Vec<Node>, Refusal>
-    requires known { IsKnown (L.book look.now) sq.level sq }
+pub(crate) fn listed_nodes<B: ReadSquares>(book: &B, alloc: Global, sq: Sq) -> Result<Vec<Node>, Refusal>
+    requires known { IsKnown (B.book book.now) sq.level sq }
     requires low { 4 ≤ sq.level }
-    ensures ok { IfOk result (λ nodes. AreNodes (centred sq.level ((L.book look.now).cells sq)) nodes.items) }
+    ensures ok { IfOk result (λ nodes. AreNodes (centred sq.level ((B.book book.now).cells sq)) nodes.items) }
     ensures memory { IsOkUnless result Refusal.NoMemory }
 {
     let mut list = NodeList {
         nodes: Vec::new(alloc),
         numbers: HashMap::new(alloc),
     };
-    let root = Root::of(look, sq);
-    let quarters = numbers(look, root.quarters, &mut list)?;
+    let root = Root::of(book, sq);
+    let quarters = numbers(book, root.quarters, &mut list)?;
     with_root(list.nodes, root.level, quarters)
 }
 
@@ -82,18 +82,18 @@ fn with_root(mut nodes: Vec<Node>, level: u8, quarters: [u64; 4]) -> Result<Vec<
 
 // The number of a square among the nodes. It adds the nodes of its squares that are not among them.
 #[cycle(number)]
-fn number<L: Look>(look: &L, sq: Sq, list: &mut NodeList) -> Result<u64, Refusal>
-    requires known { IsKnown (L.book look.now) sq.level sq }
-    ensures ok { IfOk result (Lists (L.book look.now) sq list.old list.new) }
+fn number<B: ReadSquares>(book: &B, sq: Sq, list: &mut NodeList) -> Result<u64, Refusal>
+    requires known { IsKnown (B.book book.now) sq.level sq }
+    ensures ok { IfOk result (Lists (B.book book.now) sq list.old list.new) }
     ensures memory { IsOkUnless result Refusal.NoMemory }
 {
     if let Some(number) = list.number_of(sq) {
         return Ok(number);
     }
     if sq.level == 3 {
-        return list.add(sq, Node::Leaf(look.bits(sq)));
+        return list.add(sq, Node::Leaf(book.bits(sq)));
     }
-    let quarters = numbers(look, look.parts(sq), list)?;
+    let quarters = numbers(book, book.parts(sq), list)?;
     list.add(
         sq,
         Node::Inner {
@@ -105,15 +105,15 @@ fn number<L: Look>(look: &L, sq: Sq, list: &mut NodeList) -> Result<u64, Refusal
 
 // The numbers of four squares of one level.
 #[cycle(number)]
-fn numbers<L: Look>(look: &L, squares: [Sq; 4], list: &mut NodeList) -> Result<[u64; 4], Refusal>
-    requires known { AreKnown (L.book look.now) (nth squares 0).level squares }
-    ensures ok { IfOk result (ListsFour (L.book look.now) squares list.old list.new) }
+fn numbers<B: ReadSquares>(book: &B, squares: [Sq; 4], list: &mut NodeList) -> Result<[u64; 4], Refusal>
+    requires known { AreKnown (B.book book.now) (nth squares 0).level squares }
+    ensures ok { IfOk result (ListsFour (B.book book.now) squares list.old list.new) }
     ensures memory { IsOkUnless result Refusal.NoMemory }
 {
     let [nw, ne, sw, se] = squares;
-    let nw = number(look, nw, list)?;
-    let ne = number(look, ne, list)?;
-    let sw = number(look, sw, list)?;
-    let se = number(look, se, list)?;
+    let nw = number(book, nw, list)?;
+    let ne = number(book, ne, list)?;
+    let sw = number(book, sw, list)?;
+    let se = number(book, se, list)?;
     Ok([nw, ne, sw, se])
 }

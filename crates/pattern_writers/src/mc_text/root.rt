@@ -4,7 +4,7 @@ ghost use Rattle.plane.specs.Plane.{Plane};
 ghost use Rattle.squares.specs.Book.{IsEmpty, IsKnown};
 ghost use Rattle.pattern_writers.specs.Roots.{AreKnown, HasRoot, IsRoot};
 
-use squares::{Look, Sq};
+use squares::{ReadSquares, Sq};
 
 // The quarters of a square whose centre corner is (0,0), which need not be a square that is known.
 #[derive(Clone, Copy)]
@@ -15,17 +15,17 @@ pub(crate) struct Root {
 
 impl Root {
     // The smallest square of a level of at least 4 that has the cells of a square, with the same centre corner.
-    pub(crate) fn of<L: Look>(look: &L, sq: Sq) -> Self
-        requires known { IsKnown (L.book look.now) sq.level sq }
+    pub(crate) fn of<B: ReadSquares>(book: &B, sq: Sq) -> Self
+        requires known { IsKnown (B.book book.now) sq.level sq }
         requires low { 4 ≤ sq.level }
-        ensures { IsRoot (L.book look.now) (centred sq.level ((L.book look.now).cells sq)) result }
+        ensures { IsRoot (B.book book.now) (centred sq.level ((B.book book.now).cells sq)) result }
     {
         let mut root = Root {
             level: sq.level,
-            quarters: look.parts(sq),
+            quarters: book.parts(sq),
         };
         while root.level > 4 {
-            let Some(inner) = root.inner(look) else {
+            let Some(inner) = root.inner(book) else {
                 return root;
             };
             root = inner;
@@ -34,18 +34,18 @@ impl Root {
     }
 
     // The square of half the side round the same corner, if it has all the cells.
-    fn inner<L: Look>(self, look: &L) -> Option<Self>
+    fn inner<B: ReadSquares>(self, book: &B) -> Option<Self>
         requires level { 4 < self.level }
-        requires known { AreKnown (L.book look.now) (self.level - 1) self.quarters }
+        requires known { AreKnown (B.book book.now) (self.level - 1) self.quarters }
         ensures level { IfSome result (λ inner. inner.level + 1 ≡ self.level) }
-        ensures inner { IfSome result (λ inner. (plane : Plane) → HasRoot (L.book look.now) plane self → HasRoot (L.book look.now) plane inner) }
-        ensures none { IfNone result ((plane : Plane) → HasRoot (L.book look.now) plane self → ¬ Holds (self.level - 1) plane) }
+        ensures inner { IfSome result (λ inner. (plane : Plane) → HasRoot (B.book book.now) plane self → HasRoot (B.book book.now) plane inner) }
+        ensures none { IfNone result ((plane : Plane) → HasRoot (B.book book.now) plane self → ¬ Holds (self.level - 1) plane) }
     {
         let [nw, ne, sw, se] = self.quarters;
-        let [a, b, c, nw] = look.parts(nw);
-        let [d, e, ne, f] = look.parts(ne);
-        let [g, sw, h, i] = look.parts(sw);
-        let [se, j, k, l] = look.parts(se);
+        let [a, b, c, nw] = book.parts(nw);
+        let [d, e, ne, f] = book.parts(ne);
+        let [g, sw, h, i] = book.parts(sw);
+        let [se, j, k, l] = book.parts(se);
         if !are_empty(&[a, b, c, d, e, f, g, h, i, j, k, l]) {
             return None;
         }

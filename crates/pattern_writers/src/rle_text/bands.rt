@@ -8,24 +8,24 @@ ghost use Rattle.pattern_writers.specs.RowRuns.{rows_between};
 use super::frame::{BANDS, Frame};
 use super::row_run::{RowRun, runs_between};
 use rayon::prelude::*;
-use squares::{Look, Sq};
+use squares::{ReadSquares, Sq};
 use std::alloc::{AllocError, Global};
 use std::thread::Threads;
 
 // The longest runs of a square's cells, row by row and from left to right, in bands of the rows of their frame. The
 // bands are made in threads.
-pub(crate) fn banded_runs<R: Threads + Sync, L: Look + Sync>(
+pub(crate) fn banded_runs<R: Threads + Sync, B: ReadSquares + Sync>(
     rt: &R,
-    look: &L,
+    book: &B,
     alloc: Global,
     sq: Sq,
     frame: Frame,
 ) -> Result<Vec<Vec<RowRun>>, AllocError>
-    requires known { IsKnown (L.book look.now) sq.level sq }
+    requires known { IsKnown (B.book book.now) sq.level sq }
     requires level { sq.level ≤ 63 }
-    requires frame { HasFrame (centred sq.level ((L.book look.now).cells sq)) frame }
+    requires frame { HasFrame (centred sq.level ((B.book book.now).cells sq)) frame }
     requires room { HasRoom frame }
-    ensures { IfOk result (λ bands. HasRuns (centred sq.level ((L.book look.now).cells sq)) (flat_map (λ band. band.items) bands.items)) }
+    ensures { IfOk result (λ bands. HasRuns (centred sq.level ((B.book book.now).cells sq)) (flat_map (λ band. band.items) bands.items)) }
 {
     (0..BANDS)
         .into_par_iter()
@@ -33,15 +33,15 @@ pub(crate) fn banded_runs<R: Threads + Sync, L: Look + Sync>(
         .map(
             move |band: u64| -> Result<Vec<RowRun>, AllocError>
                 requires band { band < 64 }
-                requires known { IsKnown (L.book look.now) sq.level sq }
+                requires known { IsKnown (B.book book.now) sq.level sq }
                 requires level { sq.level ≤ 63 }
                 requires room { HasRoom frame }
                 ensures { IfOk result (λ runs.
                     HasRuns (rows_between (band_row frame band) (band_row frame (band + 1))
-                    (centred sq.level ((L.book look.entry.now).cells sq))) runs.items) }
+                    (centred sq.level ((B.book book.entry.now).cells sq))) runs.items) }
             {
                 runs_between(
-                    look,
+                    book,
                     alloc,
                     sq,
                     frame.band_row(band),

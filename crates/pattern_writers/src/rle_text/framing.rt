@@ -8,27 +8,27 @@ use super::bands::banded_runs;
 use super::frame::Frame;
 use super::items::{Item, items};
 use plane::Refusal;
-use squares::{Look, Sq};
+use squares::{ReadSquares, Sq};
 use std::alloc::Global;
 use std::thread::Threads;
 use viewport::bounds;
 
 // The frame of a square's cells, and their items in it.
-pub(crate) fn framed_items<R: Threads + Sync, L: Look + Sync>(
+pub(crate) fn framed_items<R: Threads + Sync, B: ReadSquares + Sync>(
     rt: &R,
-    look: &L,
+    book: &B,
     alloc: Global,
     sq: Sq,
 ) -> Result<(Frame, Vec<Item>), Refusal>
-    requires known { IsKnown (L.book look.now) sq.level sq }
+    requires known { IsKnown (B.book book.now) sq.level sq }
     requires level { sq.level ≤ 63 }
-    ensures ok { IfOk result (λ framed. HasItems (centred sq.level ((L.book look.now).cells sq)) framed.0 framed.1.items) }
+    ensures ok { IfOk result (λ framed. HasItems (centred sq.level ((B.book book.now).cells sq)) framed.0 framed.1.items) }
     ensures refused { IfErr result (λ refusal.
-        (refusal ≡ Refusal.BoxTooLarge × IsTooLarge (centred sq.level ((L.book look.now).cells sq)))
+        (refusal ≡ Refusal.BoxTooLarge × IsTooLarge (centred sq.level ((B.book book.now).cells sq)))
         ⊎ refusal ≡ Refusal.NoMemory) }
 {
-    let frame = cells_frame(look, alloc, sq)?;
-    let Ok(bands) = banded_runs(rt, look, alloc, sq, frame) else {
+    let frame = cells_frame(book, alloc, sq)?;
+    let Ok(bands) = banded_runs(rt, book, alloc, sq, frame) else {
         return Err(Refusal::NoMemory);
     };
     let Ok(items) = items(alloc, frame.corner, bands.as_slice()) else {
@@ -38,14 +38,14 @@ pub(crate) fn framed_items<R: Threads + Sync, L: Look + Sync>(
 }
 
 // The frame of a square's cells.
-fn cells_frame<L: Look>(look: &L, alloc: Global, sq: Sq) -> Result<Frame, Refusal>
-    requires known { IsKnown (L.book look.now) sq.level sq }
+fn cells_frame<B: ReadSquares>(book: &B, alloc: Global, sq: Sq) -> Result<Frame, Refusal>
+    requires known { IsKnown (B.book book.now) sq.level sq }
     requires level { sq.level ≤ 63 }
-    ensures frame { IfOk result (HasFrame (centred sq.level ((L.book look.now).cells sq))) }
+    ensures frame { IfOk result (HasFrame (centred sq.level ((B.book book.now).cells sq))) }
     ensures room { IfOk result HasRoom }
     ensures refused { IfErr result (λ refusal.
-        (refusal ≡ Refusal.BoxTooLarge × IsTooLarge (centred sq.level ((L.book look.now).cells sq)))
+        (refusal ≡ Refusal.BoxTooLarge × IsTooLarge (centred sq.level ((B.book book.now).cells sq)))
         ⊎ refusal ≡ Refusal.NoMemory) }
 {
-    Frame::round(bounds(look, alloc, sq)?)
+    Frame::round(bounds(book, alloc, sq)?)
 }

@@ -8,7 +8,7 @@ ghost use Rattle.pattern_writers.specs.RowRuns.{AddsRow, rows_between, run_in};
 ghost use Rattle.viewport.specs.Rows.{IsFirstRow};
 
 use plane::Cell;
-use squares::{Look, Sq};
+use squares::{ReadSquares, Sq};
 use std::alloc::{AllocError, Global};
 use viewport::first_row;
 
@@ -47,49 +47,49 @@ impl RowRun {
 }
 
 // The longest runs of a square's cells in the rows from one on and above another, row by row and from left to right.
-pub(crate) fn runs_between<L: Look>(
-    look: &L,
+pub(crate) fn runs_between<B: ReadSquares>(
+    book: &B,
     alloc: Global,
     sq: Sq,
     from: i64,
     end: i64,
 ) -> Result<Vec<RowRun>, AllocError>
-    requires known { IsKnown (L.book look.now) sq.level sq }
+    requires known { IsKnown (B.book book.now) sq.level sq }
     requires level { sq.level ≤ 63 }
-    ensures { IfOk result (λ runs. HasRuns (rows_between from end (centred sq.level ((L.book look.now).cells sq))) runs.items) }
+    ensures { IfOk result (λ runs. HasRuns (rows_between from end (centred sq.level ((B.book book.now).cells sq))) runs.items) }
 {
     let mut runs = Vec::new(alloc);
-    let mut next = next_row(look, sq, from, end);
+    let mut next = next_row(book, sq, from, end);
     'rows: while let Some(row) = next {
-        add_row(look, alloc, sq, row, &mut runs)?;
-        next = next_row(look, sq, row + 1, end);
+        add_row(book, alloc, sq, row, &mut runs)?;
+        next = next_row(book, sq, row + 1, end);
     }
     Ok(runs)
 }
 
 // The first row with a live cell, from one row on and above another.
-fn next_row<L: Look>(look: &L, sq: Sq, from: i64, end: i64) -> Option<i64>
-    requires known { IsKnown (L.book look.now) sq.level sq }
+fn next_row<B: ReadSquares>(book: &B, sq: Sq, from: i64, end: i64) -> Option<i64>
+    requires known { IsKnown (B.book book.now) sq.level sq }
     requires level { sq.level ≤ 63 }
-    ensures { IsFirstRow (rows_between from end (centred sq.level ((L.book look.now).cells sq))) from result }
+    ensures { IsFirstRow (rows_between from end (centred sq.level ((B.book book.now).cells sq))) from result }
 {
-    let row = first_row(look, sq, from)?;
+    let row = first_row(book, sq, from)?;
     if row < end { Some(row) } else { None }
 }
 
 // Adds the runs of a row.
-fn add_row<L: Look>(
-    look: &L,
+fn add_row<B: ReadSquares>(
+    book: &B,
     alloc: Global,
     sq: Sq,
     row: i64,
     runs: &mut Vec<RowRun>,
 ) -> Result<(), AllocError>
-    requires known { IsKnown (L.book look.now) sq.level sq }
+    requires known { IsKnown (B.book book.now) sq.level sq }
     requires level { sq.level ≤ 63 }
-    ensures { OnOk result (AddsRow (centred sq.level ((L.book look.now).cells sq)) row runs.old.items runs.new.items) }
+    ensures { OnOk result (AddsRow (centred sq.level ((B.book book.now).cells sq)) row runs.old.items runs.new.items) }
 {
-    let Ok(found) = viewport::row_runs(look, alloc, sq, row) else {
+    let Ok(found) = viewport::row_runs(book, alloc, sq, row) else {
         return Err(AllocError);
     };
     'found: for run in &found {

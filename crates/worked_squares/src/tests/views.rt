@@ -7,7 +7,7 @@ use crate::tests::books::{book_of, square_round};
 use crate::tests::places::{Place, cells_at};
 use crate::tests::rows::assert_no_row;
 use plane::{Bounds, FailAt, Memory, Refusal, Sink, Window};
-use squares::{Look, PlainBook, Sq, Squares};
+use squares::{ReadSquares, PlainBook, Sq, Squares};
 use std::alloc::Global;
 use std::test::Fail;
 use viewport::{bounds, first_row, picture, population, row_runs};
@@ -167,13 +167,13 @@ fn window_of(sides: Sides) -> Result<Window, Refusal> {
 }
 
 // Draws the windows one after another.
-fn draw_windows<L: Look, W: Sink>(
-    book: &L,
+fn draw_windows<B: ReadSquares, W: Sink>(
+    book: &B,
     sq: Sq,
     windows: &[Sides],
     sink: &mut W,
 ) -> Result<(), Refusal>
-    requires known { IsKnown (L.book book.now) sq.level sq }
+    requires known { IsKnown (B.book book.now) sq.level sq }
     requires level { sq.level ≤ 63 }
 {
     for sides in windows {

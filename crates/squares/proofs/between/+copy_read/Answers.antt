@@ -4,7 +4,7 @@ use Rattle.std.specs.Option.{option_copied}
 use Rattle.std.proofs.lemmas.Result.{IfOk-weaker}
 use Rattle.squares.specs.Book.{IsKnown, Shows, nth}
 use Rattle.squares.specs.declared.sq.Sq.{Sq}
-use Rattle.squares.proofs.CopyMaps.{copies_known, leaf_copied, none_copied, one_copied, part_known, quad_copied, empty_copied}
+use Rattle.squares.proofs.CopyMaps.{copies_known, none_copied, one_copied, part_known, quad_copied, empty_copied}
 use Rattle.squares.proofs.Kept.{keeps_none, keeps_trans, known_kept, results_none, results_trans}
 use Rattle.squares.proofs.KnownCopies.{kept_copies, noted_known_copies, shown_before, shown_later}
 use Rattle.squares.proofs.between.+copy_read.Goals as goal
@@ -16,28 +16,12 @@ returns-then-sq-eq0-clause-ok g t c =
 pub returns-in-Some-clause-ok : goal.returns-in-Some-clause-ok
 returns-in-Some-clause-ok g t c = c.requires.copies.same.same c.args.sq c.in-Some.num.now (sym c.get.ensures.value ∙ ap option_copied c.in-Some.is)
 
-pub returns-in_err-copy-clause-copies : goal.returns-in_err-copy-clause-copies
-returns-in_err-copy-clause-copies g t c =
-    kept_copies (g.A.Squares.book c.args.from.now) (g.A.Squares.book c.read_bits.new.self) (g.B.Squares.book c.args.to.now) (g.B.Squares.book c.leaf.new.self) c.args.copies.now c.read_bits.ensures.keeps c.leaf.ensures.keeps c.requires.copies
-
 pub returns-then-level-eq3-clause-ok : goal.returns-then-level-eq3-clause-ok
-returns-then-level-eq3-clause-ok g t c =
-    let from = g.A.Squares.book c.args.from.now in
-    let to = g.B.Squares.book c.leaf.new.self in
-    let sq = c.args.sq in
-    let shown = leaf_copied from to sq c.in_ok-copy.copy c.read_bits.result c.if-level-eq3.true c.read_bits.ensures.value c.in_ok-copy.ensures.ok in
-    IfOk-weaker c.noted.result _ _ (λ (noted : Sq) same. subst (Shows to sq.level (from.cells sq)) (sym same) shown) c.noted.ensures.ok
+returns-then-level-eq3-clause-ok g t c = search rules
 
 pub returns-then-level-eq3-clause-copies : goal.returns-then-level-eq3-clause-copies
 returns-then-level-eq3-clause-copies g t c =
-    let was = g.A.Squares.book c.args.from.now in
-    let from = g.A.Squares.book c.read_bits.new.self in
-    let to = g.B.Squares.book c.leaf.new.self in
-    let reads = c.read_bits.ensures.keeps in
-    noted_known_copies from to c.args.copies.now c.noted.new.copies c.args.sq c.in_ok-copy.copy c.noted.result c.noted.ensures.updates c.noted.ensures.err (reads.known c.args.sq c.requires.known.known)
-    (shown_later was from to c.args.sq.level c.args.sq c.in_ok-copy.copy reads c.requires.known.known
-    (leaf_copied was to c.args.sq c.in_ok-copy.copy c.read_bits.result c.if-level-eq3.true c.read_bits.ensures.value c.in_ok-copy.ensures.ok))
-    (kept_copies was from (g.B.Squares.book c.args.to.now) to c.args.copies.now reads c.leaf.ensures.keeps c.requires.copies)
+    kept_copies (g.A.Squares.book c.args.from.now) (g.A.Squares.book c.read_bits.new.self) (g.B.Squares.book c.args.to.now) (g.B.Squares.book c.leaf.new.self) c.args.copies.now c.read_bits.ensures.keeps c.leaf.ensures.keeps c.requires.copies
 
 pub loop-quarter-init : goal.loop-quarter-init
 loop-quarter-init g t c = record {
@@ -102,8 +86,8 @@ quad-requires-clause-level g t c =
     let high = c.requires.known.high in
     omega arith
 
-pub returns-in_err-copy-2-clause-copies : goal.returns-in_err-copy-2-clause-copies
-returns-in_err-copy-2-clause-copies g t c =
+pub returns-in_err-copy-clause-copies : goal.returns-in_err-copy-clause-copies
+returns-in_err-copy-clause-copies g t c =
     kept_copies (g.A.Squares.book c.loop-quarter.from) (g.A.Squares.book c.loop-quarter.from) (g.B.Squares.book c.loop-quarter.to) (g.B.Squares.book c.quad.new.self) c.loop-quarter.copies (keeps_none _) c.quad.ensures.keeps c.loop-quarter.invariant.copies
 
 pub returns-clause-ok : goal.returns-clause-ok
@@ -114,9 +98,9 @@ returns-clause-ok g t c =
     let sq = c.args.sq in
     let low = c.requires.known.low in
     let more = c.if-level-eq3.false in
-    let shown = quad_copied first to (g.B.Squares.book c.quad.new.self) sq.level (was.cells sq) c.read_parts-quarters.result c.loop-quarter.quarter-items _ c.in_ok-copy-2.copy (omega arith)
-    ((g.met.A.Squares.is_book c.args.from.now).square sq c.requires.known.known) c.read_parts-quarters.ensures.value (omega arith) c.loop-quarter.invariant.copied c.in_ok-copy-2.ensures.ok in
-    IfOk-weaker c.noted-2.result _ _ (λ (noted : Sq) same. subst (Shows (g.B.Squares.book c.quad.new.self) sq.level (was.cells sq)) (sym same) shown) c.noted-2.ensures.ok
+    let shown = quad_copied first to (g.B.Squares.book c.quad.new.self) sq.level (was.cells sq) c.read_parts-quarters.result c.loop-quarter.quarter-items _ c.in_ok-copy.copy (omega arith)
+    ((g.met.A.Squares.is_book c.args.from.now).square sq c.requires.known.known) c.read_parts-quarters.ensures.value (omega arith) c.loop-quarter.invariant.copied c.in_ok-copy.ensures.ok in
+    IfOk-weaker c.noted.result _ _ (λ (noted : Sq) same. subst (Shows (g.B.Squares.book c.quad.new.self) sq.level (was.cells sq)) (sym same) shown) c.noted.ensures.ok
 
 pub returns-clause-copies : goal.returns-clause-copies
 returns-clause-copies g t c =
@@ -129,8 +113,8 @@ returns-clause-copies g t c =
     let low = c.requires.known.low in
     let more = c.if-level-eq3.false in
     let reads = keeps_trans c.read_parts-quarters.ensures.keeps c.loop-quarter.invariant.reads in
-    let shown = quad_copied first to now sq.level (was.cells sq) c.read_parts-quarters.result c.loop-quarter.quarter-items _ c.in_ok-copy-2.copy (omega arith)
-    ((g.met.A.Squares.is_book c.args.from.now).square sq c.requires.known.known) c.read_parts-quarters.ensures.value (omega arith) c.loop-quarter.invariant.copied c.in_ok-copy-2.ensures.ok in
-    noted_known_copies from now c.loop-quarter.copies c.noted-2.new.copies sq c.in_ok-copy-2.copy c.noted-2.result c.noted-2.ensures.updates c.noted-2.ensures.err (reads.known sq c.requires.known.known)
-    (shown_later was from now sq.level sq c.in_ok-copy-2.copy reads c.requires.known.known shown)
+    let shown = quad_copied first to now sq.level (was.cells sq) c.read_parts-quarters.result c.loop-quarter.quarter-items _ c.in_ok-copy.copy (omega arith)
+    ((g.met.A.Squares.is_book c.args.from.now).square sq c.requires.known.known) c.read_parts-quarters.ensures.value (omega arith) c.loop-quarter.invariant.copied c.in_ok-copy.ensures.ok in
+    noted_known_copies from now c.loop-quarter.copies c.noted.new.copies sq c.in_ok-copy.copy c.noted.result c.noted.ensures.updates c.noted.ensures.err (reads.known sq c.requires.known.known)
+    (shown_later was from now sq.level sq c.in_ok-copy.copy reads c.requires.known.known shown)
     (kept_copies from from to now c.loop-quarter.copies (keeps_none _) c.quad.ensures.keeps c.loop-quarter.invariant.copies)

@@ -72,7 +72,7 @@ pub returns-clause-ok : goal.returns-clause-ok
 returns-clause-ok g c =
     let book = g.S.Squares.book in
     let parts = c.read_twice-parts.result in
-    nine_made c.args.sq.level ((book c.args.book.now).cells c.args.sq) parts.whole parts.nw parts.ne parts.sw parts.se c.requires.level c.requires.known.high
+    nine_made c.args.sq.level ((book c.args.book.now).cells c.args.sq) parts c.requires.level c.requires.known.high
     (book c.read_twice-parts.new.book) (book c.quad.new.self) (book c.quad-2.new.self) (book c.quad-3.new.self) (book c.quad-4.new.self) (book c.quad-5.new.self)
     c.in_ok-upper.upper c.in_ok-left.left c.in_ok-middle.middle c.in_ok-right.right c.in_ok-lower.lower c.read_twice-parts.ensures.value
     c.quad.ensures.keeps c.in_ok-upper.ensures.ok c.quad-2.ensures.keeps c.in_ok-left.ensures.ok c.quad-3.ensures.keeps c.in_ok-middle.ensures.ok

@@ -6,7 +6,7 @@ pub returns-clause-value : goal.returns-clause-value
 returns-clause-value g c =
     let book = g.S.Squares.book in
     read_all c.args.sq.level (book c.read_parts-whole.new.self) (book c.read_parts-nw.new.self) (book c.read_parts-ne.new.self) (book c.read_parts-sw.new.self) (book c.read_parts-se.new.self) ((book c.args.book.now).cells c.args.sq)
-    c.read_parts-whole.result c.read_parts-nw.result c.read_parts-ne.result c.read_parts-sw.result c.read_parts-se.result
+    (record { whole = c.read_parts-whole.result; nw = c.read_parts-nw.result; ne = c.read_parts-ne.result; sw = c.read_parts-sw.result; se = c.read_parts-se.result })
     c.read_parts-whole.ensures.value c.read_parts-nw.ensures.keeps c.read_parts-nw.ensures.value c.read_parts-ne.ensures.keeps c.read_parts-ne.ensures.value
     c.read_parts-sw.ensures.keeps c.read_parts-sw.ensures.value c.read_parts-se.ensures.keeps c.read_parts-se.ensures.value
 

@@ -25,10 +25,10 @@ count-returns-in-Some-clause-ok g t c = (c.requires.counted.count c.args.sq c.in
 pub count-returns-clause-counted : goal.count-returns-clause-counted
 count-returns-clause-counted g t c =
     let was = g.S.Squares.book c.args.book.now in
-    let now = g.S.Squares.book c.count_quarters.new.book in
+    let now = g.S.Squares.book c.count_quarters-2.new.book in
     let keeps = c.in_ok-whole.ensures.keeps in
     record {
-      count = true_of_kept (IsKnownCount now) c.count_quarters.new.counts c.insert.new.self c.args.sq c.in_ok-whole.whole c.in_ok-whole.ensures.counted.count
+      count = true_of_kept (IsKnownCount now) c.count_quarters-2.new.counts c.insert.new.self c.args.sq c.in_ok-whole.whole c.in_ok-whole.ensures.counted.count
           (keeps.known c.args.sq c.requires.known.known, count_later was now c.args.sq c.in_ok-whole.whole keeps c.requires.known.known c.in_ok-whole.ensures.ok) c.in-Ok.ensures.updates;
     }
 

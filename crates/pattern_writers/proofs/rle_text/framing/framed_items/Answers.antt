@@ -8,7 +8,7 @@ use Rattle.pattern_writers.proofs.rle_text.framing.framed_items.Goals as goal
 
 pub returns-clause-ok : goal.returns-clause-ok
 returns-clause-ok g c =
-    let plane = centred c.args.sq.level ((g.L.Look.book c.args.look.now).cells c.args.sq) in
+    let plane = centred c.args.sq.level ((g.B.ReadSquares.book c.args.book.now).cells c.args.sq) in
     let framed = c.in_ok-frame.ensures.frame in
     let ran = c.in-Ok.ensures in
     let same = one_listing_lem plane ran.cells framed.cells ran.listing framed.listing in

@@ -1,0 +1,278 @@
+#!/usr/bin/env python3
+"""Proves and builds the program lifebatch, for the launcher of that name. It takes no words.
+
+Crates are proved side by side, as many as cores and memory allow, each once those below it stand. `rt` keeps all others
+out of a crate's folder and of those below it while it works there, so each crate is proved in a stage: a small repository
+of links to the sources and to the built libraries that it needs. Its own folder `out` goes there for as long and comes
+back with what was made, also where the build is broken off, so the next one goes on from it.
+
+What is being proved is told on standard error. The status is 0 once the program is built, else 2, or 128 and a signal's number.
+"""
+import fcntl
+import os
+import pathlib
+import re
+import shutil
+import signal
+import subprocess
+import sys
+import time
+from dataclasses import dataclass, field
+
+ROOT = pathlib.Path(__file__).resolve().parent.parent
+PROGRAM = "lifebatch"
+# A file that is as old as the beginning of the last build that went well.
+BUILT = ROOT / "crates" / PROGRAM / "out" / "lifebatch.built"
+STAGES = ROOT / "launcher" / "out"
+GIGABYTE = 10**9
+# What a check takes: with one job, and more with each further one.
+MEMORY = 4 * GIGABYTE
+MEMORY_OF_JOB = 3 * GIGABYTE // 2
+MOST_JOBS = 4
+# What all crates leave in their folders `out`.
+DISK = 5 * GIGABYTE
+
+
+def lines_of_crates():
+    """The lines of crates.txt, each without its comment, and the crates that they are of."""
+    lines = [it.partition("#")[0].strip() for it in (ROOT / "crates.txt").read_text().splitlines()]
+    return {re.match(r"\w+", it)[0]: it for it in lines if it}
+
+
+def crates_below(program):
+    """The crates that the program stands on and itself, lowest first, each with the crates that it uses."""
+    listed = {name: line.partition(":")[2].split() for name, line in lines_of_crates().items()}
+    needed = {program}
+    for name in reversed(listed):
+        if name in needed:
+            needed.update(listed[name])
+    return {name: [it for it in below if it in listed] for name, below in listed.items() if name in needed}
+
+
+def all_below(name, crates):
+    """The crates that this one stands on, through others too."""
+    return {name for it in crates[name] for name in (it, *all_below(it, crates))}
+
+
+def chains(crates):
+    """For each crate the lines of the longest chain of crates from it to the program."""
+    lines = {name: sum(len(it.read_bytes().splitlines()) for it in folder(name).glob("src/**/*.rt")) for name in crates}
+    found = {}
+    for name in reversed(crates):
+        above = [found[it] for it, below in crates.items() if name in below]
+        found[name] = lines[name] + max(above, default=0)
+    return found
+
+
+def folder(name):
+    return ROOT / "crates" / name
+
+
+class Stage:
+    """A repository with one crate to prove and the built libraries below it, all by links."""
+
+    def __init__(self, name):
+        self.name, self.root = name, STAGES / name
+        self.crate = self.root / "crates" / name
+
+    def set_up(self, below):
+        self.root.mkdir(parents=True)
+        names = [self.name, *below]
+        lines = "\n".join(lines_of_crates()[name] for name in names)
+        (self.root / "crates.txt").write_text(f"{lines}\n")
+        for name in names:
+            for part in ("src", "specs", "proofs", *["out/rlib"] * (name != self.name)):
+                if (folder(name) / part).is_dir():
+                    shutil.copytree(folder(name) / part, self.root / "crates" / name / part, copy_function=os.link)
+        if (folder(self.name) / "out").is_dir():
+            (folder(self.name) / "out").rename(self.crate / "out")
+
+    def give_back(self):
+        """Brings what was made into the crate's folder, and removes the stage."""
+        made, home = self.crate / "out", folder(self.name) / "out"
+        if made.is_dir() and not home.exists():
+            made.rename(home)
+        shutil.rmtree(self.root, ignore_errors=True)
+
+
+@dataclass
+class Run:
+    """A crate that is being proved: the process of `rt`, what it prints, and its jobs."""
+
+    name: str
+    process: subprocess.Popen
+    said: object
+    jobs: int
+
+    def memory(self):
+        return MEMORY + (self.jobs - 1) * MEMORY_OF_JOB
+
+
+class Progress:
+    """What is being proved: on one line of a terminal, else on a line for each change."""
+
+    def __init__(self, crates):
+        self.of, self.began, self.shown = crates, time.monotonic(), None
+        self.moves = sys.stderr.isatty()
+
+    def clock(self):
+        seconds = int(time.monotonic() - self.began)
+        return f"{seconds // 60}:{seconds % 60:02}"
+
+    def show(self, done, running):
+        state = f"{done} of {self.of} crates proved", "proving " + ", ".join(running)
+        now = (*state, self.clock()) if self.moves else state
+        if now == self.shown:
+            return
+        self.shown = now
+        text = f"lifebatch: {state[0]} after {self.clock()}, {state[1]}"
+        if self.moves:
+            columns = os.get_terminal_size(2).columns or 80
+            print(f"\r\x1b[K{text[: columns - 1]}", end="", file=sys.stderr, flush=True)
+        else:
+            print(text, file=sys.stderr, flush=True)
+
+    def tell(self, text):
+        print(f"{chr(13)}\x1b[K" * self.moves + f"lifebatch: {text}", file=sys.stderr, flush=True)
+
+
+@dataclass
+class Build:
+    crates: dict
+    cores: int
+    memory: int
+    progress: Progress
+    # For each crate the lines of the longest chain of crates from it to the program.
+    chain: dict
+    running: list = field(default_factory=list)
+    done: set = field(default_factory=set)
+    # The number of the signal that breaks the build off.
+    signal: int = 0
+
+    def start(self, name, jobs):
+        """Proves a crate in its stage, or the program in its own folder, where it is also linked and shows its help. One job yields to a crate with more."""
+        words = ["rt", "lib", "--jobs", str(jobs)] if name != PROGRAM else ["rt", "run", "--jobs", str(jobs), "--", "--help"]
+        place = folder(name)
+        if name != PROGRAM:
+            stage = Stage(name)
+            stage.set_up(all_below(name, self.crates))
+            place = stage.crate
+        said = (STAGES / f"{name}.said").open("w+b")
+        how = {"cwd": place, "stdin": subprocess.DEVNULL, "stdout": said, "stderr": subprocess.STDOUT}
+        process = subprocess.Popen([*["nice"] * (jobs == 1), *words], **how)
+        self.running.append(Run(name, process, said, jobs))
+
+    def start_all(self, ready):
+        """Starts the crates that there is room for. One that has no longer chain above it than any that runs gets the jobs of all cores."""
+        for name in ready:
+            room = self.memory - sum(it.memory() for it in self.running)
+            if self.running and (room < MEMORY or len(self.running) == self.cores):
+                return
+            most = min(self.cores, MOST_JOBS, 1 + max(room - MEMORY, 0) // MEMORY_OF_JOB)
+            is_longest = all(self.chain[name] >= self.chain[it.name] for it in self.running)
+            self.start(name, most if is_longest else 1)
+
+    def end(self, run):
+        """Takes in a crate that is proved, or says why it isn't and answers False."""
+        self.running.remove(run)
+        if run.name != PROGRAM:
+            Stage(run.name).give_back()
+        if run.process.returncode == 0:
+            self.done.add(run.name)
+            return True
+        self.progress.tell(f"{run.name} was not proved (status {run.process.returncode}):")
+        run.said.seek(0)
+        for line in run.said.read().decode(errors="replace").splitlines():
+            if not re.search(r": proved$|^so far: ", line):
+                print(line, file=sys.stderr)
+        return False
+
+    def run(self, names):
+        """Proves these crates, and answers whether all are."""
+        left = sorted(names, key=lambda name: -self.chain[name])
+        while left or self.running:
+            self.start_all([name for name in left if self.done.issuperset(self.crates[name])])
+            left = [name for name in left if name not in [it.name for it in self.running]]
+            self.progress.show(len(self.done), [it.name for it in self.running])
+            time.sleep(0.1)
+            if self.signal:
+                return False
+            for run in [it for it in self.running if it.process.poll() is not None]:
+                if not self.end(run):
+                    return False
+        return True
+
+    def break_off(self):
+        for run in self.running:
+            run.process.terminate()
+            run.process.wait()
+
+
+def locked(folders):
+    """Keeps other builds and `rt` out of these folders, by the locks that `rt` takes, until what it answers is closed."""
+    held = [os.open(it, os.O_RDONLY) for it in sorted(folders)]
+    for it in held:
+        try:
+            fcntl.flock(it, fcntl.LOCK_EX | fcntl.LOCK_NB)
+        except BlockingIOError:
+            print("lifebatch: waiting for another build to end", file=sys.stderr, flush=True)
+            fcntl.flock(it, fcntl.LOCK_EX)
+    return held
+
+
+def free_memory():
+    """The bytes of memory that are free, within the limit of a control group."""
+    found = [1024 * int(re.search(r"MemAvailable:\s+(\d+)", pathlib.Path("/proc/meminfo").read_text())[1])]
+    group = pathlib.Path("/sys/fs/cgroup")
+    try:
+        found.append(int((group / "memory.max").read_text()) - int((group / "memory.current").read_text()))
+    except (OSError, ValueError):
+        pass
+    return min(found)
+
+
+def clear_stages():
+    """Removes all stages, once what was made there is given back."""
+    for it in STAGES.glob("*/crates"):
+        Stage(it.parent.name).give_back()
+    shutil.rmtree(STAGES, ignore_errors=True)
+
+
+def main():
+    # Until there is something to break off, Ctrl-C just ends this program.
+    signal.signal(signal.SIGINT, signal.SIG_DFL)
+    began = time.time()
+    crates = crates_below(PROGRAM)
+    cores, memory, disk = len(os.sched_getaffinity(0)), free_memory(), shutil.disk_usage(ROOT).free
+    print(
+        "lifebatch: the program is proved and built first, which takes some minutes\n"
+        f"lifebatch: it takes rt ({shutil.which('rt')}), {MEMORY // GIGABYTE} GB of memory or more ({memory // GIGABYTE} GB are free),"
+        f" {DISK // GIGABYTE} GB of disk ({disk // GIGABYTE} GB are free) and all cores ({cores})",
+        file=sys.stderr,
+        flush=True,
+    )
+    _one_build = locked([ROOT / "launcher"])
+    held = locked(folder(name) for name in crates)
+    clear_stages()
+    STAGES.mkdir(parents=True)
+    build = Build(crates, cores, memory, Progress(len(crates)), chains(crates))
+    for it in (signal.SIGINT, signal.SIGTERM, signal.SIGHUP):
+        signal.signal(it, lambda number, _: setattr(build, "signal", number))
+    try:
+        is_built = build.run([name for name in crates if name != PROGRAM])
+        for it in held:
+            os.close(it)
+        is_built = is_built and build.run([PROGRAM])
+    finally:
+        build.break_off()
+        clear_stages()
+    if is_built:
+        BUILT.touch()
+        os.utime(BUILT, (began, began))
+    what = "the build was broken off; the next call goes on with it" if build.signal else "the build failed"
+    build.progress.tell(f"proved and built in {build.progress.clock()}" if is_built else what)
+    return 0 if is_built else 128 + build.signal if build.signal else 2
+
+
+if __name__ == "__main__":
+    sys.exit(main())
