@@ -1,6 +1,5 @@
 pub mod Acceptance
 pub mod Endings
-pub mod Held
 mod Onward
 pub mod OneRun
 pub mod Reports

@@ -1,5 +1,6 @@
 -- What a run writes and answers.
-use Rattle.std.specs.Prelude.{◌≡◌, ◌⊎◌, ℕ, ◌+◌, true, List, [], ◌++◌, length, take, Ok}
+use Rattle.std.specs.Prelude.{◌≡◌, ◌⊎◌, ℕ, ◌+◌, true, List, [], ◌++◌, length, take, Option, Ok, Err}
+use Rattle.std.specs.Io.KnownBytes.{Appends}
 use Rattle.rule_text.specs.CountRule.{CountRule}
 use Rattle.plane.specs.Bounds.{bounds_of}
 use Rattle.plane.specs.Listing.{IsListing}
@@ -7,7 +8,7 @@ use Rattle.plane.specs.Plane.{after}
 use Rattle.plane.specs.declared.cell.Cell.{Cell}
 use Rattle.plane.specs.declared.fault.Fault.{Fault}
 use Rattle.plane.specs.declared.refusal.Refusal.{Refusal}
-use Rattle.plane.specs.declared.refusal.Refusal.TheVariants.{NodesFull, NoMemory}
+use Rattle.plane.specs.declared.refusal.Refusal.TheVariants.{BoxTooLarge, NodesFull, NoMemory, WriteFailed}
 use Rattle.patterns.specs.Meaning.{Meaning, is_macrocell, judged, placeless}
 use Rattle.patterns.specs.FileText.{HasText, IsFileText}
 use Rattle.engine.specs.Judgement.{Start, Judges, ReadsRule}
@@ -85,3 +86,18 @@ IsOutOfRoom refusal = (refusal ≡ NoMemory) ⊎ (refusal ≡ NodesFull)
 abbrev pub IsStopped : List ℕ → Options → Fault → List ℕ → Type 0
 IsStopped bytes options fault said =
     ((fault ≡ placeless NoMemory) × IsBegun bytes options said) ⊎ ((fault ≡ placeless NodesFull) × HasReported bytes options said)
+
+-- a run of these bytes ended well: from before to after, its report and its file took what it says and draws
+abbrev pub HasFinished : List ℕ → Options → Option (List ℕ) → Option (List ℕ) → Option (List ℕ) → Option (List ℕ) → Summary → Type 0
+HasFinished bytes options report report_after file file_after answer =
+    (start : Start) × (said : List ℕ) × (drawn : List ℕ) × Judges bytes options (Ok start) × Finishes start options answer said drawn
+    × Appends report report_after said × Appends file file_after drawn
+
+-- a run of these bytes was refused: they are not accepted, and nothing was written; or what comes out has no text in the
+-- format, after the whole report; or memory ran out, or the tables are full; or a sink failed
+abbrev pub HasStopped : List ℕ → Options → Option (List ℕ) → Option (List ℕ) → Type 0 → Type 0 → Type 0 → Fault → Type 0
+HasStopped bytes options before after same_report same_file failed fault =
+    (Judges bytes options (Err fault) × same_report × same_file)
+    ⊎ ((fault ≡ placeless BoxTooLarge) × same_file × ((said : List ℕ) × IsTooLarge bytes options said × Appends before after said))
+    ⊎ (same_file × ((said : List ℕ) × IsStopped bytes options fault said × Appends before after said))
+    ⊎ ((fault ≡ placeless WriteFailed) × failed)

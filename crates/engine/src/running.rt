@@ -1,15 +1,13 @@
-ghost use Rattle.std.specs.Prelude.{◌≡◌, ◌⊎◌, ℕ, List, None, Ok, Err, IfOk, IfErr, IsOkUnless, OnOk};
-ghost use Rattle.std.specs.Io.KnownBytes.{Appends};
+ghost use Rattle.std.specs.Prelude.{◌≡◌, ◌⊎◌, None, IfOk, IfErr, IsOkUnless, OnOk};
 ghost use Rattle.plane.specs.Device.{HasFailed};
 ghost use Rattle.table_core.specs.Sizes.{IsPairCount};
 ghost use Rattle.plane.specs.Square.{IsSame};
 ghost use Rattle.universe.specs.Cells.{live_cells};
 ghost use Rattle.engine.specs.Accepted.{SumsUp};
-ghost use Rattle.engine.specs.Judgement.{Start, Judges, rule_refusal};
-ghost use Rattle.patterns.specs.Meaning.{placeless};
+ghost use Rattle.engine.specs.Judgement.{rule_refusal};
 ghost use Rattle.patterns.specs.Pattern.{plane_of};
 ghost use Rattle.engine.specs.Workers.{IsWorkerCount};
-ghost use Rattle.engine.specs.Run.{Finishes, IsStopped, IsTooLarge};
+ghost use Rattle.engine.specs.Run.{HasFinished, HasStopped};
 
 use crate::accepted::judge;
 use crate::options::Options;
@@ -55,26 +53,15 @@ pub fn run<R: Threads + Wait + Sync, W: Sink, V: Sink>(
     requires pairs { IsPairCount options.now.pairs }
     requires workers { IsWorkerCount options.now.workers }
     // It writes the defined report and file of the cells that the rule, applied that many times, makes live.
-    ensures finished { IfOk result (λ summary. (start : Start) × (said : List ℕ) × (drawn : List ℕ)
-        × Judges bytes.now options.now (Ok start)
-        × Finishes start options.now summary said drawn
-        × Appends (W.taken report.old) (W.taken report.new) said
-        × Appends (V.taken file.old) (V.taken file.new) drawn) }
+    ensures finished { IfOk result (HasFinished bytes.now options.now (W.taken report.old) (W.taken report.new) (V.taken file.old) (V.taken file.new)) }
     ensures no_format { options.now.format ≡ None → file.new ≡ file.old }
     ensures unfailed { OnOk result ((V.failure_count file.new ≡ V.failure_count file.old)
         × (W.failure_count report.new ≡ W.failure_count report.old)) }
     // It refuses what is not accepted, by its name and at its place, and then has written nothing; what has no
     // text in the format, after the whole report; and else only where memory ran out, the tables are full, or a sink
     // failed.
-    ensures refused { IfErr result (λ fault.
-        (Judges bytes.now options.now (Err fault) × (report.new ≡ report.old) × (file.new ≡ file.old))
-        ⊎ ((fault ≡ placeless Refusal.BoxTooLarge) × (file.new ≡ file.old) × ((said : List ℕ)
-        × IsTooLarge bytes.now options.now said × Appends (W.taken report.old) (W.taken report.new) said))
-        ⊎ ((file.new ≡ file.old) × ((said : List ℕ)
-        × IsStopped bytes.now options.now fault said × Appends (W.taken report.old) (W.taken report.new) said))
-        ⊎ ((fault ≡ placeless Refusal.WriteFailed)
-        × (HasFailed (W.failure_count report.old) (W.failure_count report.new)
-        ⊎ HasFailed (V.failure_count file.old) (V.failure_count file.new)))) }
+    ensures refused { IfErr result (HasStopped bytes.now options.now (W.taken report.old) (W.taken report.new) (report.new ≡ report.old) (file.new ≡ file.old)
+        (HasFailed (W.failure_count report.old) (W.failure_count report.new) ⊎ HasFailed (V.failure_count file.old) (V.failure_count file.new))) }
 {
     run_gated(rt, &OpenGate, alloc, bytes, options, report, file)
 }
@@ -92,26 +79,15 @@ pub fn run_gated<R: Threads + Wait + Sync, G: Gate, W: Sink, V: Sink>(
     requires pairs { IsPairCount options.now.pairs }
     requires workers { IsWorkerCount options.now.workers }
     // It writes the defined report and file of the cells that the rule, applied that many times, makes live.
-    ensures finished { IfOk result (λ summary. (start : Start) × (said : List ℕ) × (drawn : List ℕ)
-        × Judges bytes.now options.now (Ok start)
-        × Finishes start options.now summary said drawn
-        × Appends (W.taken report.old) (W.taken report.new) said
-        × Appends (V.taken file.old) (V.taken file.new) drawn) }
+    ensures finished { IfOk result (HasFinished bytes.now options.now (W.taken report.old) (W.taken report.new) (V.taken file.old) (V.taken file.new)) }
     ensures no_format { options.now.format ≡ None → file.new ≡ file.old }
     ensures unfailed { OnOk result ((V.failure_count file.new ≡ V.failure_count file.old)
         × (W.failure_count report.new ≡ W.failure_count report.old)) }
     // It refuses what is not accepted, by its name and at its place, and then has written nothing; what has no
     // text in the format, after the whole report; and else only where memory ran out, the tables are full, or a sink
     // failed.
-    ensures refused { IfErr result (λ fault.
-        (Judges bytes.now options.now (Err fault) × (report.new ≡ report.old) × (file.new ≡ file.old))
-        ⊎ ((fault ≡ placeless Refusal.BoxTooLarge) × (file.new ≡ file.old) × ((said : List ℕ)
-        × IsTooLarge bytes.now options.now said × Appends (W.taken report.old) (W.taken report.new) said))
-        ⊎ ((file.new ≡ file.old) × ((said : List ℕ)
-        × IsStopped bytes.now options.now fault said × Appends (W.taken report.old) (W.taken report.new) said))
-        ⊎ ((fault ≡ placeless Refusal.WriteFailed)
-        × (HasFailed (W.failure_count report.old) (W.failure_count report.new)
-        ⊎ HasFailed (V.failure_count file.old) (V.failure_count file.new)))) }
+    ensures refused { IfErr result (HasStopped bytes.now options.now (W.taken report.old) (W.taken report.new) (report.new ≡ report.old) (file.new ≡ file.old)
+        (HasFailed (W.failure_count report.old) (W.failure_count report.new) ⊎ HasFailed (V.failure_count file.old) (V.failure_count file.new))) }
 {
     let begun = judge(alloc, bytes, options)?;
     let start = begun.text.generation();

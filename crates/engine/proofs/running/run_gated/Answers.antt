@@ -10,7 +10,7 @@ use Rattle.patterns.specs.Pattern.{plane_of}
 use Rattle.patterns.specs.PatternFile.{meaning_of}
 use Rattle.engine.proofs.Acceptance.{refused_at_once}
 use Rattle.engine.proofs.Endings.{begun_lines, ends_well, refused_reporting, refused_writing}
-use Rattle.engine.proofs.Held.{held, short_run}
+use Rattle.universe.proofs.Held.{held, short_run}
 use Rattle.universe.specs.Cells.{live_cells, rule_of}
 use Rattle.engine.proofs.running.run_gated.Goals as goal
 
