@@ -11,8 +11,9 @@ quad-requires-clause-known g c = (make_middle c.requires.level c.requires.known.
 
 pub returns-clause-ok : goal.returns-clause-ok
 returns-clause-ok g c =
+    let book = g.S.Squares.book in
     let middle = make_middle c.requires.level c.requires.known.high c.read_twice-parts.ensures.value in
-    IfOk-weaker c.quad.result _ _ (λ sq joined. middle_is_centre c.args.sq.level _ sq (middle.shown _ sq joined)) c.quad.ensures.ok
+    IfOk-weaker c.quad.result _ _ (λ sq joined. middle_is_centre c.args.sq.level ((book c.args.book.now).cells c.args.sq) sq (middle.shown (book c.quad.new.self) sq joined)) c.quad.ensures.ok
 
 pub returns-clause-keeps : goal.returns-clause-keeps
 returns-clause-keeps g c = keeps_trans c.read_twice-parts.ensures.keeps c.quad.ensures.keeps
