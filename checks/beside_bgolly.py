@@ -187,7 +187,8 @@ LINES = [
         "-h -m 18446744073709551616 -i 18446744073709551616 glider.rle",
         lambda ours, theirs: ours.refusal() == "TooFar" and theirs.last() == ("18,446,744,073,709,551,616", "5"),
     ),
-    *map(not_here, ("-a HashLife", "-M 100", "-T 1", "-b", "-2", "-v", "-t", "-s .", "--autofit")),
+    *map(not_here, ("-a HashLife", "-M 100", "-T 1", "-b", "-2", "-v", "-t", "-s .")),
+    *map(not_here, ("--render", "--scale 1", "--autofit", "--progress", "--popcount")),
     # Where cells lie.
     Line(
         "a macrocell file's rows lie one apart: there the file of the same cells has them a row higher",
@@ -267,6 +268,12 @@ LINES = [
     refused("a count of 0", "", "zero.rle", "BadCount", ""),
     refused("a rule with Hensel's letters", "-r B2e3/S23", "pentomino.rle", "BadRule", "-r B2e3/S23"),
     refused("a bounded grid", "-r B3/S23:T10,10", "pentomino.rle", "BadRule", "-r B3/S23:T10,10"),
+    Line(
+        "rules of more states are refused as BadRule",
+        "-r 345/2/4 -m 1 pentomino.rle",
+        "-a Generations -m 1 -i 1 states.rle",
+        lambda ours, theirs: ours.refusal() == "BadRule" and theirs.status == 0,
+    ),
     refused("birth on zero neighbours", "-r B0/S23", "pentomino.rle", "BirthOnZero", "-r B0/S23"),
     Line(
         "rules of four and of six neighbours are the same",
