@@ -4,7 +4,7 @@
 Crates are proved side by side, as many as cores and memory allow, each once those below it stand. `rt` keeps all others
 out of a crate's folder and of those below it while it works there, so each crate is proved in a stage: a small repository
 of links to the sources and to the built libraries that it needs. Its own folder `out` goes there for as long and comes
-back with what was made, also where the build is broken off, so the next one goes on from it.
+back with what was made, also where the build is broken off, so that the next one goes on from it.
 
 What is being proved is told on standard error. The status is 0 once the program is built, else 2, or 128 and a signal's number.
 """
@@ -74,6 +74,8 @@ class Stage:
     def __init__(self, name):
         self.name, self.root = name, STAGES / name
         self.crate = self.root / "crates" / name
+        # What `rt` prints.
+        self.said = self.root / "said"
 
     def set_up(self, below):
         self.root.mkdir(parents=True)
@@ -88,20 +90,22 @@ class Stage:
             (folder(self.name) / "out").rename(self.crate / "out")
 
     def give_back(self):
-        """Brings what was made into the crate's folder, and removes the stage."""
+        """Brings what was made into the crate's folder."""
         made, home = self.crate / "out", folder(self.name) / "out"
         if made.is_dir() and not home.exists():
             made.rename(home)
-        shutil.rmtree(self.root, ignore_errors=True)
+
+    def removal(self):
+        """A process that removes the stage, for which no crate waits."""
+        return subprocess.Popen(["nice", "rm", "-rf", self.root])
 
 
 @dataclass
 class Run:
-    """A crate that is being proved: the process of `rt`, what it prints, and its jobs."""
+    """A crate that is being proved: its stage, the process of `rt`, and its jobs."""
 
-    name: str
+    stage: Stage
     process: subprocess.Popen
-    said: object
     jobs: int
 
     def memory(self):
@@ -114,26 +118,24 @@ class Progress:
     def __init__(self, crates):
         self.of, self.began, self.shown = crates, time.monotonic(), None
         self.moves = sys.stderr.isatty()
+        self.clear = "\r\x1b[K" if self.moves else ""
 
     def clock(self):
         seconds = int(time.monotonic() - self.began)
         return f"{seconds // 60}:{seconds % 60:02}"
 
     def show(self, done, running):
-        state = f"{done} of {self.of} crates proved", "proving " + ", ".join(running)
-        now = (*state, self.clock()) if self.moves else state
-        if now == self.shown:
+        state = (done, *running, self.clock() if self.moves else "")
+        if state == self.shown:
             return
-        self.shown = now
-        text = f"lifebatch: {state[0]} after {self.clock()}, {state[1]}"
+        self.shown = state
+        text = f"lifebatch: {done} of {self.of} crates proved after {self.clock()}, proving {', '.join(running)}"
         if self.moves:
-            columns = os.get_terminal_size(2).columns or 80
-            print(f"\r\x1b[K{text[: columns - 1]}", end="", file=sys.stderr, flush=True)
-        else:
-            print(text, file=sys.stderr, flush=True)
+            text = text[: (os.get_terminal_size(2).columns or 80) - 1]
+        print(f"{self.clear}{text}", end="" if self.moves else "\n", file=sys.stderr, flush=True)
 
     def tell(self, text):
-        print(f"{chr(13)}\x1b[K" * self.moves + f"lifebatch: {text}", file=sys.stderr, flush=True)
+        print(f"{self.clear}lifebatch: {text}", file=sys.stderr, flush=True)
 
 
 @dataclass
@@ -144,72 +146,73 @@ class Build:
     progress: Progress
     # For each crate the lines of the longest chain of crates from it to the program.
     chain: dict
-    running: list = field(default_factory=list)
+    running: dict = field(default_factory=dict)
     done: set = field(default_factory=set)
+    removals: list = field(default_factory=list)
     # The number of the signal that breaks the build off.
     signal: int = 0
 
     def start(self, name, jobs):
-        """Proves a crate in its stage, or the program in its own folder, where it is also linked and shows its help. One job yields to a crate with more."""
-        words = ["rt", "lib", "--jobs", str(jobs)] if name != PROGRAM else ["rt", "run", "--jobs", str(jobs), "--", "--help"]
-        place = folder(name)
-        if name != PROGRAM:
-            stage = Stage(name)
-            stage.set_up(all_below(name, self.crates))
-            place = stage.crate
-        said = (STAGES / f"{name}.said").open("w+b")
-        how = {"cwd": place, "stdin": subprocess.DEVNULL, "stdout": said, "stderr": subprocess.STDOUT}
-        process = subprocess.Popen([*["nice"] * (jobs == 1), *words], **how)
-        self.running.append(Run(name, process, said, jobs))
+        """Proves a crate in its stage, and links the program, which then shows its help. One job yields to a crate with more."""
+        stage = Stage(name)
+        stage.set_up(all_below(name, self.crates))
+        words = ["rt", "run" if name == PROGRAM else "lib", "--jobs", str(jobs)]
+        words = ["nice"] * (jobs == 1) + words + ["--", "--help"] * (name == PROGRAM)
+        with stage.said.open("wb") as said:
+            how = {"cwd": stage.crate, "stdin": subprocess.DEVNULL, "stdout": said, "stderr": subprocess.STDOUT}
+            self.running[name] = Run(stage, subprocess.Popen(words, **how), jobs)
 
     def start_all(self, ready):
         """Starts the crates that there is room for. One that has no longer chain above it than any that runs gets the jobs of all cores."""
         for name in ready:
-            room = self.memory - sum(it.memory() for it in self.running)
+            room = self.memory - sum(it.memory() for it in self.running.values())
             if self.running and (room < MEMORY or len(self.running) == self.cores):
                 return
             most = min(self.cores, MOST_JOBS, 1 + max(room - MEMORY, 0) // MEMORY_OF_JOB)
-            is_longest = all(self.chain[name] >= self.chain[it.name] for it in self.running)
+            is_longest = all(self.chain[name] >= self.chain[it] for it in self.running)
             self.start(name, most if is_longest else 1)
 
-    def end(self, run):
+    def end(self, name):
         """Takes in a crate that is proved, or says why it isn't and answers False."""
-        self.running.remove(run)
-        if run.name != PROGRAM:
-            Stage(run.name).give_back()
+        run = self.running.pop(name)
+        said = run.stage.said.read_text(errors="replace")
+        run.stage.give_back()
+        self.removals.append(run.stage.removal())
         if run.process.returncode == 0:
-            self.done.add(run.name)
+            self.done.add(name)
             return True
-        self.progress.tell(f"{run.name} was not proved (status {run.process.returncode}):")
-        run.said.seek(0)
-        for line in run.said.read().decode(errors="replace").splitlines():
+        self.progress.tell(f"{name} was not proved (status {run.process.returncode}):")
+        for line in said.splitlines():
             if not re.search(r": proved$|^so far: ", line):
                 print(line, file=sys.stderr)
         return False
 
-    def run(self, names):
-        """Proves these crates, and answers whether all are."""
-        left = sorted(names, key=lambda name: -self.chain[name])
+    def run(self):
+        """Proves the crates, and answers whether all are."""
+        left = sorted(self.crates, key=lambda name: -self.chain[name])
         while left or self.running:
             self.start_all([name for name in left if self.done.issuperset(self.crates[name])])
-            left = [name for name in left if name not in [it.name for it in self.running]]
-            self.progress.show(len(self.done), [it.name for it in self.running])
+            left = [name for name in left if name not in self.running]
+            self.progress.show(len(self.done), self.running)
             time.sleep(0.1)
             if self.signal:
                 return False
-            for run in [it for it in self.running if it.process.poll() is not None]:
-                if not self.end(run):
+            for name in [name for name, run in self.running.items() if run.process.poll() is not None]:
+                if not self.end(name):
                     return False
         return True
 
-    def break_off(self):
-        for run in self.running:
+    def close(self):
+        """Breaks off what runs, and waits until stages are removed."""
+        for run in self.running.values():
             run.process.terminate()
             run.process.wait()
+        for it in self.removals:
+            it.wait()
 
 
 def locked(folders):
-    """Keeps other builds and `rt` out of these folders, by the locks that `rt` takes, until what it answers is closed."""
+    """Keeps other builds and `rt` out of these folders, by the locks that `rt` takes, until this program ends."""
     held = [os.open(it, os.O_RDONLY) for it in sorted(folders)]
     for it in held:
         try:
@@ -251,20 +254,15 @@ def main():
         file=sys.stderr,
         flush=True,
     )
-    _one_build = locked([ROOT / "launcher"])
-    held = locked(folder(name) for name in crates)
+    _held = locked([ROOT / "launcher", *map(folder, crates)])
     clear_stages()
-    STAGES.mkdir(parents=True)
     build = Build(crates, cores, memory, Progress(len(crates)), chains(crates))
     for it in (signal.SIGINT, signal.SIGTERM, signal.SIGHUP):
         signal.signal(it, lambda number, _: setattr(build, "signal", number))
     try:
-        is_built = build.run([name for name in crates if name != PROGRAM])
-        for it in held:
-            os.close(it)
-        is_built = is_built and build.run([PROGRAM])
+        is_built = build.run()
     finally:
-        build.break_off()
+        build.close()
         clear_stages()
     if is_built:
         BUILT.touch()

@@ -57,7 +57,11 @@ fn local_box<B: ReadSquares>(book: &B, sq: Sq, boxes: &mut Boxes) -> Result<Opti
 
 // The box of the live cells of a square's quarters.
 #[cycle(local_box)]
-fn quarters_box<B: ReadSquares>(book: &B, sq: Sq, boxes: &mut Boxes) -> Result<Option<Bounds>, Refusal>
+fn quarters_box<B: ReadSquares>(
+    book: &B,
+    sq: Sq,
+    boxes: &mut Boxes,
+) -> Result<Option<Bounds>, Refusal>
     requires known { IsKnown (B.book book.now) sq.level sq }
     requires low { 3 < sq.level }
     requires high { sq.level ≤ 63 }

@@ -52,7 +52,13 @@ fn first_row_below<B: ReadSquares>(book: &B, sq: Sq, from: u64, end: u64) -> Opt
 
 // The same of two squares beside one another.
 #[cycle(first_row_below)]
-fn first_row_beside<B: ReadSquares>(book: &B, left: Sq, right: Sq, from: u64, end: u64) -> Option<u64>
+fn first_row_beside<B: ReadSquares>(
+    book: &B,
+    left: Sq,
+    right: Sq,
+    from: u64,
+    end: u64,
+) -> Option<u64>
     requires left { IsKnown (B.book book.now) left.level left }
     requires right { IsKnown (B.book book.now) left.level right }
     requires level { left.level ≤ 63 }

@@ -51,7 +51,11 @@ impl NodeList {
 
 // The nodes of the squares in a square of a level from 4 to 63, whose centre corner is (0,0), in the smallest square
 // that has its cells.
-pub(crate) fn listed_nodes<B: ReadSquares>(book: &B, alloc: Global, sq: Sq) -> Result<Vec<Node>, Refusal>
+pub(crate) fn listed_nodes<B: ReadSquares>(
+    book: &B,
+    alloc: Global,
+    sq: Sq,
+) -> Result<Vec<Node>, Refusal>
     requires known { IsKnown (B.book book.now) sq.level sq }
     requires low { 4 ≤ sq.level }
     ensures ok { IfOk result (λ nodes. AreNodes (centred sq.level ((B.book book.now).cells sq)) nodes.items) }
@@ -105,7 +109,11 @@ fn number<B: ReadSquares>(book: &B, sq: Sq, list: &mut NodeList) -> Result<u64, 
 
 // The numbers of four squares of one level.
 #[cycle(number)]
-fn numbers<B: ReadSquares>(book: &B, squares: [Sq; 4], list: &mut NodeList) -> Result<[u64; 4], Refusal>
+fn numbers<B: ReadSquares>(
+    book: &B,
+    squares: [Sq; 4],
+    list: &mut NodeList,
+) -> Result<[u64; 4], Refusal>
     requires known { AreKnown (B.book book.now) (nth squares 0).level squares }
     ensures ok { IfOk result (ListsFour (B.book book.now) squares list.old list.new) }
     ensures memory { IsOkUnless result Refusal.NoMemory }

@@ -9,7 +9,7 @@ use crate::tests::rows::assert_no_row;
 use hashlife_step::{Tally, future, pad, plan, step, trim};
 use plane::{CellSet, Refusal, reach};
 use rule_text::Rule;
-use squares::{ReadSquares, PlainBook, Sq, Squares};
+use squares::{PlainBook, ReadSquares, Sq, Squares};
 use std::alloc::Global;
 
 // A number of generations, and the exponents of its steps.

@@ -7,7 +7,7 @@ use crate::tests::books::{book_of, square_round};
 use crate::tests::places::{Place, cells_at};
 use crate::tests::rows::assert_no_row;
 use plane::{Bounds, FailAt, Memory, Refusal, Sink, Window};
-use squares::{ReadSquares, PlainBook, Sq, Squares};
+use squares::{PlainBook, ReadSquares, Sq, Squares};
 use std::alloc::Global;
 use std::test::Fail;
 use viewport::{bounds, first_row, picture, population, row_runs};

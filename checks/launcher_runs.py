@@ -1,0 +1,143 @@
+#!/usr/bin/env python3
+"""Tries the launcher with an `rt` that proves nothing and takes a moment: the order of crates, a build that is broken off, a crate that
+fails, two calls at once, and a call where nothing is to be built.
+
+    checks/launcher_runs.py
+"""
+import argparse
+import os
+import pathlib
+import pty
+import select
+import shutil
+import signal
+import subprocess
+import sys
+import tempfile
+import time
+
+ROOT = pathlib.Path(__file__).resolve().parent.parent
+
+# It fails where a library below is missing, or where BAD names the crate; what stands is kept.
+RT = """#!/bin/sh
+name=${PWD##*/}
+echo "fn $name::f: proved"
+if [ "$1" = run ]; then
+    mkdir -p out && printf '#!/bin/sh\\necho "ran: $*"; cat\\n' >out/lifebatch && chmod +x out/lifebatch
+    exit
+fi
+[ -e out/rlib/stamp ] && echo "kept $name" >>"$LOG" && exit
+for below in $(grep "^$name[ :]" ../../crates.txt | sed 's/.*://'); do
+    [ ! -d ../$below ] || [ -e ../$below/out/rlib/stamp ] || { echo "no $below"; exit 1; }
+done
+echo "proves $name" >>"$LOG"
+sleep "${SECONDS_EACH:-0.1}"
+[ "${BAD:-}" = "$name" ] && { echo "error: $name is bad"; exit 1; }
+mkdir -p out/rlib && : >out/rlib/stamp
+"""
+
+
+class Repository:
+    """A copy of the launcher and of the crates' code, without anything built."""
+
+    def __init__(self, folder):
+        self.folder, self.log = folder, folder / "log"
+        for name in ("lifebatch", "crates.txt"):
+            shutil.copy(ROOT / name, folder)
+        for name in ("launcher", "crates"):
+            shutil.copytree(ROOT / name, folder / name, ignore=shutil.ignore_patterns("out", "proofs"))
+        (folder / "bin").mkdir()
+        (folder / "bin" / "rt").write_text(RT)
+        (folder / "bin" / "rt").chmod(0o755)
+
+    def environment(self, **settings):
+        return {**os.environ, "PATH": f"{self.folder / 'bin'}:{os.environ['PATH']}", "LOG": str(self.log), **settings}
+
+    def start(self, *words, **settings):
+        how = {"stdin": subprocess.PIPE, "stdout": subprocess.PIPE, "stderr": subprocess.PIPE, "text": True}
+        return subprocess.Popen([self.folder / "lifebatch", *words], env=self.environment(**settings), **how)
+
+    def run(self, *words, **settings):
+        ran = self.start(*words, **settings)
+        out, err = ran.communicate("input")
+        return ran.returncode, out, err
+
+    def logged(self):
+        lines = self.log.read_text().split("\n")[:-1] if self.log.exists() else []
+        self.log.unlink(missing_ok=True)
+        return lines
+
+    def stages(self):
+        return list((self.folder / "launcher").glob("out/*"))
+
+
+def whole(it):
+    status, out, err = it.run("-m", "a b")
+    proved = [line for line in it.logged() if line.startswith("proves")]
+    return (status, out) == (0, "ran: -m a b\ninput") and len(proved) == len(set(proved)) > 10 and "proved and built" in err and not it.stages()
+
+
+def second(it):
+    began = time.monotonic()
+    found = it.run("x")
+    print(f"    a second call takes {1000 * (time.monotonic() - began):.0f} ms")
+    return found == (0, "ran: x\ninput", "") and it.logged() == []
+
+
+def failed(it):
+    status, _, err = it.run(BAD="plane")
+    return status == 2 and "error: plane is bad" in err and ": proved" not in err and not it.stages() and bool(it.logged())
+
+
+def goes_on(it):
+    status, _, _ = it.run()
+    lines = it.logged()
+    return status == 0 and "kept rule_text" in lines and "proves plane" in lines and "proves rule_text" not in lines
+
+
+def broken_off(it):
+    ran = it.start(SECONDS_EACH="0.5")
+    time.sleep(2)
+    build = subprocess.run(["pgrep", "-P", str(ran.pid)], capture_output=True, text=True).stdout.split()
+    os.kill(int(build[0]), signal.SIGTERM)
+    _, err = ran.communicate()
+    left = subprocess.run(["pgrep", "-f", str(it.folder / "bin" / "rt")], capture_output=True).stdout
+    kept = (it.folder / "crates" / "rule_text" / "out" / "rlib" / "stamp").exists()
+    return ran.returncode == 143 and "broken off" in err and not left and kept and not it.stages()
+
+
+def two(it):
+    it.logged()
+    first, other = it.start("one"), it.start("two")
+    outs = [ran.communicate("")[0] for ran in (first, other)]
+    proved = [line for line in it.logged() if line.startswith("proves")]
+    return outs == ["ran: one\n", "ran: two\n"] and len(proved) == len(set(proved)) and not it.stages()
+
+
+def terminal(it):
+    """On a terminal there is one line that moves."""
+    shutil.rmtree(it.folder / "crates" / "lifebatch" / "out")
+    ours, theirs = pty.openpty()
+    how = {"stdin": subprocess.DEVNULL, "stdout": subprocess.DEVNULL, "stderr": theirs}
+    said = ""
+    with subprocess.Popen([it.folder / "lifebatch"], env=it.environment(), **how) as ran:
+        while ran.poll() is None or select.select([ours], [], [], 0)[0]:
+            if select.select([ours], [], [], 0.1)[0]:
+                said += os.read(ours, 1 << 16).decode()
+    return ran.returncode == 0 and "\r\x1b[K" in said and said.count("\n") == 3
+
+
+def main():
+    argparse.ArgumentParser(description=__doc__, formatter_class=argparse.RawDescriptionHelpFormatter).parse_args()
+    held = []
+    for rows in ((whole, second, terminal), (failed, goes_on), (broken_off, two)):
+        with tempfile.TemporaryDirectory() as name:
+            repository = Repository(pathlib.Path(name))
+            for row in rows:
+                held.append(row(repository))
+                print(f"{'holds' if held[-1] else 'FAILS'}  {row.__name__.replace('_', ' ')}", flush=True)
+    sys.exit(0 if all(held) else 1)
+
+
+if __name__ == "__main__":
+    main()
