@@ -131,11 +131,12 @@ def last_line(report):
 
 
 def run_once(words, folder):
-    """A run, or why there is none."""
+    """A run, or why there is none. Ours has the setting of memory that the launcher gives it."""
+    settings = {} if "bgolly" in words[0] else {"GLIBC_TUNABLES": "glibc.malloc.hugetlb=1"}
     report = folder / "report"
     begin = time.monotonic()
     with report.open("wb") as out:
-        process = subprocess.Popen(words, stdout=out, stderr=subprocess.DEVNULL, cwd=folder)
+        process = subprocess.Popen(words, stdout=out, stderr=subprocess.DEVNULL, cwd=folder, env=settings | os.environ)
     while True:
         done, status, usage = os.wait4(process.pid, os.WNOHANG)
         if done:

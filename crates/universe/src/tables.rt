@@ -24,8 +24,9 @@ use table_core::{Key, Kind, Shape};
 use viewport::population;
 use worker_split::{Gate, Team, step};
 
-// After how many steps a large table is swept before it grows.
+// After how many steps a large table is swept before it grows, and one of the size before that.
 const WORN_AFTER: u32 = 4;
+const SMALLER_WORN_AFTER: u32 = 64;
 
 /// A table that stays open under a rule and an exponent, with its one desk.
 #[derive(Drop)]
@@ -133,11 +134,16 @@ impl OpenTable {
         true
     }
 
-    /// Whether most of it is likely to be left over from earlier steps: it is large, and has taken some.
+    /// Whether most of it is likely to be left over from earlier steps: it is large and has taken some, or
+    /// nearly large and has taken many.
     pub(crate) fn is_worn(&self) -> bool
-        ensures { IsTrue result ↔ ((4 ≤ self.now.steps) × (18 ≤ self.now.key.shape.bits)) }
+        ensures { IsTrue result ↔ (((4 ≤ self.now.steps) × (18 ≤ self.now.key.shape.bits)) ⊎ ((64 ≤ self.now.steps) × (16 ≤ self.now.key.shape.bits))) }
     {
-        self.steps >= WORN_AFTER && self.key.shape.bits >= LARGE_BITS
+        let bits = self.key.shape.bits;
+        if bits >= LARGE_BITS {
+            return self.steps >= WORN_AFTER;
+        }
+        self.steps >= SMALLER_WORN_AFTER && bits + 2 >= LARGE_BITS
     }
 
     /// The words, which say all that was known.
