@@ -83,7 +83,10 @@ fn assert_strange<R: Abort + AllocGlobal + Threads + Wait + Sync>(
     for byte in STRANGE {
         let file = with_byte(rt.alloc(), text, place, byte)?;
         let end = Ended::of_bytes(rt, file.as_slice(), &PLAIN)?;
-        assert_eq!(rt; (text, place, byte, end.told()), (text, place, byte, (Some(wanted), "", "")));
+        assert_eq!(rt;
+            (text, place, byte, end.told()),
+            (text, place, byte, (Some(wanted), "", ""))
+        );
     }
     Ok(())
 }
