@@ -153,24 +153,25 @@ class Build:
     signal: int = 0
 
     def start(self, name, jobs):
-        """Proves a crate in its stage, and links the program, which then shows its help. One job yields to a crate with more."""
+        """Proves a crate in its stage, and links the program, which then shows its help."""
         stage = Stage(name)
         stage.set_up(all_below(name, self.crates))
-        words = ["rt", "run" if name == PROGRAM else "lib", "--jobs", str(jobs)]
-        words = ["nice"] * (jobs == 1) + words + ["--", "--help"] * (name == PROGRAM)
+        words = ["rt", "run" if name == PROGRAM else "lib", "--jobs", str(jobs)] + ["--", "--help"] * (name == PROGRAM)
         with stage.said.open("wb") as said:
             how = {"cwd": stage.crate, "stdin": subprocess.DEVNULL, "stdout": said, "stderr": subprocess.STDOUT}
             self.running[name] = Run(stage, subprocess.Popen(words, **how), jobs)
 
     def start_all(self, ready):
-        """Starts the crates that there is room for. One that has no longer chain above it than any that runs gets the jobs of all cores."""
-        for name in ready:
+        """Starts the crates that there is room for. One that has no longer chain above it than any that runs gets a job for each core that no
+        other crate wants, and at least two; the others get one."""
+        for place, name in enumerate(ready):
             room = self.memory - sum(it.memory() for it in self.running.values())
             if self.running and (room < MEMORY or len(self.running) == self.cores):
                 return
+            wanted = len(self.running) + len(ready) - place - 1
             most = min(self.cores, MOST_JOBS, 1 + max(room - MEMORY, 0) // MEMORY_OF_JOB)
             is_longest = all(self.chain[name] >= self.chain[it] for it in self.running)
-            self.start(name, most if is_longest else 1)
+            self.start(name, min(most, max(2, self.cores - wanted)) if is_longest else 1)
 
     def end(self, name):
         """Takes in a crate that is proved, or says why it isn't and answers False."""
