@@ -26,6 +26,7 @@ use worker_split::{Gate, Team, step};
 
 // After how many steps a large table is swept before it grows, and one of the size before that.
 const WORN_AFTER: u32 = 4;
+
 const SMALLER_WORN_AFTER: u32 = 64;
 
 /// A table that stays open under a rule and an exponent, with its one desk.
