@@ -1,15 +1,34 @@
 -- Four squares of a level that a book knows, and the square that they make.
-use Rattle.std.proofs.Common.{◌≡◌, ℕ, ◌+◌, ◌≤◌, ◌^◌, [], ◌∷◌, sym, subst, refl}
+use Rattle.std.proofs.Common.{◌≡◌, ℕ, zero, suc, ◌+◌, ◌≤◌, ◌<◌, ◌^◌, All, List, [], ◌∷◌, length, arith, sym, subst, refl}
 use Rattle.std.specs.List.{AllByRecursion}
+use Rattle.std.proofs.lemmas.List.{get_or_default}
 use Rattle.plane.specs.Square.{joined}
 use Rattle.plane.proofs.Same.{same_sym}
-use Rattle.squares.specs.Book.{Book, IsBook, IsKnown, Shows, Keeps, joined_squares, numbered}
+use Rattle.squares.specs.Book.{Book, IsBook, IsKnown, Shows, Keeps, joined_squares, nth, numbered}
 use Rattle.squares.specs.declared.sq.Sq.{Sq}
 use Rattle.squares.proofs.Kept.{keeps_trans, shows_kept}
 use Rattle.hashlife_step.proofs.Grown.{joined_as}
 
 pub known_as : {book : Book} {level level' : ℕ} {sq : Sq} → level ≡ level' → IsKnown book level sq → IsKnown book level' sq
 known_as {book = book} {sq = sq} e known = subst (λ n. IsKnown book n sq) e known
+
+-- each of some squares is known
+pub all_known : (book : Book) (level : ℕ) (squares : List Sq) → ((k : ℕ) → k < length squares → IsKnown book level (nth squares k)) → All (IsKnown book level) squares
+all_known book level squares each k d less = subst (IsKnown book level) (get_or_default squares k (numbered 0 0) d less) (each k less)
+
+at_four : (P : ℕ → Type 0) (k : ℕ) → k < 4 → P 0 → P 1 → P 2 → P 3 → P k
+at_four P zero less a b c d = a
+at_four P (suc zero) less a b c d = b
+at_four P (suc (suc zero)) less a b c d = c
+at_four P (suc (suc (suc zero))) less a b c d = d
+at_four P (suc (suc (suc (suc k)))) less a b c d = absurd (omega arith)
+
+pub all_four : (book : Book) (level : ℕ) (four : List Sq) → length four ≡ 4 → IsKnown book level (nth four 0) → IsKnown book level (nth four 1) → IsKnown book level (nth four 2) → IsKnown book level (nth four 3) →
+    All (IsKnown book level) four
+all_four book level four long a b c d = all_known book level four (λ k less. at_four (λ i. IsKnown book level (nth four i)) k (omega arith) a b c d)
+
+pub each_known : {book : Book} {level : ℕ} {a b c d : Sq} → IsKnown book level a → IsKnown book level b → IsKnown book level c → IsKnown book level d → All (IsKnown book level) (a ∷ b ∷ c ∷ d ∷ [])
+each_known {book = book} {level = level} {a = a} {b = b} {c = c} {d = d} in_a in_b in_c in_d = all_four book level (a ∷ b ∷ c ∷ d ∷ []) refl in_a in_b in_c in_d
 
 -- the empty square of a level
 pub empty_known : (book : Book) (level : ℕ) → IsBook book → 3 ≤ level → level ≤ 65 → IsKnown book level (numbered level 0)

@@ -1,29 +1,41 @@
 -- A square of level 4 and its four leaves, and one of level 5 and its sixteen.
-use Rattle.std.proofs.Common.{◌≡◌, ℕ, ◌+◌, ◌-◌, ◌^◌, min, List, [], ◌∷◌, arith, sym, subst, refl}
+use Rattle.std.proofs.Common.{◌≡◌, ℕ, ◌+◌, ◌-◌, ◌^◌, min, All, List, [], ◌∷◌, length, arith, sym, subst, refl}
 use Rattle.rule_text.specs.CountRule.{CountRule}
 use Rattle.plane.specs.Plane.{Plane, after}
 use Rattle.plane.specs.Square.{IsSame, IsSquare, bits_plane, joined, centre_of, future}
+use Rattle.plane.proofs.Cuts.{joined_same}
 use Rattle.plane.proofs.Rounds.{whole_joined}
 use Rattle.plane.proofs.Same.{same_trans, same_sym, plane_equal}
-use Rattle.squares.specs.Book.{Book, IsKnown, IsFuture, Shows, Keeps, AreQuarters, joined_squares, nth}
+use Rattle.squares.specs.Book.{Book, IsKnown, IsFuture, Shows, Keeps, AreQuarters, joined_squares, nth, numbered}
 use Rattle.squares.specs.declared.sq.Sq.{Sq}
 use Rattle.squares.proofs.Kept.{keeps_trans, same_later}
 use Rattle.squares.proofs.Centres.{lowered, shows_as}
+use Rattle.hashlife_step.proofs.FourKnown.{all_four}
 use Rattle.hashlife_step.proofs.Grown.{joined_as}
 
--- four leaves that were read in turn
-pub leaves_shown : (level : ℕ) (plane : Plane) (b1 b2 b3 b4 : Book) (q : List Sq) (a b c d : ℕ) → level ≡ 4 → IsSquare (2 ^ level) plane →
-    AreQuarters b1 level plane q → Keeps b1 b2 → Keeps b2 b3 → Keeps b3 b4 →
+-- four squares of level 3 that were read in turn
+pub four_read : (b1 b2 b3 b4 : Book) (q : List Sq) (a b c d : ℕ) → length q ≡ 4 → All (IsKnown b1 3) q → Keeps b1 b2 → Keeps b2 b3 → Keeps b3 b4 →
     Shows b1 3 (bits_plane a) (nth q 0) → Shows b2 3 (bits_plane b) (nth q 1) → Shows b3 3 (bits_plane c) (nth q 2) → Shows b4 3 (bits_plane d) (nth q 3) →
-    IsSame (joined 8 (bits_plane a) (bits_plane b) (bits_plane c) (bits_plane d)) plane
-leaves_shown level plane b1 b2 b3 b4 q a b c d e square parts k2 k3 k4 is_a is_b is_c is_d =
-    let four : AreQuarters b1 4 plane q = lowered b1 level 4 plane q e parts in
+    IsSame (joined 8 (bits_plane a) (bits_plane b) (bits_plane c) (bits_plane d)) (joined_squares b1 3 q)
+four_read b1 b2 b3 b4 q a b c d long known k2 k3 k4 is_a is_b is_c is_d =
+    joined_same 8 _ _ _ _ _ _ _ _
+    (same_sym is_a.cells)
+    (same_trans (same_sym is_b.cells) (k2.cells (nth q 1) (known 1 (numbered 0 0) (omega arith)).known))
+    (same_trans (same_sym is_c.cells) ((keeps_trans k2 k3).cells (nth q 2) (known 2 (numbered 0 0) (omega arith)).known))
+    (same_trans (same_sym is_d.cells) ((keeps_trans k2 (keeps_trans k3 k4)).cells (nth q 3) (known 3 (numbered 0 0) (omega arith)).known))
+
+-- the quarters of a square of level 4 are known, and joined they are the square
+pub leaves_known : (book : Book) (level : ℕ) (plane : Plane) (q : List Sq) → length q ≡ 4 → level ≡ 4 → AreQuarters book level plane q → All (IsKnown book 3) q
+leaves_known book level plane q long e parts =
+    let four : AreQuarters book 4 plane q = lowered book level 4 plane q e parts in
+    all_four book 3 q long four.nw.known four.ne.known four.sw.known four.se.known
+
+pub leaves_shown : (book : Book) (level : ℕ) (plane leaves : Plane) (q : List Sq) → level ≡ 4 → IsSquare (2 ^ level) plane → AreQuarters book level plane q →
+    IsSame leaves (joined_squares book 3 q) → IsSame leaves plane
+leaves_shown book level plane leaves q e square parts is =
+    let four : AreQuarters book 4 plane q = lowered book level 4 plane q e parts in
     let whole : IsSquare (8 + 8) plane = subst (λ n. IsSquare (2 ^ n) plane) e square in
-    whole_joined 8 plane (bits_plane a) (bits_plane b) (bits_plane c) (bits_plane d) whole
-    (same_trans (same_sym is_a.cells) four.nw.cells)
-    (same_trans (same_sym is_b.cells) (same_later k2 four.ne))
-    (same_trans (same_sym is_c.cells) (same_later (keeps_trans k2 k3) four.sw))
-    (same_trans (same_sym is_d.cells) (same_later (keeps_trans k2 (keeps_trans k3 k4)) four.se))
+    same_trans is (whole_joined 8 plane _ _ _ _ whole four.nw.cells four.ne.cells four.sw.cells four.se.cells)
 
 -- a square with the cells of the future, in the book as it is now
 pub future_later : (old new : Book) (sq next : Sq) → Keeps old new → IsKnown old sq.level sq →
@@ -46,14 +58,6 @@ kernel_future book rule own exponent short level result plane leaves next e time
   where
     cut_once : (exponent most : ℕ) → min (min exponent most) most ≡ min exponent most
     cut_once exponent most = omega arith
-
--- the centre of four leaves
-pub leaves_centre : (book : Book) (level word : ℕ) (plane leaves : Plane) (next : Sq) → level ≡ 4 → IsSame leaves plane →
-    IsSame (bits_plane word) (centre_of 4 leaves) → Shows book 3 (bits_plane word) next → Shows book (level - 1) (centre_of level plane) next
-leaves_centre book level word plane leaves next e same is shown =
-    let one : IsSame (bits_plane word) (centre_of 4 plane) = subst (λ p. IsSame (bits_plane word) (centre_of 4 p)) (plane_equal _ _ same) is in
-    let four : Shows book (4 - 1) (centre_of 4 plane) next = shows_as book 3 (4 - 1) (bits_plane word) _ next refl one shown in
-    subst (λ n. Shows book (n - 1) (centre_of n plane) next) (sym e) four
 
 -- four squares of four leaves each that were read in turn
 pub sixteen_shown : (level : ℕ) (plane : Plane) (b1 b2 b3 b4 : Book) (q : List Sq) (a b c d : Plane) → level ≡ 5 → IsSquare (2 ^ level) plane →

@@ -3,6 +3,7 @@ pub mod EmptyBorders
 pub mod FourKnown
 pub mod Grown
 pub mod LeafSquares
+pub mod Middles
 pub mod NineFutures
 pub mod Planned
 pub mod Replaced

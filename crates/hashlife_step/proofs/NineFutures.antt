@@ -1,7 +1,6 @@
 -- The future of a square, made of the futures of nine overlapping ones.
-use Rattle.std.proofs.Common.{◌≡◌, ℕ, ◌+◌, ◌-◌, ◌*◌, ◌/◌, ◌%◌, ◌^◌, ◌<◌, ◌≤◌, ◌⊎◌, All, List, length, arith, sym, ap, subst, ⊎_elim, inl, inr, zero, suc}
+use Rattle.std.proofs.Common.{◌≡◌, ℕ, ◌+◌, ◌-◌, ◌*◌, ◌/◌, ◌%◌, ◌^◌, ◌<◌, ◌≤◌, ◌⊎◌, All, List, length, arith, sym, ◌∙◌, ap, subst, ⊎_elim, inl, inr, zero, suc}
 use Rattle.std.specs.List.{AllByRecursion}
-use Rattle.std.proofs.lemmas.List.{get_or_default}
 use Rattle.std.proofs.lemmas.List.Elements.{recursion_from_All}
 use Rattle.rule_text.specs.CountRule.{CountRule}
 use Rattle.plane.specs.Laws.{four_futures}
@@ -9,17 +8,14 @@ use Rattle.plane.specs.Plane.{Plane}
 use Rattle.plane.specs.Square.{IsSame, joined, centre_of, future, ninth}
 use Rattle.plane.proofs.Parts.{nine_parts_lem}
 use Rattle.plane.proofs.Cuts.{joined_same}
-use Rattle.plane.proofs.Same.{same_trans, plane_equal}
+use Rattle.plane.proofs.Same.{same_sym, same_trans, plane_equal}
 use Rattle.squares.specs.Book.{Book, IsKnown, Shows, Keeps, AreNinths, joined_squares, nth, numbered}
 use Rattle.squares.specs.declared.sq.Sq.{Sq}
 use Rattle.squares.proofs.Kept.{same_later}
 use Rattle.squares.proofs.Centres.{shows_as}
-use Rattle.hashlife_step.specs.Futures.{AreCentres, AreFutures, AreOverlaps, IsOverlap}
+use Rattle.hashlife_step.specs.Futures.{AreFinished, AreFutures, AreMade, AreOverlaps, neighbours}
+use Rattle.hashlife_step.proofs.FourKnown.{all_four, all_known}
 use Rattle.hashlife_step.proofs.Grown.{joined_as}
-
--- each of some squares is known
-pub all_known : (book : Book) (level : ℕ) (squares : List Sq) → ((k : ℕ) → k < length squares → IsKnown book level (nth squares k)) → All (IsKnown book level) squares
-all_known book level squares each k d less = subst (IsKnown book level) (get_or_default squares k (numbered 0 0) d less) (each k less)
 
 pub ninths_known : (book : Book) (level : ℕ) (plane : Plane) (squares : List Sq) → length squares ≡ 9 → AreNinths book level plane squares → All (IsKnown book (level - 1)) squares
 ninths_known book level plane squares nine are = all_known book (level - 1) squares (λ k less.
@@ -29,39 +25,38 @@ ninths_known book level plane squares nine are = all_known book (level - 1) squa
 pub futures_known : (book : Book) (level : ℕ) (squares futures : List Sq) → length futures ≡ length squares → AreFutures book level squares futures → All (IsKnown book (level - 1)) futures
 futures_known book level squares futures same are = all_known book (level - 1) futures (λ k less. (are.each k (omega arith)).known)
 
-at_four : (P : ℕ → Type 0) (k : ℕ) → k < 4 → P 0 → P 1 → P 2 → P 3 → P k
-at_four P zero less a b c d = a
-at_four P (suc zero) less a b c d = b
-at_four P (suc (suc zero)) less a b c d = c
-at_four P (suc (suc (suc zero))) less a b c d = d
-at_four P (suc (suc (suc (suc k)))) less a b c d = absurd (omega arith)
-
-pub overlaps_known : (book : Book) (level : ℕ) (nine four : List Sq) → length four ≡ 4 → 1 ≤ level → AreOverlaps book (level - 1) nine four → All (IsKnown book level) four
-overlaps_known book level nine four long some are = all_known book level four (λ k less.
-    let e : level - 1 + 1 ≡ level = omega arith in
-    subst (λ n. IsKnown book n (nth four k)) e (at_four (λ i. IsKnown book (level - 1 + 1) (nth four i)) k (omega arith) are.nw.known are.ne.known are.sw.known are.se.known))
-
--- futures where there is time for them, else centres
-pub record IsFinished (book : Book) (exponent level : ℕ) (before now : List Sq) : Type 0 where
-  pub futures : level ≤ exponent + 1 → AreFutures book level before now
-  pub centres : exponent + 1 < level → AreCentres book level before now
+pub made_known : (make : Plane → Plane) (book : Book) (made_level level : ℕ) (nine four : List Sq) → length four ≡ 4 → AreMade make book made_level level nine four → All (IsKnown book made_level) four
+made_known make book made_level level nine four long are = all_four book made_level four long are.nw.known are.ne.known are.sw.known are.se.known
 
 le_or_lt : (a b : ℕ) → (a ≤ b) ⊎ (b < a)
 le_or_lt zero b = inl (omega arith)
 le_or_lt (suc a) zero = inr (omega arith)
 le_or_lt (suc a) (suc b) = ⊎_elim (λ h. inl (omega arith)) (λ h. inr (omega arith)) (le_or_lt a b)
 
-pub finished_each : (book : Book) (exponent level : ℕ) (before now : List Sq) → IsFinished book exponent level before now → (k : ℕ) → k < length before → IsKnown book (level - 1) (nth now k)
-finished_each book exponent level before now is k less =
-    ⊎_elim (λ long. ((is.futures long).each k less).known) (λ short. ((is.centres short).each k less).known) (le_or_lt level (exponent + 1))
+pub finished_known : (book : Book) (level : ℕ) (nine four : List Sq) → length four ≡ 4 → AreFinished book level nine four → All (IsKnown book level) four
+finished_known book level nine four long is =
+    ⊎_elim (λ long_enough. made_known _ book level level nine four long (is.futures long_enough)) (λ short. made_known _ book level level nine four long (is.middles short)) (le_or_lt level book.exponent)
 
-pub finished_known : (book : Book) (exponent level : ℕ) (before now : List Sq) → length now ≡ length before → 0 < length before → IsFinished book exponent level before now →
-    AllByRecursion (IsKnown book (nth now 0).level) now
-finished_known book exponent level before now same some is =
-    let each = finished_each book exponent level before now is in
-    let first : level - 1 ≡ (nth now 0).level = sym (each 0 some).at_level in
-    recursion_from_All (IsKnown book (nth now 0).level) now
-    (subst (λ n. All (IsKnown book n) now) first (all_known book (level - 1) now (λ k less. each k (omega arith))))
+-- squares of one level, as they are joined
+pub of_first : (book : Book) (level : ℕ) (four : List Sq) → 0 < length four → All (IsKnown book level) four → AllByRecursion (IsKnown book (nth four 0).level) four
+of_first book level four some known =
+    recursion_from_All (IsKnown book (nth four 0).level) four (subst (λ n. All (IsKnown book n) four) (sym (known 0 (numbered 0 0) some).at_level) known)
+
+neighbours_later : (old new : Book) (level : ℕ) (nine : List Sq) (k : ℕ) → Keeps old new → All (IsKnown old level) nine → k + 4 < length nine → IsSame (neighbours old level nine k) (neighbours new level nine k)
+neighbours_later old new level nine k keeps known less =
+    let same = λ (i : ℕ) (inside : i < length nine). same_sym (keeps.cells (nth nine i) (known i (numbered 0 0) inside).known) in
+    joined_same (2 ^ level) _ _ _ _ _ _ _ _ (same k (omega arith)) (same (k + 1) (omega arith)) (same (k + 3) (omega arith)) (same (k + 4) (omega arith))
+
+-- the futures of the squares that neighbours make are those of the neighbours
+pub overlaps_finished : (old new : Book) (level : ℕ) (nine four futures : List Sq) → length nine ≡ 9 → length four ≡ 4 → All (IsKnown old level) nine → AreOverlaps old level nine four → Keeps old new →
+    AreFutures new (level + 1) four futures → AreMade (future new.rule new.exponent (level + 1)) new level level nine futures
+overlaps_finished old new level nine four futures is_nine is_four known overlaps keeps are =
+    let at = λ (i k : ℕ) (less : i < length four) (inside : k + 4 < length nine) (shown : Shows old (level + 1) (neighbours old level nine k) (nth four i)).
+    let cells : new.cells (nth four i) ≡ neighbours new level nine k = plane_equal _ _ (same_trans (same_later keeps shown) (neighbours_later old new level nine k keeps known inside)) in
+    let lower : level + 1 - 1 ≡ level = omega arith in
+    subst (λ n. Shows new n (future new.rule new.exponent (level + 1) (neighbours new level nine k)) (nth futures i)) lower
+    (subst (λ p. Shows new (level + 1 - 1) (future new.rule new.exponent (level + 1) p) (nth futures i)) cells (are.each i less)) in
+    record { nw = at 0 0 (omega arith) (omega arith) overlaps.nw; ne = at 1 1 (omega arith) (omega arith) overlaps.ne; sw = at 2 3 (omega arith) (omega arith) overlaps.sw; se = at 3 4 (omega arith) (omega arith) overlaps.se }
 
 future_of : (book : Book) (level : ℕ) (rule : CountRule) (exponent : ℕ) (squares futures : List Sq) (plane : Plane) (k : ℕ) → AreFutures book level squares futures → k < length squares →
     book.rule ≡ rule → book.exponent ≡ exponent → IsSame (book.cells (nth squares k)) plane → Shows book (level - 1) (future rule exponent level plane) (nth futures k)
@@ -70,71 +65,53 @@ future_of book level rule exponent squares futures plane k are less is_rule is_e
     let two = subst (λ r. Shows book (level - 1) (future r book.exponent level plane) (nth futures k)) is_rule one in
     subst (λ n. Shows book (level - 1) (future rule n level plane) (nth futures k)) is_exponent two
 
-centre_at : (book : Book) (level : ℕ) (squares centres : List Sq) (plane : Plane) (k : ℕ) → AreCentres book level squares centres → k < length squares →
-    IsSame (book.cells (nth squares k)) plane → Shows book (level - 1) (centre_of level plane) (nth centres k)
-centre_at book level squares centres plane k are less same = subst (λ p. Shows book (level - 1) (centre_of level p) (nth centres k)) (plane_equal _ _ same) (are.each k less)
-
-module _ (level : ℕ) (rule : CountRule) (exponent : ℕ) (plane : Plane) (b1 b2 b3 b4 b5 : Book) (parts futures four quarters : List Sq) (res : Sq) (least : 4 < level)
-    (nine : length parts ≡ 9) (four_long : length four ≡ 4) (rule2 : b2.rule ≡ rule) (exponent2 : b2.exponent ≡ exponent) (rule4 : b4.rule ≡ rule) (exponent4 : b4.exponent ≡ exponent)
-    (ninths : AreNinths b1 level plane parts) (k2 : Keeps b1 b2) (are : AreFutures b2 (level - 1) parts futures) (k3 : Keeps b2 b3) (overlaps : AreOverlaps b3 (level - 1 - 1) futures four)
-    (k4 : Keeps b3 b4) (finished : IsFinished b4 exponent (level - 1) four quarters) (shown : Shows b5 ((nth quarters 0).level + 1) (joined_squares b4 (nth quarters 0).level quarters) res) where
+module _ (level : ℕ) (rule : CountRule) (exponent : ℕ) (plane : Plane) (b1 b2 b3 b4 : Book) (parts futures quarters : List Sq) (res : Sq) (least : 4 < level)
+    (nine : length parts ≡ 9) (rule2 : b2.rule ≡ rule) (exponent2 : b2.exponent ≡ exponent) (rule3 : b3.rule ≡ rule) (exponent3 : b3.exponent ≡ exponent)
+    (ninths : AreNinths b1 level plane parts) (k2 : Keeps b1 b2) (are : AreFutures b2 (level - 1) parts futures) (k3 : Keeps b2 b3)
+    (finished : AreFinished b3 (level - 1 - 1) futures quarters) (shown : Shows b4 ((nth quarters 0).level + 1) (joined_squares b3 (nth quarters 0).level quarters) res) where
   side : 2 ^ (level - 1 - 1) ≡ 2 ^ (level - 2)
   side = let e : level - 1 - 1 ≡ level - 2 = omega arith in ap (λ n. 2 ^ n) e
 
   -- a ninth's future
-  part : (row column : ℕ) → row < 3 → column < 3 → IsSame (b3.cells (nth futures (3 * row + column))) (future rule exponent (level - 1) (ninth level row column plane))
-  part row column low left =
-      same_later k3 (future_of b2 (level - 1) rule exponent parts futures (ninth level row column plane) (3 * row + column) are (omega arith) rule2 exponent2 (same_later k2 (ninths.shown row column low left)))
+  part : (n row column : ℕ) → n ≡ 3 * row + column → row < 3 → column < 3 → IsSame (b3.cells (nth futures n)) (future rule exponent (level - 1) (ninth level row column plane))
+  part n row column e above left = subst (λ (k : ℕ). IsSame (b3.cells (nth futures k)) (future rule exponent (level - 1) (ninth level row column plane))) (sym e)
+      (same_later k3 (future_of b2 (level - 1) rule exponent parts futures (ninth level row column plane) (3 * row + column) are (omega arith) rule2 exponent2 (same_later k2 (ninths.shown row column above left))))
 
   -- four of them
-  overlap : (row column i : ℕ) → row < 2 → column < 2 → IsOverlap b3 (level - 1 - 1) futures (3 * row + column) (nth four i) → IsSame (b4.cells (nth four i)) (four_futures rule exponent level plane row column)
-  overlap row column i low left is =
-      let e1 : 3 * row + column + 1 ≡ 3 * row + (column + 1) = omega arith in
-      let e3 : 3 * row + column + 3 ≡ 3 * (row + 1) + column = omega arith in
-      let e4 : 3 * row + column + 4 ≡ 3 * (row + 1) + (column + 1) = omega arith in
-      let at = λ (n r c : ℕ) (e : n ≡ 3 * r + c) (inside_r : r < 3) (inside_c : c < 3).
-      subst (λ (k : ℕ). IsSame (b3.cells (nth futures k)) (future rule exponent (level - 1) (ninth level r c plane))) (sym e) (part r c inside_r inside_c) in
+  corner : (row column : ℕ) → row < 2 → column < 2 → neighbours b3 (level - 1 - 1) futures (3 * row + column) ≡ four_futures rule exponent level plane row column
+  corner row column above left =
       let Joined : ℕ → Plane = λ n. joined n (future rule exponent (level - 1) (ninth level row column plane)) (future rule exponent (level - 1) (ninth level row (column + 1) plane))
       (future rule exponent (level - 1) (ninth level (row + 1) column plane)) (future rule exponent (level - 1) (ninth level (row + 1) (column + 1) plane)) in
-      let same : IsSame (b4.cells (nth four i)) (Joined (2 ^ (level - 1 - 1))) = same_trans (same_later k4 is)
-      (joined_same (2 ^ (level - 1 - 1)) _ _ _ _ _ _ _ _ (part row column (omega arith) (omega arith)) (at (3 * row + column + 1) row (column + 1) e1 (omega arith) (omega arith))
-      (at (3 * row + column + 3) (row + 1) column e3 (omega arith) (omega arith)) (at (3 * row + column + 4) (row + 1) (column + 1) e4 (omega arith) (omega arith))) in
-      subst (λ n. IsSame (b4.cells (nth four i)) (Joined n)) side same
+      plane_equal _ _ (joined_same (2 ^ (level - 1 - 1)) _ _ _ _ _ _ _ _ (part (3 * row + column) row column (omega arith) (omega arith) (omega arith)) (part (3 * row + column + 1) row (column + 1) (omega arith) (omega arith) (omega arith))
+      (part (3 * row + column + 3) (row + 1) column (omega arith) (omega arith) (omega arith)) (part (3 * row + column + 4) (row + 1) (column + 1) (omega arith) (omega arith) (omega arith)))
+      ∙ ap Joined side
 
-  over_nw : IsSame (b4.cells (nth four 0)) (four_futures rule exponent level plane 0 0)
-  over_nw = overlap 0 0 0 (omega arith) (omega arith) overlaps.nw
+  -- what is made of each four of them, joined
+  whole : (make : Plane → Plane) → AreMade make b3 (level - 1 - 1) (level - 1 - 1) futures quarters →
+      IsSame (joined (2 ^ (level - 2)) (make (four_futures rule exponent level plane 0 0)) (make (four_futures rule exponent level plane 0 1))
+      (make (four_futures rule exponent level plane 1 0)) (make (four_futures rule exponent level plane 1 1))) (future rule exponent level plane) →
+      Shows b4 (level - 1) (future rule exponent level plane) res
+  whole make made same =
+      let at = λ (i k row column : ℕ) (e : k ≡ 3 * row + column) (above : row < 2) (left : column < 2) (is : Shows b3 (level - 1 - 1) (make (neighbours b3 (level - 1 - 1) futures k)) (nth quarters i)).
+      subst (λ p. IsSame (b3.cells (nth quarters i)) (make p)) (ap (neighbours b3 (level - 1 - 1) futures) e ∙ corner row column above left) is.cells in
+      let joined_here = joined_as b3 b4 (level - 1 - 1) quarters _ _ _ _ res made.nw.known.at_level
+      (at 0 0 0 0 (omega arith) (omega arith) (omega arith) made.nw) (at 1 1 0 1 (omega arith) (omega arith) (omega arith) made.ne)
+      (at 2 3 1 0 (omega arith) (omega arith) (omega arith) made.sw) (at 3 4 1 1 (omega arith) (omega arith) (omega arith) made.se) shown in
+      let at_side = subst (λ n. Shows b4 (level - 1 - 1 + 1) (joined n (make (four_futures rule exponent level plane 0 0)) (make (four_futures rule exponent level plane 0 1))
+      (make (four_futures rule exponent level plane 1 0)) (make (four_futures rule exponent level plane 1 1))) res) side joined_here in
+      shows_as b4 (level - 1 - 1 + 1) (level - 1) _ _ res (omega arith) same at_side
 
-  over_ne : IsSame (b4.cells (nth four 1)) (four_futures rule exponent level plane 0 1)
-  over_ne = overlap 0 1 1 (omega arith) (omega arith) overlaps.ne
-
-  over_sw : IsSame (b4.cells (nth four 2)) (four_futures rule exponent level plane 1 0)
-  over_sw = overlap 1 0 2 (omega arith) (omega arith) overlaps.sw
-
-  over_se : IsSame (b4.cells (nth four 3)) (four_futures rule exponent level plane 1 1)
-  over_se = overlap 1 1 3 (omega arith) (omega arith) overlaps.se
-
-  -- the four quarters joined
-  whole : (p q r s : Plane) → Shows b4 (level - 1 - 1) p (nth quarters 0) → Shows b4 (level - 1 - 1) q (nth quarters 1) → Shows b4 (level - 1 - 1) r (nth quarters 2) → Shows b4 (level - 1 - 1) s (nth quarters 3) →
-      IsSame (joined (2 ^ (level - 2)) p q r s) (future rule exponent level plane) → Shows b5 (level - 1) (future rule exponent level plane) res
-  whole p q r s is_p is_q is_r is_s same =
-      let made : Shows b5 (level - 1 - 1 + 1) (joined (2 ^ (level - 1 - 1)) p q r s) res =
-      joined_as b4 b5 (level - 1 - 1) quarters p q r s res is_p.known.at_level is_p.cells is_q.cells is_r.cells is_s.cells shown in
-      let at_side : Shows b5 (level - 1 - 1 + 1) (joined (2 ^ (level - 2)) p q r s) res = subst (λ n. Shows b5 (level - 1 - 1 + 1) (joined n p q r s) res) side made in
-      shows_as b5 (level - 1 - 1 + 1) (level - 1) _ _ res (omega arith) same at_side
-
-  pub nine_futures : Shows b5 (level - 1) (future rule exponent level plane) res
+  pub nine_futures : Shows b4 (level - 1) (future rule exponent level plane) res
   nine_futures =
+      let up : level - 1 - 1 + 1 ≡ level - 1 = omega arith in
+      let below : level - 1 - 1 ≡ level - 2 = omega arith in
+      let laws = nine_parts_lem rule exponent level plane (omega arith) in
+      let Made : (Plane → Plane) → Type 0 = λ make. AreMade make b3 (level - 1 - 1) (level - 1 - 1) futures quarters in
       ⊎_elim
       (λ long.
-      let a = finished.futures long in
-      whole _ _ _ _
-      (future_of b4 (level - 1) rule exponent four quarters _ 0 a (omega arith) rule4 exponent4 over_nw) (future_of b4 (level - 1) rule exponent four quarters _ 1 a (omega arith) rule4 exponent4 over_ne)
-      (future_of b4 (level - 1) rule exponent four quarters _ 2 a (omega arith) rule4 exponent4 over_sw) (future_of b4 (level - 1) rule exponent four quarters _ 3 a (omega arith) rule4 exponent4 over_se)
-      ((nine_parts_lem rule exponent level plane (omega arith)).by_futures (omega arith)))
-      (λ short.
-      let a = finished.centres short in
-      whole _ _ _ _
-      (centre_at b4 (level - 1) four quarters _ 0 a (omega arith) over_nw) (centre_at b4 (level - 1) four quarters _ 1 a (omega arith) over_ne)
-      (centre_at b4 (level - 1) four quarters _ 2 a (omega arith) over_sw) (centre_at b4 (level - 1) four quarters _ 3 a (omega arith) over_se)
-      ((nine_parts_lem rule exponent level plane (omega arith)).by_centres (omega arith)))
-      (le_or_lt (level - 1) (exponent + 1))
+      let made = finished.futures long in
+      let by_rule = subst (λ r. Made (future r b3.exponent (level - 1 - 1 + 1))) rule3 made in
+      let by_exponent = subst (λ n. Made (future rule n (level - 1 - 1 + 1))) exponent3 by_rule in
+      whole (future rule exponent (level - 1)) (subst (λ n. Made (future rule exponent n)) up by_exponent) (laws.by_futures (omega arith)))
+      (λ short. whole (centre_of (level - 1)) (subst (λ n. Made (centre_of n)) up (finished.middles short)) (laws.by_centres (omega arith)))
+      (le_or_lt (level - 1 - 1) b3.exponent)

@@ -1,14 +1,29 @@
-ghost use Rattle.std.specs.Prelude.{◌≡◌, ◌-◌, IfOk, IfErr};
+ghost use Rattle.std.specs.Prelude.{◌≡◌, All, IfOk, IfErr};
 ghost use Rattle.leaf_kernels.specs.Life.{life};
 ghost use Rattle.leaf_kernels.specs.Rows.{leaves_plane, sixteen_plane};
 ghost use Rattle.plane.specs.Centred.{centred};
 ghost use Rattle.plane.specs.Square.{IsSame, centre_of};
-ghost use Rattle.squares.specs.Book.{IsFuture, IsKnown, Keeps, KeepsResults, MayRefuse, Shows};
+ghost use Rattle.squares.specs.Book.{IsFuture, IsKnown, Keeps, KeepsResults, MayRefuse, Shows, joined_squares};
 ghost use Rattle.hashlife_step.specs.Round.{ShowsRound};
 
 use leaf_kernels::{centre16, life32, result16};
 use plane::Refusal;
 use squares::{Sq, Squares};
+
+// The cells of four squares of level 3.
+fn read_four<S: Squares>(book: &mut S, four: [Sq; 4]) -> [u64; 4]
+    requires known { All (IsKnown (S.book book.old) 3) four }
+    ensures value { IsSame (leaves_plane result) (joined_squares (S.book book.old) 3 four) }
+    ensures keeps { Keeps (S.book book.old) (S.book book.new) }
+    ensures results { KeepsResults (S.book book.old) (S.book book.new) }
+{
+    let [nw, ne, sw, se] = four;
+    let upper_left = book.read_bits(nw);
+    let upper_right = book.read_bits(ne);
+    let lower_left = book.read_bits(sw);
+    let lower_right = book.read_bits(se);
+    [upper_left, upper_right, lower_left, lower_right]
+}
 
 // The four leaves of a square of level 4.
 fn read_leaves<S: Squares>(book: &mut S, sq: Sq) -> [u64; 4]
@@ -18,12 +33,8 @@ fn read_leaves<S: Squares>(book: &mut S, sq: Sq) -> [u64; 4]
     ensures keeps { Keeps (S.book book.old) (S.book book.new) }
     ensures results { KeepsResults (S.book book.old) (S.book book.new) }
 {
-    let [nw, ne, sw, se] = book.read_parts(sq);
-    let upper_left = book.read_bits(nw);
-    let upper_right = book.read_bits(ne);
-    let lower_left = book.read_bits(sw);
-    let lower_right = book.read_bits(se);
-    [upper_left, upper_right, lower_left, lower_right]
+    let quarters = book.read_parts(sq);
+    read_four(book, quarters)
 }
 
 // The sixteen leaves of a square of level 5, row by row.
@@ -87,16 +98,15 @@ pub(crate) fn leaf_future<S: Squares>(book: &mut S, sq: Sq) -> Result<Sq, Refusa
     book.leaf(word)
 }
 
-/// The centre of a square of level 4.
-pub(crate) fn leaf_centre<S: Squares>(book: &mut S, sq: Sq) -> Result<Sq, Refusal>
-    requires known { IsKnown (S.book book.old) sq.level sq }
-    requires level { sq.level ≡ 4 }
-    ensures ok { IfOk result (Shows (S.book book.new) (sq.level - 1) (centre_of sq.level ((S.book book.old).cells sq))) }
+/// The centre of the square that four squares of level 3 make.
+pub(crate) fn leaf_middle<S: Squares>(book: &mut S, four: [Sq; 4]) -> Result<Sq, Refusal>
+    requires known { All (IsKnown (S.book book.old) 3) four }
+    ensures ok { IfOk result (Shows (S.book book.new) 3 (centre_of 4 (joined_squares (S.book book.old) 3 four))) }
     ensures refusal { IfErr result (MayRefuse (S.book book.new)) }
     ensures keeps { Keeps (S.book book.old) (S.book book.new) }
     ensures results { KeepsResults (S.book book.old) (S.book book.new) }
 {
-    let leaves = read_leaves(book, sq);
+    let leaves = read_four(book, four);
     book.leaf(centre16(leaves))
 }
 

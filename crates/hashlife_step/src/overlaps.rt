@@ -1,11 +1,11 @@
-ghost use Rattle.std.specs.Prelude.{◌≡◌, ◌+◌, ◌-◌, ◌<◌, ◌≤◌, All, IfOk, IfErr, OnOk};
+ghost use Rattle.std.specs.Prelude.{◌+◌, ◌<◌, All, IfOk, IfErr};
 ghost use Rattle.plane.specs.Square.{centre_of};
-ghost use Rattle.squares.specs.Book.{IsKnown, Keeps, KeepsResults, MayRefuse, Shows};
-ghost use Rattle.hashlife_step.specs.Futures.{AreCentres, AreOverlaps};
+ghost use Rattle.squares.specs.Book.{IsKnown, Keeps, KeepsResults, MayRefuse, Shows, joined_squares};
+ghost use Rattle.hashlife_step.specs.Futures.{AreMiddles, AreOverlaps};
 
-use crate::leaf_squares::leaf_centre;
+use crate::leaf_squares::leaf_middle;
 use plane::Refusal;
-use squares::{Sq, Squares, centre};
+use squares::{Sq, Squares};
 
 /// Of nine squares in three rows, the four that neighbours make: those at the upper left, the upper
 /// right, the lower left and the lower right.
@@ -29,37 +29,41 @@ pub(crate) fn overlaps<S: Squares>(
     Ok([nw, ne, sw, se])
 }
 
-// The square at the centre, with half the side.
-fn plain_centre<S: Squares>(book: &mut S, sq: Sq) -> Result<Sq, Refusal>
-    requires known { IsKnown (S.book book.old) sq.level sq }
-    requires low { 3 < sq.level }
-    ensures ok { IfOk result (Shows (S.book book.new) (sq.level - 1) (centre_of sq.level ((S.book book.old).cells sq))) }
+// The centre of the square that four squares of a level make, with half its side.
+fn middle<S: Squares>(book: &mut S, level: u8, four: [Sq; 4]) -> Result<Sq, Refusal>
+    requires known { All (IsKnown (S.book book.old) level) four }
+    ensures ok { IfOk result (Shows (S.book book.new) level (centre_of (level + 1) (joined_squares (S.book book.old) level four))) }
     ensures refusal { IfErr result (MayRefuse (S.book book.new)) }
     ensures keeps { Keeps (S.book book.old) (S.book book.new) }
     ensures results { KeepsResults (S.book book.old) (S.book book.new) }
 {
-    if sq.level == 4 {
-        leaf_centre(book, sq)
-    } else {
-        centre(book, sq)
+    if level == 3 {
+        return leaf_middle(book, four);
     }
+    let [nw, ne, sw, se] = four;
+    let [_, _, _, upper_left] = book.read_parts(nw);
+    let [_, _, upper_right, _] = book.read_parts(ne);
+    let [_, lower_left, _, _] = book.read_parts(sw);
+    let [lower_right, _, _, _] = book.read_parts(se);
+    book.quad([upper_left, upper_right, lower_left, lower_right])
 }
 
-/// Puts its centre in the place of each square.
-pub(crate) fn replace_by_centres<S: Squares>(
+/// Of nine squares in three rows, the centres of the four that neighbours make.
+pub(crate) fn middles<S: Squares>(
     book: &mut S,
     level: u8,
-    squares: &mut [Sq],
-) -> Result<(), Refusal>
-    requires known { All (IsKnown (S.book book.old) level) squares.old }
-    requires low { 3 < level }
-    ensures ok { OnOk result (AreCentres (S.book book.new) level squares.old squares.new) }
+    nine: [Sq; 9],
+) -> Result<[Sq; 4], Refusal>
+    requires known { All (IsKnown (S.book book.old) level) nine }
+    ensures ok { IfOk result (AreMiddles (S.book book.new) level nine) }
     ensures refusal { IfErr result (MayRefuse (S.book book.new)) }
     ensures keeps { Keeps (S.book book.old) (S.book book.new) }
     ensures results { KeepsResults (S.book book.old) (S.book book.new) }
 {
-    for i in 0..squares.len() {
-        squares[i] = plain_centre(book, squares[i])?;
-    }
-    Ok(())
+    let [a, b, c, d, e, f, g, h, i] = nine;
+    let nw = middle(book, level, [a, b, d, e])?;
+    let ne = middle(book, level, [b, c, e, f])?;
+    let sw = middle(book, level, [d, e, g, h])?;
+    let se = middle(book, level, [e, f, h, i])?;
+    Ok([nw, ne, sw, se])
 }

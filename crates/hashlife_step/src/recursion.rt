@@ -1,11 +1,11 @@
 ghost use Rattle.std.specs.Prelude.{◌≡◌, ◌+◌, ◌-◌, ◌<◌, ◌≤◌, All, IfOk, IfErr, OnOk};
 ghost use Rattle.squares.specs.Book.{HasResult, IsFuture, IsKnown, Keeps, KeepsResults, MayRefuse};
-ghost use Rattle.hashlife_step.specs.Futures.{AreCentres, AreFutures};
+ghost use Rattle.hashlife_step.specs.Futures.{AreFinished, AreFutures};
 ghost use Rattle.hashlife_step.specs.Tallies.{Tallies};
 
 use crate::leaf_squares::{leaf_future, life_future};
 use crate::orders::turn;
-use crate::overlaps::{overlaps, replace_by_centres};
+use crate::overlaps::{middles, overlaps};
 use crate::tally::Tally;
 use leaf_kernels::is_life;
 use plane::Refusal;
@@ -72,33 +72,34 @@ fn make<S: Squares>(book: &mut S, sq: Sq, order: u8, tally: &mut Tally) -> Resul
     let level = sq.level - 1;
     let mut parts = nine(book, sq)?;
     replace_by_futures(book, level, &mut parts, order, tally)?;
-    let mut quarters = overlaps(book, level - 1, parts)?;
-    finish(book, level, &mut quarters, order, tally)?;
+    let quarters = finish(book, level - 1, parts, order, tally)?;
     book.quad(quarters)
 }
 
-// Puts its future in the place of each quarter, if there is time for it, else its centre.
+// Of nine squares in three rows, the futures of the four that neighbours make, if there is time for
+// them, else their centres.
 #[cycle(future)]
 fn finish<S: Squares>(
     book: &mut S,
     level: u8,
-    quarters: &mut [Sq],
+    nine: [Sq; 9],
     order: u8,
     tally: &mut Tally,
-) -> Result<(), Refusal>
-    requires known { All (IsKnown (S.book book.old) level) quarters.old }
-    requires low { 3 < level }
-    ensures futures { OnOk result (level ≤ (S.book book.old).exponent + 1 → AreFutures (S.book book.new) level quarters.old quarters.new) }
-    ensures centres { OnOk result ((S.book book.old).exponent + 1 < level → AreCentres (S.book book.new) level quarters.old quarters.new) }
+) -> Result<[Sq; 4], Refusal>
+    requires known { All (IsKnown (S.book book.old) level) nine }
+    requires low { 3 ≤ level }
+    requires high { level < 65 }
+    ensures ok { IfOk result (AreFinished (S.book book.new) level nine) }
     ensures refusal { IfErr result (MayRefuse (S.book book.new)) }
     ensures keeps { Keeps (S.book book.old) (S.book book.new) }
-    ensures tally { Tallies (S.book book.old) (S.book book.new) level tally.old.expansions tally.new.expansions }
+    ensures tally { Tallies (S.book book.old) (S.book book.new) (level + 1) tally.old.expansions tally.new.expansions }
 {
-    if book.exponent() >= level - 1 {
-        replace_by_futures(book, level, quarters, order, tally)
-    } else {
-        replace_by_centres(book, level, quarters)
+    if book.exponent() < level {
+        return middles(book, level, nine);
     }
+    let mut four = overlaps(book, level, nine)?;
+    replace_by_futures(book, level + 1, &mut four, order, tally)?;
+    Ok(four)
 }
 
 // Puts its future in the place of each square.

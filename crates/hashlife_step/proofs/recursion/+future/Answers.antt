@@ -1,14 +1,15 @@
-use Rattle.std.proofs.Common.{rules, arith, ◌≡◌, ◌-◌, ◌<◌, length, sym, subst}
-use Rattle.std.proofs.lemmas.Result.{IfOk-weaker, on_ok_weaker}
+use Rattle.std.proofs.Common.{rules, arith, ℕ, ◌≡◌, ◌+◌, ◌-◌, ◌<◌, length, sym, subst}
+use Rattle.std.proofs.lemmas.Result.{IfOk-weaker}
 use Rattle.plane.specs.Square.{future}
 use Rattle.squares.specs.Book.{IsKnown, nth, numbered}
+use Rattle.squares.specs.declared.sq.Sq.{Sq}
 use Rattle.squares.proofs.Kept.{keeps_none, keeps_trans, known_kept}
 use Rattle.squares.proofs.Results.{future_kept}
 use Rattle.hashlife_step.specs.Tallies.{Tallies}
 use Rattle.hashlife_step.proofs.Counted.{made_and_kept, made_between, made_twice, results_none, tallies_learned, tallies_none, tallies_trans}
 use Rattle.hashlife_step.proofs.FourKnown.{known_as}
 use Rattle.hashlife_step.proofs.LeafSquares.{future_later}
-use Rattle.hashlife_step.proofs.NineFutures.{IsFinished, finished_each, finished_known, futures_known, nine_futures, ninths_known, overlaps_known}
+use Rattle.hashlife_step.proofs.NineFutures.{finished_known, futures_known, made_known, nine_futures, ninths_known, of_first, overlaps_finished}
 use Rattle.hashlife_step.proofs.Replaced.{IsReplaced, all_futures, future_shown, next_known, next_made, replaced_kept, replaced_more}
 use Rattle.hashlife_step.proofs.recursion.+future.Goals as goal
 
@@ -53,57 +54,6 @@ make-returns-in_err-replace_by_futures-clause-tally g t c =
     made_between (g.S.Squares.book c.args.book.now) (g.S.Squares.book c.nine.new.book) (g.S.Squares.book c.replace_by_futures.new.book) (g.S.Squares.book c.replace_by_futures.new.book)
     (c.args.sq.level - 1) (c.args.sq.level - 1) _ _ (omega arith) c.nine.ensures.results c.replace_by_futures.ensures.tally (results_none _)
 
-pub make-overlaps-requires-clause-known : goal.make-overlaps-requires-clause-known
-make-overlaps-requires-clause-known g t c =
-    futures_known (g.S.Squares.book c.replace_by_futures.new.book) (c.args.sq.level - 1) c.in_ok-parts.parts c.replace_by_futures.new.squares c.replace_by_futures.auto.squares c.in_ok-replace_by_futures.ensures.ok
-
-pub make-returns-in_err-quarters-clause-tally : goal.make-returns-in_err-quarters-clause-tally
-make-returns-in_err-quarters-clause-tally g t c =
-    made_between (g.S.Squares.book c.args.book.now) (g.S.Squares.book c.nine.new.book) (g.S.Squares.book c.replace_by_futures.new.book) (g.S.Squares.book c.overlaps.new.book)
-    (c.args.sq.level - 1) (c.args.sq.level - 1) _ _ (omega arith) c.nine.ensures.results c.replace_by_futures.ensures.tally c.overlaps.ensures.results
-
-pub make-returns-in_err-finish-clause-tally : goal.make-returns-in_err-finish-clause-tally
-make-returns-in_err-finish-clause-tally g t c =
-    let book = g.S.Squares.book in
-    made_twice (book c.args.book.now) (book c.nine.new.book) (book c.replace_by_futures.new.book) (book c.overlaps.new.book) (book c.finish.new.book) (book c.finish.new.book) (c.args.sq.level - 1) _ _ _
-    c.nine.ensures.results c.replace_by_futures.ensures.tally c.overlaps.ensures.results c.finish.ensures.tally (results_none _)
-
-pub make-quad-requires-clause-known : goal.make-quad-requires-clause-known
-make-quad-requires-clause-known g t c =
-    let book = g.S.Squares.book in
-    let long : length c.in_ok-quarters.quarters ≡ 4 = search rules in
-    finished_known (book c.finish.new.book) (book c.overlaps.new.book).exponent (c.args.sq.level - 1) c.in_ok-quarters.quarters c.finish.new.quarters c.finish.auto.quarters (omega arith)
-    (record { futures = c.in_ok-finish.ensures.futures; centres = c.in_ok-finish.ensures.centres })
-
-pub make-returns-clause-ok : goal.make-returns-clause-ok
-make-returns-clause-ok g t c =
-    let book = g.S.Squares.book in
-    let old = book c.args.book.now in
-    let b1 = book c.nine.new.book in let b2 = book c.replace_by_futures.new.book in let b3 = book c.overlaps.new.book in let b4 = book c.finish.new.book in
-    let k1 = c.nine.ensures.keeps in let k2 = c.replace_by_futures.ensures.keeps in let k3 = c.overlaps.ensures.keeps in let k4 = c.finish.ensures.keeps in
-    let to2 = keeps_trans k1 k2 in let to3 = keeps_trans to2 k3 in let to4 = keeps_trans to3 k4 in
-    let nine : length c.in_ok-parts.parts ≡ 9 = search rules in
-    let four : length c.in_ok-quarters.quarters ≡ 4 = search rules in
-    let finished : IsFinished b4 b3.exponent (c.args.sq.level - 1) c.in_ok-quarters.quarters c.finish.new.quarters = record { futures = c.in_ok-finish.ensures.futures; centres = c.in_ok-finish.ensures.centres } in
-    let at_exponent : IsFinished b4 old.exponent (c.args.sq.level - 1) c.in_ok-quarters.quarters c.finish.new.quarters =
-    subst (λ n. IsFinished b4 n (c.args.sq.level - 1) c.in_ok-quarters.quarters c.finish.new.quarters) to3.exponent finished in
-    let least : 4 < c.args.sq.level = omega arith in
-    IfOk-weaker c.quad.result _ _
-    (λ res shown. future_later old (book c.quad.new.self) c.args.sq res (keeps_trans to4 c.quad.ensures.keeps) c.requires.known
-    (nine_futures c.args.sq.level old.rule old.exponent (old.cells c.args.sq) b1 b2 b3 b4 (book c.quad.new.self) c.in_ok-parts.parts c.replace_by_futures.new.squares c.in_ok-quarters.quarters c.finish.new.quarters res
-    least nine four to2.rule to2.exponent to4.rule to4.exponent c.in_ok-parts.ensures.ok k2 c.in_ok-replace_by_futures.ensures.ok k3 c.in_ok-quarters.ensures.ok k4 at_exponent shown))
-    c.quad.ensures.ok
-
-pub make-returns-clause-keeps : goal.make-returns-clause-keeps
-make-returns-clause-keeps g t c =
-    keeps_trans c.nine.ensures.keeps (keeps_trans c.replace_by_futures.ensures.keeps (keeps_trans c.overlaps.ensures.keeps (keeps_trans c.finish.ensures.keeps c.quad.ensures.keeps)))
-
-pub make-returns-clause-tally : goal.make-returns-clause-tally
-make-returns-clause-tally g t c =
-    let book = g.S.Squares.book in
-    made_twice (book c.args.book.now) (book c.nine.new.book) (book c.replace_by_futures.new.book) (book c.overlaps.new.book) (book c.finish.new.book) (book c.quad.new.self) (c.args.sq.level - 1) _ _ _
-    c.nine.ensures.results c.replace_by_futures.ensures.tally c.overlaps.ensures.results c.finish.ensures.tally c.quad.ensures.results
-
 pub replace_by_futures-returns-in_err-squares-clause-tally :
     goal.replace_by_futures-returns-in_err-squares-clause-tally
 replace_by_futures-returns-in_err-squares-clause-tally g t c =
@@ -135,9 +85,6 @@ future_in_order-returns-in_err-future-clause-keeps g t c = keeps_trans c.recall.
 pub future_in_order-keep-requires-clause-known : goal.future_in_order-keep-requires-clause-known
 future_in_order-keep-requires-clause-known g t c = known_kept (keeps_trans c.recall.ensures.keeps c.make.ensures.keeps) c.requires.known
 
-pub finish-returns-else-exponent-level-clause-tally : goal.finish-returns-else-exponent-level-clause-tally
-finish-returns-else-exponent-level-clause-tally g t c = tallies_none _ _ _ _ c.replace_by_centres.ensures.results
-
 pub make-returns-then-sq-eq4-clause-tally : goal.make-returns-then-sq-eq4-clause-tally
 make-returns-then-sq-eq4-clause-tally g t c = tallies_none _ _ _ _ c.leaf_future.ensures.results
 
@@ -146,26 +93,6 @@ make-returns-in_err-parts-clause-tally g t c = tallies_none _ _ _ _ c.nine.ensur
 
 pub make-returns-in_err-replace_by_futures-clause-keeps : goal.make-returns-in_err-replace_by_futures-clause-keeps
 make-returns-in_err-replace_by_futures-clause-keeps g t c = keeps_trans c.nine.ensures.keeps c.replace_by_futures.ensures.keeps
-
-pub make-returns-in_err-quarters-clause-keeps : goal.make-returns-in_err-quarters-clause-keeps
-make-returns-in_err-quarters-clause-keeps g t c = keeps_trans c.nine.ensures.keeps (keeps_trans c.replace_by_futures.ensures.keeps c.overlaps.ensures.keeps)
-
-pub make-returns-in_err-finish-clause-keeps : goal.make-returns-in_err-finish-clause-keeps
-make-returns-in_err-finish-clause-keeps g t c = keeps_trans c.nine.ensures.keeps (keeps_trans c.replace_by_futures.ensures.keeps (keeps_trans c.overlaps.ensures.keeps c.finish.ensures.keeps))
-
-pub make-finish-requires : goal.make-finish-requires
-make-finish-requires g t c κs within =
-    let four : length c.in_ok-quarters.quarters ≡ 4 = search rules in
-    let known = overlaps_known (g.S.Squares.book c.overlaps.new.book) (c.args.sq.level - 1) _ c.in_ok-quarters.quarters four (omega arith) c.in_ok-quarters.ensures.ok in
-    search rules
-
-pub make-quad-requires-clause-level : goal.make-quad-requires-clause-level
-make-quad-requires-clause-level g t c =
-    let book = g.S.Squares.book in
-    let four : length c.in_ok-quarters.quarters ≡ 4 = search rules in
-    let first = finished_each (book c.finish.new.book) (book c.overlaps.new.book).exponent (c.args.sq.level - 1) c.in_ok-quarters.quarters c.finish.new.quarters
-    (record { futures = c.in_ok-finish.ensures.futures; centres = c.in_ok-finish.ensures.centres }) 0 (omega arith) in
-    let at_level = first.at_level in let high = c.requires.known.high in omega arith
 
 pub replace_by_futures-loop-i-init : goal.replace_by_futures-loop-i-init
 replace_by_futures-loop-i-init g t c = (replaced_kept _ _ _ _ _ c.visit.ensures.keeps, c.visit.ensures.tally)
@@ -192,18 +119,6 @@ replace_by_futures-returns-clause-ok g t c =
     let all : c.loop-i.i ≡ length c.args.squares.now = omega arith in
     all_futures old now c.args.level c.args.squares.now c.loop-i.squares
     (subst (λ n. IsReplaced (future old.rule old.exponent c.args.level) old now c.args.level n c.args.squares.now c.loop-i.squares) all replaced) c.requires.known
-
-pub finish-returns-then-exponent-level-clause-futures : goal.finish-returns-then-exponent-level-clause-futures
-finish-returns-then-exponent-level-clause-futures g t c = on_ok_weaker c.replace_by_futures.result (λ are. λ long. are) c.replace_by_futures.ensures.ok
-
-pub finish-returns-then-exponent-level-clause-centres : goal.finish-returns-then-exponent-level-clause-centres
-finish-returns-then-exponent-level-clause-centres g t c = on_ok_weaker c.replace_by_futures.result (λ are. λ short. absurd (omega arith)) c.replace_by_futures.ensures.ok
-
-pub finish-returns-else-exponent-level-clause-futures : goal.finish-returns-else-exponent-level-clause-futures
-finish-returns-else-exponent-level-clause-futures g t c = on_ok_weaker c.replace_by_centres.result (λ are. λ long. absurd (omega arith)) c.replace_by_centres.ensures.ok
-
-pub finish-returns-else-exponent-level-clause-centres : goal.finish-returns-else-exponent-level-clause-centres
-finish-returns-else-exponent-level-clause-centres g t c = on_ok_weaker c.replace_by_centres.result (λ are. λ short. are) c.replace_by_centres.ensures.ok
 
 pub visit-returns-then-order-eq0-clause-tally : goal.visit-returns-then-order-eq0-clause-tally
 visit-returns-then-order-eq0-clause-tally g t c = tallies_none _ _ _ _ (results_none _)
@@ -234,3 +149,108 @@ visit-loop-k-preserved g t c =
       tallies_trans (book c.args.book.now) (book c.loop-k.book) (book c.future_in_order.new.book) c.args.level c.args.level _ _ _ (omega arith) c.loop-k.invariant.1
           (subst (λ n. Tallies (book c.loop-k.book) (book c.future_in_order.new.book) n c.loop-k.tally.expansions c.future_in_order.new.tally.expansions) known.at_level c.future_in_order.ensures.tally),
     )
+
+pub make-finish-requires : goal.make-finish-requires
+make-finish-requires g t c κs within =
+    let long : length c.replace_by_futures.new.squares ≡ length c.in_ok-parts.parts = c.replace_by_futures.auto.squares in
+    let known = futures_known (g.S.Squares.book c.replace_by_futures.new.book) (c.args.sq.level - 1) c.in_ok-parts.parts c.replace_by_futures.new.squares long c.in_ok-replace_by_futures.ensures.ok in
+    let high = c.requires.known.high in
+    search rules
+
+pub make-returns-in_err-quarters-clause-tally : goal.make-returns-in_err-quarters-clause-tally
+make-returns-in_err-quarters-clause-tally g t c =
+    let book = g.S.Squares.book in
+    let up : c.args.sq.level - 1 - 1 + 1 ≡ c.args.sq.level - 1 = omega arith in
+    made_twice (book c.args.book.now) (book c.nine.new.book) (book c.replace_by_futures.new.book) (book c.replace_by_futures.new.book) (book c.finish.new.book) (book c.finish.new.book) (c.args.sq.level - 1) _ _ _
+    c.nine.ensures.results c.replace_by_futures.ensures.tally (results_none _)
+    (subst (λ n. Tallies (book c.replace_by_futures.new.book) (book c.finish.new.book) n c.replace_by_futures.new.tally.expansions c.finish.new.tally.expansions) up c.finish.ensures.tally) (results_none _)
+
+pub make-quad-requires-clause-known : goal.make-quad-requires-clause-known
+make-quad-requires-clause-known g t c =
+    let four : length c.in_ok-quarters.quarters ≡ 4 = search rules in
+    of_first (g.S.Squares.book c.finish.new.book) (c.args.sq.level - 1 - 1) c.in_ok-quarters.quarters (omega arith)
+    (finished_known (g.S.Squares.book c.finish.new.book) (c.args.sq.level - 1 - 1) c.replace_by_futures.new.squares c.in_ok-quarters.quarters four c.in_ok-quarters.ensures.ok)
+
+pub make-quad-requires-clause-level : goal.make-quad-requires-clause-level
+make-quad-requires-clause-level g t c =
+    let four : length c.in_ok-quarters.quarters ≡ 4 = search rules in
+    let known = finished_known (g.S.Squares.book c.finish.new.book) (c.args.sq.level - 1 - 1) c.replace_by_futures.new.squares c.in_ok-quarters.quarters four c.in_ok-quarters.ensures.ok in
+    let at_level = (known 0 (numbered 0 0) (omega arith)).at_level in let high = c.requires.known.high in omega arith
+
+pub make-returns-clause-ok : goal.make-returns-clause-ok
+make-returns-clause-ok g t c =
+    let book = g.S.Squares.book in
+    let old = book c.args.book.now in
+    let b1 = book c.nine.new.book in let b2 = book c.replace_by_futures.new.book in let b3 = book c.finish.new.book in
+    let k2 = c.replace_by_futures.ensures.keeps in let k3 = c.finish.ensures.keeps in
+    let to2 = keeps_trans c.nine.ensures.keeps k2 in let to3 = keeps_trans to2 k3 in
+    let nine : length c.in_ok-parts.parts ≡ 9 = search rules in
+    let least : 4 < c.args.sq.level = omega arith in
+    IfOk-weaker c.quad.result _ _
+    (λ res shown. future_later old (book c.quad.new.self) c.args.sq res (keeps_trans to3 c.quad.ensures.keeps) c.requires.known
+    (nine_futures c.args.sq.level old.rule old.exponent (old.cells c.args.sq) b1 b2 b3 (book c.quad.new.self) c.in_ok-parts.parts c.replace_by_futures.new.squares c.in_ok-quarters.quarters res
+    least nine to2.rule to2.exponent to3.rule to3.exponent c.in_ok-parts.ensures.ok k2 c.in_ok-replace_by_futures.ensures.ok k3 c.in_ok-quarters.ensures.ok shown))
+    c.quad.ensures.ok
+
+pub make-returns-clause-keeps : goal.make-returns-clause-keeps
+make-returns-clause-keeps g t c = keeps_trans c.nine.ensures.keeps (keeps_trans c.replace_by_futures.ensures.keeps (keeps_trans c.finish.ensures.keeps c.quad.ensures.keeps))
+
+pub make-returns-in_err-quarters-clause-keeps : goal.make-returns-in_err-quarters-clause-keeps
+make-returns-in_err-quarters-clause-keeps g t c = keeps_trans c.nine.ensures.keeps (keeps_trans c.replace_by_futures.ensures.keeps c.finish.ensures.keeps)
+
+pub make-returns-clause-tally : goal.make-returns-clause-tally
+make-returns-clause-tally g t c =
+    let book = g.S.Squares.book in
+    let up : c.args.sq.level - 1 - 1 + 1 ≡ c.args.sq.level - 1 = omega arith in
+    made_twice (book c.args.book.now) (book c.nine.new.book) (book c.replace_by_futures.new.book) (book c.replace_by_futures.new.book) (book c.finish.new.book) (book c.quad.new.self) (c.args.sq.level - 1) _ _ _
+    c.nine.ensures.results c.replace_by_futures.ensures.tally (results_none _)
+    (subst (λ n. Tallies (book c.replace_by_futures.new.book) (book c.finish.new.book) n c.replace_by_futures.new.tally.expansions c.finish.new.tally.expansions) up c.finish.ensures.tally) c.quad.ensures.results
+
+pub finish-returns-then-exponent-level-clause-ok : goal.finish-returns-then-exponent-level-clause-ok
+finish-returns-then-exponent-level-clause-ok g t c =
+    let exponent = c.middles.ensures.keeps.exponent in
+    IfOk-weaker c.middles.result _ _ (λ four are. record { futures = λ long. absurd (omega arith); middles = λ short. are }) c.middles.ensures.ok
+
+pub finish-returns-then-exponent-level-clause-tally : goal.finish-returns-then-exponent-level-clause-tally
+finish-returns-then-exponent-level-clause-tally g t c = tallies_none _ _ _ _ c.middles.ensures.results
+
+pub finish-returns-in_err-four-clause-tally : goal.finish-returns-in_err-four-clause-tally
+finish-returns-in_err-four-clause-tally g t c = tallies_none _ _ _ _ c.overlaps.ensures.results
+
+pub finish-replace_by_futures-requires : goal.finish-replace_by_futures-requires
+finish-replace_by_futures-requires g t c κs within =
+    let four : length c.in_ok-four.four ≡ 4 = search rules in
+    let known = made_known (λ plane. plane) (g.S.Squares.book c.overlaps.new.book) (c.args.level + 1) c.args.level c.args.nine c.in_ok-four.four four c.in_ok-four.ensures.ok in
+    search rules
+
+pub finish-returns-in_err-replace_by_futures-clause-keeps : goal.finish-returns-in_err-replace_by_futures-clause-keeps
+finish-returns-in_err-replace_by_futures-clause-keeps g t c = keeps_trans c.overlaps.ensures.keeps c.replace_by_futures.ensures.keeps
+
+pub finish-returns-in_err-replace_by_futures-clause-tally : goal.finish-returns-in_err-replace_by_futures-clause-tally
+finish-returns-in_err-replace_by_futures-clause-tally g t c =
+    let book = g.S.Squares.book in
+    made_between (book c.args.book.now) (book c.overlaps.new.book) (book c.replace_by_futures.new.book) (book c.replace_by_futures.new.book)
+    (c.args.level + 1) (c.args.level + 1) _ _ (omega arith) c.overlaps.ensures.results c.replace_by_futures.ensures.tally (results_none _)
+
+pub finish-returns-clause-ok : goal.finish-returns-clause-ok
+finish-returns-clause-ok g t c =
+    let book = g.S.Squares.book in
+    let nine : length c.args.nine ≡ 9 = search rules in
+    let four : length c.in_ok-four.four ≡ 4 = search rules in
+    let kept = keeps_trans c.overlaps.ensures.keeps c.replace_by_futures.ensures.keeps in
+    let exponent = kept.exponent in
+    let known = λ (i : ℕ) (d : Sq) (less : i < length c.args.nine). known_kept c.overlaps.ensures.keeps (c.requires.known i d less) in
+    record {
+      futures = λ long. overlaps_finished (book c.overlaps.new.book) (book c.replace_by_futures.new.book) c.args.level c.args.nine c.in_ok-four.four c.replace_by_futures.new.squares nine four
+          known c.in_ok-four.ensures.ok c.replace_by_futures.ensures.keeps c.in_ok-replace_by_futures.ensures.ok;
+      middles = λ short. absurd (omega arith);
+    }
+
+pub finish-returns-clause-keeps : goal.finish-returns-clause-keeps
+finish-returns-clause-keeps g t c = keeps_trans c.overlaps.ensures.keeps c.replace_by_futures.ensures.keeps
+
+pub finish-returns-clause-tally : goal.finish-returns-clause-tally
+finish-returns-clause-tally g t c =
+    let book = g.S.Squares.book in
+    made_between (book c.args.book.now) (book c.overlaps.new.book) (book c.replace_by_futures.new.book) (book c.replace_by_futures.new.book)
+    (c.args.level + 1) (c.args.level + 1) _ _ (omega arith) c.overlaps.ensures.results c.replace_by_futures.ensures.tally (results_none _)

@@ -12,7 +12,7 @@ abbrev pub decreases-make : goal.decreases-make
 decreases-make g l = 5 * l.sq.level + 2
 
 abbrev pub decreases-finish : goal.decreases-finish
-decreases-finish g l = 5 * l.level + 6
+decreases-finish g l = 5 * l.level + 11
 
 abbrev pub decreases-replace_by_futures : goal.decreases-replace_by_futures
 decreases-replace_by_futures g l = 5 * l.level + 5
