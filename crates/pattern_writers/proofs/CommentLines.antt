@@ -6,7 +6,7 @@ use Rattle.std.specs.Str.{bytes_eq}
 use Rattle.std.proofs.lemmas.Bool.Decides.{Decides-eqb}
 use Rattle.std.proofs.lemmas.Bool.{false≢true}
 use Rattle.plane.proofs.Cuts.{and_left, and_right}
-use Rattle.viewport.proofs.Counts.{by_cases}
+use Rattle.squares.proofs.NumberMaps.{by_cases}
 use Rattle.text_lines.specs.Bytes.{begins_with, ends_with}
 use Rattle.text_lines.specs.Comments.{is_blank_line, is_kept, is_comment, is_settings_line}
 use Rattle.text_lines.specs.Lines.{without_return, is_line_feed}

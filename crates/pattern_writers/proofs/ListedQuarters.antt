@@ -12,8 +12,8 @@ use Rattle.plane.proofs.Same.{plane_equal}
 use Rattle.plane.proofs.Turns.{AllByRecursion-weaker}
 use Rattle.squares.specs.Book.{Book, IsBook, IsKnown, Shows, AreQuarters, nth}
 use Rattle.squares.specs.declared.sq.Sq.{Sq}
-use Rattle.viewport.specs.Population.{is_same_key, value_of}
-use Rattle.viewport.proofs.Counts.{by_cases}
+use Rattle.squares.specs.Noted.{is_same_key, value_of}
+use Rattle.squares.proofs.NumberMaps.{by_cases}
 use Rattle.pattern_writers.specs.LeafText.{leaf_text}
 use Rattle.pattern_writers.specs.ListedNodes.{AreListed, HasNumber, Lists, ListsFour, listed_with, number_of, square_of}
 use Rattle.pattern_writers.specs.McText.{inner_text, square_text}

@@ -9,8 +9,9 @@ use Rattle.std.proofs.lemmas.List.{length-map, map-append}
 use Rattle.plane.proofs.Same.{same_of, same_sym, same_trans}
 use Rattle.squares.specs.Book.{Book, IsBook, IsKnown, numbered}
 use Rattle.squares.specs.declared.sq.Sq.{Sq}
-use Rattle.viewport.specs.Population.{is_same_key, value_of}
-use Rattle.viewport.proofs.Counts.{by_cases, zero_is_empty}
+use Rattle.squares.specs.Noted.{is_same_key, value_of}
+use Rattle.viewport.proofs.Counts.{zero_is_empty}
+use Rattle.squares.proofs.NumberMaps.{by_cases}
 use Rattle.plane.proofs.Cuts.{and_left, and_right}
 use Rattle.std.proofs.lemmas.Bool.{eqb-true}
 use Rattle.pattern_writers.specs.ListedNodes.{AreListed, HasNumber, found_in, listed_with, square_of}

@@ -10,7 +10,7 @@ use Rattle.rule_text.specs.RuleText.{canonical_text}
 use Rattle.plane.specs.declared.refusal.Refusal.TheVariants.{BadGen}
 use Rattle.plane.specs.declared.range.TheConstants.{GENERATION_LIMIT}
 use Rattle.plane.proofs.Turns.{AllByRecursion-append}
-use Rattle.viewport.proofs.Counts.{by_cases}
+use Rattle.squares.proofs.NumberMaps.{by_cases}
 use Rattle.text_lines.specs.Bytes.{begins_with}
 use Rattle.text_lines.specs.Comments.{is_blank_line, is_kept, is_settings_line}
 use Rattle.text_lines.specs.Lines.{without_return}

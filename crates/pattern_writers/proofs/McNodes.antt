@@ -9,7 +9,7 @@ use Rattle.std.proofs.lemmas.List.Sums.{passes_at_first, prefix_len-le-length}
 use Rattle.plane.specs.Plane.{Plane}
 use Rattle.plane.specs.Square.{IsSquare, empty}
 use Rattle.plane.proofs.Same.{plane_equal}
-use Rattle.viewport.proofs.Counts.{by_cases}
+use Rattle.squares.proofs.NumberMaps.{by_cases}
 use Rattle.macrocell_reader.specs.NodeFaults.{StandInOrder, fault_among, is_child}
 use Rattle.macrocell_reader.specs.Nodes.{level_of, node_of}
 use Rattle.macrocell_reader.specs.Planes.{node_plane, plane_at, planes_after, planes_of}

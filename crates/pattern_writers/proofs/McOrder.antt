@@ -11,7 +11,7 @@ use Rattle.plane.proofs.Borders.{cut_within}
 use Rattle.plane.proofs.Paddings.{twice_half}
 use Rattle.plane.proofs.Rounds.{whole_joined}
 use Rattle.plane.proofs.Same.{plane_equal, same_refl, same_sym}
-use Rattle.viewport.proofs.Counts.{by_cases}
+use Rattle.squares.proofs.NumberMaps.{by_cases}
 use Rattle.macrocell_reader.specs.Leaf.{leaf_bits}
 use Rattle.macrocell_reader.specs.NodeFaults.{fault_among, has_children, is_above, is_node}
 use Rattle.macrocell_reader.specs.Nodes.{level_of, node_of}

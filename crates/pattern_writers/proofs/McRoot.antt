@@ -6,7 +6,7 @@ use Rattle.plane.specs.Plane.{Plane}
 use Rattle.plane.specs.Square.{IsSame, IsSquare, empty}
 use Rattle.plane.proofs.Borders.{cut_within}
 use Rattle.plane.proofs.Same.{same_of}
-use Rattle.viewport.proofs.Counts.{by_cases}
+use Rattle.squares.proofs.NumberMaps.{by_cases}
 use Rattle.macrocell_reader.specs.Nodes.{level_of}
 use Rattle.macrocell_reader.specs.Planes.{plane_at, planes_of, root_level, root_plane}
 use Rattle.pattern_writers.specs.McText.{from_corner}

@@ -14,8 +14,8 @@ use Rattle.plane.proofs.Rounds.{whole_joined}
 use Rattle.plane.proofs.Same.{plane_equal, same_of, same_refl, same_sym, same_trans}
 use Rattle.squares.specs.Book.{Book, IsBook, nth}
 use Rattle.squares.specs.declared.sq.Sq.{Sq}
-use Rattle.viewport.specs.Population.{value_of}
-use Rattle.viewport.proofs.Counts.{by_cases}
+use Rattle.squares.specs.Noted.{value_of}
+use Rattle.squares.proofs.NumberMaps.{by_cases}
 use Rattle.pattern_writers.specs.ListedNodes.{AreListed, AreNodes, HasNumber, Lists, ListsFour, are_zero, listed_with, root_node, square_of}
 use Rattle.pattern_writers.specs.McText.{from_corner, node_lines, square_text}
 use Rattle.pattern_writers.specs.NodeLines.{node_line, node_text}

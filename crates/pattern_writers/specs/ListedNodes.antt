@@ -6,7 +6,7 @@ use Rattle.plane.specs.Centred.{IsSmallestLevel}
 use Rattle.plane.specs.Plane.{Plane}
 use Rattle.squares.specs.Book.{Book, nth}
 use Rattle.squares.specs.declared.sq.Sq.{Sq}
-use Rattle.viewport.specs.Population.{value_of}
+use Rattle.squares.specs.Noted.{value_of}
 use Rattle.pattern_writers.specs.McText.{from_corner, node_lines, square_text}
 use Rattle.pattern_writers.specs.NodeLines.{node_line, node_text}
 use Rattle.pattern_writers.specs.Subsquares.{Square, is_listed, listed_in, number_in, squares_in, with_new}

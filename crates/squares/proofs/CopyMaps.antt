@@ -1,12 +1,9 @@
 -- Maps of copies, and what a copy shows.
-use Rattle.std.proofs.Common.{◌≡◌, ◌≢◌, ℕ, zero, suc, ◌+◌, ◌-◌, ◌^◌, ◌<◌, ◌≤◌, List, length, sym, ◌∙◌, ap, subst, arith, refl, below_more, get_or-set_other, get_or-set_same}
+use Rattle.std.proofs.Common.{◌≡◌, ◌≢◌, ℕ, zero, suc, ◌+◌, ◌-◌, ◌^◌, ◌<◌, ◌≤◌, List, length, sym, ◌∙◌, subst, arith, refl, below_more, get_or-set_other, get_or-set_same}
 use Rattle.std.proofs.Math.ListN.{set}
 use Rattle.std.specs.Prelude.{IsTrue, Some, Result, Ok, Err, OnOk, OnErr}
-use Rattle.std.specs.BTreeMap.{BTreeMap, get, is_at, Updates, IsUnchanged}
+use Rattle.std.specs.HashMap.{Updates, IsUnchanged}
 use Rattle.std.specs.List.{AllByRecursion}
-use Rattle.std.specs.Map.{lookup}
-use Rattle.std.specs.Ordering.{nat_cmp, is_eq}
-use Rattle.std.proofs.lemmas.Map.Lookups.{CmpEqualImpliesEq, exact_unsigned}
 use Rattle.plane.specs.Plane.{Plane}
 use Rattle.plane.specs.Square.{IsSame, IsSquare, bits_plane}
 use Rattle.plane.specs.declared.refusal.Refusal.{Refusal}
@@ -14,40 +11,23 @@ use Rattle.plane.proofs.Rounds.{whole_joined}
 use Rattle.plane.proofs.Paddings.{twice_half}
 use Rattle.plane.proofs.Same.{same_sym, same_trans}
 use Rattle.squares.specs.Book.{Book, IsBook, IsKnown, Shows, Keeps, AreQuarters, joined_squares, numbered, nth}
-use Rattle.squares.specs.Copies.{AreCopies, sq_order}
+use Rattle.squares.specs.Copies.{AreCopies}
+use Rattle.squares.specs.Noted.{Noted, is_same_key}
 use Rattle.squares.specs.declared.sq.Num.{Num}
 use Rattle.squares.specs.declared.sq.Sq.{Sq}
 use Rattle.squares.proofs.Centres.{shows_as}
 use Rattle.squares.proofs.Kept.{shows_kept}
 use Rattle.squares.proofs.KnownQuarters.{from_four}
-use Rattle.squares.proofs.NumberMaps.{both_equal, equal_from, by_cases}
+use Rattle.squares.proofs.NotedValues.{same_sq, true_of_kept, true_of_same}
 
-pub exact_sq : CmpEqualImpliesEq sq_order
-exact_sq a b h =
-    let both = both_equal (nat_cmp a.level b.level) _ h in
-    let level = exact_unsigned a.level b.level both.0 in
-    let num = exact_unsigned a.num.0 b.num.0 both.1 in
-    λ i. record { level = level i; num = record { 0 = num i } }
-
-pub copies_kept : {from old new : Book} {copies : BTreeMap Sq Num} → Keeps old new → AreCopies from old copies → AreCopies from new copies
+pub copies_kept : {from old new : Book} {copies : Noted Num} → Keeps old new → AreCopies from old copies → AreCopies from new copies
 copies_kept keeps h = record { same = λ sq num at. shows_kept keeps (h.same sq num at) }
 
-pub copies_same : (from to : Book) (old new : BTreeMap Sq Num) → new.entries ≡ old.entries → AreCopies from to old → AreCopies from to new
-copies_same from to old new e h = record { same = λ sq num at. h.same sq num (sym (ap (λ es. lookup (is_at (sq_order sq)) es) e) ∙ at) }
-
-some_num : (a b : Num) → Some a ≡ Some b → a ≡ b
-some_num a b e = cc
-
-pub copies_added : (from to : Book) (old new : BTreeMap Sq Num) (sq copy : Sq) → Updates sq_order old new sq (Some copy.num) → Shows to sq.level (from.cells sq) copy → AreCopies from to old → AreCopies from to new
-copies_added from to old new sq copy up shows h = record {
-  same = λ q num at. by_cases (is_eq (sq_order sq q))
-      (λ e.
-      let same : sq ≡ q = exact_sq sq q (equal_from (sq_order sq q) e) in
-      let number : copy.num ≡ num = some_num copy.num num (sym up.1 ∙ ap (get sq_order new) same ∙ at) in
-      let square : copy ≡ numbered sq.level num.0 = λ i. record { level = shows.known.at_level i; num = number i } in
-      subst (λ (s : Sq). Shows to s.level (from.cells s) (numbered s.level num.0)) same (subst (Shows to sq.level (from.cells sq)) square shows))
-      (λ e. h.same q num (sym (up.2 q e) ∙ at));
-}
+-- what a number that was noted shows
+noted_shows : (from to : Book) (sq copy : Sq) → Shows to sq.level (from.cells sq) copy → Shows to sq.level (from.cells sq) (numbered sq.level copy.num.0)
+noted_shows from to sq copy shows =
+    let square : copy ≡ numbered sq.level copy.num.0 = same_sq copy (numbered sq.level copy.num.0) shows.known.at_level refl in
+    subst (Shows to sq.level (from.cells sq)) square shows
 
 -- the empty square is its own copy
 pub empty_copied : (from to : Book) (sq : Sq) → IsBook from → IsBook to → IsKnown from sq.level sq → sq.num.0 ≡ 0 → Shows to sq.level (from.cells sq) sq
@@ -113,7 +93,9 @@ copies_known from to level plane parts copies copied size is all some =
     from_four (IsKnown to (nth copies 0).level) copies size (known 0 (omega arith)) (known 1 (omega arith)) (known 2 (omega arith)) (known 3 (omega arith))
 
 -- what is noted of a copy
-pub noted_copies : (from to : Book) (old new : BTreeMap Sq Num) (sq copy : Sq) (r : Result Sq Refusal) → OnOk r (Updates sq_order old new sq (Some copy.num)) → OnErr r (IsUnchanged old new) →
+pub noted_copies : (from to : Book) (old new : Noted Num) (sq copy : Sq) (r : Result Sq Refusal) → OnOk r (Updates is_same_key old new (sq.level, sq.num.0) (Some copy.num)) → OnErr r (IsUnchanged old new) →
     Shows to sq.level (from.cells sq) copy → AreCopies from to old → AreCopies from to new
-noted_copies from to old new sq copy (Ok x) up same shows h = copies_added from to old new sq copy up shows h
-noted_copies from to old new sq copy (Err e) up same shows h = copies_same from to old new same h
+noted_copies from to old new sq copy (Ok x) up same shows h = record {
+  same = true_of_kept (λ q num. Shows to q.level (from.cells q) (numbered q.level num.0)) old new sq copy.num h.same (noted_shows from to sq copy shows) up;
+}
+noted_copies from to old new sq copy (Err e) up same shows h = record { same = true_of_same (λ q num. Shows to q.level (from.cells q) (numbered q.level num.0)) old new h.same same }

@@ -9,6 +9,7 @@ pub mod KnownQuarters
 pub mod NineSquares
 pub mod NodeLaws
 pub mod NodeLists
+pub mod NotedValues
 pub mod NumberMaps
 pub mod Places
 pub mod PlainLaws

@@ -2,6 +2,7 @@ pub mod Accounts
 pub mod Book
 pub mod Copies
 pub mod Nodes
+pub mod Noted
 pub mod Parts
 pub mod Quarters
 pub mod Rounds

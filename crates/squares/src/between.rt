@@ -5,11 +5,11 @@ ghost use Rattle.squares.specs.Book.{IsKnown, Keeps, KeepsResults, MayRefuse, Sh
 ghost use Rattle.squares.specs.Copies.{AreKnownCopies};
 
 use crate::book::Squares;
-use crate::copies::noted;
-use crate::sq::{Num, Sq};
+use crate::copies::{Copies, noted};
+use crate::sq::Sq;
 use plane::Refusal;
 use std::alloc::Global;
-use std::collections::BTreeMap;
+use std::collections::HashMap;
 
 // Copies a square, and notes the copies that are made on the way, but for those of leaves: a note costs more
 // than a leaf that the book knows.
@@ -17,7 +17,7 @@ fn copy_read<A: Squares, B: Squares>(
     from: &mut A,
     sq: Sq,
     to: &mut B,
-    copies: &mut BTreeMap<Sq, Num>,
+    copies: &mut Copies,
 ) -> Result<Sq, Refusal>
     requires known { IsKnown (A.book from.old) sq.level sq }
     requires copies { AreKnownCopies (A.book from.old) (B.book to.old) copies.old }
@@ -36,7 +36,7 @@ fn copy_read<A: Squares, B: Squares>(
     if level == 3 {
         return to.leaf(from.read_bits(sq));
     }
-    if let Some(num) = copies.get(&sq) {
+    if let Some(num) = copies.get(&(level, sq.num.0)) {
         return Ok(Sq { level, num: *num });
     }
     let mut quarters = from.read_parts(sq);
@@ -64,6 +64,6 @@ pub fn copy_between<A: Squares, B: Squares>(
     ensures keeps { Keeps (B.book to.old) (B.book to.new) }
     ensures results { KeepsResults (B.book to.old) (B.book to.new) }
 {
-    let mut copies = BTreeMap::new(alloc);
+    let mut copies = HashMap::new(alloc);
     copy_read(from, sq, to, &mut copies)
 }

@@ -1,22 +1,26 @@
 ghost use Rattle.std.specs.Prelude.{◌≡◌, ◌⊎◌, IfOk, IfErr, OnOk, OnErr, IsOkUnless, Some};
-ghost use Rattle.std.specs.BTreeMap.{IsUnchanged, Updates};
+ghost use Rattle.std.specs.HashMap.{IsUnchanged, Updates};
 ghost use Rattle.squares.specs.Book.{IsKnown, Keeps, KeepsResults, MayRefuse, Shows};
-ghost use Rattle.squares.specs.Copies.{AreCopies, sq_order};
+ghost use Rattle.squares.specs.Copies.{AreCopies};
+ghost use Rattle.squares.specs.Noted.{is_same_key};
 
 use crate::book::{ReadSquares, Squares};
 use crate::sq::{Num, Sq};
 use plane::Refusal;
 use std::alloc::Global;
-use std::collections::BTreeMap;
+use std::collections::HashMap;
+
+// The numbers of the copies of squares, by level and number.
+pub(crate) type Copies = HashMap<(u8, u32), Num>;
 
 // Notes the copy of a square.
-pub(crate) fn noted(copies: &mut BTreeMap<Sq, Num>, sq: Sq, copy: Sq) -> Result<Sq, Refusal>
+pub(crate) fn noted(copies: &mut Copies, sq: Sq, copy: Sq) -> Result<Sq, Refusal>
     ensures ok { IfOk result (λ noted. noted ≡ copy) }
-    ensures updates { OnOk result (Updates sq_order copies.old copies.new sq (Some copy.num)) }
+    ensures updates { OnOk result (Updates is_same_key copies.old copies.new (sq.level, sq.num.0) (Some copy.num)) }
     ensures err { OnErr result (IsUnchanged copies.old copies.new) }
     ensures memory { IsOkUnless result Refusal.NoMemory }
 {
-    if copies.insert(sq, copy.num).is_err() {
+    if copies.insert((sq.level, sq.num.0), copy.num).is_err() {
         return Err(Refusal::NoMemory);
     }
     Ok(copy)
@@ -27,7 +31,7 @@ fn copy_into<B: ReadSquares, S: Squares>(
     from: &B,
     sq: Sq,
     to: &mut S,
-    copies: &mut BTreeMap<Sq, Num>,
+    copies: &mut Copies,
 ) -> Result<Sq, Refusal>
     requires known { IsKnown (B.book from.now) sq.level sq }
     requires copies { AreCopies (B.book from.now) (S.book to.old) copies.old }
@@ -41,7 +45,7 @@ fn copy_into<B: ReadSquares, S: Squares>(
     if sq.num.0 == 0 {
         return Ok(sq);
     }
-    if let Some(num) = copies.get(&sq) {
+    if let Some(num) = copies.get(&(level, sq.num.0)) {
         return Ok(Sq { level, num: *num });
     }
     if level == 3 {
@@ -70,6 +74,6 @@ pub fn copy_square<B: ReadSquares, S: Squares>(
     ensures keeps { Keeps (S.book to.old) (S.book to.new) }
     ensures results { KeepsResults (S.book to.old) (S.book to.new) }
 {
-    let mut copies = BTreeMap::new(alloc);
+    let mut copies = HashMap::new(alloc);
     copy_into(from, sq, to, &mut copies)
 }

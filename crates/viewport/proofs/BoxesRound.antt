@@ -20,7 +20,8 @@ use Rattle.plane.proofs.Listings.{is_at-own}
 use Rattle.plane.proofs.Paddings.{centred_moved}
 use Rattle.plane.proofs.Same.{plane_equal, same_sym}
 use Rattle.viewport.specs.BoundingBox.{HasBounds, IsBoxOf, IsInside, IsLocalBox, FitsMoved, box_round, joined_boxes, moved_box}
-use Rattle.viewport.proofs.Counts.{by_cases, centred_listing}
+use Rattle.viewport.proofs.Counts.{centred_listing}
+use Rattle.squares.proofs.NumberMaps.{by_cases}
 use Rattle.viewport.specs.Halves.{either, beside}
 use Rattle.viewport.proofs.Quarters.{dead_column, dead_row, from_nothing, IsQuartered, over}
 

@@ -1,53 +1,25 @@
 -- Counts of live cells: of empty squares, of leaves, of four quarters, and those that are kept.
-use Rattle.std.proofs.Common.{◌≡◌, ℕ, suc, ◌+◌, ◌-◌, ◌*◌, ◌^◌, ◌≤◌, ◌<◌, pow_mono, pos, ◌-ℤ◌, Bool, true, false, cond, length, map, refl, sym, ◌∙◌, ap, subst, arith}
-use Rattle.std.specs.Prelude.{Some}
-use Rattle.std.specs.declared.hash.FoldHasher.{FoldHasher}
-use Rattle.std.specs.declared.hash.BuildHasherDefault.{BuildHasherDefault}
-use Rattle.std.specs.HashMap.{HashMap, Updates}
+use Rattle.std.proofs.Common.{◌≡◌, ℕ, suc, ◌+◌, ◌-◌, ◌*◌, ◌^◌, ◌≤◌, ◌<◌, pow_mono, pos, ◌-ℤ◌, length, map, refl, sym, ◌∙◌, ap, subst, arith}
 use Rattle.std.proofs.Math.Nat.{pow-suc}
-use Rattle.std.proofs.lemmas.Bool.{eqb-true}
 use Rattle.std.proofs.lemmas.List.{length-map}
 use Rattle.plane.specs.Centred.{centred}
 use Rattle.plane.specs.Plane.{Plane}
 use Rattle.plane.specs.Square.{IsSquare, IsSame, empty}
 use Rattle.plane.specs.Listing.{IsListing}
 use Rattle.plane.specs.Window.{square_cells, moved_cell}
-use Rattle.plane.proofs.Cuts.{and_left, and_right}
 use Rattle.plane.proofs.Paddings.{twice_half, centred_moved}
 use Rattle.plane.proofs.Populations.{joined_length, empty_cells, moved_listing}
 use Rattle.plane.proofs.Same.{plane_equal, same_sym}
 use Rattle.plane.proofs.Windows.{square_listing}
 use Rattle.squares.specs.Book.{Book, IsBook, IsKnown, numbered}
 use Rattle.squares.specs.declared.sq.Sq.{Sq}
-use Rattle.viewport.specs.Population.{HasPopulation, IsCount, cell_count, is_same_key, value_of}
+use Rattle.squares.proofs.NotedValues.{same_sq}
+use Rattle.viewport.specs.Population.{HasPopulation, IsCount, cell_count}
 use Rattle.viewport.proofs.Quarters.{IsQuartered}
-
-pub by_cases : {A : Type 0} (b : Bool) → (b ≡ true → A) → (b ≡ false → A) → A
-by_cases true h k = h refl
-by_cases false h k = k refl
-
-pub same_sq : (a b : Sq) → a.level ≡ b.level → a.num.0 ≡ b.num.0 → a ≡ b
-same_sq a b e f = λ i. record { level = e i; num = record { 0 = f i } }
 
 -- number 0 is empty
 pub zero_is_empty : (book : Book) (sq : Sq) → IsBook book → sq.num.0 ≡ 0 → book.cells sq ≡ empty
 zero_is_empty book sq laws e = ap book.cells (same_sq sq (numbered sq.level 0) refl e) ∙ plane_equal _ _ (laws.zero_empty sq.level)
-
-some_value : {V : Type 0} (a b : V) → Some a ≡ Some b → a ≡ b
-some_value a b e = cc
-
--- what is true of each value that is kept, and of a new one, is true of each value then
-module _ {V : Type 0} (P : Sq → V → Type 0) where
-  pub true_of_kept : (old new : HashMap (ℕ × ℕ) V (BuildHasherDefault FoldHasher)) (sq : Sq) (v : V) →
-      ((q : Sq) (w : V) → value_of old q ≡ Some w → P q w) → P sq v →
-      Updates is_same_key old new (sq.level, sq.num.0) (Some v) → (q : Sq) (w : V) → value_of new q ≡ Some w → P q w
-  true_of_kept old new sq v kept here up q w at =
-      by_cases (is_same_key (sq.level, sq.num.0) (q.level, q.num.0))
-      (λ e.
-      let is : sq ≡ q = same_sq sq q (eqb-true _ _ (and_left _ _ e)) (eqb-true _ _ (and_right _ _ e)) in
-      let value : v ≡ w = some_value v w (sym (up.0 (q.level, q.num.0) ∙ ap (λ b. cond b (Some v) (value_of old q)) e) ∙ at) in
-      subst (λ (r : Sq). P r w) is (subst (P sq) value here))
-      (λ e. kept q w (sym (up.2 (q.level, q.num.0) e) ∙ at))
 
 four_times : (n : ℕ) → 2 ^ (2 * suc n) ≡ 4 * 2 ^ (2 * n)
 four_times n =

@@ -1,11 +1,9 @@
 -- Counts of a book that learns more.
 use Rattle.std.proofs.Common.{ℕ, ◌^◌, sym, ◌∙◌, ap}
 use Rattle.std.specs.Prelude.{IsTrue}
-use Rattle.std.specs.declared.hash.FoldHasher.{FoldHasher}
-use Rattle.std.specs.declared.hash.BuildHasherDefault.{BuildHasherDefault}
-use Rattle.std.specs.HashMap.{HashMap}
 use Rattle.plane.proofs.Same.{plane_equal}
 use Rattle.squares.specs.Book.{Book, Keeps}
+use Rattle.squares.specs.Noted.{Noted}
 use Rattle.squares.specs.declared.sq.Sq.{Sq}
 use Rattle.viewport.specs.Population.{AreCounts, IsCount, cell_count}
 
@@ -21,7 +19,7 @@ count_before a b sq n keeps known is = record {
   most = is.most;
 }
 
-pub kept_counts : (a b : Book) (counts : HashMap (ℕ × ℕ) ℕ (BuildHasherDefault FoldHasher)) → Keeps a b → AreCounts a counts → AreCounts b counts
+pub kept_counts : (a b : Book) (counts : Noted ℕ) → Keeps a b → AreCounts a counts → AreCounts b counts
 kept_counts a b counts keeps h = record {
   count = λ sq n at. (keeps.known sq (h.count sq n at).0, count_later a b sq n keeps (h.count sq n at).0 (h.count sq n at).1);
 }

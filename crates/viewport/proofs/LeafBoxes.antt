@@ -13,7 +13,7 @@ use Rattle.plane.proofs.Cuts.{and_left, and_right}
 use Rattle.plane.proofs.Same.{plane_equal}
 use Rattle.viewport.specs.BoundingBox.{box_round}
 use Rattle.viewport.proofs.BoxesRound.{BoxMatches, either_box}
-use Rattle.viewport.proofs.Counts.{by_cases}
+use Rattle.squares.proofs.NumberMaps.{by_cases}
 use Rattle.viewport.specs.Halves.{either}
 use Rattle.viewport.proofs.Quarters.{and_dead_right}
 

@@ -10,7 +10,7 @@ use native.Mathlib.Nat.{div-le_self}
 use Rattle.plane.specs.Square.{bits_plane, bit, spans}
 use Rattle.plane.proofs.Cuts.{and_left, and_right}
 use Rattle.viewport.specs.Rows.{AreDeadRows, IsLiveRow}
-use Rattle.viewport.proofs.Counts.{by_cases}
+use Rattle.squares.proofs.NumberMaps.{by_cases}
 use Rattle.viewport.proofs.LeafBoxes.{place_of}
 use Rattle.viewport.proofs.Leaves.{shows}
 

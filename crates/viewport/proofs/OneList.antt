@@ -6,7 +6,7 @@ use Rattle.std.proofs.lemmas.Bool.{false≢true}
 use Rattle.std.proofs.lemmas.Int.{ints}
 use Rattle.plane.proofs.Turns.{AllByRecursion-weaker}
 use Rattle.viewport.specs.RowRuns.{AreApart, OneListOfRuns, end_of, is_in_run, is_in_some}
-use Rattle.viewport.proofs.Counts.{by_cases}
+use Rattle.squares.proofs.NumberMaps.{by_cases}
 
 out_before : (x : ℤ) (run : ℤ × ℕ) → x <ℤ run.0 → is_in_run x run ≡ false
 out_before x run h = grind (arith, ints)

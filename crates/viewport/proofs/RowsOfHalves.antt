@@ -8,7 +8,7 @@ use Rattle.plane.specs.Square.{IsSquare, spans}
 use Rattle.plane.proofs.Paddings.{twice_half}
 use Rattle.viewport.specs.Halves.{IsHalfRow}
 use Rattle.viewport.specs.RowRuns.{AddsCells, EndBy, cells_at, end_of, is_in_run, is_in_some, run_cells}
-use Rattle.viewport.proofs.Counts.{by_cases}
+use Rattle.squares.proofs.NumberMaps.{by_cases}
 use Rattle.viewport.proofs.Quarters.{dead_column}
 use Rattle.viewport.proofs.RowsOfSquares.{half_row}
 use Rattle.viewport.proofs.RunsBeside.{ended, is_last, adds_as, adds_then}

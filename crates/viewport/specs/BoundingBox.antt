@@ -2,9 +2,6 @@
 use Rattle.std.specs.Prelude.{◌≡◌, ℕ, ◌^◌, ℤ, pos, ◌+ℤ◌, ◌≤ℤ◌, ◌<ℤ◌, true, List, Option, None, Some, FitsSigned}
 use Rattle.std.specs.Int.{int_min, int_max, w64}
 use Rattle.std.specs.Option.{option_map}
-use Rattle.std.specs.declared.hash.FoldHasher.{FoldHasher}
-use Rattle.std.specs.declared.hash.BuildHasherDefault.{BuildHasherDefault}
-use Rattle.std.specs.HashMap.{HashMap}
 use Rattle.plane.specs.declared.cell.Cell.{Cell}
 use Rattle.plane.specs.declared.cell.Bounds.{Bounds}
 use Rattle.plane.specs.Bounds.{bounds_of}
@@ -13,7 +10,7 @@ use Rattle.plane.specs.Plane.{Plane}
 use Rattle.plane.specs.Square.{IsSame, empty}
 use Rattle.squares.specs.Book.{Book}
 use Rattle.squares.specs.declared.sq.Sq.{Sq}
-use Rattle.viewport.specs.Population.{value_of}
+use Rattle.squares.specs.Noted.{Noted, value_of}
 
 -- the box of the plane's live cells, if it has any
 pub record HasBounds (plane : Plane) (box : Option Bounds) : Type 0 where
@@ -45,7 +42,7 @@ IsLocalBox side plane None = IsSame plane empty
 IsLocalBox side plane (Some box) = IsBoxOf plane box × IsInside side box
 
 -- each box that is kept is that of its square
-pub record AreBoxes (book : Book) (boxes : HashMap (ℕ × ℕ) (Option Bounds) (BuildHasherDefault FoldHasher)) : Type 0 where
+pub record AreBoxes (book : Book) (boxes : Noted (Option Bounds)) : Type 0 where
   pub box : (sq : Sq) (box : Option Bounds) → value_of boxes sq ≡ Some box → IsLocalBox (2 ^ sq.level) (book.cells sq) box
 
 -- the box, moved so far to the right and down

@@ -1,13 +1,11 @@
 -- How many live cells planes and squares have.
-use Rattle.std.specs.Prelude.{◌≡◌, ℕ, ◌*◌, ◌^◌, ◌≤◌, ◌==◌, ◌&&◌, Bool, IsTrue, List, length, Some, Option}
-use Rattle.std.specs.declared.hash.FoldHasher.{FoldHasher}
-use Rattle.std.specs.declared.hash.BuildHasherDefault.{BuildHasherDefault}
-use Rattle.std.specs.HashMap.{HashMap, get}
+use Rattle.std.specs.Prelude.{◌≡◌, ℕ, ◌*◌, ◌^◌, ◌≤◌, IsTrue, List, length, Some}
 use Rattle.plane.specs.declared.cell.Cell.{Cell}
 use Rattle.plane.specs.Listing.{IsListing}
 use Rattle.plane.specs.Plane.{Plane}
 use Rattle.plane.specs.Window.{square_cells}
 use Rattle.squares.specs.Book.{Book}
+use Rattle.squares.specs.Noted.{Noted, value_of}
 use Rattle.squares.specs.declared.sq.Sq.{Sq}
 
 -- the plane has so many live cells
@@ -20,14 +18,6 @@ pub record HasPopulation (plane : Plane) (population : ℕ) : Type 0 where
 abbrev pub cell_count : ℕ → Plane → ℕ
 cell_count side plane = length (square_cells side plane)
 
--- whether two keys are the same level and number
-abbrev pub is_same_key : (ℕ × ℕ) → (ℕ × ℕ) → Bool
-is_same_key a b = (a.0 == b.0) && (a.1 == b.1)
-
--- the value that is kept of a square, by its level and number
-abbrev pub value_of : {Value : Type 0} → HashMap (ℕ × ℕ) Value (BuildHasherDefault FoldHasher) → Sq → Option Value
-value_of values sq = get is_same_key values (sq.level, sq.num.0)
-
 -- the number of live cells of a square of a book: at most one for each place
 pub record IsCount (book : Book) (sq : Sq) (population : ℕ) : Type 0 where
   pub cells : population ≡ cell_count (2 ^ sq.level) (book.cells sq)
@@ -38,5 +28,5 @@ abbrev pub IsKnownCount : Book → Sq → ℕ → Type 0
 IsKnownCount book sq population = IsTrue (book.knows sq) × IsCount book sq population
 
 -- each value that is kept is the number of live cells of its square, which is known
-pub record AreCounts (book : Book) (counts : HashMap (ℕ × ℕ) ℕ (BuildHasherDefault FoldHasher)) : Type 0 where
+pub record AreCounts (book : Book) (counts : Noted ℕ) : Type 0 where
   pub count : (sq : Sq) (population : ℕ) → value_of counts sq ≡ Some population → IsKnownCount book sq population

@@ -2,7 +2,7 @@ ghost use Rattle.std.specs.Prelude.{◌≡◌, ◌+◌, ◌≤◌, [], ◌∷◌
 ghost use Rattle.std.specs.HashMap.{Updates};
 ghost use Rattle.plane.specs.Centred.{centred};
 ghost use Rattle.squares.specs.Book.{IsKnown, nth};
-ghost use Rattle.viewport.specs.Population.{is_same_key};
+ghost use Rattle.squares.specs.Noted.{is_same_key};
 ghost use Rattle.pattern_writers.specs.ListedNodes.{AreNodes, Lists, ListsFour, number_of, root_node};
 ghost use Rattle.pattern_writers.specs.Roots.{AreKnown};
 

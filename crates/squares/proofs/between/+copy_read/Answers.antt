@@ -1,6 +1,5 @@
-use Rattle.std.proofs.Common.{◌-◌, ◌<◌, length, sym, ◌∙◌, ap, subst, arith, rules}
+use Rattle.std.proofs.Common.{◌-◌, ◌<◌, length, sym, ◌∙◌, subst, arith, rules}
 use Rattle.std.proofs.Math.ListN.{length-set}
-use Rattle.std.specs.Option.{option_copied}
 use Rattle.std.proofs.lemmas.Result.{IfOk-weaker}
 use Rattle.squares.specs.Book.{IsKnown, Shows, nth}
 use Rattle.squares.specs.declared.sq.Sq.{Sq}
@@ -14,7 +13,7 @@ returns-then-sq-eq0-clause-ok g t c =
     empty_copied (g.A.Squares.book c.args.from.now) (g.B.Squares.book c.args.to.now) c.args.sq (g.met.A.Squares.is_book c.args.from.now) (g.met.B.Squares.is_book c.args.to.now) c.requires.known c.if-sq-eq0.true
 
 pub returns-in-Some-clause-ok : goal.returns-in-Some-clause-ok
-returns-in-Some-clause-ok g t c = c.requires.copies.same.same c.args.sq c.in-Some.num.now (sym c.get.ensures.value ∙ ap option_copied c.in-Some.is)
+returns-in-Some-clause-ok g t c = c.requires.copies.same.same c.args.sq c.in-Some.num.now (sym c.in-Some.ensures.value)
 
 pub returns-then-level-eq3-clause-ok : goal.returns-then-level-eq3-clause-ok
 returns-then-level-eq3-clause-ok g t c = search rules

@@ -5,7 +5,8 @@ use Rattle.plane.specs.Square.{IsSquare}
 use Rattle.plane.proofs.Paddings.{twice_half}
 use Rattle.viewport.specs.BoundingBox.{IsLocalBox, joined_boxes}
 use Rattle.viewport.proofs.BoxesRound.{box_level, four_boxes, inside_of, leaf_as}
-use Rattle.viewport.proofs.Counts.{true_of_kept, zero_is_empty}
+use Rattle.viewport.proofs.Counts.{zero_is_empty}
+use Rattle.squares.proofs.NotedValues.{true_of_kept}
 use Rattle.viewport.proofs.Quarters.{known_square, of_quarter, quartered}
 use Rattle.viewport.proofs.boxes.+local_box.Goals as goal
 

@@ -3,7 +3,8 @@ use Rattle.squares.specs.Book.{nth, AreQuarters}
 use Rattle.squares.proofs.Kept.{keeps_trans, known_kept}
 use Rattle.plane.specs.Plane.{Plane}
 use Rattle.plane.proofs.Same.{plane_equal}
-use Rattle.viewport.proofs.Counts.{counted_as, none_counted, four_counted, few, true_of_kept}
+use Rattle.viewport.proofs.Counts.{counted_as, none_counted, four_counted, few}
+use Rattle.squares.proofs.NotedValues.{true_of_kept}
 use Rattle.viewport.proofs.Quarters.{of_quarter, quartered}
 use Rattle.viewport.specs.Population.{IsKnownCount}
 use Rattle.viewport.proofs.CountsLater.{count_before, count_later, kept_counts}

@@ -2,7 +2,7 @@ use Rattle.std.proofs.Common.{ap}
 use Rattle.std.proofs.lemmas.Result.{IfOk-weaker}
 use Rattle.plane.specs.Centred.{centred}
 use Rattle.squares.specs.declared.sq.Sq.{Sq}
-use Rattle.viewport.specs.Population.{is_same_key}
+use Rattle.squares.specs.Noted.{is_same_key}
 use Rattle.std.specs.Map.{lookup}
 use Rattle.pattern_writers.proofs.RootNodes.{nodes_of_root}
 use Rattle.pattern_writers.proofs.mc_text.listing.listed_nodes.Goals as goal
