@@ -1,5 +1,5 @@
 -- Squares of words at rest at the table that is opened of them, and what a desk found there at work.
-use Rattle.std.proofs.Common.{◌≡◌, ℕ, sym, subst}
+use Rattle.std.proofs.Common.{ℕ, sym, subst}
 use Rattle.std.specs.Prelude.{slice_index}
 use Rattle.rule_text.specs.CountRule.{CountRule}
 use Rattle.plane.specs.Plane.{Plane}

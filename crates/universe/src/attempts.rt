@@ -42,11 +42,12 @@ impl Universe {
     {
         let most = self.limit;
         let mut shape = self.here.table.key.shape;
+        let growth = self.here.table.growth();
         let mut start = match self.tried_here(team)? {
             Attempt::Full(start) => start,
             done => return Ok(done),
         };
-        'sizes: while let Some(next) = larger(shape, most) {
+        'sizes: while let Some(next) = larger(shape, most, growth) {
             start = match start.tried_larger(team, next)? {
                 Attempt::Full(start) => start,
                 done => return Ok(done),

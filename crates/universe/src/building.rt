@@ -7,7 +7,7 @@ ghost use Rattle.universe.specs.Tables.{HasFullTable};
 
 use crate::build::Build;
 use crate::scenes::Scene;
-use crate::sizes::{larger, smallest};
+use crate::sizes::{Growth, larger, smallest};
 use crate::tables::OpenTable;
 use crate::universe::Universe;
 use plane::Refusal;
@@ -45,7 +45,7 @@ impl Universe {
                         limit,
                     });
                 }
-                Err(Refusal::NodesFull) => match larger(shape, limit) {
+                Err(Refusal::NodesFull) => match larger(shape, limit, Growth::BySixteen) {
                     Some(next) => next,
                     None => return Err(Refusal::NodesFull),
                 },

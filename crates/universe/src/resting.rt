@@ -9,7 +9,7 @@ ghost use Rattle.node_sweep.specs.SweptStills.{HasNoRoomFor, IsSwept};
 ghost use Rattle.viewport.specs.BoundingBox.{HasBounds};
 
 use crate::scenes::Scene;
-use crate::sizes::{larger, smallest};
+use crate::sizes::{Growth, larger, smallest};
 use crate::tables::OpenTable;
 use node_sweep::{enlarge, sweep};
 use node_table::Still;
@@ -102,7 +102,7 @@ impl Resting {
             if let Some(fresh) = self.swept(alloc, shape)? {
                 return Ok(fresh);
             }
-            let Some(next) = larger(shape, own) else {
+            let Some(next) = larger(shape, own, Growth::BySixteen) else {
                 return Ok(self);
             };
             shape = next;

@@ -19,19 +19,25 @@ pub(crate) fn smallest(most: Shape) -> Shape
     }
 }
 
-/// The shape of the table that follows one that is full: with sixteen times as many pair slots, from a
-/// large one on with four times as many, or the largest. There is none above the largest.
-pub(crate) fn larger(shape: Shape, most: Shape) -> Option<Shape>
+/// By how much a table below the large ones grows.
+#[derive(Clone, Copy, Debug)]
+pub(crate) enum Growth {
+    ByFour,
+    BySixteen,
+}
+
+/// The shape of the table that follows one that is full: with as many times the pair slots as the growth
+/// says, from a large one on with four times as many, or the largest. There is none above the largest.
+pub(crate) fn larger(shape: Shape, most: Shape, growth: Growth) -> Option<Shape>
     ensures some { IfSome result (λ larger. (shape.bits < larger.bits) × (larger.bits ≤ most.bits)) }
     ensures none { IfNone result (most.bits ≤ shape.bits) }
 {
     if shape.bits >= most.bits {
         return None;
     }
-    let bits = if shape.bits < LARGE_BITS {
-        shape.bits + 4
-    } else {
-        shape.bits + 2
+    let bits = match growth {
+        Growth::BySixteen if shape.bits < LARGE_BITS => shape.bits + 4,
+        _ => shape.bits + 2,
     };
     Some(Shape {
         bits: most.bits.min(bits),

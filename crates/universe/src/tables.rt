@@ -11,7 +11,8 @@ ghost use Rattle.squares.specs.Rounds.{IsRound};
 ghost use Rattle.viewport.specs.Population.{HasPopulation};
 
 use crate::build::Build;
-use crate::sizes::{LARGE_BITS, pair_count};
+use crate::past::Past;
+use crate::sizes::{Growth, pair_count};
 use node_sweep::enlarge;
 use node_table::{Desk, NodeTable, Still};
 use plane::Refusal;
@@ -24,19 +25,13 @@ use table_core::{Key, Kind, Shape};
 use viewport::population;
 use worker_split::{Gate, Team, step};
 
-// After how many steps a large table is swept before it grows, and one of the size before that.
-const WORN_AFTER: u32 = 4;
-
-const SMALLER_WORN_AFTER: u32 = 64;
-
 /// A table that stays open under a rule and an exponent, with its one desk.
 #[derive(Drop)]
 pub(crate) struct OpenTable {
     table: NodeTable,
     desk: Desk,
     pub(crate) key: Key,
-    /// How many steps it has taken.
-    steps: u32,
+    past: Past,
     ghost of_table: { IsDeskOf table desk },
     ghost same_key: { table.key ≡ key },
 }
@@ -66,7 +61,7 @@ impl OpenTable {
             table,
             desk,
             key,
-            steps: 0,
+            past: Past::none(),
         })
     }
 
@@ -135,16 +130,14 @@ impl OpenTable {
         true
     }
 
-    /// Whether most of it is likely to be left over from earlier steps: it is large and has taken some, or
-    /// nearly large and has taken many.
-    pub(crate) fn is_worn(&self) -> bool
-        ensures { IsTrue result ↔ (((4 ≤ self.now.steps) × (18 ≤ self.now.key.shape.bits)) ⊎ ((64 ≤ self.now.steps) × (16 ≤ self.now.key.shape.bits))) }
-    {
-        let bits = self.key.shape.bits;
-        if bits >= LARGE_BITS {
-            return self.steps >= WORN_AFTER;
-        }
-        self.steps >= SMALLER_WORN_AFTER && bits + 2 >= LARGE_BITS
+    /// How it grows, as long as it isn't large.
+    pub(crate) fn growth(&self) -> Growth {
+        self.past.growth()
+    }
+
+    /// Whether most of it is likely to be left over from earlier steps.
+    pub(crate) fn is_worn(&self) -> bool {
+        self.past.is_worn(self.key.shape.bits)
     }
 
     /// The words, which say all that was known.
@@ -156,7 +149,7 @@ impl OpenTable {
             table,
             desk,
             key: _,
-            steps: _,
+            past: _,
         } = self;
         table.close(desk)
     }
@@ -178,14 +171,17 @@ impl OpenTable {
             table,
             desk,
             key,
-            steps,
+            past,
         } = self;
-        let (desk, made) = step(team, &table, desk, root);
+        let before = desk.expansions();
+        let team = team.at_most(past.most_workers());
+        let (desk, made) = step(&team, &table, desk, root);
+        let past = past.and_step(desk.expansions().saturating_sub(before));
         let stepped = OpenTable {
             table,
             desk,
             key,
-            steps: steps.saturating_add(1),
+            past,
         };
         (stepped, made)
     }
@@ -207,7 +203,7 @@ impl OpenTable {
             table,
             desk,
             key,
-            steps,
+            past,
         } = self;
         let mut at = table.at(desk);
         let made = source.build(alloc, &mut at);
@@ -216,7 +212,7 @@ impl OpenTable {
             table,
             desk,
             key,
-            steps,
+            past,
         };
         (same, made)
     }
@@ -233,7 +229,7 @@ impl OpenTable {
             table,
             desk,
             key,
-            steps,
+            past,
         } = self;
         let mut at = table.at(desk);
         let found = population(&mut at, alloc, root);
@@ -242,7 +238,7 @@ impl OpenTable {
             table,
             desk,
             key,
-            steps,
+            past,
         };
         (same, found)
     }
@@ -264,13 +260,13 @@ impl OpenTable {
             table,
             desk,
             key,
-            steps,
+            past,
         } = self;
         let OpenTable {
             table: other_table,
             desk: other_desk,
             key: other_key,
-            steps: other_steps,
+            past: other_past,
         } = other;
         let mut at = table.at(desk);
         let mut other_at = other_table.at(other_desk);
@@ -282,13 +278,13 @@ impl OpenTable {
                 table,
                 desk,
                 key,
-                steps,
+                past,
             },
             OpenTable {
                 table: other_table,
                 desk: other_desk,
                 key: other_key,
-                steps: other_steps,
+                past: other_past,
             },
             copied,
         )

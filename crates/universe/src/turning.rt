@@ -129,7 +129,7 @@ impl Universe {
         ensures ok { IfOk result (IsTurn other.key.exponent self) }
         ensures memory { IsOkUnless result Refusal.NoMemory }
     {
-        let Some(shape) = larger(other.key.shape, self.limit) else {
+        let Some(shape) = larger(other.key.shape, self.limit, other.growth()) else {
             return Ok(Attempt::Full(self));
         };
         let pairs = self.here.table.pair_count() + pair_count(shape);

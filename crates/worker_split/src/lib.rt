@@ -21,4 +21,4 @@ pub use batches::batch_future;
 pub use gate::{Gate, OpenGate};
 pub use rounds::round;
 pub use steps::step;
-pub use team::Team;
+pub use team::{MOST_WORKERS, Team};

@@ -1,6 +1,9 @@
-ghost use Rattle.std.specs.Prelude.{◌≤◌};
+ghost use Rattle.std.specs.Prelude.{◌≡◌, ◌≤◌, min};
 
 use std::alloc::Global;
+
+/// The largest number of workers of a team.
+pub const MOST_WORKERS: usize = 64;
 
 /// The workers of a round: how many, and what they work with. Each is a thread of its own as far as
 /// the system gives threads.
@@ -16,4 +19,19 @@ pub struct Team<'a, R, G> {
     pub gate: &'a G,
     ghost some: { 1 ≤ workers },
     ghost few: { workers ≤ 64 },
+}
+
+impl<'a, R, G> Team<'a, R, G> {
+    /// The team with at most so many of its workers, and at least one.
+    pub fn at_most(&self, workers: usize) -> Team<'a, R, G>
+        requires { 1 ≤ workers }
+        ensures { result.workers ≡ min self.now.workers workers }
+    {
+        Team {
+            runtime: self.runtime,
+            alloc: self.alloc,
+            workers: self.workers.min(workers),
+            gate: self.gate,
+        }
+    }
 }
