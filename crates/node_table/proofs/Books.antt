@@ -11,6 +11,7 @@ use Rattle.plane.proofs.Same.{same_refl, same_sym, same_trans}
 use Rattle.rule_text.specs.CountRule.{IsRule}
 use Rattle.squares.specs.declared.sq.Sq.{Sq}
 use Rattle.squares.specs.Book.{IsBook, IsEmpty, Shows, Keeps, numbered}
+use Rattle.squares.proofs.SquareNumbers.{same_sq}
 use Rattle.table_core.specs.declared.key.Key.{Key}
 use Rattle.table_core.specs.declared.knowledge.KnownBlock.{KnownBlock}
 use Rattle.table_core.specs.declared.knowledge.KnownResult.{KnownResult}
@@ -69,9 +70,6 @@ inside_square level plane above h = record {
       (λ t. h.columns x y (ap (λ n. spans (2 ^ n) x) (side level above) ∙ t))
       (λ t. h.rows x y (ap (λ n. spans (2 ^ n) y) (side_down level above) ∙ t)) (one_out (spans (2 ^ level) x) (spans (2 ^ level) y) e);
 }
-
-same_sq : (a b : Sq) → a.level ≡ b.level → a.num.0 ≡ b.num.0 → a ≡ b
-same_sq a b e n = λ i. record { level = e i; num = record { 0 = n i } }
 
 mapped_at : (xs : List KnownResult) (sq : Sq) (k : ℕ) → k < length (map square_of xs) → slice_index_or (map square_of xs) k sq ≡ sq →
     (result : KnownResult) × Contains xs result × (square_of result ≡ sq)

@@ -16,7 +16,8 @@ use Rattle.table_core.proofs.Results.{with_result_keeps}
 use Rattle.node_table.specs.Books.{book_of, square_of, cells_in, IsCoherent}
 use Rattle.node_table.proofs.Books.{covers_keeps, grows_keeps, result_there, there_result}
 use Rattle.node_table.proofs.Entries.{block_of}
-use Rattle.node_table.proofs.Telling.{found_result, same_level, sq_equal}
+use Rattle.node_table.proofs.Telling.{found_result, same_level}
+use Rattle.squares.proofs.SquareNumbers.{same_sq}
 
 -- some result of the square
 abbrev HasOne : List KnownResult → ℕ → Type 0
@@ -49,4 +50,4 @@ second_kept store key one two after h grows book =
     let at : r.0.square ≡ sq.num.0 = r.2 ∙ number in
     let knows = knows_more two after (square_rank sq.level) sq.num.0 (cells_in two sq) blocks (block_of two sq known.0) in
     let level : r.0.level ≡ sq.level = same_level key.shape.bits after r.0 sq.level (cells_in two sq) h known.1 there (subst (λ n. KnowsBlock after (square_rank sq.level) n (cells_in two sq)) (sym at) knows) in
-    subst (Contains (map square_of after.results)) (sq_equal (square_of r.0) sq level at) (there_result after.results r.0 there))
+    subst (Contains (map square_of after.results)) (same_sq (square_of r.0) sq level at) (there_result after.results r.0 there))

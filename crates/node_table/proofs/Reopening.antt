@@ -171,17 +171,6 @@ module _ (was : Still) (key : Key) where
     vacant = h.vacant;
   }
 
--- under their own head the words stay
-same_head : (was : Still) → Reopens was.key was.key (words_of was) (words_of was)
-same_head was = record {
-  shape = refl;
-  names = was.good.good.names;
-  fits = was.good.good.fits;
-  slots = λ kind i slot. refl;
-  results = λ i level slot above block. inl ((refl, inl refl), refl);
-  vacant = λ i slot z. z;
-}
-
 -- a table that begins with words that were reopened under this head
 pub opens_from : (was now : Still) (rule : CountRule) (exponent : ℕ) (table : NodeTable) (desk : Desk) →
     IsReopened was (record { shape = was.key.shape; rule = rule; exponent = exponent }) now → StartsFrom now table desk → Opens was rule exponent table desk
@@ -197,9 +186,3 @@ opens_from was now rule exponent table desk is starts =
       known = subst (λ (k : Key). KnowsAll k.shape.bits (words_of now) desk.seat.me.0.known) (sym starts.key) starts.known;
       no_expansions = starts.no_expansions;
     }
-
--- a table that begins with words that stood under this head
-pub opens_same : (was : Still) (rule : CountRule) (exponent : ℕ) (table : NodeTable) (desk : Desk) →
-    was.key ≡ record { shape = was.key.shape; rule = rule; exponent = exponent } → StartsFrom was table desk → Opens was rule exponent table desk
-opens_same was rule exponent table desk same starts = opens_from was was rule exponent table desk
-    (record { same_key = same; reopens = subst (λ (k : Key). Reopens was.key k (words_of was) (words_of was)) same (same_head was) }) starts

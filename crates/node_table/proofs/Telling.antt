@@ -12,6 +12,7 @@ use Rattle.rule_text.specs.CountRule.{IsRule}
 use Rattle.squares.specs.declared.sq.Sq.{Sq}
 use Rattle.squares.specs.Book.{IsFuture, Shows, HasResult, Gains, Learns, AddsResult, numbered}
 use Rattle.squares.proofs.EmptyFutures.{future_empty}
+use Rattle.squares.proofs.SquareNumbers.{same_sq}
 use Rattle.table_core.specs.declared.key.Key.{Key}
 use Rattle.table_core.specs.declared.knowledge.KnownBlock.{KnownBlock}
 use Rattle.table_core.specs.declared.knowledge.KnownResult.{KnownResult}
@@ -82,9 +83,6 @@ told_with old result live count had e = record {
   learned = ap (λ b. old.learned + cond b 0 count) e;
 }
 
-pub sq_equal : (a b : Sq) → a.level ≡ b.level → a.num.0 ≡ b.num.0 → a ≡ b
-sq_equal a b e n = λ i. record { level = e i; num = record { 0 = n i } }
-
 -- the index of the result beside a known square
 module _ (table : NodeTable) (desk : Desk) (sq : Sq) {index : ℕ} (of_table : IsDeskOf table desk) (above : 3 < sq.level) (some : sq.num.0 ≢ 0) (known : IsTrue (knows_in (known_by desk) sq)) (beside : index ≡ result_of table.key.shape.bits sq.num.0) where
   abbrev key : Key
@@ -128,7 +126,7 @@ module _ (table : NodeTable) (desk : Desk) (sq : Sq) {index : ℕ} (of_table : I
     level_is = sym (l.shows may_ask).0
 
     is_sq : square_of l.result ≡ sq
-    is_sq = sq_equal (square_of l.result) sq level_is square_is
+    is_sq = same_sq (square_of l.result) sq level_is square_is
 
     abbrev entry : KnownBlock
     entry = record { number = l.result.future; rank = square_rank (l.result.level - 1); live = l.live }
@@ -147,7 +145,7 @@ module _ (table : NodeTable) (desk : Desk) (sq : Sq) {index : ℕ} (of_table : I
         let there : Contains new.results r.0 = subst (λ rs. Contains rs r.0) (sym t.results) r.1 in
         let at : r.0.square ≡ sq.num.0 = r.2 ∙ square_is in
         let level : r.0.level ≡ sq.level = same_level key.shape.bits new r.0 sq.level plane coherent above there (subst (λ n. KnowsBlock new (square_rank sq.level) n plane) (sym at) later) in
-        subst (Contains (map square_of new.results)) (sq_equal (square_of r.0) sq level at) (there_result new.results r.0 there)
+        subst (Contains (map square_of new.results)) (same_sq (square_of r.0) sq level at) (there_result new.results r.0 there)
     has_now false e =
         let t = told false e in
         subst (Contains (map square_of new.results)) is_sq (there_result new.results l.result (subst (λ rs. Contains rs l.result) (sym t.results) (contains_here l.result old.results)))

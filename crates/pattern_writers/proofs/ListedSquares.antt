@@ -12,6 +12,7 @@ use Rattle.squares.specs.declared.sq.Sq.{Sq}
 use Rattle.squares.specs.Noted.{is_same_key, value_of}
 use Rattle.viewport.proofs.Counts.{zero_is_empty}
 use Rattle.squares.proofs.NumberMaps.{by_cases}
+use Rattle.squares.proofs.SquareNumbers.{same_sq}
 use Rattle.plane.proofs.Cuts.{and_left, and_right}
 use Rattle.std.proofs.lemmas.Bool.{eqb-true}
 use Rattle.pattern_writers.specs.ListedNodes.{AreListed, HasNumber, found_in, listed_with, square_of}
@@ -106,9 +107,6 @@ texts_after listed old new square node are added text more =
     ∙ sym (ap (map node_text) added ∙ map-append node_text old (node ∷ []))
 
 -- ---- squares of a book
-
-same_sq : (a b : Sq) → a.level ≡ b.level → a.num.0 ≡ b.num.0 → a ≡ b
-same_sq a b e f = λ i. record { level = e i; num = record { 0 = f i } }
 
 module _ (book : Book) (laws : IsBook book) where
   -- the squares of two numbers are the same only if the numbers are

@@ -18,7 +18,8 @@ use Rattle.squares.specs.declared.sq.Sq.{Sq}
 use Rattle.squares.proofs.Centres.{shows_as}
 use Rattle.squares.proofs.Kept.{shows_kept}
 use Rattle.squares.proofs.KnownQuarters.{from_four}
-use Rattle.squares.proofs.NotedValues.{same_sq, true_of_kept, true_of_same}
+use Rattle.squares.proofs.NotedValues.{true_of_kept, true_of_same}
+use Rattle.squares.proofs.SquareNumbers.{same_sq}
 
 pub copies_kept : {from old new : Book} {copies : Noted Num} → Keeps old new → AreCopies from old copies → AreCopies from new copies
 copies_kept keeps h = record { same = λ sq num at. shows_kept keeps (h.same sq num at) }

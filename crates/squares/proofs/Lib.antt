@@ -20,3 +20,4 @@ pub mod Results
 pub mod RunLevels
 pub mod SpanCells
 pub mod SpanSquares
+pub mod SquareNumbers

@@ -8,9 +8,7 @@ use Rattle.plane.proofs.Cuts.{and_left, and_right}
 use Rattle.squares.specs.Noted.{Noted, is_same_key, value_of}
 use Rattle.squares.specs.declared.sq.Sq.{Sq}
 use Rattle.squares.proofs.NumberMaps.{by_cases}
-
-pub same_sq : (a b : Sq) → a.level ≡ b.level → a.num.0 ≡ b.num.0 → a ≡ b
-same_sq a b e f = λ i. record { level = e i; num = record { 0 = f i } }
+use Rattle.squares.proofs.SquareNumbers.{same_sq}
 
 some_value : {V : Type 0} (a b : V) → Some a ≡ Some b → a ≡ b
 some_value a b e = cc

@@ -18,7 +18,7 @@ use Rattle.squares.proofs.NodeLists.{node_later, node_last, node_snoc}
 num : ℕ → Num
 num n = record { 0 = n }
 
-pub both_equal : (a b : Ordering) → ordering_then a b ≡ Equal → (a ≡ Equal) × (b ≡ Equal)
+both_equal : (a b : Ordering) → ordering_then a b ≡ Equal → (a ≡ Equal) × (b ≡ Equal)
 both_equal Less b h = let no : ⊥ = cc in absurd no
 both_equal Equal b h = (refl, h)
 both_equal Greater b h = let no : ⊥ = cc in absurd no
@@ -36,7 +36,7 @@ exact_quarters a b h =
     let se = exact_unsigned a.se.0 b.se.0 four.1 in
     λ i. record { level = level i; nw = record { 0 = nw i }; ne = record { 0 = ne i }; sw = record { 0 = sw i }; se = record { 0 = se i } }
 
-pub equal_from : (o : Ordering) → is_eq o ≡ true → o ≡ Equal
+equal_from : (o : Ordering) → is_eq o ≡ true → o ≡ Equal
 equal_from Less h = absurd (false≢true h)
 equal_from Equal h = refl
 equal_from Greater h = absurd (false≢true h)

@@ -20,6 +20,7 @@ use Rattle.squares.proofs.NodeLaws.{plane_square, zero_plane, one_number, all_jo
 use Rattle.squares.proofs.NodeLists.{known_later, node_known, not_zero, plane_later, level_at, levels, at_height}
 use Rattle.squares.proofs.RecordLists.{kept_of, results_once, node_of_record, future_of_record}
 use Rattle.squares.proofs.Results.{future_kept}
+use Rattle.squares.proofs.SquareNumbers.{same_sq}
 
 both : (a b : Bool) → a ≡ true → b ≡ true → (a && b) ≡ true
 both true b h k = k
@@ -27,9 +28,6 @@ both false b h k = absurd (false≢true h)
 
 pub zero_known : (nodes : List Node) (level : ℕ) → 3 ≤ level → level ≤ 65 → IsTrue (knows_number nodes level 0)
 zero_known nodes level low high = both (nat_le 3 level) (nat_le level 65) (le-leb 3 level low) (le-leb level 65 high)
-
-same_sq : (a b : Sq) → a.level ≡ b.level → a.num.0 ≡ b.num.0 → a ≡ b
-same_sq a b e n = λ i. record { level = e i; num = record { 0 = n i } }
 
 -- a number of good nodes is a known square
 pub is_known : (rule : CountRule) (exponent : ℕ) (records : List Record) → IsGood (nodes_of records) → (level n : ℕ) → IsTrue (knows_number (nodes_of records) level n) → IsKnown (plain_book rule exponent records) level (numbered level n)

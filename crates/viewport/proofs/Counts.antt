@@ -13,7 +13,7 @@ use Rattle.plane.proofs.Same.{plane_equal, same_sym}
 use Rattle.plane.proofs.Windows.{square_listing}
 use Rattle.squares.specs.Book.{Book, IsBook, IsKnown, numbered}
 use Rattle.squares.specs.declared.sq.Sq.{Sq}
-use Rattle.squares.proofs.NotedValues.{same_sq}
+use Rattle.squares.proofs.SquareNumbers.{same_sq}
 use Rattle.viewport.specs.Population.{HasPopulation, IsCount, cell_count}
 use Rattle.viewport.proofs.Quarters.{IsQuartered}
 

@@ -6,7 +6,7 @@ use Rattle.std.proofs.lemmas.Bool.{eqb-true}
 use Rattle.plane.proofs.Cuts.{and_left, and_right}
 use Rattle.viewport.specs.RowRuns.{cells_at}
 use Rattle.viewport.proofs.Counts.{zero_is_empty}
-use Rattle.squares.proofs.NotedValues.{same_sq}
+use Rattle.squares.proofs.SquareNumbers.{same_sq}
 use Rattle.viewport.proofs.Quarters.{known_square, of_quarter}
 use Rattle.viewport.proofs.RowsOfHalves.{again_adds, both_add, ends_between}
 use Rattle.viewport.proofs.RowsOfSquares.{middle_fits, quarter_room, row_as}
