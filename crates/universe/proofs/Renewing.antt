@@ -1,7 +1,7 @@
 -- Cells at rest in fresh words, and at their table.
 use Rattle.std.proofs.Common.{◌≡◌, ◌⊎◌, inl, inr, ℕ, sym, ◌∙◌, ap, subst}
 use Rattle.node_sweep.specs.EnlargedStills.{IsEnlarged}
-use Rattle.node_sweep.specs.SweptStills.{IsResized, IsSwept}
+use Rattle.node_sweep.specs.SweptStills.{IsSwept}
 use Rattle.node_table.specs.Stills.{book_in, key_of}
 use Rattle.plane.specs.Centred.{centred}
 use Rattle.plane.specs.Square.{IsSame}
@@ -12,6 +12,7 @@ use Rattle.squares.specs.Book.{Shows}
 use Rattle.table_core.specs.declared.key.Key.{Key}
 use Rattle.universe.specs.Cells.{cells_of, exponent_of, live_cells, resting_cells, root_of, still_of}
 use Rattle.universe.specs.Runs.{IsTurned}
+use Rattle.universe.specs.Scenes.{IsRenewed}
 use Rattle.universe.specs.declared.resting.Resting.{Resting}
 use Rattle.universe.specs.declared.scenes.Scene.{Scene}
 use Rattle.universe.specs.declared.universe.Universe.{Universe}
@@ -21,11 +22,6 @@ use Rattle.node_table.proofs.AtWork.{centred_same}
 pub no_room : {NoRoom : Type 0} → (refusal : Refusal) → refusal ≡ NodesFull → (refusal ≡ NoMemory) ⊎ ((refusal ≡ NodesFull) × NoRoom) → NoRoom
 no_room refusal full (inl memory) = let clash : NodesFull ≡ NoMemory = sym full ∙ memory in absurd cc
 no_room refusal full (inr why) = why.1
-
--- the same cells in words of this size, under the same rule and exponent
-pub record IsRenewed (old new : Resting) (pairs : ℕ) : Type 0 where
-  pub cells : IsSame (resting_cells new) (resting_cells old)
-  pub resized : IsResized (key_of (still_of old)) (key_of (still_of new)) pairs
 
 renewed_cells : (old new : Resting) → (root_of new).level ≡ (root_of old).level → Shows (book_in (still_of new)) (root_of old).level ((book_in (still_of old)).cells (root_of old)) (root_of new) →
     IsSame (resting_cells new) (resting_cells old)

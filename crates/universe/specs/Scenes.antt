@@ -1,5 +1,6 @@
 -- What comes of a step of the cells at a table, and of copying them into another.
-use Rattle.std.specs.Prelude.{◌≡◌, ◌≤◌, ◌^◌, IsTrue}
+use Rattle.std.specs.Prelude.{◌≡◌, ℕ, ◌≤◌, ◌^◌, IsTrue}
+use Rattle.node_sweep.specs.SweptStills.{IsResized}
 use Rattle.plane.specs.Plane.{after}
 use Rattle.plane.specs.Square.{IsSame}
 use Rattle.node_table.specs.Stills.{key_of}
@@ -34,6 +35,11 @@ IsStepped old (Full same) = IsFullHere old same
 abbrev pub IsMoved : Scene → OpenTable → Moved → Type 0
 IsMoved old other (There left here) = IsSame (cells_of here) (cells_of old) × (here.table.key ≡ other.key) × (left.key ≡ old.table.key)
 IsMoved old other (FullThere here there) = IsSame (cells_of here) (cells_of old) × (here.table.key ≡ old.table.key) × (there.key ≡ other.key)
+
+-- the same cells at rest, under the same rule and exponent, in words of so many pair slots
+pub record IsRenewed (old new : Resting) (pairs : ℕ) : Type 0 where
+  pub cells : IsSame (resting_cells new) (resting_cells old)
+  pub resized : IsResized (key_of (still_of old)) (key_of (still_of new)) pairs
 
 -- the same cells at rest, under the same rule, in words of no more pair slots
 pub record IsShrunk (old new : Resting) : Type 0 where

@@ -5,7 +5,7 @@ ghost use Rattle.node_table.specs.Stills.{key_of};
 ghost use Rattle.plane.specs.Square.{IsSame};
 ghost use Rattle.universe.specs.Sums.{pair_sum};
 
-use crate::resting::Resting;
+use crate::resting::Kept;
 use crate::scenes::Stepped;
 use crate::sizes::{larger, pair_count};
 use crate::tables::OpenTable;
@@ -27,6 +27,7 @@ pub(crate) enum Attempt {
 impl Universe {
     ghost use Rattle.universe.specs.Cells.{limit_of};
     ghost use Rattle.universe.specs.Runs.{IsAttempt, IsFullAtLimit, IsFullInPlace, MayStep};
+    ghost use Rattle.universe.specs.declared.resting.Kept.TheVariants.{CellsAlone};
 
     // Takes one step of the table that is here. Where it is full the step is begun again: in one of its
     // size with the cells alone, if earlier steps have filled it; in larger ones with all that is known
@@ -48,13 +49,13 @@ impl Universe {
             done => return Ok(done),
         };
         'sizes: while let Some(next) = larger(shape, most, growth) {
-            start = match start.tried_larger(team, next)? {
+            start = match start.tried_in(team, next, Kept::Everything)? {
                 Attempt::Full(start) => start,
                 done => return Ok(done),
             };
             shape = next;
         }
-        start.tried_swept(team, most)
+        start.tried_in(team, most, Kept::CellsAlone)
     }
 
     // Takes one step of the table that is here, or, where earlier steps have filled it, in one of its size
@@ -75,7 +76,7 @@ impl Universe {
             return Ok(Attempt::Full(start));
         }
         let shape = start.here.table.key.shape;
-        start.tried_swept(team, shape)
+        start.tried_in(team, shape, Kept::CellsAlone)
     }
 
     // Takes one step of the table that is here.
@@ -107,54 +108,17 @@ impl Universe {
         }
     }
 
-    // Takes one step in a table of this shape with all that is known here, if there is room for it.
-    fn tried_larger<R: Threads + Wait + Sync, G: Gate>(
+    // Takes one step in fresh words of this shape, if these have room for what is kept.
+    fn tried_in<R: Threads + Wait + Sync, G: Gate>(
         self,
         team: &Team<'_, R, G>,
         shape: Shape,
-    ) -> Result<Attempt, Refusal>
-        requires step { MayStep self }
-        requires shape { shape.bits ≤ self.limit.bits }
-        ensures ok { IfOk result (IsAttempt self) }
-        ensures memory { IsOkUnless result Refusal.NoMemory }
-    {
-        let Universe {
-            here,
-            others,
-            limit,
-        } = self.with_room(pair_count(shape));
-        let start = here.rest();
-        match start.enlarged(team.alloc, shape)? {
-            Some(fresh) => {
-                let here = fresh.resume(team.alloc)?;
-                Universe {
-                    here,
-                    others,
-                    limit,
-                }
-                .tried(team)
-            }
-            None => {
-                let here = start.resume(team.alloc)?;
-                Ok(Attempt::Full(Universe {
-                    here,
-                    others,
-                    limit,
-                }))
-            }
-        }
-    }
-
-    // Takes one step in a table of this shape with the cells alone, if there is room for them.
-    fn tried_swept<R: Threads + Wait + Sync, G: Gate>(
-        self,
-        team: &Team<'_, R, G>,
-        shape: Shape,
+        kept: Kept,
     ) -> Result<Attempt, Refusal>
         requires step { MayStep self }
         requires shape { 2 ^ shape.bits ≤ limit_of self }
         ensures ok { IfOk result (IsAttempt self) }
-        ensures full { 2 ^ shape.bits ≡ limit_of self → IfOk result IsFullAtLimit }
+        ensures full { kept ≡ CellsAlone → 2 ^ shape.bits ≡ limit_of self → IfOk result IsFullAtLimit }
         ensures memory { IsOkUnless result Refusal.NoMemory }
     {
         let Universe {
@@ -163,7 +127,7 @@ impl Universe {
             limit,
         } = self.with_room(pair_count(shape));
         let start = here.rest();
-        match start.swept(team.alloc, shape)? {
+        match start.renewed(team.alloc, shape, kept)? {
             Some(fresh) => {
                 let here = fresh.resume(team.alloc)?;
                 Universe {

@@ -19,6 +19,15 @@ use std::alloc::Global;
 use table_core::{Kind, Shape};
 use viewport::bounds;
 
+/// What comes along into fresh words.
+#[derive(Clone, Copy)]
+pub(crate) enum Kept {
+    /// All squares and results.
+    Everything,
+    /// The square of the cells, with what it is made of.
+    CellsAlone,
+}
+
 /// Live cells in the range, as a square in words at rest whose centre corner is (0,0).
 #[derive(Drop)]
 pub struct Resting {
@@ -30,7 +39,8 @@ pub struct Resting {
 
 impl Resting {
     ghost use Rattle.universe.specs.Cells.{cells_of, resting_cells, root_of, still_of};
-    ghost use Rattle.universe.specs.Scenes.{IsShrunk};
+    ghost use Rattle.universe.specs.Scenes.{IsRenewed, IsShrunk};
+    ghost use Rattle.universe.specs.declared.resting.Kept.TheVariants.{CellsAlone};
 
     /// The words.
     pub fn still(&self) -> &Still
@@ -78,8 +88,25 @@ impl Resting {
         self.stand(alloc, exponent)
     }
 
+    // The cells in fresh words of this shape, if these have room for what is kept.
+    pub(crate) fn renewed(
+        &self,
+        alloc: Global,
+        shape: Shape,
+        kept: Kept,
+    ) -> Result<Option<Resting>, Refusal>
+        ensures ok { IfOk result (λ made. IfSome made (λ fresh. IsRenewed self.now fresh (2 ^ shape.bits))) }
+        ensures full { kept ≡ CellsAlone → IfOk result (λ made. IfNone made (HasNoRoomFor (still_of self.now) (root_of self.now) (2 ^ shape.bits))) }
+        ensures memory { IsOkUnless result Refusal.NoMemory }
+    {
+        match kept {
+            Kept::Everything => self.enlarged(alloc, shape),
+            Kept::CellsAlone => self.swept(alloc, shape),
+        }
+    }
+
     // The cells with all squares and results in words of this shape, if these have room for them.
-    pub(crate) fn enlarged(&self, alloc: Global, shape: Shape) -> Result<Option<Resting>, Refusal>
+    fn enlarged(&self, alloc: Global, shape: Shape) -> Result<Option<Resting>, Refusal>
         ensures ok { IfOk result (λ made. IfSome made (λ fresh. IsEnlarged (still_of self.now) (root_of self.now) (2 ^ shape.bits) (still_of fresh) (root_of fresh))) }
         ensures full { IfOk result (λ made. IfNone made (HasNoRoomForAll (still_of self.now) (2 ^ shape.bits))) }
         ensures memory { IsOkUnless result Refusal.NoMemory }
@@ -111,7 +138,7 @@ impl Resting {
     }
 
     // The cells alone in words of this shape, if these have room for them.
-    pub(crate) fn swept(&self, alloc: Global, shape: Shape) -> Result<Option<Resting>, Refusal>
+    fn swept(&self, alloc: Global, shape: Shape) -> Result<Option<Resting>, Refusal>
         ensures ok { IfOk result (λ made. IfSome made (λ fresh. IsSwept (still_of self.now) (root_of self.now) (2 ^ shape.bits) (still_of fresh) (root_of fresh))) }
         ensures full { IfOk result (λ made. IfNone made (HasNoRoomFor (still_of self.now) (root_of self.now) (2 ^ shape.bits))) }
         ensures memory { IsOkUnless result Refusal.NoMemory }

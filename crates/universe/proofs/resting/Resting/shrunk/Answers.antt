@@ -6,7 +6,8 @@ use Rattle.node_table.specs.Stills.{key_of}
 use Rattle.table_core.specs.declared.key.Key.{Key}
 use Rattle.universe.specs.Cells.{root_of, still_of}
 use Rattle.universe.specs.declared.resting.Resting.{Resting}
-use Rattle.universe.proofs.Renewing.{IsRenewed, swept_is}
+use Rattle.universe.specs.Scenes.{IsRenewed}
+use Rattle.universe.proofs.Renewing.{swept_is}
 use Rattle.universe.proofs.resting.Resting.shrunk.Goals as goal
 
 pub returns-in-Some-clause-ok : goal.returns-in-Some-clause-ok

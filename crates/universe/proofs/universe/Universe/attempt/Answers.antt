@@ -1,4 +1,5 @@
-use Rattle.std.proofs.Common.{subst}
+use Rattle.std.proofs.Common.{◌≤◌, ◌^◌, subst, sym, pow_mono}
+use Rattle.table_core.specs.declared.shape.Shape.{Shape}
 use Rattle.universe.specs.Runs.{IsAttempt}
 use Rattle.universe.specs.declared.attempts.Attempt.{Attempt}
 use Rattle.universe.specs.declared.attempts.Attempt.TheVariants.{Full}
@@ -6,8 +7,13 @@ use Rattle.universe.proofs.Halves.{ok_then}
 use Rattle.universe.proofs.Onward.{attempt_again, step_again}
 use Rattle.universe.proofs.universe.Universe.attempt.Goals as goal
 
-pub tried_larger-requires-clause-step : goal.tried_larger-requires-clause-step
-tried_larger-requires-clause-step g c κs within = step_again c.requires c.sizes.invariant
+pub tried_in-requires-clause-shape : goal.tried_in-requires-clause-shape
+tried_in-requires-clause-shape g c κs within =
+    subst (λ (limit : Shape). 2 ^ c.in-Some.next.bits ≤ 2 ^ limit.bits) (sym c.sizes.invariant.same.limit)
+    (pow_mono {i = c.in-Some.next.bits} {j = c.args.self.limit.bits} c.in-Some.ensures.some.1)
+
+pub tried_in-requires-clause-step : goal.tried_in-requires-clause-step
+tried_in-requires-clause-step g c κs within = step_again c.requires c.sizes.invariant
 
 pub returns-in_default-2-clause-ok : goal.returns-in_default-2-clause-ok
 returns-in_default-2-clause-ok g c = attempt_again c.in_ok-done-2.done c.sizes.invariant c.in_ok-done-2.ensures.ok
@@ -17,9 +23,9 @@ sizes-preserved g c =
     let again = subst (λ (a : Attempt). IsAttempt c.sizes.start a) c.in-Full-2.is c.in_ok-done-2.ensures.ok in
     attempt_again (Full c.in-Full-2.start) c.sizes.invariant again
 
-pub tried_swept-requires-clause-step : goal.tried_swept-requires-clause-step
-tried_swept-requires-clause-step g c κs within = step_again c.requires c.sizes.invariant
+pub tried_in-requires-2-clause-step : goal.tried_in-requires-2-clause-step
+tried_in-requires-2-clause-step g c κs within = step_again c.requires c.sizes.invariant
 
 pub returns-clause-ok : goal.returns-clause-ok
 returns-clause-ok g c =
-    ok_then (IsAttempt c.sizes.start) (IsAttempt c.args.self) c.tried_swept.result (λ attempt is. attempt_again attempt c.sizes.invariant is) c.tried_swept.ensures.ok
+    ok_then (IsAttempt c.sizes.start) (IsAttempt c.args.self) c.tried_in-2.result (λ attempt is. attempt_again attempt c.sizes.invariant is) c.tried_in-2.ensures.ok

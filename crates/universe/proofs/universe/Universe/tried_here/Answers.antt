@@ -5,11 +5,11 @@ use Rattle.universe.proofs.Halves.{ok_then}
 use Rattle.universe.proofs.Onward.{attempt_again, step_again}
 use Rattle.universe.proofs.universe.Universe.tried_here.Goals as goal
 
-pub tried_swept-requires-clause-step : goal.tried_swept-requires-clause-step
-tried_swept-requires-clause-step g c κs within =
+pub tried_in-requires-clause-step : goal.tried_in-requires-clause-step
+tried_in-requires-clause-step g c κs within =
     step_again c.requires (subst (λ (a : Attempt). IsAttempt c.args.self a) c.in-Full.is c.in_ok-done.ensures.ok)
 
 pub returns-clause-ok : goal.returns-clause-ok
 returns-clause-ok g c =
     let turned = subst (λ (a : Attempt). IsAttempt c.args.self a) c.in-Full.is c.in_ok-done.ensures.ok in
-    ok_then (IsAttempt c.in-Full.start) (IsAttempt c.args.self) c.tried_swept.result (λ attempt is. attempt_again attempt turned is) c.tried_swept.ensures.ok
+    ok_then (IsAttempt c.in-Full.start) (IsAttempt c.args.self) c.tried_in.result (λ attempt is. attempt_again attempt turned is) c.tried_in.ensures.ok
