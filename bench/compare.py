@@ -9,7 +9,7 @@
 
 Build the program first: `./lifebatch --help`. Golly's patterns are sought where the package `golly` installs them; rows
 whose pattern or peer is missing say so. In a round each program runs once, one after the other, so that both
-meet the same moods of the machine.
+meet the same moods of the machine. Behind a ratio, in brackets, stands what is aimed at.
 """
 import argparse
 import gzip
@@ -33,6 +33,11 @@ GOLLY_PATTERNS = [
     for p in ("/usr/share/golly", "/usr/local/share/golly", "/usr/lib/golly")
 ]
 SECONDS = 300
+# What is aimed at, beside bgolly: the most time of one worker, without report steps and with them, the mean of the times by so many
+# workers, and the most memory where bgolly takes as many megabytes or more.
+AIM, AIM_WITH_STEPS = 1.2, 1.0
+AIMS_OF_MEANS = {1: 0.75, 4: 0.4}
+AIM_OF_MEMORY, COUNTED_MEGABYTES = 1.5, 30
 
 
 @dataclass
@@ -185,6 +190,21 @@ def ratio(ours, theirs):
     return ours.seconds / theirs.seconds
 
 
+def timed(row, workers, times):
+    """The ratio of the times, with what is aimed at by one worker."""
+    if times is None:
+        return ""
+    aim = f" ({AIM_WITH_STEPS if row.step else AIM})" if workers == 1 else ""
+    return f"{times:.2f}{aim}"
+
+
+def memory(found, theirs):
+    """The largest ratio of the memories, with what is aimed at, where they count."""
+    if not all(isinstance(run, Run) for run in [*found, theirs]) or theirs.megabytes < COUNTED_MEGABYTES:
+        return ""
+    return f"{max(run.megabytes for run in found) / theirs.megabytes:.2f} ({AIM_OF_MEMORY})"
+
+
 def populations(found):
     """Whether all runs reported one last population."""
     if not all(isinstance(run, Run) for run in found):
@@ -215,9 +235,9 @@ def compared(row, options, bgolly, folder):
     commands.append([bgolly, "-a", "HashLife", *words])
     *found, theirs = best_of_rounds(commands, options.rounds, folder)
     ratios = [ratio(run, theirs) for run in found]
-    for run, times in zip(found, ratios):
-        cells += [str(run), "" if times is None else f"{times:.2f}"]
-    return [*cells, str(theirs), populations([*found, theirs])], ratios
+    for workers, run, times in zip(options.workers, found, ratios):
+        cells += [str(run), timed(row, workers, times)]
+    return [*cells, str(theirs), memory(found, theirs), populations([*found, theirs])], ratios
 
 
 def print_table(options, bgolly):
@@ -225,7 +245,7 @@ def print_table(options, bgolly):
     heads = ["Pattern", "Generations"]
     for workers in options.workers:
         heads += [f"{workers} worker{'s' if workers > 1 else ''}", "Ratio"]
-    heads += ["bgolly, HashLife", "Last population"]
+    heads += ["bgolly, HashLife", "Memory", "Last population"]
     print(f"| {' | '.join(heads)} |\n{'|---' * len(heads)}|")
     rows = []
     with tempfile.TemporaryDirectory() as name:
@@ -236,7 +256,8 @@ def print_table(options, bgolly):
     for workers, ratios in zip(options.workers, zip(*rows)):
         ratios = [ratio for ratio in ratios if ratio is not None]
         if ratios:
-            print(f"\nGeometric mean of the ratios, --workers {workers}: {mean(ratios):.2f}")
+            aim = f" (aim {AIMS_OF_MEANS[workers]})" if workers in AIMS_OF_MEANS else ""
+            print(f"\nGeometric mean of the ratios, --workers {workers}: {mean(ratios):.2f}{aim}")
 
 
 def main():
