@@ -4,6 +4,7 @@
 mod attempts;
 mod build;
 mod building;
+mod digits;
 mod past;
 mod resting;
 mod room;

@@ -8,7 +8,7 @@ use worker_split::MOST_WORKERS;
 // After how many steps a large table is swept before it grows, and one of the size before that.
 const WORN_AFTER: u32 = 4;
 
-const SMALLER_WORN_AFTER: u32 = 64;
+const SMALLER_WORN_AFTER: u32 = 256;
 
 // After more steps than these a table has nearly the slots that a step needs.
 const STEPS_OF_GROWTH: u32 = 4;

@@ -7,8 +7,8 @@ ghost use Rattle.universe.specs.Held.{StaysHeld};
 ghost use Rattle.universe.specs.Runs.{IsLater, IsStuck};
 
 use crate::attempts::Attempt;
+use crate::digits::{digits_from, table_for};
 use crate::universe::Universe;
-use hashlife_step::plan;
 use plane::Refusal;
 use std::sync::Wait;
 use std::thread::Threads;
@@ -41,9 +41,29 @@ impl Universe {
         middle.step(team, exponent - 1)
     }
 
-    /// The cells after so many generations: a step for each binary digit of their number, taken
-    /// by a team. The empty universe takes no step. `NodesFull` where the largest table has no room for one generation, and
-    /// `NoMemory`.
+    // The cells after 2^exponent generations, by steps at the table of an exponent that is no larger.
+    fn stride<R: Threads + Wait + Sync, G: Gate>(
+        self,
+        team: &Team<'_, R, G>,
+        exponent: u8,
+        table: u8,
+    ) -> Result<Universe, Refusal>
+        requires exponent { exponent ≤ 62 }
+        requires held { StaysHeld (rule_of self) (live_cells self) (2 ^ exponent) }
+        ensures ok { IfOk result (IsLater self (2 ^ exponent)) }
+        ensures full { IfErr result (λ refusal. refusal ≡ Refusal.NodesFull → IsStuck self (2 ^ exponent)) }
+        ensures refusal { IfErr result (λ refusal. (refusal ≡ Refusal.NoMemory) ⊎ (refusal ≡ Refusal.NodesFull)) }
+    {
+        if exponent <= table {
+            return self.step(team, exponent);
+        }
+        let middle = self.stride(team, exponent - 1, table)?;
+        middle.stride(team, exponent - 1, table)
+    }
+
+    /// The cells after so many generations: for each binary digit of their number some steps at the
+    /// table of its exponent or of a smaller one, taken by a team. The empty universe takes no step.
+    /// `NodesFull` where the largest table has no room for one generation, and `NoMemory`.
     pub fn after<R: Threads + Wait + Sync, G: Gate>(
         self,
         team: &Team<'_, R, G>,
@@ -61,9 +81,10 @@ impl Universe {
             return Ok(self);
         }
         let mut universe = self;
-        let steps = plan(generations);
-        'steps: for exponent in steps.as_slice() {
-            universe = universe.step(team, *exponent)?;
+        let digits = digits_from(generations, universe.here.table.key.exponent);
+        'steps: for exponent in digits.as_slice() {
+            let table = table_for(generations, *exponent);
+            universe = universe.stride(team, *exponent, table)?;
         }
         Ok(universe)
     }

@@ -20,20 +20,20 @@ returns-then-is_empty-clause-ok g c =
 pub steps-init : goal.steps-init
 steps-init g c = none_later (same_universe c.args.self)
 
-pub step-requires-clause-exponent : goal.step-requires-clause-exponent
-step-requires-clause-exponent g c κs within =
+pub stride-requires-clause-exponent : goal.stride-requires-clause-exponent
+stride-requires-clause-exponent g c κs within =
     let exponents = c.as_slice-exponent-items.result.now in
     let i = c.steps.exponent-index in
-    let sum = ap (sum_by (λ exponent. 2 ^ exponent)) c.as_slice-exponent-items.ensures.value ∙ c.plan-steps.ensures.sum in
+    let sum = ap (sum_by (λ exponent. 2 ^ exponent)) c.as_slice-exponent-items.ensures.value ∙ c.digits_from-digits.ensures in
     let some : IsSame (live_cells c.args.self) empty → ⊥ = λ none. false≢true (c.if-is_empty.ensures.1 none) in
     low_exponent (get_or exponents i 0) (sum_by (λ exponent. 2 ^ exponent) (take i exponents)) c.args.generations
     (next_within exponents c.args.generations i sum c.steps-test.true) (c.requires.short some)
 
-pub step-requires-clause-held : goal.step-requires-clause-held
-step-requires-clause-held g c κs within =
+pub stride-requires-clause-held : goal.stride-requires-clause-held
+stride-requires-clause-held g c κs within =
     let exponents = c.as_slice-exponent-items.result.now in
     let i = c.steps.exponent-index in
-    let sum = ap (sum_by (λ exponent. 2 ^ exponent)) c.as_slice-exponent-items.ensures.value ∙ c.plan-steps.ensures.sum in
+    let sum = ap (sum_by (λ exponent. 2 ^ exponent)) c.as_slice-exponent-items.ensures.value ∙ c.digits_from-digits.ensures in
     held_on c.args.generations (sum_by (λ exponent. 2 ^ exponent) (take i exponents)) (2 ^ get_or exponents i 0) c.requires.held c.steps.invariant
     (next_within exponents c.args.generations i sum c.steps-test.true)
 
@@ -48,7 +48,7 @@ pub returns-clause-ok : goal.returns-clause-ok
 returns-clause-ok g c =
     let exponents = c.as_slice-exponent-items.result.now in
     let i = c.steps.exponent-index in
-    let sum = ap (sum_by (λ exponent. 2 ^ exponent)) c.as_slice-exponent-items.ensures.value ∙ c.plan-steps.ensures.sum in
+    let sum = ap (sum_by (λ exponent. 2 ^ exponent)) c.as_slice-exponent-items.ensures.value ∙ c.digits_from-digits.ensures in
     let all = take_all i exponents (omega (arith, c.steps-test.false)) in
     (subst (λ n. IsLater c.args.self n c.steps.universe) (ap (sum_by (λ exponent. 2 ^ exponent)) all ∙ sum) c.steps.invariant).cells
 
@@ -64,7 +64,7 @@ returns-in_err-universe-clause-full g c =
     let i = c.steps.exponent-index in
     let done = sum_by (λ exponent. 2 ^ exponent) (take i exponents) in
     let steps = 2 ^ get_or exponents i 0 in
-    let sum = ap (sum_by (λ exponent. 2 ^ exponent)) c.as_slice-exponent-items.ensures.value ∙ c.plan-steps.ensures.sum in
+    let sum = ap (sum_by (λ exponent. 2 ^ exponent)) c.as_slice-exponent-items.ensures.value ∙ c.digits_from-digits.ensures in
     let within = next_within exponents c.args.generations i sum c.steps-test.true in
     let is : c.from_residual.result ≡ Err c.in_err-universe.field-0.0 = search rules in
     rw is (λ refusal. stuck_on c.args.generations done steps c.steps.invariant within (c.in_err-universe.ensures.full refusal))

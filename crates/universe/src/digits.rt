@@ -1,0 +1,32 @@
+//! The binary digits of a number of generations: in which order they are taken, and at which tables.
+
+ghost use Rattle.std.specs.Prelude.{◌≡◌, ◌^◌, sum_by};
+
+use arrayvec::ArrayVec;
+use hashlife_step::plan;
+
+// How far above a table's exponent the digits may lie that are taken there.
+const SPAN: u8 = 2;
+
+/// The exponent of the table at which a digit is taken: that of the lowest digit of its group.
+pub(crate) fn table_for(generations: u64, exponent: u8) -> u8 {
+    let mut table = generations.trailing_zeros() as u8;
+    let digits = plan(generations);
+    for digit in digits.as_slice() {
+        if *digit <= exponent && *digit > table.saturating_add(SPAN) {
+            table = *digit;
+        }
+    }
+    table
+}
+
+/// The digits, as exponents: falling where the cells are at the table of the highest ones, else rising.
+pub(crate) fn digits_from(generations: u64, here: u8) -> ArrayVec<u8, 64>
+    ensures { sum_by (λ exponent. 2 ^ exponent) result.items ≡ generations }
+{
+    let mut digits = plan(generations);
+    if here == table_for(generations, 63) {
+        digits.as_mut_slice().reverse();
+    }
+    digits
+}
