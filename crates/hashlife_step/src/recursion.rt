@@ -9,7 +9,7 @@ use crate::overlaps::{middles, overlaps};
 use crate::tally::Tally;
 use leaf_kernels::is_life;
 use plane::Refusal;
-use squares::{Sq, Squares, nine};
+use squares::{Sq, Squares};
 
 /// The future of a square: its centre, which has half its side, after 2^exponent generations of the
 /// book's exponent, or after 2^(level - 2) if that is less. A result that the book knows is recalled,
@@ -70,7 +70,7 @@ fn make<S: Squares>(book: &mut S, sq: Sq, order: u8, tally: &mut Tally) -> Resul
         return life_future(book, sq);
     }
     let level = sq.level - 1;
-    let mut parts = nine(book, sq)?;
+    let mut parts = book.nine(sq)?;
     replace_by_futures(book, level, &mut parts, order, tally)?;
     let quarters = finish(book, level - 1, parts, order, tally)?;
     book.quad(quarters)

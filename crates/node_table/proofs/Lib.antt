@@ -5,7 +5,8 @@ pub mod Searching
 pub mod Desks
 pub mod TwoBlocks
 pub mod Refusing
-pub mod Quarters
+pub mod TwoHalves
+mod NineByHalves
 pub mod Telling
 pub mod Joining
 pub mod Leaving

@@ -13,10 +13,11 @@ use Rattle.table_core.specs.Blocks.{paired, width, height, square_rank}
 use Rattle.table_core.specs.Knowledge.{KnowsBlock, Grows}
 use Rattle.table_core.specs.Learning.{KnowsPartsOf, LearnsWord, MeetsWord}
 use Rattle.table_core.proofs.Blocks.{paired_same}
-use Rattle.table_core.proofs.Knowing.{knows_same, knows_grown}
+use Rattle.table_core.proofs.Knowing.{grows_trans, knows_same, knows_grown}
 use Rattle.table_core.proofs.Quads.{next_rank, quarters_joined}
 use Rattle.node_table.specs.Books.{book_of, knows_in, cells_in, IsCoherent}
 use Rattle.node_table.specs.Numbers.{IsPair, ArePartsOf, KnowsPairOf, KnowsSomePair}
+use Rattle.node_table.specs.Refusals.{IsHalf}
 use Rattle.std.proofs.Math.Logic.{∥∥₁_elim}
 use Rattle.std.proofs.Props.{props}
 use Rattle.squares.specs.declared.sq.Sq.{Sq}
@@ -135,6 +136,21 @@ module _ (store : List ℕ) (key : Key) {a b c d : Knowledge} (level : ℕ) {num
       Shows (book_of store key d) (level - 1) (cut (2 ^ (level - 1)) left up plane) (numbered (level - 1) n)
   shown n left up part k same = shows_of store key d (numbered (level - 1) n) (cut (2 ^ (level - 1)) left up plane) h (omega arith) (omega arith)
       (knows_same d (square_rank (level - 1)) n part (cut (2 ^ (level - 1)) left up plane) (same_trans same (cut_same (2 ^ (level - 1)) left up all plane cells)) k)
+
+  -- what the desk sees in a square with a part's number
+  seen : (n : ℕ) (part : Plane) → KnowsBlock d (square_rank (level - 1)) n part → IsSame part (cells_in d (numbered (level - 1) n))
+  seen n part k = same_sym (shows_of store key d (numbered (level - 1) n) part h (omega arith) (omega arith) k).cells
+
+  half_seen : (n one two : ℕ) (part left right : Plane) → KnowsBlock d (suc (square_rank (level - 1))) n part → IsSame part (paired (square_rank (level - 1)) left right) →
+      KnowsBlock d (square_rank (level - 1)) one left → KnowsBlock d (square_rank (level - 1)) two right → IsHalf d d (numbered (level - 1) one) (numbered (level - 1) two) n
+  half_seen n one two part left right knows same k l =
+      knows_same d (suc (square_rank (level - 1))) n part _ (same_trans same (paired_same (square_rank (level - 1)) left right _ _ (seen one left k) (seen two right l))) knows
+
+  pub upper_shown : IsHalf d d (numbered (level - 1) nw) (numbered (level - 1) ne) upper
+  upper_shown = half_seen upper nw ne halves.one uppers.one uppers.two (knows_grown b d (suc (square_rank (level - 1))) upper halves.one (grows_trans b c d grows more) halves.shows_one) uppers.cells known_nw known_ne
+
+  pub lower_shown : IsHalf d d (numbered (level - 1) sw) (numbered (level - 1) se) lower
+  lower_shown = half_seen lower sw se halves.two lowers.one lowers.two (knows_grown b d (suc (square_rank (level - 1))) lower halves.two (grows_trans b c d grows more) halves.shows_two) lowers.cells lowers.shows_one lowers.shows_two
 
   square_nw : IsSquare (2 ^ (level - 1)) uppers.one
   square_nw = is_square nw uppers.one known_nw

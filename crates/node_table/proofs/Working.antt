@@ -1,9 +1,9 @@
 -- What a desk at work knows is what the desk knows.
-use Rattle.std.proofs.Common.{ℕ, List, [], ◌∷◌, ⊎_elim, inl, inr}
+use Rattle.std.proofs.Common.{ℕ, ◌+◌, ◌-◌, ◌*◌, List, [], ◌∷◌, ⊎_elim, inl, inr}
 use Rattle.std.specs.List.{AllByRecursion}
 use Rattle.plane.specs.Plane.{Plane}
 use Rattle.squares.specs.declared.sq.Sq.{Sq}
-use Rattle.squares.specs.Book.{Keeps, Shows, IsKnown, Learns, AddsResult}
+use Rattle.squares.specs.Book.{Keeps, Shows, IsKnown, Learns, AddsResult, AreNinths, AreQuarters, nth}
 use Rattle.table_core.specs.Knowledge.{Grows}
 use Rattle.node_table.specs.declared.desk.Desk.{Desk}
 use Rattle.node_table.specs.declared.table.NodeTable.{NodeTable}
@@ -15,14 +15,29 @@ use Rattle.node_table.proofs.Desks.{coherent_at}
 pub keeps_working : (expansions : ℕ) (table : NodeTable) (old new : Desk) → IsDeskOf table new → Grows old.seat.me.0.known new.seat.me.0.known → Keeps (work_at expansions table old) (work_at expansions table new)
 keeps_working expansions table old new d grows = grows_keeps (work_store expansions table) table.key old.seat.me.0.known new.seat.me.0.known (coherent_at table new d) grows
 
+pub known_at : (expansions : ℕ) (table : NodeTable) (desk : Desk) {level : ℕ} {sq : Sq} → IsKnown (work_at expansions table desk) level sq → IsKnown (book_at table desk) level sq
+known_at expansions table desk h = record { known = h.known; at_level = h.at_level; low = h.low; high = h.high }
+
 pub all_known_at : (expansions : ℕ) (table : NodeTable) (desk : Desk) (level : ℕ) (squares : List Sq) → AllByRecursion (IsKnown (work_at expansions table desk) level) squares → AllByRecursion (IsKnown (book_at table desk) level) squares
 all_known_at expansions table desk level [] h = h
 all_known_at expansions table desk level (sq ∷ squares) h =
-    (record { known = h.0.known; at_level = h.0.at_level; low = h.0.low; high = h.0.high }, all_known_at expansions table desk level squares h.1)
+    (known_at expansions table desk h.0, all_known_at expansions table desk level squares h.1)
 
 pub shows_working : (expansions : ℕ) (table : NodeTable) (desk : Desk) (level : ℕ) (plane : Plane) (sq : Sq) → Shows (book_at table desk) level plane sq → Shows (work_at expansions table desk) level plane sq
 shows_working expansions table desk level plane sq s =
     record { known = record { known = s.known.known; at_level = s.known.at_level; low = s.known.low; high = s.known.high }; cells = s.cells }
+
+pub quarters_working : (expansions : ℕ) (table : NodeTable) (desk : Desk) (level : ℕ) (plane : Plane) (quarters : List Sq) → AreQuarters (book_at table desk) level plane quarters → AreQuarters (work_at expansions table desk) level plane quarters
+quarters_working expansions table desk level plane quarters h = record {
+  nw = shows_working expansions table desk (level - 1) _ (nth quarters 0) h.nw;
+  ne = shows_working expansions table desk (level - 1) _ (nth quarters 1) h.ne;
+  sw = shows_working expansions table desk (level - 1) _ (nth quarters 2) h.sw;
+  se = shows_working expansions table desk (level - 1) _ (nth quarters 3) h.se;
+}
+
+pub ninths_working : (expansions : ℕ) (table : NodeTable) (desk : Desk) (level : ℕ) (plane : Plane) (squares : List Sq) → AreNinths (book_at table desk) level plane squares → AreNinths (work_at expansions table desk) level plane squares
+ninths_working expansions table desk level plane squares h =
+    record { shown = λ row column above left. shows_working expansions table desk (level - 1) _ (nth squares (3 * row + column)) (h.shown row column above left) }
 
 pub learns_working : (expansions : ℕ) (table : NodeTable) (old new : Desk) (sq : Sq) → Learns (book_at table old) (book_at table new) sq → Learns (work_at expansions table old) (work_at expansions table new) sq
 learns_working expansions table old new sq l =

@@ -2,6 +2,7 @@ pub mod Books
 pub mod Desks
 pub mod DesksAtWork
 pub mod GoodWords
+pub mod Halves
 pub mod Numbers
 pub mod Rule
 pub mod Stills

@@ -74,16 +74,8 @@ impl Squares for At<'_> {
     }
 
     fn read_parts(&mut self, sq: Sq) -> [Sq; 4] {
-        let level = sq.level - 1;
-        let (upper, lower) = self.desk.read_pair(self.table, sq.num.0);
-        let (nw, ne) = self.desk.read_pair(self.table, upper);
-        let (sw, se) = self.desk.read_pair(self.table, lower);
-        [
-            square(level, nw),
-            square(level, ne),
-            square(level, sw),
-            square(level, se),
-        ]
+        let (upper, lower) = self.desk.read_halves(self.table, sq);
+        [upper.left, upper.right, lower.left, lower.right]
     }
 
     fn leaf(&mut self, word: u64) -> Result<Sq, Refusal>
@@ -115,10 +107,13 @@ impl Squares for At<'_> {
         ensures results { KeepsResults (book_here self.old) (book_here self.new) }
     {
         let [nw, ne, sw, se] = quarters;
-        let upper = self.desk.pair(self.table, nw.num.0, ne.num.0)?;
-        let lower = self.desk.pair(self.table, sw.num.0, se.num.0)?;
-        let number = self.desk.pair(self.table, upper, lower)?;
-        Ok(square(nw.level + 1, number))
+        let upper = self.desk.half(self.table, nw, ne)?;
+        let lower = self.desk.half(self.table, sw, se)?;
+        self.desk.whole(self.table, upper, lower)
+    }
+
+    fn nine(&mut self, sq: Sq) -> Result<[Sq; 9], Refusal> {
+        self.desk.nine(self.table, sq)
     }
 
     fn recall(&mut self, sq: Sq) -> Option<Sq> {

@@ -6,7 +6,9 @@
 
 mod at;
 mod desk;
+mod halves;
 mod look;
+mod ninths;
 mod pairs;
 mod rules;
 mod search;

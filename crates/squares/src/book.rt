@@ -1,7 +1,7 @@
 ghost use Rattle.std.specs.Prelude.{◌≡◌, ◌<◌, ◌+◌, ◌-◌, IfOk, OnOk, OnErr, IfErr, IfSome, IfNone, IsOk, Some, MatchOption};
 ghost use Rattle.std.specs.List.{AllByRecursion};
 ghost use Rattle.plane.specs.Square.{bits_plane};
-ghost use Rattle.squares.specs.Book.{Book, IsBook, IsKnown, Shows, IsEmpty, IsFuture, HasResult, Keeps, KeepsResults, Learns, AddsResult, AreQuarters, MayRefuse, joined_squares, numbered, nth};
+ghost use Rattle.squares.specs.Book.{Book, IsBook, IsKnown, Shows, IsEmpty, IsFuture, HasResult, Keeps, KeepsResults, Learns, AddsResult, AreNinths, AreQuarters, MayRefuse, joined_squares, numbered, nth};
 
 use crate::sq::Sq;
 use plane::Refusal;
@@ -73,6 +73,16 @@ pub trait Squares {
         ensures ok { IfOk result (Shows (book self.new) ((nth quarters 0).level + 1)
             (joined_squares (book self.old) (nth quarters 0).level quarters)) }
         ensures empty { AllByRecursion IsEmpty quarters → IsOk result }
+        ensures refusal { IfErr result (MayRefuse (book self.new)) }
+        ensures keeps { Keeps (book self.old) (book self.new) }
+        ensures results { KeepsResults (book self.old) (book self.new) };
+
+    /// The nine overlapping squares of a square above level 4, row by row from the top, each with half
+    /// its side: they begin at 0, a quarter and a half of its side in each direction.
+    fn nine(&mut self, sq: Sq) -> Result<[Sq; 9], Refusal>
+        requires known { IsKnown (book self.old) sq.level sq }
+        requires level { 4 < sq.level }
+        ensures ok { IfOk result (AreNinths (book self.new) sq.level ((book self.old).cells sq)) }
         ensures refusal { IfErr result (MayRefuse (book self.new)) }
         ensures keeps { Keeps (book self.old) (book self.new) }
         ensures results { KeepsResults (book self.old) (book self.new) };

@@ -17,4 +17,4 @@ pub use copies::copy_square;
 pub use plain_book::PlainBook;
 pub use runs::{cells_to_square, runs_to_square};
 pub use sq::{Num, Sq};
-pub use subsquares::{centre, nine};
+pub use subsquares::centre;

@@ -1,5 +1,5 @@
 ghost use Rattle.std.specs.Prelude.{◌-◌, ◌<◌, IfOk, IfErr};
-ghost use Rattle.squares.specs.Book.{AreNinths, IsKnown, Shows, Keeps, KeepsResults, MayRefuse};
+ghost use Rattle.squares.specs.Book.{IsKnown, Shows, Keeps, KeepsResults, MayRefuse};
 ghost use Rattle.plane.specs.Square.{centre_of};
 ghost use Rattle.squares.specs.Parts.{ArePartsOfParts};
 
@@ -55,28 +55,4 @@ fn read_twice<S: Squares>(book: &mut S, sq: Sq) -> Parts
         sw,
         se,
     }
-}
-
-/// The nine overlapping squares of a square above level 4, row by row from the top, each with half
-/// its side: they begin at 0, a quarter and a half of its side in each direction.
-pub fn nine<S: Squares>(book: &mut S, sq: Sq) -> Result<[Sq; 9], Refusal>
-    requires known { IsKnown (S.book book.old) sq.level sq }
-    requires level { 4 < sq.level }
-    ensures ok { IfOk result (AreNinths (S.book book.new) sq.level ((S.book book.old).cells sq)) }
-    ensures refusal { IfErr result (MayRefuse (S.book book.new)) }
-    ensures keeps { Keeps (S.book book.old) (S.book book.new) }
-    ensures results { KeepsResults (S.book book.old) (S.book book.new) }
-{
-    let parts = read_twice(book, sq);
-    let [nw, ne, sw, se] = parts.whole;
-    let [_, nw_ne, nw_sw, nw_se] = parts.nw;
-    let [ne_nw, _, ne_sw, ne_se] = parts.ne;
-    let [sw_nw, sw_ne, _, sw_se] = parts.sw;
-    let [se_nw, se_ne, se_sw, _] = parts.se;
-    let upper = book.quad([nw_ne, ne_nw, nw_se, ne_sw])?;
-    let left = book.quad([nw_sw, nw_se, sw_nw, sw_ne])?;
-    let middle = book.quad([nw_se, ne_sw, sw_ne, se_nw])?;
-    let right = book.quad([ne_sw, ne_se, se_nw, se_ne])?;
-    let lower = book.quad([sw_ne, se_nw, sw_se, se_sw])?;
-    Ok([nw, upper, ne, left, middle, right, sw, lower, se])
 }

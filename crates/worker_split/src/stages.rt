@@ -11,7 +11,7 @@ ghost use Rattle.worker_split.specs.Rounds.{Continues};
 use crate::jobs::future_at;
 use node_table::{Desk, NodeTable};
 use plane::Refusal;
-use squares::{Num, Sq, Squares, nine};
+use squares::{Num, Sq, Squares};
 use std::alloc::Global;
 use std::collections::BTreeMap;
 
@@ -47,7 +47,7 @@ fn ninths_at(table: &NodeTable, desk: Desk, sq: Sq) -> (Desk, Result<[Sq; 9], Re
     ensures refusal { IfErr result.1 (Refuses (book_at table.now result.0)) }
 {
     let mut at = table.at(desk);
-    match nine(&mut at, sq) {
+    match at.nine(sq) {
         Ok(parts) => (at.leave(), Ok(parts)),
         Err(refusal) => (at.leave(), Err(refusal)),
     }

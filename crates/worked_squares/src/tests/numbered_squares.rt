@@ -3,7 +3,7 @@
 use crate::tests::books::{book_of, square_of, square_round};
 use crate::tests::places::{Place, cells_at};
 use plane::{Cell, Refusal};
-use squares::{Num, PlainBook, Sq, Squares, centre, copy_square, nine, runs_to_square};
+use squares::{Num, PlainBook, Sq, Squares, centre, copy_square, runs_to_square};
 use std::alloc::Global;
 use std::test::Fail;
 
@@ -107,7 +107,7 @@ fn inner_squares(alloc: Global, book: &mut PlainBook) -> Result<([Sq; 9], Sq), R
         return Err(Refusal::OutOfRange);
     }
     let middle = centre(book, whole)?;
-    Ok((nine(book, whole)?, middle))
+    Ok((book.nine(whole)?, middle))
 }
 
 // The leaves of the nine squares.

@@ -45,13 +45,13 @@ future_in_order-returns-clause-tally g t c =
 
 pub make-replace_by_futures-requires : goal.make-replace_by_futures-requires
 make-replace_by_futures-requires g t c κs within =
-    let known = ninths_known (g.S.Squares.book c.nine.new.book) c.args.sq.level _ c.in_ok-parts.parts (search rules) c.in_ok-parts.ensures.ok in
+    let known = ninths_known (g.S.Squares.book c.nine.new.self) c.args.sq.level _ c.in_ok-parts.parts (search rules) c.in_ok-parts.ensures.ok in
     search rules
 
 pub make-returns-in_err-replace_by_futures-clause-tally :
     goal.make-returns-in_err-replace_by_futures-clause-tally
 make-returns-in_err-replace_by_futures-clause-tally g t c =
-    made_between (g.S.Squares.book c.args.book.now) (g.S.Squares.book c.nine.new.book) (g.S.Squares.book c.replace_by_futures.new.book) (g.S.Squares.book c.replace_by_futures.new.book)
+    made_between (g.S.Squares.book c.args.book.now) (g.S.Squares.book c.nine.new.self) (g.S.Squares.book c.replace_by_futures.new.book) (g.S.Squares.book c.replace_by_futures.new.book)
     (c.args.sq.level - 1) (c.args.sq.level - 1) _ _ (omega arith) c.nine.ensures.results c.replace_by_futures.ensures.tally (results_none _)
 
 pub replace_by_futures-returns-in_err-squares-clause-tally :
@@ -161,7 +161,7 @@ pub make-returns-in_err-quarters-clause-tally : goal.make-returns-in_err-quarter
 make-returns-in_err-quarters-clause-tally g t c =
     let book = g.S.Squares.book in
     let up : c.args.sq.level - 1 - 1 + 1 ≡ c.args.sq.level - 1 = omega arith in
-    made_twice (book c.args.book.now) (book c.nine.new.book) (book c.replace_by_futures.new.book) (book c.replace_by_futures.new.book) (book c.finish.new.book) (book c.finish.new.book) (c.args.sq.level - 1) _ _ _
+    made_twice (book c.args.book.now) (book c.nine.new.self) (book c.replace_by_futures.new.book) (book c.replace_by_futures.new.book) (book c.finish.new.book) (book c.finish.new.book) (c.args.sq.level - 1) _ _ _
     c.nine.ensures.results c.replace_by_futures.ensures.tally (results_none _)
     (subst (λ n. Tallies (book c.replace_by_futures.new.book) (book c.finish.new.book) n c.replace_by_futures.new.tally.expansions c.finish.new.tally.expansions) up c.finish.ensures.tally) (results_none _)
 
@@ -181,7 +181,7 @@ pub make-returns-clause-ok : goal.make-returns-clause-ok
 make-returns-clause-ok g t c =
     let book = g.S.Squares.book in
     let old = book c.args.book.now in
-    let b1 = book c.nine.new.book in let b2 = book c.replace_by_futures.new.book in let b3 = book c.finish.new.book in
+    let b1 = book c.nine.new.self in let b2 = book c.replace_by_futures.new.book in let b3 = book c.finish.new.book in
     let k2 = c.replace_by_futures.ensures.keeps in let k3 = c.finish.ensures.keeps in
     let to2 = keeps_trans c.nine.ensures.keeps k2 in let to3 = keeps_trans to2 k3 in
     let nine : length c.in_ok-parts.parts ≡ 9 = search rules in
@@ -202,7 +202,7 @@ pub make-returns-clause-tally : goal.make-returns-clause-tally
 make-returns-clause-tally g t c =
     let book = g.S.Squares.book in
     let up : c.args.sq.level - 1 - 1 + 1 ≡ c.args.sq.level - 1 = omega arith in
-    made_twice (book c.args.book.now) (book c.nine.new.book) (book c.replace_by_futures.new.book) (book c.replace_by_futures.new.book) (book c.finish.new.book) (book c.quad.new.self) (c.args.sq.level - 1) _ _ _
+    made_twice (book c.args.book.now) (book c.nine.new.self) (book c.replace_by_futures.new.book) (book c.replace_by_futures.new.book) (book c.finish.new.book) (book c.quad.new.self) (c.args.sq.level - 1) _ _ _
     c.nine.ensures.results c.replace_by_futures.ensures.tally (results_none _)
     (subst (λ n. Tallies (book c.replace_by_futures.new.book) (book c.finish.new.book) n c.replace_by_futures.new.tally.expansions c.finish.new.tally.expansions) up c.finish.ensures.tally) c.quad.ensures.results
 

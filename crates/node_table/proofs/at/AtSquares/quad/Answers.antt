@@ -1,66 +1,74 @@
-use Rattle.std.proofs.Common.{◌+◌, sym, subst, rules}
-use Rattle.squares.specs.declared.sq.Sq.{Sq}
-use Rattle.squares.specs.Book.{Shows, joined_squares, nth, numbered}
-use Rattle.table_core.proofs.Knowing.{grows_refl, grows_trans}
-use Rattle.node_table.specs.Desks.{book_at, work_at}
+use Rattle.std.proofs.Common.{rules, refl}
+use Rattle.std.proofs.lemmas.Result.{IfOk-weaker, on_err_weaker}
+use Rattle.squares.specs.Book.{nth}
+use Rattle.squares.proofs.PlainQuads.{all_four}
+use Rattle.squares.proofs.Kept.{known_kept}
+use Rattle.node_table.specs.Desks.{book_at}
 use Rattle.node_table.proofs.Working.{keeps_working, all_known_at, shows_working}
-use Rattle.node_table.proofs.Quarters.{upper_parts, lower_parts, whole_parts, whole_shown, no_room_for_whole}
-use Rattle.node_table.proofs.Refusing.{on_err, no_upper_half, no_lower_half}
+use Rattle.node_table.proofs.Refusing.{on_err, no_upper_half, no_lower_half, no_whole}
+use Rattle.node_table.proofs.TwoHalves.{beside, book_kept, half_before, half_kept, half_of, joined_earlier, joined_of, learns_trans, make_square}
 use Rattle.node_table.proofs.at.AtSquares.quad.Goals as goal
 
-pub pair-requires-clause-parts : goal.pair-requires-clause-parts
-pair-requires-clause-parts c =
+pub half-requires-clause-squares : goal.half-requires-clause-squares
+half-requires-clause-squares c =
     let at = c.args.self.now in
-    upper_parts at.table.now at.desk c.args.quarters (search rules) (all_known_at at.expansions at.table.now at.desk (nth c.args.quarters 0).level c.args.quarters c.requires.known) c.requires.level at.desk at.of_table (grows_refl at.desk.seat.me.0.known)
+    let four = all_four _ c.args.quarters (search rules) (all_known_at at.expansions at.table.now at.desk (nth c.args.quarters 0).level c.args.quarters c.requires.known) in
+    beside c.requires.level four.nw four.ne
 
-pub pair-requires-2-clause-parts : goal.pair-requires-2-clause-parts
-pair-requires-2-clause-parts c =
+pub half-requires-2-clause-squares : goal.half-requires-2-clause-squares
+half-requires-2-clause-squares c =
     let at = c.args.self.now in
-    lower_parts at.table.now at.desk c.args.quarters (search rules) (all_known_at at.expansions at.table.now at.desk (nth c.args.quarters 0).level c.args.quarters c.requires.known) c.requires.level c.pair.new.self c.pair.ensures.table c.pair.ensures.grows
+    let four = all_four _ c.args.quarters (search rules) (all_known_at at.expansions at.table.now at.desk (nth c.args.quarters 0).level c.args.quarters c.requires.known) in
+    let keeps = book_kept c.half.ensures.desk in
+    beside c.requires.level (known_kept keeps four.sw) (known_kept keeps four.se)
 
-pub pair-requires-3-clause-parts : goal.pair-requires-3-clause-parts
-pair-requires-3-clause-parts c =
+pub whole-requires-clause-halves : goal.whole-requires-clause-halves
+whole-requires-clause-halves c =
     let at = c.args.self.now in
-    whole_parts at.table.now at.desk c.args.quarters (search rules) (all_known_at at.expansions at.table.now at.desk (nth c.args.quarters 0).level c.args.quarters c.requires.known) c.pair.new.self c.pair-2.new.self c.in_ok-upper.upper c.in_ok-lower.lower
-    c.pair.ensures.grows c.pair-2.ensures.grows c.in_ok-upper.ensures.ok c.in_ok-lower.ensures.ok c.requires.level c.pair-2.ensures.table
+    let four = all_four _ c.args.quarters (search rules) (all_known_at at.expansions at.table.now at.desk (nth c.args.quarters 0).level c.args.quarters c.requires.known) in
+    make_square c.requires.level (half_kept c.half-2.ensures.desk (half_of refl c.in_ok-upper.ensures.ok)) (half_of four.sw.at_level c.in_ok-lower.ensures.ok)
 
 pub returns-clause-ok : goal.returns-clause-ok
 returns-clause-ok c =
     let at = c.args.self.now in
-    let squares = c.args.quarters in
-    let level = (nth squares 0).level in
-    let last = c.pair-3.new.self in
-    subst (λ (s : Sq). Shows (work_at at.expansions at.table.now last) (level + 1) (joined_squares (book_at at.table.now at.desk) level squares) s) (sym c.square.ensures)
-    (shows_working at.expansions at.table.now last (level + 1) (joined_squares (book_at at.table.now at.desk) level squares) (numbered (level + 1) c.in_ok-number.number)
-    (whole_shown at.table.now at.desk squares (search rules) (all_known_at at.expansions at.table.now at.desk (nth c.args.quarters 0).level c.args.quarters c.requires.known) c.pair.new.self c.pair-2.new.self c.in_ok-upper.upper c.in_ok-lower.lower
-    c.pair.ensures.grows c.pair-2.ensures.grows c.in_ok-upper.ensures.ok c.in_ok-lower.ensures.ok c.requires.level last c.in_ok-number.number c.pair-3.ensures.table c.in_ok-number.ensures.ok))
+    let level = (nth c.args.quarters 0).level in
+    let four = all_four _ c.args.quarters (search rules) (all_known_at at.expansions at.table.now at.desk level c.args.quarters c.requires.known) in
+    let keeps = book_kept (learns_trans c.half.ensures.desk c.half-2.ensures.desk) in
+    let upper = c.in_ok-upper.ensures.ok in let lower = c.in_ok-lower.ensures.ok in
+    IfOk-weaker c.whole.result _ _
+    (λ sq is. shows_working at.expansions at.table.now c.whole.new.self _ _ sq (joined_earlier keeps four.nw four.ne four.sw four.se (joined_of (book_at at.table.now c.half-2.new.self) (book_at at.table.now c.whole.new.self) c.in_ok-upper.upper c.in_ok-lower.lower sq upper.left upper.right lower.left lower.right is)))
+    c.whole.ensures.ok
 
 pub returns-in_err-upper-clause-keeps : goal.returns-in_err-upper-clause-keeps
-returns-in_err-upper-clause-keeps c = keeps_working c.args.self.now.expansions c.args.self.now.table.now c.args.self.now.desk c.pair.new.self c.pair.ensures.table c.pair.ensures.grows
+returns-in_err-upper-clause-keeps c = keeps_working c.args.self.now.expansions c.args.self.now.table.now c.args.self.now.desk c.half.new.self c.half.ensures.desk.of_table c.half.ensures.desk.grows
 
 pub returns-in_err-lower-clause-keeps : goal.returns-in_err-lower-clause-keeps
 returns-in_err-lower-clause-keeps c =
-    keeps_working c.args.self.now.expansions c.args.self.now.table.now c.args.self.now.desk c.pair-2.new.self c.pair-2.ensures.table (grows_trans _ _ _ c.pair.ensures.grows c.pair-2.ensures.grows)
-
-pub returns-in_err-number-clause-keeps : goal.returns-in_err-number-clause-keeps
-returns-in_err-number-clause-keeps c =
-    keeps_working c.args.self.now.expansions c.args.self.now.table.now c.args.self.now.desk c.pair-3.new.self c.pair-3.ensures.table (grows_trans _ _ _ c.pair.ensures.grows (grows_trans _ _ _ c.pair-2.ensures.grows c.pair-3.ensures.grows))
-
-pub returns-in_err-upper-clause-full : goal.returns-in_err-upper-clause-full
-returns-in_err-upper-clause-full c =
-    on_err c.from_residual.result (no_upper_half c.args.self.now.table.now c.args.self.now.desk c.pair.new.self c.args.quarters c.in_err-upper.ensures.full)
-
-pub returns-in_err-lower-clause-full : goal.returns-in_err-lower-clause-full
-returns-in_err-lower-clause-full c =
-    on_err c.from_residual-in_err-lower.result (no_lower_half c.args.self.now.table.now c.args.self.now.desk c.pair-2.new.self c.args.quarters c.in_err-lower.ensures.full)
-
-pub returns-in_err-number-clause-full : goal.returns-in_err-number-clause-full
-returns-in_err-number-clause-full c =
-    let at = c.args.self.now in
-    on_err c.from_residual-in_err-number.result
-    (no_room_for_whole at.table.now at.desk c.args.quarters (search rules) (all_known_at at.expansions at.table.now at.desk (nth c.args.quarters 0).level c.args.quarters c.requires.known) c.pair.new.self c.pair-2.new.self c.in_ok-upper.upper c.in_ok-lower.lower
-    c.pair.ensures.grows c.pair-2.ensures.grows c.in_ok-upper.ensures.ok c.in_ok-lower.ensures.ok c.pair-3.new.self c.pair-3.ensures.grows c.in_err-number.ensures.full)
+    let learns = learns_trans c.half.ensures.desk c.half-2.ensures.desk in
+    keeps_working c.args.self.now.expansions c.args.self.now.table.now c.args.self.now.desk c.half-2.new.self learns.of_table learns.grows
 
 pub returns-clause-keeps : goal.returns-clause-keeps
 returns-clause-keeps c =
-    keeps_working c.args.self.now.expansions c.args.self.now.table.now c.args.self.now.desk c.pair-3.new.self c.pair-3.ensures.table (grows_trans _ _ _ c.pair.ensures.grows (grows_trans _ _ _ c.pair-2.ensures.grows c.pair-3.ensures.grows))
+    let learns = learns_trans c.half.ensures.desk (learns_trans c.half-2.ensures.desk c.whole.ensures.desk) in
+    keeps_working c.args.self.now.expansions c.args.self.now.table.now c.args.self.now.desk c.whole.new.self learns.of_table learns.grows
+
+pub returns-in_err-upper-clause-full : goal.returns-in_err-upper-clause-full
+returns-in_err-upper-clause-full c =
+    on_err c.from_residual.result (no_upper_half c.args.self.now.table.now c.args.self.now.desk c.half.new.self c.args.quarters c.in_err-upper.ensures.full)
+
+pub returns-in_err-lower-clause-full : goal.returns-in_err-lower-clause-full
+returns-in_err-lower-clause-full c =
+    on_err c.from_residual-in_err-lower.result (no_lower_half c.args.self.now.table.now c.args.self.now.desk c.half-2.new.self c.args.quarters c.in_err-lower.ensures.full)
+
+pub returns-clause-full : goal.returns-clause-full
+returns-clause-full c =
+    let at = c.args.self.now in
+    let level = (nth c.args.quarters 0).level in
+    let four = all_four _ c.args.quarters (search rules) (all_known_at at.expansions at.table.now at.desk level c.args.quarters c.requires.known) in
+    let upper = c.in_ok-upper.ensures.ok in let lower = c.in_ok-lower.ensures.ok in
+    let both = learns_trans c.half.ensures.desk c.half-2.ensures.desk in
+    let later = c.whole.ensures.desk.grows in
+    on_err_weaker c.whole.result (no_whole at.table.now at.desk c.whole.new.self c.args.quarters c.in_ok-upper.upper.number c.in_ok-lower.lower.number
+    (half_before c.whole.new.self both later four.nw four.ne upper.left upper.right (half_kept c.half-2.ensures.desk (half_of refl upper)))
+    (half_before c.whole.new.self both later four.sw four.se lower.left lower.right (half_of four.sw.at_level lower)))
+    c.whole.ensures.full

@@ -1,0 +1,161 @@
+-- Halves of squares: made of two squares, kept, read, and made into a square.
+use Rattle.std.proofs.Common.{◌≡◌, ℕ, suc, ◌+◌, ◌-◌, ◌^◌, ◌<◌, [], ◌∷◌, sym, subst, arith, refl}
+use Rattle.plane.specs.Plane.{Plane}
+use Rattle.plane.specs.Square.{IsSame}
+use Rattle.plane.proofs.Cuts.{joined_same}
+use Rattle.plane.proofs.Same.{same_sym, same_trans}
+use Rattle.squares.specs.declared.sq.Sq.{Sq}
+use Rattle.squares.specs.Book.{Book, AreQuarters, IsKnown, Keeps, Shows, joined_squares, numbered}
+use Rattle.squares.proofs.Kept.{known_kept}
+use Rattle.squares.proofs.NineSquares.{IsJoined}
+use Rattle.table_core.specs.declared.knowledge.Knowledge.{Knowledge}
+use Rattle.table_core.specs.Layout.{pair_of}
+use Rattle.table_core.specs.Blocks.{paired, square_rank}
+use Rattle.table_core.specs.Knowledge.{KnowsBlock, Grows}
+use Rattle.table_core.specs.Lawful.{KnowsParts}
+use Rattle.table_core.proofs.Blocks.{paired_same}
+use Rattle.table_core.proofs.Knowing.{grows_trans, knows_grown, knows_same}
+use Rattle.node_table.specs.declared.desk.Desk.{Desk}
+use Rattle.node_table.specs.declared.halves.Half.{Half}
+use Rattle.node_table.specs.declared.table.NodeTable.{NodeTable}
+use Rattle.node_table.specs.Books.{cells_in}
+use Rattle.node_table.specs.Desks.{IsDeskOf, store_of, book_at}
+use Rattle.node_table.specs.Halves.{AreBeside, AreHalves, IsHalfOf, KnowsHalf, LearnsBlocks, MakeSquare, squares_of}
+use Rattle.node_table.specs.Numbers.{IsPair}
+use Rattle.node_table.specs.Refusals.{IsHalf, known_by, word_of}
+use Rattle.node_table.proofs.Books.{shows_of}
+use Rattle.node_table.proofs.Desks.{coherent_at, keeps_at, knows_parts, known_block}
+use Rattle.node_table.proofs.Searching.{told_trans}
+use Rattle.node_table.proofs.TwoBlocks.{quad_shown}
+
+-- a desk that learns blocks keeps its book
+pub book_kept : {table : NodeTable} {old new : Desk} → LearnsBlocks table old new → Keeps (book_at table old) (book_at table new)
+book_kept {table} {old} {new} learns = keeps_at table old new learns.of_table learns.grows
+
+pub learns_trans : {table : NodeTable} {a b c : Desk} → LearnsBlocks table a b → LearnsBlocks table b c → LearnsBlocks table a c
+learns_trans h k = record { of_table = k.of_table; grows = grows_trans _ _ _ h.grows k.grows; told = told_trans _ _ _ h.told k.told }
+
+-- two known squares of a level, as those that stand beside one another
+pub beside : {book : Book} {level : ℕ} {left right : Sq} → level < 65 → IsKnown book level left → IsKnown book level right → AreBeside book left right
+beside {book} {level} {left} {right} fits k l = record {
+  fits = subst (λ n. n < 65) (sym k.at_level) fits;
+  left = subst (λ n. IsKnown book n left) (sym k.at_level) k;
+  right = subst (λ n. IsKnown book n right) (sym k.at_level) l;
+}
+
+-- they are known as the parts of their half
+pub beside_parts : {table : NodeTable} {desk : Desk} {left right : Sq} → IsDeskOf table desk → AreBeside (book_at table desk) left right → KnowsParts (known_by desk) (word_of left right)
+beside_parts {table} {desk} {left} {right} of_table are =
+    let fits = are.fits in let low = are.left.low in
+    knows_parts table.key (known_by desk) (square_rank left.level) left.num.0 right.num.0 (cells_in (known_by desk) left) (cells_in (known_by desk) right) (coherent_at table desk of_table) (omega arith)
+    (known_block (known_by desk) left.level left refl are.left.known) (known_block (known_by desk) left.level right are.right.at_level are.right.known)
+
+-- the half that is made of them
+pub half_made : {table : NodeTable} {old new : Desk} {left right : Sq} {number : ℕ} → LearnsBlocks table old new → AreBeside (book_at table old) left right →
+    IsPair (known_by old) (known_by new) left.num.0 right.num.0 number → IsHalfOf table new left right (record { left = left; right = right; number = number })
+half_made {table} {old} {new} {left} {right} learns are is =
+    let keeps = book_kept learns in
+    let rank = square_rank left.level in
+    let block = λ (sq : Sq) (known : IsKnown (book_at table old) left.level sq).
+    knows_same (known_by old) rank sq.num.0 (cells_in (known_by old) sq) (cells_in (known_by new) sq) (same_sym (keeps.cells sq known.known)) (known_block (known_by old) left.level sq known.at_level known.known) in
+    record {
+      left = refl;
+      right = refl;
+      known = record {
+        left = known_kept keeps are.left;
+        right = known_kept keeps are.right;
+        shown = is.shown rank (cells_in (known_by new) left) (cells_in (known_by new) right) (block left are.left) (block right are.right);
+      };
+    }
+
+-- what a half showed it shows to one that knows more, and in the cells that another sees
+pub half_again : (a b c d : Knowledge) (left right : Sq) (number : ℕ) → Grows b c → IsSame (cells_in a left) (cells_in d left) → IsSame (cells_in a right) (cells_in d right) → IsHalf a b left right number → IsHalf d c left right number
+half_again a b c d left right number grows one two is =
+    let rank = square_rank left.level in
+    knows_same c (suc rank) number _ _ (paired_same rank _ _ _ _ one two) (knows_grown b c (suc rank) number _ grows is)
+
+pub half_kept : {table : NodeTable} {old new : Desk} {level : ℕ} {half : Half} → LearnsBlocks table old new → KnowsHalf table old level half → KnowsHalf table new level half
+half_kept {table} {old} {new} {level} {half} learns h =
+    let keeps = book_kept learns in
+    record {
+      left = known_kept keeps h.left;
+      right = known_kept keeps h.right;
+      shown = half_again (known_by old) (known_by old) (known_by new) (known_by new) half.left half.right half.number learns.grows (same_sym (keeps.cells half.left h.left.known)) (same_sym (keeps.cells half.right h.right.known)) h.shown;
+    }
+
+half_level : {table : NodeTable} {desk : Desk} {level other : ℕ} {half : Half} → level ≡ other → KnowsHalf table desk level half → KnowsHalf table desk other half
+half_level {table} {desk} {half = half} e h = subst (λ n. KnowsHalf table desk n half) e h
+
+-- the half of two squares of a level
+pub half_of : {table : NodeTable} {desk : Desk} {level : ℕ} {left right : Sq} {half : Half} → left.level ≡ level → IsHalfOf table desk left right half → KnowsHalf table desk level half
+half_of e is = half_level e is.known
+
+-- two known halves of a level, as those of a square
+pub make_square : {table : NodeTable} {desk : Desk} {level : ℕ} {upper lower : Half} → level < 65 → KnowsHalf table desk level upper → KnowsHalf table desk level lower → MakeSquare table desk upper lower
+make_square fits h k = record {
+  fits = subst (λ n. n < 65) (sym h.left.at_level) fits;
+  upper = half_level (sym h.left.at_level) h;
+  lower = half_level (sym h.left.at_level) k;
+}
+
+module _ {table : NodeTable} {old : Desk} {upper lower : Half} (of_table : IsDeskOf table old) (halves : MakeSquare table old upper lower) where
+  abbrev level : ℕ
+  level = upper.left.level
+
+  abbrev rank : ℕ
+  rank = square_rank level
+
+  abbrev cells : Sq → Plane
+  cells = cells_in (known_by old)
+
+  bottom : KnowsBlock (known_by old) (suc rank) lower.number (paired rank (cells lower.left) (cells lower.right))
+  bottom = subst (λ n. KnowsBlock (known_by old) (suc (square_rank n)) lower.number (paired (square_rank n) (cells lower.left) (cells lower.right))) halves.lower.left.at_level halves.lower.shown
+
+  -- they are known as its parts
+  pub whole_parts : KnowsParts (known_by old) (pair_of upper.number lower.number)
+  whole_parts =
+      let fits = halves.fits in let low = halves.upper.left.low in
+      knows_parts table.key (known_by old) (suc rank) upper.number lower.number (paired rank (cells upper.left) (cells upper.right)) (paired rank (cells lower.left) (cells lower.right)) (coherent_at table old of_table) (omega arith)
+      halves.upper.shown bottom
+
+  -- the square that is made of them
+  pub whole_shown : {new : Desk} {number : ℕ} → IsDeskOf table new → IsPair (known_by old) (known_by new) upper.number lower.number number →
+      Shows (book_at table new) (level + 1) (joined_squares (book_at table old) level (squares_of upper lower)) (numbered (level + 1) number)
+  whole_shown {new} {number} at is =
+      let fits = halves.fits in let low = halves.upper.left.low in
+      shows_of (store_of table) table.key (known_by new) (numbered (level + 1) number) (joined_squares (book_at table old) level (squares_of upper lower)) (coherent_at table new at) (omega arith) (omega arith)
+      (quad_shown (known_by old) (known_by new) level upper.number lower.number number (cells upper.left) (cells upper.right) (cells lower.left) (cells lower.right) low is halves.upper.shown bottom)
+
+-- the halves that were read of a square
+pub halves_read : {table : NodeTable} {desk : Desk} {level : ℕ} {plane : Plane} {upper lower a b c d : ℕ} {nw ne sw se : Sq} →
+    nw ≡ numbered (level - 1) a → ne ≡ numbered (level - 1) b → sw ≡ numbered (level - 1) c → se ≡ numbered (level - 1) d →
+    AreQuarters (book_at table desk) level plane (numbered (level - 1) a ∷ numbered (level - 1) b ∷ numbered (level - 1) c ∷ numbered (level - 1) d ∷ []) →
+    IsHalf (known_by desk) (known_by desk) (numbered (level - 1) a) (numbered (level - 1) b) upper → IsHalf (known_by desk) (known_by desk) (numbered (level - 1) c) (numbered (level - 1) d) lower →
+    AreHalves table desk level plane (record { left = nw; right = ne; number = upper }) (record { left = sw; right = se; number = lower })
+halves_read {table} {desk} {level} {plane} {upper} {lower} {a} {b} {c} {d} e f g h are top bottom =
+    let read : AreHalves table desk level plane (record { left = numbered (level - 1) a; right = numbered (level - 1) b; number = upper }) (record { left = numbered (level - 1) c; right = numbered (level - 1) d; number = lower }) = record {
+      quarters = are;
+      upper = record { left = are.nw.known; right = are.ne.known; shown = top };
+      lower = record { left = are.sw.known; right = are.se.known; shown = bottom };
+    } in
+    subst (λ (halves : Half × Half). AreHalves table desk level plane halves.0 halves.1) (λ i. (record { left = sym e i; right = sym f i; number = upper }, record { left = sym g i; right = sym h i; number = lower })) read
+
+-- what was joined in a later book, in the cells of an older one
+pub joined_earlier : {old mid new : Book} {a b c d sq : Sq} → Keeps old mid → IsKnown old a.level a → IsKnown old a.level b → IsKnown old a.level c → IsKnown old a.level d →
+    IsJoined mid new (a ∷ b ∷ c ∷ d ∷ []) sq → IsJoined old new (a ∷ b ∷ c ∷ d ∷ []) sq
+joined_earlier {a = a} {b = b} {c = c} {d = d} keeps in_a in_b in_c in_d is = record {
+  known = is.known;
+  cells = same_trans is.cells (joined_same (2 ^ a.level) _ _ _ _ _ _ _ _ (keeps.cells a in_a.known) (keeps.cells b in_b.known) (keeps.cells c in_c.known) (keeps.cells d in_d.known));
+}
+
+-- a square that halves make, as that of the squares that stand in them
+pub joined_of : (old new : Book) (upper lower : Half) (sq : Sq) {a b c d : Sq} → upper.left ≡ a → upper.right ≡ b → lower.left ≡ c → lower.right ≡ d → IsJoined old new (squares_of upper lower) sq → IsJoined old new (a ∷ b ∷ c ∷ d ∷ []) sq
+joined_of old new upper lower sq e f g h is = subst (λ squares. IsJoined old new squares sq) (λ i. e i ∷ f i ∷ g i ∷ h i ∷ []) is
+
+-- a known half, to one that knew its squares before
+pub half_before : {table : NodeTable} {old mid : Desk} (new : Desk) {level : ℕ} {half : Half} {left right : Sq} → LearnsBlocks table old mid → Grows (known_by mid) (known_by new) → IsKnown (book_at table old) level left → IsKnown (book_at table old) level right →
+    half.left ≡ left → half.right ≡ right → KnowsHalf table mid level half → IsHalf (known_by old) (known_by new) left right half.number
+half_before {table} {old} {mid} new {level} {half} {left} {right} learns grows in_left in_right e f h =
+    let keeps = book_kept learns in
+    let is = subst (λ (two : Sq × Sq). IsHalf (known_by mid) (known_by mid) two.0 two.1 half.number) (λ i. (e i, f i)) h.shown in
+    half_again (known_by mid) (known_by mid) (known_by new) (known_by old) left right half.number grows (keeps.cells left in_left.known) (keeps.cells right in_right.known) is

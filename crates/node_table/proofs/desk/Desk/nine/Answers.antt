@@ -1,0 +1,77 @@
+use Rattle.squares.proofs.NineSquares.{nine_made}
+use Rattle.node_table.specs.Desks.{book_at}
+use Rattle.node_table.proofs.TwoHalves.{book_kept, half_kept, half_of, joined_of, learns_trans}
+use Rattle.node_table.proofs.NineByHalves.{are_parts, column_halves, left_halves, parts_kept, right_halves, second_beside, third_beside, fourth_beside}
+use Rattle.node_table.proofs.desk.Desk.nine.Goals as goal
+
+pub half-requires-2-clause-squares : goal.half-requires-2-clause-squares
+half-requires-2-clause-squares c = second_beside c.requires.level c.requires.known.high (parts_kept c.half.ensures.desk c.read_halves_of_quarters-parts.ensures.value)
+
+pub half-requires-3-clause-squares : goal.half-requires-3-clause-squares
+half-requires-3-clause-squares c = third_beside c.requires.level c.requires.known.high (parts_kept (learns_trans c.half.ensures.desk c.half-2.ensures.desk) c.read_halves_of_quarters-parts.ensures.value)
+
+pub half-requires-4-clause-squares : goal.half-requires-4-clause-squares
+half-requires-4-clause-squares c = fourth_beside c.requires.level c.requires.known.high (parts_kept (learns_trans c.half.ensures.desk (learns_trans c.half-2.ensures.desk c.half-3.ensures.desk)) c.read_halves_of_quarters-parts.ensures.value)
+
+pub whole-requires-clause-halves : goal.whole-requires-clause-halves
+whole-requires-clause-halves c =
+    column_halves c.requires.level c.requires.known.high (parts_kept (learns_trans c.half.ensures.desk (learns_trans c.half-2.ensures.desk (learns_trans c.half-3.ensures.desk c.half-4.ensures.desk))) c.read_halves_of_quarters-parts.ensures.value)
+    (half_kept (learns_trans c.half-2.ensures.desk (learns_trans c.half-3.ensures.desk c.half-4.ensures.desk)) (half_of c.read_halves_of_quarters-parts.ensures.value.nw.quarters.ne.known.at_level c.in_ok-first.ensures.ok))
+    (half_kept (learns_trans c.half-3.ensures.desk c.half-4.ensures.desk) (half_of c.read_halves_of_quarters-parts.ensures.value.nw.quarters.se.known.at_level c.in_ok-second.ensures.ok))
+
+pub whole-requires-2-clause-halves : goal.whole-requires-2-clause-halves
+whole-requires-2-clause-halves c = left_halves c.requires.level c.requires.known.high (parts_kept (learns_trans c.half.ensures.desk (learns_trans c.half-2.ensures.desk (learns_trans c.half-3.ensures.desk (learns_trans c.half-4.ensures.desk c.whole.ensures.desk)))) c.read_halves_of_quarters-parts.ensures.value)
+
+pub whole-requires-3-clause-halves : goal.whole-requires-3-clause-halves
+whole-requires-3-clause-halves c =
+    column_halves c.requires.level c.requires.known.high (parts_kept (learns_trans c.half.ensures.desk (learns_trans c.half-2.ensures.desk (learns_trans c.half-3.ensures.desk (learns_trans c.half-4.ensures.desk (learns_trans c.whole.ensures.desk c.whole-2.ensures.desk))))) c.read_halves_of_quarters-parts.ensures.value)
+    (half_kept (learns_trans c.half-3.ensures.desk (learns_trans c.half-4.ensures.desk (learns_trans c.whole.ensures.desk c.whole-2.ensures.desk))) (half_of c.read_halves_of_quarters-parts.ensures.value.nw.quarters.se.known.at_level c.in_ok-second.ensures.ok))
+    (half_kept (learns_trans c.half-4.ensures.desk (learns_trans c.whole.ensures.desk c.whole-2.ensures.desk)) (half_of c.read_halves_of_quarters-parts.ensures.value.sw.quarters.ne.known.at_level c.in_ok-third.ensures.ok))
+
+pub whole-requires-4-clause-halves : goal.whole-requires-4-clause-halves
+whole-requires-4-clause-halves c = right_halves c.requires.level c.requires.known.high (parts_kept (learns_trans c.half.ensures.desk (learns_trans c.half-2.ensures.desk (learns_trans c.half-3.ensures.desk (learns_trans c.half-4.ensures.desk (learns_trans c.whole.ensures.desk (learns_trans c.whole-2.ensures.desk c.whole-3.ensures.desk)))))) c.read_halves_of_quarters-parts.ensures.value)
+
+pub whole-requires-5-clause-halves : goal.whole-requires-5-clause-halves
+whole-requires-5-clause-halves c =
+    column_halves c.requires.level c.requires.known.high (parts_kept (learns_trans c.half.ensures.desk (learns_trans c.half-2.ensures.desk (learns_trans c.half-3.ensures.desk (learns_trans c.half-4.ensures.desk (learns_trans c.whole.ensures.desk (learns_trans c.whole-2.ensures.desk (learns_trans c.whole-3.ensures.desk c.whole-4.ensures.desk))))))) c.read_halves_of_quarters-parts.ensures.value)
+    (half_kept (learns_trans c.half-4.ensures.desk (learns_trans c.whole.ensures.desk (learns_trans c.whole-2.ensures.desk (learns_trans c.whole-3.ensures.desk c.whole-4.ensures.desk)))) (half_of c.read_halves_of_quarters-parts.ensures.value.sw.quarters.ne.known.at_level c.in_ok-third.ensures.ok))
+    (half_kept (learns_trans c.whole.ensures.desk (learns_trans c.whole-2.ensures.desk (learns_trans c.whole-3.ensures.desk c.whole-4.ensures.desk))) (half_of c.read_halves_of_quarters-parts.ensures.value.sw.quarters.se.known.at_level c.in_ok-fourth.ensures.ok))
+
+pub returns-in_err-second-clause-desk : goal.returns-in_err-second-clause-desk
+returns-in_err-second-clause-desk c = learns_trans c.read_halves_of_quarters-parts.ensures.desk (learns_trans c.half.ensures.desk c.half-2.ensures.desk)
+
+pub returns-in_err-third-clause-desk : goal.returns-in_err-third-clause-desk
+returns-in_err-third-clause-desk c = learns_trans c.read_halves_of_quarters-parts.ensures.desk (learns_trans c.half.ensures.desk (learns_trans c.half-2.ensures.desk c.half-3.ensures.desk))
+
+pub returns-in_err-fourth-clause-desk : goal.returns-in_err-fourth-clause-desk
+returns-in_err-fourth-clause-desk c = learns_trans c.read_halves_of_quarters-parts.ensures.desk (learns_trans c.half.ensures.desk (learns_trans c.half-2.ensures.desk (learns_trans c.half-3.ensures.desk c.half-4.ensures.desk)))
+
+pub returns-in_err-upper-clause-desk : goal.returns-in_err-upper-clause-desk
+returns-in_err-upper-clause-desk c = learns_trans c.read_halves_of_quarters-parts.ensures.desk (learns_trans c.half.ensures.desk (learns_trans c.half-2.ensures.desk (learns_trans c.half-3.ensures.desk (learns_trans c.half-4.ensures.desk c.whole.ensures.desk))))
+
+pub returns-in_err-left-clause-desk : goal.returns-in_err-left-clause-desk
+returns-in_err-left-clause-desk c = learns_trans c.read_halves_of_quarters-parts.ensures.desk (learns_trans c.half.ensures.desk (learns_trans c.half-2.ensures.desk (learns_trans c.half-3.ensures.desk (learns_trans c.half-4.ensures.desk (learns_trans c.whole.ensures.desk c.whole-2.ensures.desk)))))
+
+pub returns-in_err-middle-clause-desk : goal.returns-in_err-middle-clause-desk
+returns-in_err-middle-clause-desk c = learns_trans c.read_halves_of_quarters-parts.ensures.desk (learns_trans c.half.ensures.desk (learns_trans c.half-2.ensures.desk (learns_trans c.half-3.ensures.desk (learns_trans c.half-4.ensures.desk (learns_trans c.whole.ensures.desk (learns_trans c.whole-2.ensures.desk c.whole-3.ensures.desk))))))
+
+pub returns-in_err-right-clause-desk : goal.returns-in_err-right-clause-desk
+returns-in_err-right-clause-desk c = learns_trans c.read_halves_of_quarters-parts.ensures.desk (learns_trans c.half.ensures.desk (learns_trans c.half-2.ensures.desk (learns_trans c.half-3.ensures.desk (learns_trans c.half-4.ensures.desk (learns_trans c.whole.ensures.desk (learns_trans c.whole-2.ensures.desk (learns_trans c.whole-3.ensures.desk c.whole-4.ensures.desk)))))))
+
+pub returns-in_err-lower-clause-desk : goal.returns-in_err-lower-clause-desk
+returns-in_err-lower-clause-desk c = learns_trans c.read_halves_of_quarters-parts.ensures.desk (learns_trans c.half.ensures.desk (learns_trans c.half-2.ensures.desk (learns_trans c.half-3.ensures.desk (learns_trans c.half-4.ensures.desk (learns_trans c.whole.ensures.desk (learns_trans c.whole-2.ensures.desk (learns_trans c.whole-3.ensures.desk (learns_trans c.whole-4.ensures.desk c.whole-5.ensures.desk))))))))
+
+pub returns-clause-desk : goal.returns-clause-desk
+returns-clause-desk c = learns_trans c.read_halves_of_quarters-parts.ensures.desk (learns_trans c.half.ensures.desk (learns_trans c.half-2.ensures.desk (learns_trans c.half-3.ensures.desk (learns_trans c.half-4.ensures.desk (learns_trans c.whole.ensures.desk (learns_trans c.whole-2.ensures.desk (learns_trans c.whole-3.ensures.desk (learns_trans c.whole-4.ensures.desk c.whole-5.ensures.desk))))))))
+
+pub returns-clause-ok : goal.returns-clause-ok
+returns-clause-ok c =
+    let book = book_at c.args.table.now in
+    let first = c.in_ok-first.ensures.ok in let second = c.in_ok-second.ensures.ok in let third = c.in_ok-third.ensures.ok in let fourth = c.in_ok-fourth.ensures.ok in
+    nine_made c.args.sq.level _ _ c.requires.level c.requires.known.high (book c.half-4.new.self) (book c.whole.new.self) (book c.whole-2.new.self) (book c.whole-3.new.self) (book c.whole-4.new.self) (book c.whole-5.new.self)
+    c.in_ok-upper.upper c.in_ok-left.left c.in_ok-middle.middle c.in_ok-right.right c.in_ok-lower.lower (are_parts (parts_kept (learns_trans c.half.ensures.desk (learns_trans c.half-2.ensures.desk (learns_trans c.half-3.ensures.desk c.half-4.ensures.desk))) c.read_halves_of_quarters-parts.ensures.value))
+    (book_kept c.whole.ensures.desk) (joined_of (book c.half-4.new.self) (book c.whole.new.self) c.in_ok-first.first c.in_ok-second.second _ first.left first.right second.left second.right c.in_ok-upper.ensures.ok)
+    (book_kept c.whole-2.ensures.desk) c.in_ok-left.ensures.ok
+    (book_kept c.whole-3.ensures.desk) (joined_of (book c.whole-2.new.self) (book c.whole-3.new.self) c.in_ok-second.second c.in_ok-third.third _ second.left second.right third.left third.right c.in_ok-middle.ensures.ok)
+    (book_kept c.whole-4.ensures.desk) c.in_ok-right.ensures.ok
+    (book_kept c.whole-5.ensures.desk) (joined_of (book c.whole-4.new.self) (book c.whole-5.new.self) c.in_ok-third.third c.in_ok-fourth.fourth _ third.left third.right fourth.left fourth.right c.in_ok-lower.ensures.ok)

@@ -1,0 +1,61 @@
+-- Halves of squares, and what a desk knows of them.
+use Rattle.std.specs.Prelude.{◌≡◌, ℕ, ◌-◌, ◌<◌, List, [], ◌∷◌}
+use Rattle.plane.specs.Plane.{Plane}
+use Rattle.squares.specs.declared.sq.Sq.{Sq}
+use Rattle.squares.specs.Book.{Book, AreQuarters, IsKnown, nth}
+use Rattle.table_core.specs.Knowledge.{Grows}
+use Rattle.node_table.specs.declared.desk.Desk.{Desk}
+use Rattle.node_table.specs.declared.halves.Half.{Half}
+use Rattle.node_table.specs.declared.ninths.HalvesOfQuarters.{HalvesOfQuarters}
+use Rattle.node_table.specs.declared.table.NodeTable.{NodeTable}
+use Rattle.node_table.specs.Desks.{IsDeskOf, book_at}
+use Rattle.node_table.specs.Numbers.{KeepsTold}
+use Rattle.node_table.specs.Refusals.{IsHalf, known_by}
+
+-- the desk, one of this table, knows all that it knew, and no other result
+pub record LearnsBlocks (table : NodeTable) (old new : Desk) : Type 0 where
+  pub of_table : IsDeskOf table new
+  pub grows : Grows (known_by old) (known_by new)
+  pub told : KeepsTold (known_by old) (known_by new)
+
+-- two known squares of one level, of which larger ones can be made
+pub record AreBeside (book : Book) (first second : Sq) : Type 0 where
+  pub fits : first.level < 65
+  pub left : IsKnown book first.level first
+  pub right : IsKnown book first.level second
+
+-- the desk knows both squares of the half, which are of this level, and that its number shows the two
+pub record KnowsHalf (table : NodeTable) (desk : Desk) (level : ℕ) (half : Half) : Type 0 where
+  pub left : IsKnown (book_at table desk) level half.left
+  pub right : IsKnown (book_at table desk) level half.right
+  pub shown : IsHalf (known_by desk) (known_by desk) half.left half.right half.number
+
+-- the half is these two squares side by side
+pub record IsHalfOf (table : NodeTable) (desk : Desk) (first second : Sq) (half : Half) : Type 0 where
+  pub left : half.left ≡ first
+  pub right : half.right ≡ second
+  pub known : KnowsHalf table desk first.level half
+
+-- the quarters of the square that two halves make
+abbrev pub squares_of : Half → Half → List Sq
+squares_of upper lower = upper.left ∷ upper.right ∷ lower.left ∷ lower.right ∷ []
+
+-- two known halves of squares of one level
+pub record MakeSquare (table : NodeTable) (desk : Desk) (top bottom : Half) : Type 0 where
+  pub fits : top.left.level < 65
+  pub upper : KnowsHalf table desk top.left.level top
+  pub lower : KnowsHalf table desk top.left.level bottom
+
+-- the halves of a square of this level with these cells
+pub record AreHalves (table : NodeTable) (desk : Desk) (level : ℕ) (plane : Plane) (top bottom : Half) : Type 0 where
+  pub quarters : AreQuarters (book_at table desk) level plane (squares_of top bottom)
+  pub upper : KnowsHalf table desk (level - 1) top
+  pub lower : KnowsHalf table desk (level - 1) bottom
+
+-- the quarters of a square of this level with these cells, and the halves of each
+pub record AreHalvesOfQuarters (table : NodeTable) (desk : Desk) (level : ℕ) (plane : Plane) (parts : HalvesOfQuarters) : Type 0 where
+  pub quarters : AreQuarters (book_at table desk) level plane parts.quarters
+  pub nw : AreHalves table desk (level - 1) ((book_at table desk).cells (nth parts.quarters 0)) parts.nw.0 parts.nw.1
+  pub ne : AreHalves table desk (level - 1) ((book_at table desk).cells (nth parts.quarters 1)) parts.ne.0 parts.ne.1
+  pub sw : AreHalves table desk (level - 1) ((book_at table desk).cells (nth parts.quarters 2)) parts.sw.0 parts.sw.1
+  pub se : AreHalves table desk (level - 1) ((book_at table desk).cells (nth parts.quarters 3)) parts.se.0 parts.se.1
