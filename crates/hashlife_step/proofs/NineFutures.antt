@@ -42,7 +42,8 @@ pub of_first : (book : Book) (level : ℕ) (four : List Sq) → 0 < length four 
 of_first book level four some known =
     recursion_from_All (IsKnown book (nth four 0).level) four (subst (λ n. All (IsKnown book n) four) (sym (known 0 (numbered 0 0) some).at_level) known)
 
-neighbours_later : (old new : Book) (level : ℕ) (nine : List Sq) (k : ℕ) → Keeps old new → All (IsKnown old level) nine → k + 4 < length nine → IsSame (neighbours old level nine k) (neighbours new level nine k)
+-- the cells of neighbours, as a later book shows them
+pub neighbours_later : (old new : Book) (level : ℕ) (nine : List Sq) (k : ℕ) → Keeps old new → All (IsKnown old level) nine → k + 4 < length nine → IsSame (neighbours old level nine k) (neighbours new level nine k)
 neighbours_later old new level nine k keeps known less =
     let same = λ (i : ℕ) (inside : i < length nine). same_sym (keeps.cells (nth nine i) (known i (numbered 0 0) inside).known) in
     joined_same (2 ^ level) _ _ _ _ _ _ _ _ (same k (omega arith)) (same (k + 1) (omega arith)) (same (k + 3) (omega arith)) (same (k + 4) (omega arith))

@@ -2,6 +2,7 @@
 //! round a square that a step needs, and the steps that a number of generations takes.
 #![tactic(auto)]
 
+mod centres;
 mod leaf_squares;
 mod orders;
 mod overlaps;

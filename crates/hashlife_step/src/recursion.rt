@@ -3,9 +3,10 @@ ghost use Rattle.squares.specs.Book.{HasResult, IsFuture, IsKnown, Keeps, KeepsR
 ghost use Rattle.hashlife_step.specs.Futures.{AreFinished, AreFutures};
 ghost use Rattle.hashlife_step.specs.Tallies.{Tallies};
 
+use crate::centres::middles;
 use crate::leaf_squares::{leaf_future, life_future};
 use crate::orders::turn;
-use crate::overlaps::{middles, overlaps};
+use crate::overlaps::overlaps;
 use crate::tally::Tally;
 use leaf_kernels::is_life;
 use plane::Refusal;

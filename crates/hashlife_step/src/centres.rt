@@ -1,0 +1,70 @@
+ghost use Rattle.std.specs.Prelude.{◌<◌, All, IfOk, IfErr};
+ghost use Rattle.squares.specs.Book.{IsKnown, Keeps, KeepsResults, MayRefuse};
+ghost use Rattle.hashlife_step.specs.Futures.{AreMiddles};
+ghost use Rattle.hashlife_step.specs.Quarters.{AreRead};
+
+use crate::leaf_squares::leaf_middle;
+use plane::Refusal;
+use squares::{Sq, Squares};
+
+// The same centres as `middles`, of nine squares of level 3.
+fn leaf_middles<S: Squares>(book: &mut S, nine: [Sq; 9]) -> Result<[Sq; 4], Refusal>
+    requires known { All (IsKnown (S.book book.old) 3) nine }
+    ensures ok { IfOk result (AreMiddles (S.book book.new) 3 nine) }
+    ensures refusal { IfErr result (MayRefuse (S.book book.new)) }
+    ensures keeps { Keeps (S.book book.old) (S.book book.new) }
+    ensures results { KeepsResults (S.book book.old) (S.book book.new) }
+{
+    let [a, b, c, d, e, f, g, h, i] = nine;
+    let nw = leaf_middle(book, [a, b, d, e])?;
+    let ne = leaf_middle(book, [b, c, e, f])?;
+    let sw = leaf_middle(book, [d, e, g, h])?;
+    let se = leaf_middle(book, [e, f, h, i])?;
+    Ok([nw, ne, sw, se])
+}
+
+// The quarters of each of nine squares.
+fn read_nine<S: Squares>(book: &mut S, level: u8, nine: [Sq; 9]) -> [[Sq; 4]; 9]
+    requires known { All (IsKnown (S.book book.old) level) nine }
+    requires low { 3 < level }
+    ensures value { AreRead (S.book book.old) (S.book book.new) level nine result }
+    ensures keeps { Keeps (S.book book.old) (S.book book.new) }
+    ensures results { KeepsResults (S.book book.old) (S.book book.new) }
+{
+    let [a, b, c, d, e, f, g, h, i] = nine;
+    [
+        book.read_parts(a),
+        book.read_parts(b),
+        book.read_parts(c),
+        book.read_parts(d),
+        book.read_parts(e),
+        book.read_parts(f),
+        book.read_parts(g),
+        book.read_parts(h),
+        book.read_parts(i),
+    ]
+}
+
+/// Of nine squares in three rows, the centres of the four that neighbours make.
+pub(crate) fn middles<S: Squares>(
+    book: &mut S,
+    level: u8,
+    nine: [Sq; 9],
+) -> Result<[Sq; 4], Refusal>
+    requires known { All (IsKnown (S.book book.old) level) nine }
+    ensures ok { IfOk result (AreMiddles (S.book book.new) level nine) }
+    ensures refusal { IfErr result (MayRefuse (S.book book.new)) }
+    ensures keeps { Keeps (S.book book.old) (S.book book.new) }
+    ensures results { KeepsResults (S.book book.old) (S.book book.new) }
+{
+    if level == 3 {
+        return leaf_middles(book, nine);
+    }
+    // A centre is made of the quarters where its four squares meet.
+    let [a, b, c, d, e, f, g, h, i] = read_nine(book, level, nine);
+    let nw = book.quad([a[3], b[2], d[1], e[0]])?;
+    let ne = book.quad([b[3], c[2], e[1], f[0]])?;
+    let sw = book.quad([d[3], e[2], g[1], h[0]])?;
+    let se = book.quad([e[3], f[2], h[1], i[0]])?;
+    Ok([nw, ne, sw, se])
+}
