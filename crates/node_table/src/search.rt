@@ -22,8 +22,9 @@ impl Desk {
         ensures some { IfSome result (IsNumber table.now.key.shape.bits self.old.seat.me.0.known self.new.seat.me.0.known kind word) }
         ensures none { IfNone result (HasNoRoom table.now self.new kind word) }
     {
+        let shape = table.key.shape;
         for place in 0..SHARD_LEN {
-            let index = table.key.shape.way_index(kind, word, place);
+            let index = shape.way_index(kind, word, place);
             let found = self.look(table, index);
             if found == word {
                 return Some(index);
