@@ -12,10 +12,10 @@ use std::collections::HashMap;
 // The numbers of live cells of squares, by level and number.
 type Counts = HashMap<(u8, u32), u128>;
 
-// The lowest level of which counts are noted. Counting a lower square again costs no more than a note.
-const LOWEST_NOTED: u8 = 5;
+// The lowest level of which counts are noted. Counting a lower square again costs no more than its note.
+const LOWEST_NOTED: u8 = 6;
 
-/// How many live cells a square of a level up to 63 has: up to 2^126. Each number above level 4 is
+/// How many live cells a square of a level up to 63 has: up to 2^126. Each number above level 5 is
 /// counted once. The book goes on knowing what it knew. `NoMemory` where there is no room for one more count.
 pub fn population<S: Squares>(book: &mut S, alloc: Global, sq: Sq) -> Result<u128, Refusal>
     requires known { IsKnown (S.book book.old) sq.level sq }
