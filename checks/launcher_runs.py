@@ -1,6 +1,6 @@
 #!/usr/bin/env python3
-"""Tries the launcher with an `rt` that proves nothing and takes a moment: the order of crates, a build that is broken off, a crate that
-fails, two calls at once, and a call where nothing is to be built.
+"""Tries the launcher with an `rt` that proves nothing and takes a moment: the order of crates, for which processor the program is compiled,
+a build that is broken off, a crate that fails, two calls at once, and a call where nothing is to be built.
 
     checks/launcher_runs.py
 """
@@ -23,6 +23,7 @@ RT = """#!/bin/sh
 name=${PWD##*/}
 echo "fn $name::f: proved"
 if [ "$1" = run ]; then
+    echo "runs $*" >>"$LOG"
     mkdir -p out && printf '#!/bin/sh\\necho "ran: $*"; cat\\n' >out/lifebatch && chmod +x out/lifebatch
     exit
 fi
@@ -73,8 +74,22 @@ class Repository:
 
 def whole(it):
     status, out, err = it.run("-m", "a b")
-    proved = [line for line in it.logged() if line.startswith("proves")]
-    return (status, out) == (0, "ran: -m a b\ninput") and len(proved) == len(set(proved)) > 10 and "proved and built" in err and not it.stages()
+    lines = it.logged()
+    proved = [line for line in lines if line.startswith("proves")]
+    fits = [("--cpu x86-64-v3" in line) == has_wide_vectors() for line in lines if line.startswith("runs")]
+    return (
+        (status, out) == (0, "ran: -m a b\ninput")
+        and len(proved) == len(set(proved)) > 10
+        and fits == [True]
+        and "proved and built" in err
+        and not it.stages()
+    )
+
+
+def has_wide_vectors():
+    """What the dynamic linker says of this machine."""
+    said = subprocess.run(["/lib64/ld-linux-x86-64.so.2", "--help"], capture_output=True, text=True).stdout
+    return "x86-64-v3 (supported" in said
 
 
 def second(it):

@@ -31,6 +31,9 @@ MEMORY_OF_JOB = 3 * GIGABYTE // 2
 MOST_JOBS = 4
 # What all crates leave in their folders `out`.
 DISK = 5 * GIGABYTE
+# Processors whose vectors hold a square of 16 by 16 cells, as those of nearly all machines of the last ten years do, and what /proc/cpuinfo says of them.
+WIDE = "x86-64-v3"
+FLAGS_OF_WIDE = {"abm", "avx", "avx2", "bmi1", "bmi2", "f16c", "fma", "movbe", "xsave"}
 
 
 def lines_of_crates():
@@ -66,6 +69,12 @@ def chains(crates):
 
 def folder(name):
     return ROOT / "crates" / name
+
+
+def processor():
+    """The words for `rt` that have the program compiled for this machine's processor, where it is not compiled for any."""
+    flags = re.search(r"^flags\s*:(.*)", pathlib.Path("/proc/cpuinfo").read_text(), re.MULTILINE)
+    return ["--cpu", WIDE] if flags and FLAGS_OF_WIDE <= set(flags[1].split()) else []
 
 
 class Stage:
@@ -156,7 +165,8 @@ class Build:
         """Proves a crate in its stage, and links the program, which then shows its help."""
         stage = Stage(name)
         stage.set_up(all_below(name, self.crates))
-        words = ["rt", "run" if name == PROGRAM else "lib", "--jobs", str(jobs)] + ["--", "--help"] * (name == PROGRAM)
+        command, last = (["run", *processor()], ["--", "--help"]) if name == PROGRAM else (["lib"], [])
+        words = ["rt", *command, "--jobs", str(jobs), *last]
         with stage.said.open("wb") as said:
             how = {"cwd": stage.crate, "stdin": subprocess.DEVNULL, "stdout": said, "stderr": subprocess.STDOUT}
             self.running[name] = Run(stage, subprocess.Popen(words, **how), jobs)
