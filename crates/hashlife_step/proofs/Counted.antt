@@ -56,9 +56,6 @@ tallies_added old new sq n none is = record {
 pub still_none : (old new : Book) (sq : Sq) (k n : ℕ) → 3 < sq.level → Tallies old new (sq.level - 1) k n → ¬ HasResult old sq → ¬ HasResult new sq
 still_none old new sq k n low is none = not_new old new sq (sq.level - 1) 0 is.made (omega arith) is.accounts none
 
-pub none_kept : (old new : Book) (sq : Sq) → 3 < sq.level → KeepsResults old new → ¬ HasResult old sq → ¬ HasResult new sq
-none_kept old new sq low is none = still_none old new sq 0 0 low (tallies_none old new (sq.level - 1) 0 is) none
-
 -- results were made, and before and after that none
 pub made_between : (old first last new : Book) (low top k n : ℕ) → low ≤ top → KeepsResults old first → Tallies first last low k n → KeepsResults last new → Tallies old new top k n
 made_between old first last new low top k n le before is after =

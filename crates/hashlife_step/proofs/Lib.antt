@@ -8,6 +8,7 @@ pub mod NineFutures
 pub mod Planned
 pub mod Replaced
 pub mod RoundSquares
+pub mod RowsRead
 pub mod Stepped
 pub mod Surrounded
 pub mod Trimmed

@@ -1,5 +1,5 @@
 -- The centres of the squares that four neighbours make.
-use Rattle.std.proofs.Common.{◌≡◌, ℕ, ◌+◌, ◌-◌, ◌^◌, ◌<◌, ◌≤◌, All, List, length, arith, subst}
+use Rattle.std.proofs.Common.{◌≡◌, ℕ, ◌+◌, ◌-◌, ◌^◌, ◌<◌, ◌≤◌, All, List, [], ◌∷◌, length, arith, subst}
 use Rattle.std.specs.List.{AllByRecursion}
 use Rattle.plane.specs.Plane.{Plane}
 use Rattle.plane.specs.Square.{IsSame, IsSquare, centre_of, cut, joined}
@@ -11,7 +11,7 @@ use Rattle.squares.specs.declared.sq.Sq.{Sq}
 use Rattle.squares.proofs.Centres.{shows_as}
 use Rattle.squares.proofs.Kept.{keeps_trans, known_kept, same_later, shows_kept}
 use Rattle.hashlife_step.specs.Futures.{neighbours}
-use Rattle.hashlife_step.specs.Quarters.{AreRead, inner_quarters, quarters_of}
+use Rattle.hashlife_step.specs.Quarters.{AreRead, quarters_of}
 use Rattle.hashlife_step.proofs.FourKnown.{four_known}
 use Rattle.hashlife_step.proofs.Grown.{joined_as}
 use Rattle.hashlife_step.proofs.NineFutures.{neighbours_later}
@@ -39,6 +39,10 @@ centre_of_joined level p q r s least is_p is_q is_r is_s =
     (same_refl _) (same_refl _) (same_refl _) (same_refl _) in
     let two : IsSame inner (cut (2 ^ (level + 1 - 1)) half half whole) = subst (λ n. IsSame inner (cut (2 ^ n) half half whole)) e one in
     subst (λ n. IsSame inner (cut (2 ^ (level + 1 - 1)) (2 ^ n) (2 ^ n) whole)) f two
+
+-- of four neighbours among three rows of three squares, the quarters where they meet
+abbrev pub inner_quarters : List (List Sq) → ℕ → List Sq
+inner_quarters quarters k = nth (quarters_of quarters k) 3 ∷ nth (quarters_of quarters (k + 1)) 2 ∷ nth (quarters_of quarters (k + 3)) 1 ∷ nth (quarters_of quarters (k + 4)) 0 ∷ []
 
 module _ (old read : Book) (level : ℕ) (nine : List Sq) (quarters : List (List Sq)) (known : All (IsKnown old level) nine) (are : AreRead old read level nine quarters) where
   pub inner_known : (now : Book) (k : ℕ) → k + 4 < length nine → Keeps read now → AllByRecursion (IsKnown now (nth (quarters_of quarters k) 3).level) (inner_quarters quarters k)

@@ -1,5 +1,5 @@
 -- The quarters of several squares.
-use Rattle.std.specs.Prelude.{ℕ, ◌+◌, ◌<◌, List, [], ◌∷◌, length, slice_index_or}
+use Rattle.std.specs.Prelude.{ℕ, ◌<◌, List, [], length, slice_index_or}
 use Rattle.squares.specs.Book.{Book, AreQuarters, nth}
 use Rattle.squares.specs.declared.sq.Sq.{Sq}
 
@@ -10,7 +10,3 @@ quarters_of quarters k = slice_index_or quarters k []
 -- the newer book shows the quarters of each of the squares, which the older one has at this level
 pub record AreRead (old new : Book) (level : ℕ) (squares : List Sq) (quarters : List (List Sq)) : Type 0 where
   pub each : (k : ℕ) → k < length squares → AreQuarters new level (old.cells (nth squares k)) (quarters_of quarters k)
-
--- of four neighbours among three rows of three squares, the quarters where they meet
-abbrev pub inner_quarters : List (List Sq) → ℕ → List Sq
-inner_quarters quarters k = nth (quarters_of quarters k) 3 ∷ nth (quarters_of quarters (k + 1)) 2 ∷ nth (quarters_of quarters (k + 3)) 1 ∷ nth (quarters_of quarters (k + 4)) 0 ∷ []

@@ -23,7 +23,23 @@ fn leaf_middles<S: Squares>(book: &mut S, nine: [Sq; 9]) -> Result<[Sq; 4], Refu
     Ok([nw, ne, sw, se])
 }
 
-// The quarters of each of nine squares.
+// The quarters of each of three squares.
+fn read_row<S: Squares>(book: &mut S, level: u8, row: [Sq; 3]) -> [[Sq; 4]; 3]
+    requires known { All (IsKnown (S.book book.old) level) row }
+    requires low { 3 < level }
+    ensures value { AreRead (S.book book.old) (S.book book.new) level row result }
+    ensures keeps { Keeps (S.book book.old) (S.book book.new) }
+    ensures results { KeepsResults (S.book book.old) (S.book book.new) }
+{
+    let [left, middle, right] = row;
+    [
+        book.read_parts(left),
+        book.read_parts(middle),
+        book.read_parts(right),
+    ]
+}
+
+// The quarters of each of nine squares in three rows.
 fn read_nine<S: Squares>(book: &mut S, level: u8, nine: [Sq; 9]) -> [[Sq; 4]; 9]
     requires known { All (IsKnown (S.book book.old) level) nine }
     requires low { 3 < level }
@@ -32,17 +48,10 @@ fn read_nine<S: Squares>(book: &mut S, level: u8, nine: [Sq; 9]) -> [[Sq; 4]; 9]
     ensures results { KeepsResults (S.book book.old) (S.book book.new) }
 {
     let [a, b, c, d, e, f, g, h, i] = nine;
-    [
-        book.read_parts(a),
-        book.read_parts(b),
-        book.read_parts(c),
-        book.read_parts(d),
-        book.read_parts(e),
-        book.read_parts(f),
-        book.read_parts(g),
-        book.read_parts(h),
-        book.read_parts(i),
-    ]
+    let [a, b, c] = read_row(book, level, [a, b, c]);
+    let [d, e, f] = read_row(book, level, [d, e, f]);
+    let [g, h, i] = read_row(book, level, [g, h, i]);
+    [a, b, c, d, e, f, g, h, i]
 }
 
 /// Of nine squares in three rows, the centres of the four that neighbours make.
