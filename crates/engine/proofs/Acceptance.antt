@@ -10,7 +10,8 @@ use Rattle.plane.specs.Square.{IsSame}
 use Rattle.plane.specs.declared.cell.Bounds.{Bounds}
 use Rattle.plane.specs.declared.fault.Fault.{Fault}
 use Rattle.plane.specs.declared.refusal.Refusal.{Refusal}
-use Rattle.plane.specs.declared.refusal.Refusal.TheVariants.{NoMemory, TooFar}
+use Rattle.plane.specs.declared.refusal.Refusal.TheVariants.{NodesFull, NoMemory, TooFar}
+use Rattle.universe.specs.Tables.{HasFullTable}
 use Rattle.viewport.specs.BoundingBox.{HasBounds}
 use Rattle.engine.specs.Accepted.{HasRoomFor, IsAccepted, IsRefused, LeavesRange}
 use Rattle.engine.specs.Judgement.{Judges, ReadsRule, rule_refusal}
@@ -52,10 +53,10 @@ module _ (bytes : List ℕ) (options : Options) (meaning : Meaning) (text : judg
 
   module _ (rule : CountRule) (read : ReadsRule options.rule meaning (Ok rule)) where
     pub range_refused : (refusal : Refusal) → IsOutOfRoom refusal ⊎ ((refusal ≡ TooFar) × LeavesRange meaning options.gens) →
-        IsRefused bytes options (placeless refusal)
+        (refusal ≡ NodesFull → HasFullTable options.pairs) → IsRefused bytes options (placeless refusal)
     unfolding IsRefused
-    range_refused refusal (inl no_room) = inr (stopped_by bytes options refusal [] no_room (reported_none bytes options meaning rule text read))
-    range_refused refusal (inr (far, leaves)) = inl (inr (inr (record {
+    range_refused refusal (inl no_room) full = inr (stopped_by bytes options refusal [] no_room (reported_none bytes options meaning rule text read) (λ is. inl (refl, full is)))
+    range_refused refusal (inr (far, leaves)) full = inl (inr (inr (record {
       start = record { meaning = meaning; rule = rule; cells = leaves.cells };
       accepted = record { text = text; rule = read; cells = leaves.listing };
       outside = leaves.outside;

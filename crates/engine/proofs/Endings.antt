@@ -15,7 +15,7 @@ use Rattle.plane.specs.Range.{StaysWithin}
 use Rattle.plane.specs.declared.cell.Bounds.{Bounds}
 use Rattle.plane.specs.declared.cell.Cell.{Cell}
 use Rattle.plane.specs.declared.refusal.Refusal.{Refusal}
-use Rattle.plane.specs.declared.refusal.Refusal.TheVariants.{BoxTooLarge, NoMemory, WriteFailed}
+use Rattle.plane.specs.declared.refusal.Refusal.TheVariants.{BoxTooLarge, NodesFull, NoMemory, WriteFailed}
 use Rattle.patterns.specs.Meaning.{Meaning, judged, placeless}
 use Rattle.plane.specs.Device.{IsWriteRefusal}
 use Rattle.plane.proofs.Uniqueness.{one_listing_lem}
@@ -23,7 +23,9 @@ use Rattle.patterns.specs.FileText.{HasText, IsFileText, Exceeds, Writes}
 use Rattle.engine.specs.Accepted.{IsAccepted, SumsUp}
 use Rattle.engine.specs.Judgement.{Start, Judges, ReadsRule}
 use Rattle.engine.specs.Report.{Shows, shown}
+use Rattle.engine.specs.Room.{IsStuckWithin}
 use Rattle.patterns.specs.Drawing.{picture_of}
+use Rattle.universe.specs.Tables.{HasFullTable}
 use Rattle.engine.specs.Run.{IsLast, IsReport, Finishes, HasBegun, HasReported, IsBegun, IsStopped, IsTooLarge, IsOutOfRoom, last_generation}
 use Rattle.engine.specs.declared.running.Summary.{Summary}
 use Rattle.patterns.specs.declared.format.Format.{Format}
@@ -34,6 +36,7 @@ use Rattle.plane.specs.Listing.{plane_of}
 use Rattle.plane.proofs.Same.{plane_equal}
 use Rattle.engine.specs.declared.options.Options.{Options}
 use Rattle.engine.proofs.Reports.{same_after, same_generation, same_shows, shows_none}
+use Rattle.universe.specs.Cells.{live_cells}
 
 -- the bytes of the slice, or else of another
 pub copied_or : (slice : Option (Bor (List ℕ))) (other : Bor (List ℕ)) → (unwrap_or slice other).now ≡ unwrap_or (option_copied slice) other.now
@@ -56,9 +59,11 @@ pub begun_of : {bytes : List ℕ} {options : Options} {said : List ℕ} → HasR
 begun_of reported = record { meaning = reported.meaning; rule = reported.rule; text = reported.text; read = reported.read; report = inl reported.report }
 
 -- a run whose text and rule are accepted was stopped
-pub stopped_by : (bytes : List ℕ) (options : Options) (refusal : Refusal) (said : List ℕ) → IsOutOfRoom refusal → HasReported bytes options said → IsStopped bytes options (placeless refusal) said
-stopped_by bytes options refusal said (inl memory) reported = inl (ap placeless memory, inr (begun_of reported))
-stopped_by bytes options refusal said (inr full) reported = inr (ap placeless full, reported)
+pub stopped_by : (bytes : List ℕ) (options : Options) (refusal : Refusal) (said : List ℕ) → IsOutOfRoom refusal → (reported : HasReported bytes options said) →
+    (refusal ≡ NodesFull → ((said ≡ []) × HasFullTable options.pairs) ⊎ IsStuckWithin reported.rule reported.meaning.live options.pairs options.gens) →
+    IsStopped bytes options (placeless refusal) said
+stopped_by bytes options refusal said (inl memory) reported full = inl (ap placeless memory, inr (begun_of reported))
+stopped_by bytes options refusal said (inr is) reported full = inr (ap placeless is, record { reported = reported; full = full is })
 
 -- a listing of one plane is one of each other with the same cells
 pub listing_as : {cells : List Cell} {plane other : Plane} → IsSame plane other → IsListing cells plane → IsListing cells other
@@ -172,15 +177,30 @@ module _ (bytes : List ℕ) (options : Options) (meaning : Meaning) (rule : Coun
 
   -- ---- how a run is refused once its report has begun
 
+  -- where the cells at the start are stuck, those of the file are
+  stuck_from : IsStuckWithin rule here options.pairs options.gens → IsStuckWithin rule meaning.live options.pairs options.gens
+  stuck_from stuck = record {
+    done = stuck.done;
+    before = stuck.before;
+    there = stuck.there;
+    cells = same_generation rule here meaning.live run.same.same stuck.done (live_cells stuck.there) stuck.cells;
+    rule = stuck.rule;
+    limit = stuck.limit;
+    one = stuck.one;
+    exhausted = stuck.exhausted;
+  }
+
   -- in the middle of the report
   pub refused_reporting : (generation : ℕ) (refusal : Refusal) (failed_before failed_after : ℕ) (old new : Option (List ℕ)) (Unaccepted TooLarge FileSame FileFailed : Type 0) → FileSame → generation ≡ meaning.generation →
+      (refusal ≡ NodesFull → IsStuckWithin rule here options.pairs options.gens) →
       (IsOutOfRoom refusal × ((lines : ℕ) × (said : List ℕ) × Shows rule here generation (take lines (shown options)) said × Appends old new said))
       ⊎ IsWriteRefusal failed_before failed_after refusal →
       Unaccepted ⊎ TooLarge ⊎ (FileSame × ((said : List ℕ) × IsStopped bytes options (placeless refusal) said × Appends old new said))
       ⊎ ((placeless refusal ≡ placeless WriteFailed) × (HasFailed failed_before failed_after ⊎ FileFailed))
-  refused_reporting generation refusal failed_before failed_after old new Unaccepted TooLarge FileSame FileFailed same is_start (inl (no_room, (lines, said, shows, appends))) =
-      inr (inr (inl (same, (said, stopped_by bytes options refusal said no_room (reported_some lines said (subst (λ n. Shows rule here n (take lines (shown options)) said) is_start shows)), appends))))
-  refused_reporting generation refusal failed_before failed_after old new Unaccepted TooLarge FileSame FileFailed same is_start (inr (is, failed)) =
+  unfolding reported_some
+  refused_reporting generation refusal failed_before failed_after old new Unaccepted TooLarge FileSame FileFailed same is_start stuck (inl (no_room, (lines, said, shows, appends))) =
+      inr (inr (inl (same, (said, stopped_by bytes options refusal said no_room (reported_some lines said (subst (λ n. Shows rule here n (take lines (shown options)) said) is_start shows)) (λ full. inr (stuck_from (stuck full))), appends))))
+  refused_reporting generation refusal failed_before failed_after old new Unaccepted TooLarge FileSame FileFailed same is_start stuck (inr (is, failed)) =
       inr (inr (inr (ap placeless is, inl failed)))
 
   -- after the lines, which count from the generation of the file

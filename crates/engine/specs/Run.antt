@@ -13,7 +13,9 @@ use Rattle.patterns.specs.Meaning.{Meaning, is_macrocell, judged, placeless}
 use Rattle.patterns.specs.FileText.{HasText, IsFileText}
 use Rattle.engine.specs.Judgement.{Start, Judges, ReadsRule}
 use Rattle.engine.specs.Report.{Shows, shown}
+use Rattle.engine.specs.Room.{IsStuckWithin}
 use Rattle.patterns.specs.Drawing.{picture_of}
+use Rattle.universe.specs.Tables.{HasFullTable}
 use Rattle.engine.specs.declared.running.Summary.{Summary}
 use Rattle.engine.specs.declared.options.Options.{Options}
 
@@ -78,14 +80,22 @@ pub record HasReported (bytes : List ℕ) (options : Options) (said : List ℕ) 
   pub read : ReadsRule options.rule meaning (Ok rule)
   pub report : IsBeginning meaning rule options said
 
+-- so it is, and tables of as many pair slots as the options allow are too small: a full one has no room for the cells of the
+-- file, and nothing is said, or cells on the way have none
+pub record IsOutOfTables (bytes : List ℕ) (options : Options) (said : List ℕ) : Type 0 where
+  pub reported : HasReported bytes options said
+  pub full : ((said ≡ []) × HasFullTable options.pairs)
+      ⊎ IsStuckWithin reported.rule reported.meaning.live options.pairs options.gens
+
 -- memory ran out, or the tables of squares are full
 abbrev pub IsOutOfRoom : Refusal → Type 0
 IsOutOfRoom refusal = (refusal ≡ NoMemory) ⊎ (refusal ≡ NodesFull)
 
--- a run that has said this was stopped: memory ran out, or, once its text and rule were accepted, the tables were full
+-- a run that has said this was stopped: memory ran out, or, once its text and rule were accepted, the tables that the
+-- options allow were full
 abbrev pub IsStopped : List ℕ → Options → Fault → List ℕ → Type 0
 IsStopped bytes options fault said =
-    ((fault ≡ placeless NoMemory) × IsBegun bytes options said) ⊎ ((fault ≡ placeless NodesFull) × HasReported bytes options said)
+    ((fault ≡ placeless NoMemory) × IsBegun bytes options said) ⊎ ((fault ≡ placeless NodesFull) × IsOutOfTables bytes options said)
 
 -- a run of these bytes ended well: from before to after, its report and its file took what it says and draws
 abbrev pub HasFinished : List ℕ → Options → Option (List ℕ) → Option (List ℕ) → Option (List ℕ) → Option (List ℕ) → Summary → Type 0

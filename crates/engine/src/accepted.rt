@@ -8,7 +8,8 @@ ghost use Rattle.engine.specs.Judgement.{ReadsRule, rule_refusal};
 ghost use Rattle.engine.specs.Run.{IsOutOfRoom};
 ghost use Rattle.patterns.specs.PatternFile.{meaning_of};
 ghost use Rattle.table_core.specs.Sizes.{IsPairCount};
-ghost use Rattle.universe.specs.Cells.{live_cells, rule_of};
+ghost use Rattle.universe.specs.Cells.{limit_of, live_cells, rule_of};
+ghost use Rattle.universe.specs.Tables.{HasFullTable};
 
 use crate::options::Options;
 use crate::running::rule_refusal;
@@ -39,6 +40,7 @@ pub(crate) fn judge<'a>(
     requires { IsPairCount options.now.pairs }
     ensures accepted { IfOk result (λ run. IsAccepted bytes.now options.now (meaning_of run.text) (rule_of run.universe) (live_cells run.universe)) }
     ensures rule { IfOk result (λ run. rule_of run.universe ≡ run.rule) }
+    ensures limit { IfOk result (λ run. limit_of run.universe ≡ options.now.pairs) }
     ensures refused { IfErr result (IsRefused bytes.now options.now) }
 {
     let text = PatternFile::open(alloc, bytes)?;
@@ -63,8 +65,10 @@ fn universe_of(
     requires { IsPairCount limit }
     ensures ok { IfOk result (λ universe. HasRoomFor (meaning_of text.now) generations (live_cells universe)) }
     ensures rule { IfOk result (λ universe. rule_of universe ≡ rule.now) }
+    ensures limit { IfOk result (λ universe. limit_of universe ≡ limit) }
     ensures refused { IfErr result (λ refusal. IsOutOfRoom refusal
         ⊎ ((refusal ≡ Refusal.TooFar) × LeavesRange (meaning_of text.now) generations)) }
+    ensures full { IfErr result (λ refusal. refusal ≡ Refusal.NodesFull → HasFullTable limit) }
 {
     let (universe, bounds) = Universe::of(alloc, rule, text, limit)?.bounds(alloc)?;
     reach(bounds, text.generation(), generations)?;

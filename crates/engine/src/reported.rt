@@ -5,9 +5,10 @@ ghost use Rattle.plane.specs.Plane.{after};
 ghost use Rattle.plane.specs.Square.{IsSame, empty};
 ghost use Rattle.plane.specs.declared.range.TheConstants.{GENERATION_LIMIT};
 ghost use Rattle.plane.specs.Device.{IsWriteRefusal};
-ghost use Rattle.universe.specs.Cells.{live_cells, rule_of};
+ghost use Rattle.universe.specs.Cells.{limit_of, live_cells, rule_of};
 ghost use Rattle.universe.specs.Held.{StaysHeld};
 ghost use Rattle.engine.specs.Report.{Shows, is_shown, shown};
+ghost use Rattle.engine.specs.Room.{IsStuckWithin};
 ghost use Rattle.engine.specs.Run.{IsOutOfRoom};
 
 use crate::options::Options;
@@ -40,6 +41,7 @@ pub(crate) fn run_reported<R: Threads + Wait + Sync, G: Gate, W: Sink>(
         × ((lines : ℕ) × (said : List ℕ) × Shows (rule_of start) (live_cells start) generation (take lines (shown options.now)) said
         × Appends (W.taken report.old) (W.taken report.new) said))
         ⊎ IsWriteRefusal (W.failure_count report.old) (W.failure_count report.new) refusal) }
+    ensures full { IfErr result (λ refusal. refusal ≡ Refusal.NodesFull → IsStuckWithin (rule_of start) (live_cells start) (limit_of start) options.now.gens) }
 {
     let alloc = team.alloc;
     let mut universe = report_generation(alloc, report, options.quiet, generation, start)?;

@@ -20,7 +20,7 @@ returns-in_err-rule-clause-refused c =
 pub returns-in_err-universe-clause-refused : goal.returns-in_err-universe-clause-refused
 returns-in_err-universe-clause-refused c =
     let is : c.from_residual-in_err-universe.result ≡ Err (placeless c.in_err-universe.field-0.0) = search rules in
-    rw is (range_refused c.args.bytes.now c.args.options.now (meaning_of c.in_ok-text.text) c.in_ok-text.ensures.accepted c.in_ok-rule.rule c.in_ok-rule.ensures.ok.0 c.in_err-universe.field-0.0 c.in_err-universe.ensures.refused)
+    rw is (range_refused c.args.bytes.now c.args.options.now (meaning_of c.in_ok-text.text) c.in_ok-text.ensures.accepted c.in_ok-rule.rule c.in_ok-rule.ensures.ok.0 c.in_err-universe.field-0.0 c.in_err-universe.ensures.refused c.in_err-universe.ensures.full)
 
 pub returns-clause-accepted : goal.returns-clause-accepted
 returns-clause-accepted c =

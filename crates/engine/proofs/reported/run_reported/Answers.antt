@@ -7,7 +7,7 @@ use Rattle.universe.specs.Cells.{live_cells, rule_of}
 use Rattle.engine.specs.Generations.{IsRunOn}
 use Rattle.universe.proofs.Later.{empty_later}
 use Rattle.engine.specs.Report.{IsSaid, Shows, shown_until}
-use Rattle.engine.proofs.Onward.{held_on, later_on, none_later, then_same}
+use Rattle.engine.proofs.Onward.{held_on, later_on, none_later, stuck_on, then_same}
 use Rattle.engine.proofs.Reports.{first_lines, shown_next, shows_next, shows_none, start_shown, stopped}
 use Rattle.engine.proofs.reported.run_reported.Goals as goal
 
@@ -63,6 +63,12 @@ returns-in_err-universe-2-clause-refused g c =
       ),
     ))
 
+pub returns-in_err-universe-2-clause-full : goal.returns-in_err-universe-2-clause-full
+returns-in_err-universe-2-clause-full g c =
+    let is : c.from_residual-in_err-universe-2.result ≡ Err c.in_err-universe-2.field-0.0 = search rules in
+    rw is (λ full. stuck_on c.args.options.now.gens c.loop-done.done (c.next_shown-next.result - c.loop-done.done) c.loop-done.invariant.later
+    (omega (arith, c.next_shown-next.ensures.later, c.next_shown-next.ensures.within)) (c.in_err-universe-2.ensures.full full))
+
 pub returns-in_err-universe-3-clause-refused : goal.returns-in_err-universe-3-clause-refused
 returns-in_err-universe-3-clause-refused g c =
     let options = c.args.options.now in
@@ -85,7 +91,7 @@ loop-done-preserved g c =
     let line = c.in_ok-universe-3.ensures.written in
     let more = c.in_ok-universe-2.ensures in
     let sum : done + (next - done) ≡ next = omega (arith, c.next_shown-next.ensures.later) in
-    let step : IsRunOn c.loop-done.universe (next - done) c.in_ok-universe-2.universe = record { cells = more.ok; rule = more.rule } in
+    let step : IsRunOn c.loop-done.universe (next - done) c.in_ok-universe-2.universe = record { cells = more.ok; rule = more.rule; limit = more.limit } in
     let later = subst (λ n. IsRunOn c.args.start n c.in_ok-universe-2.universe) sum (later_on done (next - done) c.loop-done.invariant.later step) in
     let shows = shows_next rule plane c.args.generation options (shown_until options done) next (live_cells c.in_ok-universe-2.universe) said.0 line.0 said.1 later.cells line.1 c.next_shown-next.ensures.shown in
     let numbers = shown_next options done next c.next_shown-next.ensures.later c.next_shown-next.ensures.between in

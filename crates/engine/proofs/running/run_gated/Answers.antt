@@ -11,6 +11,7 @@ use Rattle.patterns.specs.PatternFile.{meaning_of}
 use Rattle.engine.proofs.Acceptance.{refused_at_once}
 use Rattle.engine.proofs.Endings.{begun_lines, ends_well, refused_reporting, refused_writing}
 use Rattle.universe.proofs.Held.{held, short_run}
+use Rattle.engine.specs.Room.{IsStuckWithin}
 use Rattle.universe.specs.Cells.{live_cells, rule_of}
 use Rattle.engine.proofs.running.run_gated.Goals as goal
 
@@ -40,7 +41,8 @@ pub returns-in_err-universe-clause-refused : goal.returns-in_err-universe-clause
 returns-in_err-universe-clause-refused g c =
     let is : c.from_residual-in_err-universe.result ≡ Err (placeless c.in_err-universe.field-0.0) = search rules in
     rw is (refused_reporting c.args.bytes.now c.args.options.now (meaning_of c.in_ok-begun.begun.text) (rule_of c.in_ok-begun.begun.universe) (live_cells c.in_ok-begun.begun.universe) c.in_ok-begun.ensures.accepted
-    c.generation-start.result c.in_err-universe.field-0.0 _ _ _ _ _ _ _ _ refl c.generation-start.ensures c.in_err-universe.ensures.refused)
+    c.generation-start.result c.in_err-universe.field-0.0 _ _ _ _ _ _ _ _ refl c.generation-start.ensures
+    (λ full. subst (λ n. IsStuckWithin (rule_of c.in_ok-begun.begun.universe) (live_cells c.in_ok-begun.begun.universe) n c.args.options.now.gens) c.in_ok-begun.ensures.limit (c.in_err-universe.ensures.full full)) c.in_err-universe.ensures.refused)
 
 pub returns-in_err-last-clause-refused : goal.returns-in_err-last-clause-refused
 returns-in_err-last-clause-refused g c =

@@ -1,0 +1,20 @@
+-- Runs for whose cells the tables that they may have are too small.
+use Rattle.std.specs.Prelude.{◌≡◌, ℕ, ◌<◌}
+use Rattle.rule_text.specs.CountRule.{CountRule}
+use Rattle.plane.specs.Plane.{Plane, after}
+use Rattle.plane.specs.Square.{IsSame}
+use Rattle.universe.specs.Cells.{exponent_of, limit_of, live_cells, rule_of}
+use Rattle.universe.specs.Runs.{IsExhausted}
+use Rattle.universe.specs.declared.universe.Universe.{Universe}
+
+-- before one of so many generations from these cells on there are cells that have no room: at a table for single
+-- generations that has all pair slots that there may be and is full, or in any words of so many slots alone
+pub record IsStuckWithin (by : CountRule) (plane : Plane) (pairs generations : ℕ) : Type 0 where
+  pub done : ℕ
+  pub before : done < generations
+  pub there : Universe
+  pub cells : IsSame (live_cells there) (after by plane done)
+  pub rule : rule_of there ≡ by
+  pub limit : limit_of there ≡ pairs
+  pub one : exponent_of there ≡ 0
+  pub exhausted : IsExhausted there
