@@ -1,2 +1,3 @@
 pub mod AskedWords
+mod Endings
 pub mod WindowTexts

@@ -7,8 +7,8 @@ use Rattle.universe.specs.Cells.{exponent_of, limit_of, live_cells, rule_of}
 use Rattle.universe.specs.Runs.{IsExhausted}
 use Rattle.universe.specs.declared.universe.Universe.{Universe}
 
--- before one of so many generations from these cells on there are cells that have no room: at a table for single
--- generations that has all pair slots that there may be and is full, or in any words of so many slots alone
+-- one of so many generations from these cells on has no room in tables of so many pair slots: the cells before it stand at
+-- a table for single generations, and this has all the slots and is full, or so many have no room for these cells alone
 pub record IsStuckWithin (by : CountRule) (plane : Plane) (pairs generations : ℕ) : Type 0 where
   pub done : ℕ
   pub before : done < generations
