@@ -126,10 +126,12 @@ impl Universe {
             others,
             limit,
         } = self.with_room(pair_count(shape));
+        let past = here.table.past;
         let start = here.rest();
         match start.renewed(team.alloc, shape, kept)? {
             Some(fresh) => {
-                let here = fresh.resume(team.alloc)?;
+                drop(start);
+                let here = fresh.resume(team.alloc, past.at_fresh(shape.bits))?;
                 Universe {
                     here,
                     others,
@@ -138,7 +140,7 @@ impl Universe {
                 .tried(team)
             }
             None => {
-                let here = start.resume(team.alloc)?;
+                let here = start.resume(team.alloc, past)?;
                 Ok(Attempt::Full(Universe {
                     here,
                     others,

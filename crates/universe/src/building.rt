@@ -6,6 +6,7 @@ ghost use Rattle.table_core.specs.Sizes.{IsPairCount};
 ghost use Rattle.universe.specs.Tables.{HasFullTable};
 
 use crate::build::Build;
+use crate::past::Past;
 use crate::scenes::Scene;
 use crate::sizes::{Growth, larger, smallest};
 use crate::tables::OpenTable;
@@ -73,7 +74,7 @@ impl Scene {
         ensures refusal { IfErr result (λ refusal. (refusal ≡ Refusal.NoMemory) ⊎ (refusal ≡ Refusal.NodesFull)) }
         ensures full { IfErr result (λ refusal. refusal ≡ Refusal.NodesFull → HasFullTable (2 ^ shape.bits)) }
     {
-        let fresh = OpenTable::fresh(alloc, shape, rule, 0)?;
+        let fresh = OpenTable::fresh(alloc, shape, rule, 0, Past::none())?;
         let (table, made) = fresh.build(alloc, source);
         let root = made?;
         Ok(Scene { table, root })

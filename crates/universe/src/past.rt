@@ -16,29 +16,46 @@ const STEPS_OF_GROWTH: u32 = 4;
 // After a step of at most so many expansions, threads would cost the next one more than they bring.
 const FEW_EXPANSIONS: u64 = 16384;
 
-/// The steps that a table has taken.
+/// The steps that a table has taken, and how short the last one was.
 #[derive(Clone, Copy, Debug)]
 pub(crate) struct Past {
-    /// How many there were.
+    /// How many steps there were.
     steps: u32,
-    /// How many squares the last one expanded.
-    expansions: u64,
+    /// How many squares the last step of the cells expanded, at this table or at the one before it.
+    expansions: Option<u64>,
 }
 
 impl Past {
-    /// The past of a table just opened.
+    /// The past of a table for cells that have taken no step.
     pub(crate) fn none() -> Past {
         Past {
             steps: 0,
-            expansions: 0,
+            expansions: None,
         }
     }
 
-    /// The past after one more step.
-    pub(crate) fn and_step(self, expansions: u64) -> Past {
+    /// The past with which the cells of this table come to one of 2^bits pair slots that has taken no step.
+    /// How short their last step was still holds there, as long as that table is too small for a long one.
+    pub(crate) fn at_fresh(self, bits: u8) -> Past {
+        Past {
+            steps: 0,
+            expansions: if bits < LARGE_BITS {
+                self.expansions
+            } else {
+                None
+            },
+        }
+    }
+
+    /// The past after one more step, if it was taken: one that met a full table says nothing of how short
+    /// it is.
+    pub(crate) fn and_step(self, is_taken: bool, expansions: u64) -> Past {
+        if !is_taken {
+            return self;
+        }
         Past {
             steps: self.steps.saturating_add(1),
-            expansions,
+            expansions: Some(expansions),
         }
     }
 
@@ -46,10 +63,10 @@ impl Past {
     pub(crate) fn most_workers(self) -> usize
         ensures { 1 ≤ result }
     {
-        if self.steps > 0 && self.expansions <= FEW_EXPANSIONS {
-            return 1;
+        match self.expansions {
+            Some(expansions) if expansions <= FEW_EXPANSIONS => 1,
+            _ => MOST_WORKERS,
         }
-        MOST_WORKERS
     }
 
     /// How the table grows, as long as it isn't large.

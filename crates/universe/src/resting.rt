@@ -8,6 +8,7 @@ ghost use Rattle.node_sweep.specs.EnlargedStills.{HasNoRoomForAll, IsEnlarged};
 ghost use Rattle.node_sweep.specs.SweptStills.{HasNoRoomFor, IsSwept};
 ghost use Rattle.viewport.specs.BoundingBox.{HasBounds};
 
+use crate::past::Past;
 use crate::scenes::Scene;
 use crate::sizes::{Growth, larger, smallest};
 use crate::tables::OpenTable;
@@ -66,26 +67,26 @@ impl Resting {
         bounds(&self.still, alloc, self.root)
     }
 
-    // The cells at a table of these words under another exponent.
-    pub(crate) fn stand(self, alloc: Global, exponent: u8) -> Result<Scene, Refusal>
+    // The cells at a table of these words under another exponent, with this past.
+    pub(crate) fn stand(self, alloc: Global, exponent: u8, past: Past) -> Result<Scene, Refusal>
         ensures ok { IfOk result (λ scene. IsSame (cells_of scene) (resting_cells self)) }
         ensures key { IfOk result (λ scene. scene.table.key ≡ record (key_of (still_of self)) { exponent = exponent }) }
         ensures memory { IsOkUnless result Refusal.NoMemory }
     {
         let rule = self.still.key().rule;
         let Resting { still, root } = self;
-        let table = OpenTable::of_words(alloc, still, &rule, exponent)?;
+        let table = OpenTable::of_words(alloc, still, &rule, exponent, past)?;
         Ok(Scene { table, root })
     }
 
-    // The cells at a table of these words, under the rule and the exponent that these had.
-    pub(crate) fn resume(self, alloc: Global) -> Result<Scene, Refusal>
+    // The cells at a table of these words, under the rule and the exponent that these had, with this past.
+    pub(crate) fn resume(self, alloc: Global, past: Past) -> Result<Scene, Refusal>
         ensures ok { IfOk result (λ scene. IsSame (cells_of scene) (resting_cells self)) }
         ensures key { IfOk result (λ scene. scene.table.key ≡ key_of (still_of self)) }
         ensures memory { IsOkUnless result Refusal.NoMemory }
     {
         let exponent = self.still.key().exponent;
-        self.stand(alloc, exponent)
+        self.stand(alloc, exponent, past)
     }
 
     // The cells in fresh words of this shape, if these have room for what is kept.

@@ -84,9 +84,10 @@ impl Scene {
         ensures key { IfOk result (λ found. found.0.table.key ≡ self.table.key) }
         ensures memory { IsOkUnless result Refusal.NoMemory }
     {
+        let past = self.table.past;
         let resting = self.rest();
         let found = resting.bounds(alloc)?;
-        Ok((resting.resume(alloc)?, found))
+        Ok((resting.resume(alloc, past)?, found))
     }
 
     // Takes one step of the table, by a team.

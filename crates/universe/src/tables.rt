@@ -31,7 +31,7 @@ pub(crate) struct OpenTable {
     table: NodeTable,
     desk: Desk,
     pub(crate) key: Key,
-    past: Past,
+    pub(crate) past: Past,
     ghost of_table: { IsDeskOf table desk },
     ghost same_key: { table.key ≡ key },
 }
@@ -39,12 +39,13 @@ pub(crate) struct OpenTable {
 impl OpenTable {
     ghost use Rattle.universe.specs.Tables.{IsOpened, IsTableUnder, StaysOpen, known_at, pairs_in};
 
-    /// A table of these words, which knows what they show.
+    /// A table of these words, which knows what they show, with this past.
     pub(crate) fn of_words(
         alloc: Global,
         still: Still,
         rule: &Rule,
         exponent: u8,
+        past: Past,
     ) -> Result<OpenTable, Refusal>
         ensures ok { IfOk result (IsOpened still rule.now exponent) }
         ensures memory { IsOkUnless result Refusal.NoMemory }
@@ -61,23 +62,24 @@ impl OpenTable {
             table,
             desk,
             key,
-            past: Past::none(),
+            past,
         })
     }
 
-    /// A table of this shape without a square.
+    /// A table of this shape without a square, with this past.
     pub(crate) fn fresh(
         alloc: Global,
         shape: Shape,
         rule: &Rule,
         exponent: u8,
+        past: Past,
     ) -> Result<OpenTable, Refusal>
         ensures under { IfOk result (IsTableUnder rule.now exponent) }
         ensures pairs { IfOk result (λ opened. pairs_in opened ≡ 2 ^ shape.bits) }
         ensures memory { IsOkUnless result Refusal.NoMemory }
     {
         let still = Still::empty(alloc, shape.slot_count(Kind::Pair))?;
-        OpenTable::of_words(alloc, still, rule, exponent)
+        OpenTable::of_words(alloc, still, rule, exponent, past)
     }
 
     /// A table of this shape with all squares and results of this one, if it has room for them.
@@ -88,6 +90,7 @@ impl OpenTable {
     {
         let rule = self.rule();
         let exponent = self.key.exponent;
+        let past = self.past.at_fresh(shape.bits);
         let still = self.close();
         let none = Sq {
             level: 4,
@@ -95,7 +98,8 @@ impl OpenTable {
         };
         match enlarge(alloc, &still, none, shape.slot_count(Kind::Pair)) {
             Ok((larger, _)) => {
-                let table = OpenTable::of_words(alloc, larger, &rule, exponent)?;
+                drop(still);
+                let table = OpenTable::of_words(alloc, larger, &rule, exponent, past)?;
                 Ok(Some(table))
             }
             Err(Refusal::NodesFull) => Ok(None),
@@ -176,7 +180,7 @@ impl OpenTable {
         let before = desk.expansions();
         let team = team.at_most(past.most_workers());
         let (desk, made) = step(&team, &table, desk, root);
-        let past = past.and_step(desk.expansions().saturating_sub(before));
+        let past = past.and_step(made.is_ok(), desk.expansions().saturating_sub(before));
         let stepped = OpenTable {
             table,
             desk,

@@ -36,7 +36,10 @@ impl Universe {
             others,
             limit,
         } = start;
-        let here = here.rest().shrunk(alloc)?.stand(alloc, exponent)?;
+        let past = here.table.past;
+        let shrunk = here.rest().shrunk(alloc)?;
+        let past = past.at_fresh(shrunk.still.key().shape.bits);
+        let here = shrunk.stand(alloc, exponent, past)?;
         Ok(Universe {
             here,
             others,
@@ -80,7 +83,8 @@ impl Universe {
             return Ok(Attempt::Full(self));
         }
         let rule = self.here.table.rule();
-        let table = OpenTable::fresh(alloc, shape, &rule, exponent)?;
+        let past = self.here.table.past.at_fresh(shape.bits);
+        let table = OpenTable::fresh(alloc, shape, &rule, exponent, past)?;
         let start = self.with_room(pairs);
         start.moved(alloc, table)
     }
