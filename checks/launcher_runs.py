@@ -1,6 +1,6 @@
 #!/usr/bin/env python3
-"""Tries the launcher with an `rt` that proves nothing and takes a moment: the order of crates, for which processor the program is compiled,
-a build that is broken off, a crate that fails, two calls at once, and a call where nothing is to be built.
+"""Tries the launcher with a kit that proves nothing and takes a moment: the order of crates, for which processor the program is compiled,
+a build that is broken off, a crate that fails, newer files, two calls at once, and a call where nothing is to be built.
 
     checks/launcher_runs.py
 """
@@ -18,23 +18,27 @@ import time
 
 ROOT = pathlib.Path(__file__).resolve().parent.parent
 
-# It fails where a library below is missing, or where BAD names the crate; what stands is kept.
-RT = """#!/bin/sh
-name=${PWD##*/}
-echo "fn $name::f: proved"
-if [ "$1" = run ]; then
-    echo "runs $*" >>"$LOG"
-    mkdir -p out && printf '#!/bin/sh\\necho "ran: $*"; cat\\n' >out/lifebatch && chmod +x out/lifebatch
-    exit
-fi
-[ -e out/rlib/stamp ] && echo "kept $name" >>"$LOG" && exit
-for below in $(grep "^$name[ :]" ../../crates.txt | sed 's/.*://'); do
-    [ ! -d ../$below ] || [ -e ../$below/out/rlib/stamp ] || { echo "no $below"; exit 1; }
+# It fails where a library below is missing, or where BAD names the crate.
+RATTLE = """#!/bin/sh
+while [ $# -gt 0 ]; do
+    case $1 in
+    --crate-name) name=$2 ;;
+    --cpu) processor=" for $2" ;;
+    --extern) case ${2#*=} in */crates/*) [ -d "${2#*=}" ] || { echo "no $2"; exit 1; } ;; esac ;;
+    -o) made=$2 ;;
+    esac
+    shift
 done
-echo "proves $name" >>"$LOG"
+echo "fn $name::f: proved"
+echo "proves $name$processor" >>"$LOG"
 sleep "${SECONDS_EACH:-0.1}"
 [ "${BAD:-}" = "$name" ] && { echo "error: $name is bad"; exit 1; }
-mkdir -p out/rlib && : >out/rlib/stamp
+case $made in *.rlib) mkdir "$made" ;; *) : >"$made" ;; esac
+"""
+
+LINK = """#!/bin/sh
+while [ "$1" != -o ]; do shift; done
+printf '#!/bin/sh\\necho "ran: $*"; cat\\n' >"$2" && chmod +x "$2"
 """
 
 
@@ -48,8 +52,10 @@ class Repository:
         for name in ("launcher", "crates"):
             shutil.copytree(ROOT / name, folder / name, ignore=shutil.ignore_patterns("out", "proofs"))
         (folder / "bin").mkdir()
-        (folder / "bin" / "rt").write_text(RT)
-        (folder / "bin" / "rt").chmod(0o755)
+        (folder / "KIT-ID").touch()
+        for name, text in (("rt", f"#!/bin/sh\necho {folder}/START-HERE.md\n"), ("rattle", RATTLE), ("rattle-link", LINK)):
+            (folder / "bin" / name).write_text(text)
+            (folder / "bin" / name).chmod(0o755)
 
     def environment(self, **settings):
         return {**os.environ, "PATH": f"{self.folder / 'bin'}:{os.environ['PATH']}", "LOG": str(self.log), **settings}
@@ -68,21 +74,16 @@ class Repository:
         self.log.unlink(missing_ok=True)
         return lines
 
-    def stages(self):
-        return list((self.folder / "launcher").glob("out/*"))
-
 
 def whole(it):
     status, out, err = it.run("-m", "a b")
-    lines = it.logged()
-    proved = [line for line in lines if line.startswith("proves")]
-    fits = [("--cpu x86-64-v3" in line) == has_wide_vectors() for line in lines if line.startswith("runs")]
+    proved = it.logged()
+    wide = [line for line in proved if line.endswith(" for x86-64-v3")]
     return (
         (status, out) == (0, "ran: -m a b\ninput")
         and len(proved) == len(set(proved)) > 10
-        and fits == [True]
+        and wide == ["proves lifebatch for x86-64-v3"] * has_wide_vectors()
         and "proved and built" in err
-        and not it.stages()
     )
 
 
@@ -101,13 +102,22 @@ def second(it):
 
 def failed(it):
     status, _, err = it.run(BAD="plane")
-    return status == 2 and "error: plane is bad" in err and ": proved" not in err and not it.stages() and bool(it.logged())
+    return status == 2 and "error: plane is bad" in err and ": proved" not in err and bool(it.logged())
 
 
 def goes_on(it):
     status, _, _ = it.run()
     lines = it.logged()
-    return status == 0 and "kept rule_text" in lines and "proves plane" in lines and "proves rule_text" not in lines
+    return status == 0 and "proves plane" in lines and "proves rule_text" not in lines
+
+
+def newer(it):
+    """Where a file of a crate was changed, this crate and those above it are proved anew."""
+    file = next((it.folder / "crates" / "viewport" / "src").glob("*.rt"))
+    file.write_text(file.read_text() + "\n")
+    status, _, _ = it.run()
+    proved = {line.split()[1] for line in it.logged()}
+    return status == 0 and {"viewport", "universe", "lifebatch"} <= proved and not proved & {"squares", "node_table"}
 
 
 def broken_off(it):
@@ -116,17 +126,17 @@ def broken_off(it):
     build = subprocess.run(["pgrep", "-P", str(ran.pid)], capture_output=True, text=True).stdout.split()
     os.kill(int(build[0]), signal.SIGTERM)
     _, err = ran.communicate()
-    left = subprocess.run(["pgrep", "-f", str(it.folder / "bin" / "rt")], capture_output=True).stdout
-    kept = (it.folder / "crates" / "rule_text" / "out" / "rlib" / "stamp").exists()
-    return ran.returncode == 143 and "broken off" in err and not left and kept and not it.stages()
+    left = subprocess.run(["pgrep", "-f", str(it.folder / "bin")], capture_output=True).stdout
+    kept = (it.folder / "crates" / "rule_text" / "out" / "library" / "sum").exists()
+    return ran.returncode == 143 and "broken off" in err and not left and kept
 
 
 def two(it):
     it.logged()
     first, other = it.start("one"), it.start("two")
     outs = [ran.communicate("")[0] for ran in (first, other)]
-    proved = [line for line in it.logged() if line.startswith("proves")]
-    return outs == ["ran: one\n", "ran: two\n"] and len(proved) == len(set(proved)) and not it.stages()
+    proved = it.logged()
+    return outs == ["ran: one\n", "ran: two\n"] and len(proved) == len(set(proved)) > 0
 
 
 def terminal(it):
@@ -145,7 +155,7 @@ def terminal(it):
 def main():
     argparse.ArgumentParser(description=__doc__, formatter_class=argparse.RawDescriptionHelpFormatter).parse_args()
     held = []
-    for rows in ((whole, second, terminal), (failed, goes_on), (broken_off, two)):
+    for rows in ((whole, second, terminal), (failed, goes_on, newer), (broken_off, two)):
         with tempfile.TemporaryDirectory() as name:
             repository = Repository(pathlib.Path(name))
             for row in rows:

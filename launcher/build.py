@@ -1,14 +1,17 @@
 #!/usr/bin/env python3
 """Proves and builds the program lifebatch, for the launcher of that name. It takes no words.
 
-Crates are proved side by side, as many as cores and memory allow, each once those below it stand. `rt` keeps all others
-out of a crate's folder and of those below it while it works there, so each crate is proved in a stage: a small repository
-of links to the sources and to the built libraries that it needs. Its own folder `out` goes there for as long and comes
-back with what was made, also where the build is broken off, so that the next one goes on from it.
+Crates are proved side by side, as many as cores and memory allow, each once those below it stand. Of a crate that is proved a
+library is written that has its statements, which are all that the crates above it read: that makes their checks shorter than
+over the libraries with proofs that `rt lib` keeps for whoever edits them. So the compiler of the kit, `rattle`, is called and not `rt`.
+A build that is broken off keeps the libraries that it has, and the next one goes on from them.
 
 What is being proved is told on standard error. The status is 0 once the program is built, else 2, or 128 and a signal's number.
 """
+import contextlib
 import fcntl
+import functools
+import hashlib
 import os
 import pathlib
 import re
@@ -16,24 +19,33 @@ import shutil
 import signal
 import subprocess
 import sys
+import tempfile
 import time
 from dataclasses import dataclass, field
 
 ROOT = pathlib.Path(__file__).resolve().parent.parent
 PROGRAM = "lifebatch"
-# A file that is as old as the beginning of the last build that went well.
-BUILT = ROOT / "crates" / PROGRAM / "out" / "lifebatch.built"
-STAGES = ROOT / "launcher" / "out"
+# The program, and a file that is as old as the beginning of the last build that went well.
+BUILT = ROOT / "crates" / PROGRAM / "out" / PROGRAM
+BEGAN = BUILT.with_suffix(".built")
 GIGABYTE = 10**9
 # What a check takes: with one job, and more with each further one.
 MEMORY = 4 * GIGABYTE
 MEMORY_OF_JOB = 3 * GIGABYTE // 2
 MOST_JOBS = 4
 # What all crates leave in their folders `out`.
-DISK = 5 * GIGABYTE
+DISK = 2 * GIGABYTE
+TARGET = "x86_64-unknown-linux-gnu"
 # Processors whose vectors hold a square of 16 by 16 cells, as those of nearly all machines of the last ten years do, and what /proc/cpuinfo says of them.
 WIDE = "x86-64-v3"
 FLAGS_OF_WIDE = {"abm", "avx", "avx2", "bmi1", "bmi2", "f16c", "fma", "movbe", "xsave"}
+
+
+@functools.cache
+def kit():
+    """The folder of the kit."""
+    page = subprocess.run(["rt", "doc"], stdin=subprocess.DEVNULL, capture_output=True, text=True, check=True).stdout
+    return pathlib.Path(page.strip()).parent
 
 
 def lines_of_crates():
@@ -42,9 +54,14 @@ def lines_of_crates():
     return {re.match(r"\w+", it)[0]: it for it in lines if it}
 
 
+def used_by():
+    """For each crate those that it uses, of the kit too."""
+    return {name: line.partition(":")[2].split() for name, line in lines_of_crates().items()}
+
+
 def crates_below(program):
     """The crates that the program stands on and itself, lowest first, each with the crates that it uses."""
-    listed = {name: line.partition(":")[2].split() for name, line in lines_of_crates().items()}
+    listed = used_by()
     needed = {program}
     for name in reversed(listed):
         if name in needed:
@@ -72,50 +89,97 @@ def folder(name):
 
 
 def processor():
-    """The words for `rt` that have the program compiled for this machine's processor, where it is not compiled for any."""
+    """The words that have the program compiled for this machine's processor, where it is not compiled for any."""
     flags = re.search(r"^flags\s*:(.*)", pathlib.Path("/proc/cpuinfo").read_text(), re.MULTILINE)
     return ["--cpu", WIDE] if flags and FLAGS_OF_WIDE <= set(flags[1].split()) else []
 
 
-class Stage:
-    """A repository with one crate to prove and the built libraries below it, all by links."""
-
-    def __init__(self, name):
-        self.name, self.root = name, STAGES / name
-        self.crate = self.root / "crates" / name
-        # What `rt` prints.
-        self.said = self.root / "said"
-
-    def set_up(self, below):
-        self.root.mkdir(parents=True)
-        names = [self.name, *below]
-        lines = "\n".join(lines_of_crates()[name] for name in names)
-        (self.root / "crates.txt").write_text(f"{lines}\n")
-        for name in names:
-            for part in ("src", "specs", "proofs", *["out/rlib"] * (name != self.name)):
-                if (folder(name) / part).is_dir():
-                    shutil.copytree(folder(name) / part, self.root / "crates" / name / part, copy_function=os.link)
-        if (folder(self.name) / "out").is_dir():
-            (folder(self.name) / "out").rename(self.crate / "out")
-
-    def give_back(self):
-        """Brings what was made into the crate's folder."""
-        made, home = self.crate / "out", folder(self.name) / "out"
-        if made.is_dir() and not home.exists():
-            made.rename(home)
-
-    def removal(self):
-        """A process that removes the stage, for which no crate waits."""
-        return subprocess.Popen(["nice", "rm", "-rf", self.root])
+def library(name):
+    return folder(name) / "out" / "library" / f"{name}.rlib"
 
 
-@dataclass
+def sum_file(name):
+    """Where it is said what a library, or the program, was proved from."""
+    return library(name).with_name("sum")
+
+
+@functools.cache
+def sum_of(name):
+    """A sum of all that a crate is proved from: its line, its files, the crates below it, and the kit."""
+    files = [it for part in ("src", "specs", "proofs") for it in sorted((folder(name) / part).glob("**/*")) if it.is_file()]
+    said = [lines_of_crates()[name], (kit() / "KIT-ID").read_text()]
+    said += [f"{it.relative_to(ROOT)} {hashlib.sha256(it.read_bytes()).hexdigest()}" for it in files]
+    said += [sum_of(it) for it in used_by()[name] if it in lines_of_crates()]
+    return hashlib.sha256("\n".join(said).encode()).hexdigest()
+
+
+def is_proved(name):
+    made = BUILT if name == PROGRAM else library(name)
+    return made.exists() and sum_file(name).is_file() and sum_file(name).read_text() == sum_of(name)
+
+
+def words_of_check(name, crates, jobs):
+    """The words for `rattle` that have a crate checked over the libraries below it."""
+    words = ["--crate-name", name, f"src/{'main' if name == PROGRAM else 'lib'}.rt", "--jobs", str(jobs)]
+    words += ["--antt-project", kit() / "rattle/logic/antt-project.json", "--logic-built", kit() / "logic_built"]
+    words += ["-L", f"dependency={kit() / 'rlibs'}"]
+    for it in ("std", *used_by()[name]):
+        words += ["--extern", f"{it}={library(it) if it in crates else kit() / 'rlibs' / f'{it}.rlib'}"]
+    for it in all_below(name, crates):
+        words += ["-L", f"dependency={library(it).parent}"]
+    return words
+
+
+def commands_for(name, crates, jobs):
+    """What has a crate proved and its library written, or the program built: it shows its help at the end."""
+    check = [kit() / "bin/rattle", "build", *words_of_check(name, crates, jobs)]
+    if name != PROGRAM:
+        return [[*check, "--statements", "-o", library(name)]]
+    compiled, linked, toolchain = BUILT.with_suffix(".o"), BUILT.with_suffix(".new"), ["--toolchain", kit() / "toolchain"]
+    c_code = [kit() / "c/libos_c.a", kit() / "c/liblibc_c.a"]
+    return [
+        [*check, *toolchain, "--backend", "llvm", *processor(), "-o", compiled],
+        [kit() / "bin/rattle-link", "--target", TARGET, *toolchain, "-o", linked, compiled, *c_code],
+        [linked, "--help"],
+    ]
+
+
 class Run:
-    """A crate that is being proved: its stage, the process of `rt`, and its jobs."""
+    """A crate that is being proved: the commands that are still to be called, and what runs now."""
 
-    stage: Stage
-    process: subprocess.Popen
-    jobs: int
+    def __init__(self, name, commands, jobs):
+        self.name, self.commands, self.jobs = name, commands, jobs
+        # A file that changes meanwhile is no part of what is proved.
+        self.sum = sum_of(name)
+        self.said = tempfile.TemporaryFile("w+", errors="replace")
+        self.call()
+
+    def call(self):
+        how = {"cwd": folder(self.name), "stdin": subprocess.DEVNULL, "stdout": self.said, "stderr": subprocess.STDOUT}
+        self.process = subprocess.Popen(self.commands.pop(0), start_new_session=True, **how)
+
+    def poll(self):
+        """Goes on with the next command, and answers the status once the last one, or one that failed, has ended."""
+        status = self.process.poll()
+        if status == 0 and self.commands:
+            self.call()
+            return None
+        return status
+
+    def keep(self):
+        if self.name == PROGRAM:
+            BUILT.with_suffix(".new").rename(BUILT)
+        sum_file(self.name).write_text(self.sum)
+
+    def messages(self):
+        self.said.seek(0)
+        return self.said.read().splitlines()
+
+    def end(self):
+        """Breaks it off, with the processes that it started."""
+        with contextlib.suppress(ProcessLookupError):
+            os.killpg(self.process.pid, signal.SIGTERM)
+        self.process.wait()
 
     def memory(self):
         return MEMORY + (self.jobs - 1) * MEMORY_OF_JOB
@@ -157,19 +221,13 @@ class Build:
     chain: dict
     running: dict = field(default_factory=dict)
     done: set = field(default_factory=set)
-    removals: list = field(default_factory=list)
     # The number of the signal that breaks the build off.
     signal: int = 0
 
     def start(self, name, jobs):
-        """Proves a crate in its stage, and links the program, which then shows its help."""
-        stage = Stage(name)
-        stage.set_up(all_below(name, self.crates))
-        command, last = (["run", *processor()], ["--", "--help"]) if name == PROGRAM else (["lib"], [])
-        words = ["rt", *command, "--jobs", str(jobs), *last]
-        with stage.said.open("wb") as said:
-            how = {"cwd": stage.crate, "stdin": subprocess.DEVNULL, "stdout": said, "stderr": subprocess.STDOUT}
-            self.running[name] = Run(stage, subprocess.Popen(words, **how), jobs)
+        shutil.rmtree(library(name).parent, ignore_errors=True)
+        library(name).parent.mkdir(parents=True)
+        self.running[name] = Run(name, commands_for(name, self.crates, jobs), jobs)
 
     def start_all(self, ready):
         """Starts the crates that there is room for. One that has no longer chain above it than any that runs gets a job for each core that no
@@ -183,24 +241,23 @@ class Build:
             is_longest = all(self.chain[name] >= self.chain[it] for it in self.running)
             self.start(name, min(most, max(2, self.cores - wanted)) if is_longest else 1)
 
-    def end(self, name):
+    def end(self, name, status):
         """Takes in a crate that is proved, or says why it isn't and answers False."""
         run = self.running.pop(name)
-        said = run.stage.said.read_text(errors="replace")
-        run.stage.give_back()
-        self.removals.append(run.stage.removal())
-        if run.process.returncode == 0:
+        if status == 0:
+            run.keep()
             self.done.add(name)
             return True
-        self.progress.tell(f"{name} was not proved (status {run.process.returncode}):")
-        for line in said.splitlines():
+        self.progress.tell(f"{name} was not proved (status {status}):")
+        for line in run.messages():
             if not re.search(r": proved$|^so far: ", line):
                 print(line, file=sys.stderr)
         return False
 
     def run(self):
-        """Proves the crates, and answers whether all are."""
-        left = sorted(self.crates, key=lambda name: -self.chain[name])
+        """Proves the crates that are not, and answers whether all are."""
+        self.done.update(name for name in self.crates if is_proved(name))
+        left = sorted(self.crates.keys() - self.done, key=lambda name: -self.chain[name])
         while left or self.running:
             self.start_all([name for name in left if self.done.issuperset(self.crates[name])])
             left = [name for name in left if name not in self.running]
@@ -208,18 +265,16 @@ class Build:
             time.sleep(0.1)
             if self.signal:
                 return False
-            for name in [name for name, run in self.running.items() if run.process.poll() is not None]:
-                if not self.end(name):
+            ended = {name: run.poll() for name, run in self.running.items()}
+            for name, status in ended.items():
+                if status is not None and not self.end(name, status):
                     return False
         return True
 
     def close(self):
-        """Breaks off what runs, and waits until stages are removed."""
+        """Breaks off what runs."""
         for run in self.running.values():
-            run.process.terminate()
-            run.process.wait()
-        for it in self.removals:
-            it.wait()
+            run.end()
 
 
 def locked(folders):
@@ -245,13 +300,6 @@ def free_memory():
     return min(found)
 
 
-def clear_stages():
-    """Removes all stages, once what was made there is given back."""
-    for it in STAGES.glob("*/crates"):
-        Stage(it.parent.name).give_back()
-    shutil.rmtree(STAGES, ignore_errors=True)
-
-
 def main():
     # Until there is something to break off, Ctrl-C just ends this program.
     signal.signal(signal.SIGINT, signal.SIG_DFL)
@@ -266,7 +314,6 @@ def main():
         flush=True,
     )
     _held = locked([ROOT / "launcher", *map(folder, crates)])
-    clear_stages()
     build = Build(crates, cores, memory, Progress(len(crates)), chains(crates))
     for it in (signal.SIGINT, signal.SIGTERM, signal.SIGHUP):
         signal.signal(it, lambda number, _: setattr(build, "signal", number))
@@ -274,10 +321,9 @@ def main():
         is_built = build.run()
     finally:
         build.close()
-        clear_stages()
     if is_built:
-        BUILT.touch()
-        os.utime(BUILT, (began, began))
+        BEGAN.touch()
+        os.utime(BEGAN, (began, began))
     what = "the build was broken off; the next call goes on with it" if build.signal else "the build failed"
     build.progress.tell(f"proved and built in {build.progress.clock()}" if is_built else what)
     return 0 if is_built else 128 + build.signal if build.signal else 2
