@@ -1,6 +1,6 @@
 #!/usr/bin/env python3
 """Tries the launcher with a kit that proves nothing and takes a moment: the order of crates, for which processor the program is compiled,
-a build that is broken off, a crate that fails, newer files, two calls at once, and a call where nothing is to be built.
+a build that is broken off, a crate that fails, files that are newer or change meanwhile, two calls at once, and a call where nothing is to be built.
 
     checks/launcher_runs.py
 """
@@ -120,6 +120,21 @@ def newer(it):
     return status == 0 and {"viewport", "universe", "lifebatch"} <= proved and not proved & {"squares", "node_table"}
 
 
+def changed_meanwhile(it):
+    """Where a file changes while the build goes on, what was proved of it is not kept for the next build, whatever the file then has."""
+    file = next((it.folder / "crates" / "viewport" / "src").glob("*.rt"))
+    text = file.read_text()
+    file.write_text(text + "// one\n")
+    ran = it.start(SECONDS_EACH="1")
+    time.sleep(0.5)
+    file.write_text(text + "// another\n")
+    ran.communicate("")
+    file.write_text(text + "// one\n")
+    it.logged()
+    status, _, _ = it.run()
+    return (ran.returncode, status) == (0, 0) and "proves viewport" in it.logged()
+
+
 def broken_off(it):
     ran = it.start(SECONDS_EACH="0.5")
     time.sleep(2)
@@ -155,7 +170,7 @@ def terminal(it):
 def main():
     argparse.ArgumentParser(description=__doc__, formatter_class=argparse.RawDescriptionHelpFormatter).parse_args()
     held = []
-    for rows in ((whole, second, terminal), (failed, goes_on, newer), (broken_off, two)):
+    for rows in ((whole, second, terminal), (failed, goes_on, newer, changed_meanwhile), (broken_off, two)):
         with tempfile.TemporaryDirectory() as name:
             repository = Repository(pathlib.Path(name))
             for row in rows:

@@ -147,10 +147,10 @@ def commands_for(name, crates, jobs):
 class Run:
     """A crate that is being proved: the commands that are still to be called, and what runs now."""
 
-    def __init__(self, name, commands, jobs):
+    def __init__(self, name, commands, jobs, sum_before):
         self.name, self.commands, self.jobs = name, commands, jobs
-        # A file that changes meanwhile is no part of what is proved.
-        self.sum = sum_of(name)
+        # The sum of the crate when the build began.
+        self.sum = sum_before
         self.said = tempfile.TemporaryFile("w+", errors="replace")
         self.call()
 
@@ -167,9 +167,12 @@ class Run:
         return status
 
     def keep(self):
+        """Keeps what was made, for later builds too if no file has changed since this one began."""
         if self.name == PROGRAM:
             BUILT.with_suffix(".new").rename(BUILT)
-        sum_file(self.name).write_text(self.sum)
+        sum_of.cache_clear()
+        if sum_of(self.name) == self.sum:
+            sum_file(self.name).write_text(self.sum)
 
     def messages(self):
         self.said.seek(0)
@@ -221,13 +224,15 @@ class Build:
     chain: dict
     running: dict = field(default_factory=dict)
     done: set = field(default_factory=set)
+    # Of each crate the sum when the build began.
+    sums: dict = field(default_factory=dict)
     # The number of the signal that breaks the build off.
     signal: int = 0
 
     def start(self, name, jobs):
         shutil.rmtree(library(name).parent, ignore_errors=True)
         library(name).parent.mkdir(parents=True)
-        self.running[name] = Run(name, commands_for(name, self.crates, jobs), jobs)
+        self.running[name] = Run(name, commands_for(name, self.crates, jobs), jobs, self.sums[name])
 
     def start_all(self, ready):
         """Starts the crates that there is room for. One that has no longer chain above it than any that runs gets a job for each core that no
@@ -256,6 +261,7 @@ class Build:
 
     def run(self):
         """Proves the crates that are not, and answers whether all are."""
+        self.sums = {name: sum_of(name) for name in self.crates}
         self.done.update(name for name in self.crates if is_proved(name))
         left = sorted(self.crates.keys() - self.done, key=lambda name: -self.chain[name])
         while left or self.running:
