@@ -33,6 +33,8 @@ GIGABYTE = 10**9
 MEMORY = 4 * GIGABYTE
 MEMORY_OF_JOB = 3 * GIGABYTE // 2
 MOST_JOBS = 4
+# A crate that no other waits for long takes what the others leave of the processors.
+BEHIND = ["nice", "-n", "5"]
 # What all crates leave in their folders `out`.
 DISK = 2 * GIGABYTE
 TARGET = "x86_64-unknown-linux-gnu"
@@ -132,7 +134,7 @@ def words_of_check(name, crates, jobs):
 
 def commands_for(name, crates, jobs):
     """What has a crate proved and its library written, or the program built: it shows its help at the end."""
-    check = [kit() / "bin/rattle", "build", *words_of_check(name, crates, jobs)]
+    check = [*(BEHIND if jobs == 1 else []), kit() / "bin/rattle", "build", *words_of_check(name, crates, jobs)]
     if name != PROGRAM:
         return [[*check, "--statements", "-o", library(name)]]
     compiled, linked, toolchain = BUILT.with_suffix(".o"), BUILT.with_suffix(".new"), ["--toolchain", kit() / "toolchain"]
@@ -235,16 +237,15 @@ class Build:
         self.running[name] = Run(name, commands_for(name, self.crates, jobs), jobs, self.sums[name])
 
     def start_all(self, ready):
-        """Starts the crates that there is room for. One that has no longer chain above it than any that runs gets a job for each core that no
-        other crate wants, and at least two; the others get one."""
-        for place, name in enumerate(ready):
+        """Starts the crates that there is room for. One that has no longer chain above it than any that runs gets as many jobs as there are cores;
+        the others get one, behind it."""
+        for name in ready:
             room = self.memory - sum(it.memory() for it in self.running.values())
             if self.running and (room < MEMORY or len(self.running) == self.cores):
                 return
-            wanted = len(self.running) + len(ready) - place - 1
-            most = min(self.cores, MOST_JOBS, 1 + max(room - MEMORY, 0) // MEMORY_OF_JOB)
             is_longest = all(self.chain[name] >= self.chain[it] for it in self.running)
-            self.start(name, min(most, max(2, self.cores - wanted)) if is_longest else 1)
+            most = min(self.cores, MOST_JOBS, 1 + max(room - MEMORY, 0) // MEMORY_OF_JOB)
+            self.start(name, most if is_longest else 1)
 
     def end(self, name, status):
         """Takes in a crate that is proved, or says why it isn't and answers False."""
