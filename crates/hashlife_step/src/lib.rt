@@ -4,8 +4,8 @@
 
 mod centres;
 mod leaf_squares;
+mod neighbours;
 mod orders;
-mod overlaps;
 mod padding;
 mod plans;
 mod recursion;
@@ -13,9 +13,10 @@ mod steps;
 mod tally;
 mod trimming;
 
+pub use neighbours::overlaps;
 pub use padding::pad;
 pub use plans::plan;
-pub use recursion::{future, future_in_order};
+pub use recursion::{future, future_in_order, replace_by_futures};
 pub use steps::step;
 pub use tally::Tally;
 pub use trimming::trim;

@@ -5,8 +5,8 @@ ghost use Rattle.hashlife_step.specs.Tallies.{Tallies};
 
 use crate::centres::middles;
 use crate::leaf_squares::{leaf_future, life_future};
+use crate::neighbours::overlaps;
 use crate::orders::turn;
-use crate::overlaps::overlaps;
 use crate::tally::Tally;
 use leaf_kernels::is_life;
 use plane::Refusal;
@@ -103,9 +103,10 @@ fn finish<S: Squares>(
     Ok(four)
 }
 
-// Puts its future in the place of each square.
+/// Puts its future in the place of each square of a level. Where the order isn't 0, they are first asked
+/// for in an order of this number, as in [`future_in_order`].
 #[cycle(future)]
-fn replace_by_futures<S: Squares>(
+pub fn replace_by_futures<S: Squares>(
     book: &mut S,
     level: u8,
     squares: &mut [Sq],

@@ -1,16 +1,15 @@
 -- What was counted at work, and what a desk knows that comes back from it.
-use Rattle.std.proofs.Common.{◌≡◌, ◌≤◌, ℕ, zero, suc, ◌+◌, ◌-◌, ◌^◌, List, [], ◌∷◌, length, ◌<◌, min, sym, ap, subst, arith, Ok, Err}
+use Rattle.std.proofs.Common.{◌≡◌, ◌≤◌, ℕ, zero, suc, ◌+◌, ◌-◌, ◌^◌, length, min, sym, ap, subst, arith, Ok, Err}
 use Rattle.std.specs.Prelude.{IfOk, OnOk}
-use Rattle.std.specs.List.{AllByRecursion}
 use Rattle.std.specs.declared.result.Result.{Result}
 use Rattle.plane.specs.declared.refusal.Refusal.{Refusal}
 use Rattle.squares.specs.declared.sq.Sq.{Sq}
-use Rattle.squares.specs.Book.{Book, HasResult, IsFuture, IsKnown, Keeps, nth}
+use Rattle.squares.specs.Book.{Book, HasResult, IsFuture, Keeps}
 use Rattle.hashlife_step.specs.Tallies.{Tallies, counted}
 use Rattle.node_table.specs.declared.desk.Desk.{Desk}
 use Rattle.node_table.specs.declared.table.NodeTable.{NodeTable}
 use Rattle.node_table.specs.Desks.{IsDeskOf, IsSameDesk, book_at, work_at, expansions_of}
-use Rattle.node_table.proofs.AtWork.{IsBack, known_at_work}
+use Rattle.node_table.proofs.AtWork.{IsBack}
 use Rattle.worker_split.specs.Jobs.{HasFuture}
 use Rattle.worker_split.specs.Rounds.{Continues}
 use Rattle.worker_split.proofs.Books.{desk_book, more_results}
@@ -54,22 +53,3 @@ uncounted table desk back book d is =
 pub on_both : (r : Result Sq Refusal) (P Q : Sq → Type 0) (H : Type 0) → IfOk r P → OnOk r H → ((x : Sq) → P x → H → Q x) → IfOk r Q
 on_both (Ok x) P Q H p h f = f x p h
 on_both (Err e) P Q H p h f = tt
-
-as_own : (begun : Book) (level other : ℕ) (sq : Sq) → other ≡ level → IsKnown begun level sq → IsKnown begun other sq
-as_own begun level other sq e h = subst (λ l. IsKnown begun l sq) (sym e) h
-
-all_at_work : (table : NodeTable) (desk : Desk) (begun : Book) (level other : ℕ) (squares : List Sq) → other ≡ level → begun ≡ work_at (expansions_of desk) table desk →
-    AllByRecursion (IsKnown (book_at table desk) level) squares → AllByRecursion (IsKnown begun other) squares
-all_at_work table desk begun level other [] e begins all = tt
-all_at_work table desk begun level other (sq ∷ squares) e begins all =
-    (as_own begun level other sq e (known_at_work table desk begun level sq begins all.0), all_at_work table desk begun level other squares e begins all.1)
-
-pub first_level : (book : Book) (level : ℕ) (squares : List Sq) → 0 < length squares → AllByRecursion (IsKnown book level) squares → (nth squares 0).level ≡ level
-first_level book level [] some all = absurd (omega (arith, some))
-first_level book level (sq ∷ squares) some all = all.0.at_level
-
--- the desk knows the quarters at work, at the level of the first
-pub four_at_work : (table : NodeTable) (desk : Desk) (begun : Book) (level : ℕ) (quarters : List Sq) → 0 < length quarters → begun ≡ work_at (expansions_of desk) table desk →
-    AllByRecursion (IsKnown (book_at table desk) level) quarters → AllByRecursion (IsKnown begun (nth quarters 0).level) quarters
-four_at_work table desk begun level quarters some begins all =
-    all_at_work table desk begun level (nth quarters 0).level quarters (first_level (book_at table desk) level quarters some all) begins all

@@ -1,8 +1,5 @@
 -- What desks know stays known, and how many expansions they count.
-use Rattle.std.proofs.Common.{◌≡◌, ◌<◌, ◌≤◌, ℕ, zero, suc, ◌+◌, ◌*◌, ◌-◌, ◌^◌, List, length, min, sym, refl, ap, ◌∙◌, subst, inl, inr, ⊎_elim, All, arith, Ok, Vec, Global}
-use Rattle.std.specs.Prelude.{IfOk}
-use Rattle.std.specs.declared.result.Result.{Result}
-use Rattle.plane.specs.declared.refusal.Refusal.{Refusal}
+use Rattle.std.proofs.Common.{◌≡◌, ◌<◌, ◌≤◌, ℕ, zero, suc, ◌+◌, ◌*◌, ◌-◌, ◌^◌, List, length, min, sym, refl, ap, ◌∙◌, subst, inl, inr, ⊎_elim, All, arith}
 use Rattle.squares.specs.declared.sq.Sq.{Sq}
 use Rattle.squares.specs.Book.{Book, IsBook, IsKnown, HasResult, Keeps}
 use Rattle.squares.proofs.Kept.{keeps_trans, keeps_none, known_kept}
@@ -139,9 +136,3 @@ works_then table times first old new h k = works_trans table times times (expans
 
 pub works_one : (table : NodeTable) (times : ℕ) (first old new : Desk) → 1 ≤ times → Continues table times first old → Continues table 1 old new → Continues table times first new
 works_one table times first old new some h k = works_trans table 1 times (expansions_of first) (book_at table first) old new some h k
-
-pub list_known : (book : Book) (level : ℕ) (r : Result (Vec Sq Global) Refusal) (v : Vec Sq Global) (slice : List Sq) → r ≡ Ok v → IfOk r (λ w. All (IsKnown book level) w.items) → slice ≡ v.items → All (IsKnown book level) slice
-list_known book level r v slice is h same = subst (All (IsKnown book level)) (sym same) (subst (λ s. IfOk s (λ (w : Vec Sq Global). All (IsKnown book level) w.items)) is h)
-
-pub at_this_level : (book : Book) (level other : ℕ) (squares : List Sq) → level ≡ other → All (IsKnown book level) squares → All (IsKnown book other) squares
-at_this_level book level other squares e h = subst (λ l. All (IsKnown book l) squares) e h

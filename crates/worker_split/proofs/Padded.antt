@@ -17,9 +17,9 @@ use Rattle.node_table.proofs.AtWork.{IsBack, back_round}
 use Rattle.worker_split.specs.Jobs.{HasFuture, IsJob}
 use Rattle.worker_split.specs.Steps.{IsPadded}
 
-pub on_two : {E : Type 0} (r : Result Sq E) (P Q S : Sq → Type 0) → ((sq : Sq) → P sq → Q sq → S sq) → IfOk r P → IfOk r Q → IfOk r S
-on_two (Ok sq) P Q S f p q = f sq p q
-on_two (Err e) P Q S f p q = tt
+pub on_two : {X E : Type 0} (r : Result X E) (P Q R : X → Type 0) → ((x : X) → P x → Q x → R x) → IfOk r P → IfOk r Q → IfOk r R
+on_two (Ok x) P Q R f p q = f x p q
+on_two (Err e) P Q R f p q = tt
 
 pub on_three : {E : Type 0} (r : Result Sq E) (P Q R S : Sq → Type 0) → ((sq : Sq) → P sq → Q sq → R sq → S sq) → IfOk r P → IfOk r Q → IfOk r R → IfOk r S
 on_three (Ok sq) P Q R S f p q s = f sq p q s

@@ -9,7 +9,7 @@ ghost use Rattle.worker_split.specs.Rounds.{Continues};
 use crate::gate::Gate;
 use crate::jobs::future_at;
 use crate::rounds::round;
-use crate::stages::{exponent_at, finds_result, futures_of, ninths_of, overlaps_of, unknown_of};
+use crate::stages::{exponent_at, finds_result, ninths_at, overlaps_at, unknown_of};
 use crate::team::Team;
 use node_table::{Desk, NodeTable};
 use plane::Refusal;
@@ -62,32 +62,26 @@ fn expand<R: Threads + Wait + Sync, G: Gate>(
     ensures desk { Continues table.now team.now.workers desk result.0 }
     ensures refusal { IfErr result.1 (Refuses (book_at table.now result.0)) }
 {
-    let level = sq.level;
-    let (desk, ninths) = ninths_of(team.alloc, table, desk, &[sq], level);
-    let ninths = match ninths {
-        Ok(ninths) => ninths,
+    let level = sq.level - 1;
+    let (desk, ninths) = ninths_at(table, desk, sq);
+    let nine = match ninths {
+        Ok(nine) => nine,
         Err(refusal) => return (desk, Err(refusal)),
     };
-    let (desk, done) = batch(team, table, desk, ninths.as_slice(), level - 1);
+    let (desk, done) = batch(team, table, desk, &nine, level);
     if let Err(refusal) = done {
         return (desk, Err(refusal));
     }
     let (desk, exponent) = exponent_at(table, desk);
     // Then the four in the middle only give their centres.
-    if exponent < level - 2 {
+    if exponent < level - 1 {
         return (desk, Ok(()));
     }
-    let (desk, middles) = futures_of(team.alloc, table, desk, ninths.as_slice(), level - 1);
-    let middles = match middles {
-        Ok(middles) => middles,
-        Err(refusal) => return (desk, Err(refusal)),
-    };
-    let (desk, quarters) = overlaps_of(team.alloc, table, desk, middles.as_slice(), level - 2);
-    let quarters = match quarters {
-        Ok(quarters) => quarters,
-        Err(refusal) => return (desk, Err(refusal)),
-    };
-    batch(team, table, desk, quarters.as_slice(), level - 1)
+    let (desk, overlaps) = overlaps_at(table, desk, level, nine);
+    match overlaps {
+        Ok(four) => batch(team, table, desk, &four, level),
+        Err(refusal) => (desk, Err(refusal)),
+    }
 }
 
 // Lets the desk know the results that the future of a square takes, or, of a low one, its own.

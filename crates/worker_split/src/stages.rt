@@ -1,14 +1,13 @@
-//! The stages in which the squares of a batch are expanded, by one desk.
-ghost use Rattle.std.specs.Prelude.{◌≡◌, ◌+◌, ◌-◌, ◌<◌, ◌≤◌, All, IfOk, IfErr, IsTrue};
-ghost use Rattle.std.specs.List.{AllByRecursion};
-ghost use Rattle.plane.specs.declared.refusal.Refusal.TheVariants.{NodesFull};
-ghost use Rattle.squares.specs.Book.{IsKnown};
+//! What one desk does between the rounds in which the squares below a square are taken.
+ghost use Rattle.std.specs.Prelude.{◌-◌, ◌<◌, All, IfOk, IfErr};
+ghost use Rattle.squares.specs.Book.{IsKnown, Keeps, MayRefuse};
+ghost use Rattle.hashlife_step.specs.Tallies.{Tallies};
 ghost use Rattle.node_table.specs.Desks.{IsDeskOf, book_at};
 ghost use Rattle.worker_split.specs.Batches.{AreKnown};
 ghost use Rattle.worker_split.specs.Jobs.{Refuses};
 ghost use Rattle.worker_split.specs.Rounds.{Continues};
 
-use crate::jobs::future_at;
+use hashlife_step::{Tally, overlaps, replace_by_futures};
 use node_table::{Desk, NodeTable};
 use plane::Refusal;
 use squares::{Num, Sq, Squares};
@@ -37,41 +36,59 @@ pub(crate) fn exponent_at(table: &NodeTable, desk: Desk) -> (Desk, u8)
     (at.leave(), exponent)
 }
 
-// The nine overlapping squares of a square.
-fn ninths_at(table: &NodeTable, desk: Desk, sq: Sq) -> (Desk, Result<[Sq; 9], Refusal>)
+/// The nine overlapping squares of a square.
+pub(crate) fn ninths_at(table: &NodeTable, desk: Desk, sq: Sq) -> (Desk, Result<[Sq; 9], Refusal>)
     requires desk { IsDeskOf table.now desk }
     requires known { IsKnown (book_at table.now desk) sq.level sq }
     requires low { 4 < sq.level }
     ensures desk { Continues table.now 1 desk result.0 }
-    ensures ok { IfOk result.1 (λ parts. AreKnown (book_at table.now result.0) (sq.level - 1) parts) }
+    ensures ok { IfOk result.1 (AreKnown (book_at table.now result.0) (sq.level - 1)) }
     ensures refusal { IfErr result.1 (Refuses (book_at table.now result.0)) }
 {
     let mut at = table.at(desk);
-    match at.nine(sq) {
-        Ok(parts) => (at.leave(), Ok(parts)),
-        Err(refusal) => (at.leave(), Err(refusal)),
-    }
+    let nine = at.nine(sq);
+    (at.leave(), nine)
 }
 
-// The square of four.
-fn quad_at(
+// Of nine squares in three rows, the four that the futures of neighbours make.
+fn overlaps_of_futures<S: Squares>(
+    book: &mut S,
+    level: u8,
+    nine: [Sq; 9],
+    tally: &mut Tally,
+) -> Result<[Sq; 4], Refusal>
+    requires known { All (IsKnown (S.book book.old) level) nine }
+    requires low { 3 < level }
+    ensures ok { IfOk result (All (IsKnown (S.book book.new) level)) }
+    ensures refusal { IfErr result (MayRefuse (S.book book.new)) }
+    ensures keeps { Keeps (S.book book.old) (S.book book.new) }
+    ensures tally { Tallies (S.book book.old) (S.book book.new) level tally.old.expansions tally.new.expansions }
+{
+    let mut futures = nine;
+    replace_by_futures(book, level, &mut futures, 0, tally)?;
+    overlaps(book, level - 1, futures)
+}
+
+/// Of nine squares in three rows, the four that the futures of neighbours make.
+pub(crate) fn overlaps_at(
     table: &NodeTable,
     desk: Desk,
     level: u8,
-    quarters: [Sq; 4],
-) -> (Desk, Result<Sq, Refusal>)
+    nine: [Sq; 9],
+) -> (Desk, Result<[Sq; 4], Refusal>)
     requires desk { IsDeskOf table.now desk }
-    requires known { AllByRecursion (IsKnown (book_at table.now desk) level) quarters }
-    requires high { level < 65 }
+    requires known { AreKnown (book_at table.now desk) level nine }
+    requires low { 3 < level }
     ensures desk { Continues table.now 1 desk result.0 }
-    ensures ok { IfOk result.1 (IsKnown (book_at table.now result.0) (level + 1)) }
+    ensures ok { IfOk result.1 (AreKnown (book_at table.now result.0) level) }
     ensures refusal { IfErr result.1 (Refuses (book_at table.now result.0)) }
 {
+    let mut tally = Tally { expansions: 0 };
     let mut at = table.at(desk);
-    match at.quad(quarters) {
-        Ok(whole) => (at.leave(), Ok(whole)),
-        Err(refusal) => (at.leave(), Err(refusal)),
-    }
+    let four = overlaps_of_futures(&mut at, level, nine, &mut tally);
+    let mut desk = at.leave();
+    desk.count(&tally);
+    (desk, four)
 }
 
 /// Those of the squares whose result the desk doesn't find, each once.
@@ -103,101 +120,6 @@ pub(crate) fn unknown_of(
         }
         if list.push(sq).is_err() {
             return (desk, Err(Refusal::NoMemory));
-        }
-    }
-    (desk, Ok(list))
-}
-
-/// The nine overlapping squares of each.
-pub(crate) fn ninths_of(
-    alloc: Global,
-    table: &NodeTable,
-    mut desk: Desk,
-    squares: &[Sq],
-    level: u8,
-) -> (Desk, Result<Vec<Sq>, Refusal>)
-    requires desk { IsDeskOf table.now desk }
-    requires known { AreKnown (book_at table.now desk) level squares.now }
-    requires low { 4 < level }
-    ensures desk { Continues table.now 1 desk result.0 }
-    ensures ok { IfOk result.1 (λ v. AreKnown (book_at table.now result.0) (level - 1) v.items) }
-    ensures refusal { IfErr result.1 (Refuses (book_at table.now result.0)) }
-{
-    let mut list = Vec::new(alloc);
-    for k in 0..squares.len() {
-        let (after, parts) = ninths_at(table, desk, squares[k]);
-        desk = after;
-        match parts {
-            Ok(parts) => {
-                if list.extend_from_slice(&parts).is_err() {
-                    return (desk, Err(Refusal::NoMemory));
-                }
-            }
-            Err(refusal) => return (desk, Err(refusal)),
-        }
-    }
-    (desk, Ok(list))
-}
-
-/// The future of each.
-pub(crate) fn futures_of(
-    alloc: Global,
-    table: &NodeTable,
-    mut desk: Desk,
-    squares: &[Sq],
-    level: u8,
-) -> (Desk, Result<Vec<Sq>, Refusal>)
-    requires desk { IsDeskOf table.now desk }
-    requires known { AreKnown (book_at table.now desk) level squares.now }
-    requires low { 3 < level }
-    ensures desk { Continues table.now 1 desk result.0 }
-    ensures ok { IfOk result.1 (λ v. AreKnown (book_at table.now result.0) (level - 1) v.items) }
-    ensures refusal { IfErr result.1 (Refuses (book_at table.now result.0)) }
-{
-    let mut list = Vec::new(alloc);
-    for k in 0..squares.len() {
-        let (after, future) = future_at(table, desk, squares[k], 0);
-        desk = after;
-        match future {
-            Ok(future) => {
-                if list.push(future).is_err() {
-                    return (desk, Err(Refusal::NoMemory));
-                }
-            }
-            Err(refusal) => return (desk, Err(refusal)),
-        }
-    }
-    (desk, Ok(list))
-}
-
-/// Of each nine squares in three rows, the four that neighbours make.
-pub(crate) fn overlaps_of(
-    alloc: Global,
-    table: &NodeTable,
-    mut desk: Desk,
-    nines: &[Sq],
-    level: u8,
-) -> (Desk, Result<Vec<Sq>, Refusal>)
-    requires desk { IsDeskOf table.now desk }
-    requires known { AreKnown (book_at table.now desk) level nines.now }
-    requires high { level < 65 }
-    ensures desk { Continues table.now 1 desk result.0 }
-    ensures ok { IfOk result.1 (λ v. AreKnown (book_at table.now result.0) (level + 1) v.items) }
-    ensures refusal { IfErr result.1 (Refuses (book_at table.now result.0)) }
-{
-    let mut list = Vec::new(alloc);
-    for k in 0..nines.len() / 9 * 4 {
-        let i = k / 4 * 9 + k % 4 + k % 4 / 2;
-        let quarters = [nines[i], nines[i + 1], nines[i + 3], nines[i + 4]];
-        let (after, whole) = quad_at(table, desk, level, quarters);
-        desk = after;
-        match whole {
-            Ok(whole) => {
-                if list.push(whole).is_err() {
-                    return (desk, Err(Refusal::NoMemory));
-                }
-            }
-            Err(refusal) => return (desk, Err(refusal)),
         }
     }
     (desk, Ok(list))

@@ -1,7 +1,7 @@
 use Rattle.std.proofs.Common.{◌≡◌, length, arith, rules}
 use Rattle.squares.proofs.Kept.{keeps_none, keeps_trans, known_kept, results_trans}
 use Rattle.hashlife_step.proofs.FourKnown.{four_known, joined_later}
-use Rattle.hashlife_step.proofs.overlaps.overlaps.Goals as goal
+use Rattle.hashlife_step.proofs.neighbours.overlaps.Goals as goal
 
 pub returns-in_err-ne-clause-keeps : goal.returns-in_err-ne-clause-keeps
 returns-in_err-ne-clause-keeps g c = keeps_trans c.quad.ensures.keeps c.quad-2.ensures.keeps

@@ -7,11 +7,7 @@ use squares::{Sq, Squares};
 
 /// Of nine squares in three rows, the four that neighbours make: those at the upper left, the upper
 /// right, the lower left and the lower right.
-pub(crate) fn overlaps<S: Squares>(
-    book: &mut S,
-    level: u8,
-    nine: [Sq; 9],
-) -> Result<[Sq; 4], Refusal>
+pub fn overlaps<S: Squares>(book: &mut S, level: u8, nine: [Sq; 9]) -> Result<[Sq; 4], Refusal>
     requires known { All (IsKnown (S.book book.old) level) nine }
     requires high { level < 65 }
     ensures ok { IfOk result (AreOverlaps (S.book book.new) level nine) }
