@@ -42,23 +42,23 @@ pub roomy : {old new : Universe} → new.here ≡ old.here → new.limit ≡ old
 roomy {old} {new} here limit = record {
   same = record {
     cells = subst (λ (s : Scene). IsSame (cells_of s) (live_cells old)) (sym here) (same_refl (live_cells old));
-    rule = ap (λ (s : Scene). s.table.key.rule) here;
+    rule = ap (λ (s : Scene). s.table.standing.key.rule) here;
     limit = limit;
   };
-  exponent = ap (λ (s : Scene). s.table.key.exponent) here;
+  exponent = ap (λ (s : Scene). s.table.standing.key.exponent) here;
 }
 
 -- a universe whose cells lay at rest
-pub resumed : {old new : Universe} → (resting : Resting) → IsSame (resting_cells resting) (live_cells old) → key_of (still_of resting) ≡ old.here.table.key →
-    IsSame (live_cells new) (resting_cells resting) → new.here.table.key ≡ key_of (still_of resting) → new.limit ≡ old.limit → IsTurned (exponent_of old) old new
+pub resumed : {old new : Universe} → (resting : Resting) → IsSame (resting_cells resting) (live_cells old) → key_of (still_of resting) ≡ old.here.table.standing.key →
+    IsSame (live_cells new) (resting_cells resting) → new.here.table.standing.key ≡ key_of (still_of resting) → new.limit ≡ old.limit → IsTurned (exponent_of old) old new
 resumed resting rested rested_key stands key limit = record {
   same = record { cells = same_trans stands rested; rule = ap (λ (k : Key). k.rule) (key ∙ rested_key); limit = limit };
   exponent = ap (λ (k : Key). k.exponent) (key ∙ rested_key);
 }
 
 -- a universe whose cells lay at rest and were copied into fresh words
-pub renewed : {old new : Universe} → (resting fresh : Resting) (pairs : ℕ) → IsSame (resting_cells resting) (live_cells old) → key_of (still_of resting) ≡ old.here.table.key → IsRenewed resting fresh pairs →
-    IsSame (live_cells new) (resting_cells fresh) → new.here.table.key ≡ key_of (still_of fresh) → new.limit ≡ old.limit → IsTurned (exponent_of old) old new
+pub renewed : {old new : Universe} → (resting fresh : Resting) (pairs : ℕ) → IsSame (resting_cells resting) (live_cells old) → key_of (still_of resting) ≡ old.here.table.standing.key → IsRenewed resting fresh pairs →
+    IsSame (live_cells new) (resting_cells fresh) → new.here.table.standing.key ≡ key_of (still_of fresh) → new.limit ≡ old.limit → IsTurned (exponent_of old) old new
 renewed resting fresh pairs rested rested_key is stands key limit = record {
   same = record {
     cells = same_trans stands (same_trans is.cells rested);

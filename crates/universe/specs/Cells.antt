@@ -35,7 +35,7 @@ live_cells universe = cells_of universe.here
 
 -- by which rule its generations follow one another
 abbrev pub rule_of : Universe → CountRule
-rule_of universe = universe.here.table.key.rule
+rule_of universe = universe.here.table.standing.key.rule
 
 -- how many pair slots its tables may have together
 abbrev pub limit_of : Universe → ℕ
@@ -47,4 +47,4 @@ pairs_of universe = pairs_in universe.here.table + pair_sum universe.others.item
 
 -- how many generations a step of the table with its square takes, as a power of two
 abbrev pub exponent_of : Universe → ℕ
-exponent_of universe = universe.here.table.key.exponent
+exponent_of universe = universe.here.table.standing.key.exponent

@@ -17,13 +17,13 @@ use Rattle.universe.specs.Tables.{known_at}
 
 -- the cells one step later, at the same table
 pub record IsNext (old new : Scene) : Type 0 where
-  pub cells : IsSame (cells_of new) (after old.table.key.rule (cells_of old) (2 ^ old.table.key.exponent))
-  pub key : new.table.key ≡ old.table.key
+  pub cells : IsSame (cells_of new) (after old.table.standing.key.rule (cells_of old) (2 ^ old.table.standing.key.exponent))
+  pub key : new.table.standing.key ≡ old.table.standing.key
 
 -- the same cells, at the same table, which is full
 pub record IsFullHere (old new : Scene) : Type 0 where
   pub cells : IsSame (cells_of new) (cells_of old)
-  pub key : new.table.key ≡ old.table.key
+  pub key : new.table.standing.key ≡ old.table.standing.key
   pub full : IsTrue (known_at new.table).is_full
 
 -- the cells one step later, or, where the table was full, before it
@@ -33,8 +33,8 @@ IsStepped old (Full same) = IsFullHere old same
 
 -- the same cells, at the other table, beside the one where they were; or where they were
 abbrev pub IsMoved : Scene → OpenTable → Moved → Type 0
-IsMoved old other (There left here) = IsSame (cells_of here) (cells_of old) × (here.table.key ≡ other.key) × (left.key ≡ old.table.key)
-IsMoved old other (FullThere here there) = IsSame (cells_of here) (cells_of old) × (here.table.key ≡ old.table.key) × (there.key ≡ other.key)
+IsMoved old other (There left here) = IsSame (cells_of here) (cells_of old) × (here.table.standing.key ≡ other.standing.key) × (left.standing.key ≡ old.table.standing.key)
+IsMoved old other (FullThere here there) = IsSame (cells_of here) (cells_of old) × (here.table.standing.key ≡ old.table.standing.key) × (there.standing.key ≡ other.standing.key)
 
 -- the same cells at rest, under the same rule and exponent, in words of so many pair slots
 pub record IsRenewed (old new : Resting) (pairs : ℕ) : Type 0 where

@@ -42,7 +42,7 @@ impl Universe {
         ensures memory { IsOkUnless result Refusal.NoMemory }
     {
         let most = self.limit;
-        let mut shape = self.here.table.key.shape;
+        let mut shape = self.here.table.standing.key.shape;
         let growth = self.here.table.growth();
         let mut start = match self.tried_here(team)? {
             Attempt::Full(start) => start,
@@ -75,7 +75,7 @@ impl Universe {
         if !start.here.table.is_worn() {
             return Ok(Attempt::Full(start));
         }
-        let shape = start.here.table.key.shape;
+        let shape = start.here.table.standing.key.shape;
         start.tried_in(team, shape, Kept::CellsAlone)
     }
 
@@ -126,7 +126,7 @@ impl Universe {
             others,
             limit,
         } = self.with_room(pair_count(shape));
-        let past = here.table.past;
+        let past = here.table.standing.past;
         let start = here.rest();
         match start.renewed(team.alloc, shape, kept)? {
             Some(fresh) => {

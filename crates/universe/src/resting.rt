@@ -70,7 +70,7 @@ impl Resting {
     // The cells at a table of these words under another exponent, with this past.
     pub(crate) fn stand(self, alloc: Global, exponent: u8, past: Past) -> Result<Scene, Refusal>
         ensures ok { IfOk result (λ scene. IsSame (cells_of scene) (resting_cells self)) }
-        ensures key { IfOk result (λ scene. scene.table.key ≡ record (key_of (still_of self)) { exponent = exponent }) }
+        ensures key { IfOk result (λ scene. scene.table.standing.key ≡ record (key_of (still_of self)) { exponent = exponent }) }
         ensures memory { IsOkUnless result Refusal.NoMemory }
     {
         let rule = self.still.key().rule;
@@ -82,7 +82,7 @@ impl Resting {
     // The cells at a table of these words, under the rule and the exponent that these had, with this past.
     pub(crate) fn resume(self, alloc: Global, past: Past) -> Result<Scene, Refusal>
         ensures ok { IfOk result (λ scene. IsSame (cells_of scene) (resting_cells self)) }
-        ensures key { IfOk result (λ scene. scene.table.key ≡ key_of (still_of self)) }
+        ensures key { IfOk result (λ scene. scene.table.standing.key ≡ key_of (still_of self)) }
         ensures memory { IsOkUnless result Refusal.NoMemory }
     {
         let exponent = self.still.key().exponent;

@@ -57,7 +57,7 @@ impl Scene {
     // The cells in words at rest.
     pub(crate) fn rest(self) -> Resting
         ensures cells { IsSame (resting_cells result) (cells_of self) }
-        ensures key { key_of (still_of result) ≡ self.table.key }
+        ensures key { key_of (still_of result) ≡ self.table.standing.key }
     {
         let Scene { table, root } = self;
         let still = table.close();
@@ -68,7 +68,7 @@ impl Scene {
     pub(crate) fn population(self, alloc: Global) -> Result<(Scene, u128), Refusal>
         ensures ok { IfOk result (λ found. HasPopulation (cells_of self) found.1) }
         ensures same { IfOk result (λ found. IsSame (cells_of found.0) (cells_of self)) }
-        ensures key { IfOk result (λ found. found.0.table.key ≡ self.table.key) }
+        ensures key { IfOk result (λ found. found.0.table.standing.key ≡ self.table.standing.key) }
         ensures memory { IsOkUnless result Refusal.NoMemory }
     {
         let Scene { table, root } = self;
@@ -81,10 +81,10 @@ impl Scene {
     pub(crate) fn bounds(self, alloc: Global) -> Result<(Scene, Option<Bounds>), Refusal>
         ensures ok { IfOk result (λ found. HasBounds (cells_of self) found.1) }
         ensures same { IfOk result (λ found. IsSame (cells_of found.0) (cells_of self)) }
-        ensures key { IfOk result (λ found. found.0.table.key ≡ self.table.key) }
+        ensures key { IfOk result (λ found. found.0.table.standing.key ≡ self.table.standing.key) }
         ensures memory { IsOkUnless result Refusal.NoMemory }
     {
-        let past = self.table.past;
+        let past = self.table.standing.past;
         let resting = self.rest();
         let found = resting.bounds(alloc)?;
         Ok((resting.resume(alloc, past)?, found))
@@ -95,8 +95,8 @@ impl Scene {
         self,
         team: &Team<'_, R, G>,
     ) -> Result<Stepped, Refusal>
-        requires exponent { self.table.key.exponent ≤ 62 }
-        requires held { Holds 63 (after self.table.key.rule (cells_of self) (2 ^ self.table.key.exponent)) }
+        requires exponent { self.table.standing.key.exponent ≤ 62 }
+        requires held { Holds 63 (after self.table.standing.key.rule (cells_of self) (2 ^ self.table.standing.key.exponent)) }
         ensures ok { IfOk result (IsStepped self) }
         ensures memory { IsOkUnless result Refusal.NoMemory }
     {

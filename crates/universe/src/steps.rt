@@ -81,7 +81,7 @@ impl Universe {
             return Ok(self);
         }
         let mut universe = self;
-        let digits = digits_from(generations, universe.here.table.key.exponent);
+        let digits = digits_from(generations, universe.here.table.standing.key.exponent);
         'steps: for exponent in digits.as_slice() {
             let table = table_for(generations, *exponent);
             universe = universe.stride(team, *exponent, table)?;

@@ -25,15 +25,21 @@ use table_core::{Key, Kind, Shape};
 use viewport::population;
 use worker_split::{Gate, Team, step};
 
-/// A table that stays open under a rule and an exponent, with its one desk.
+/// A table under a rule and an exponent, and what it has behind it.
 #[derive(Drop)]
-pub(crate) struct OpenTable {
+pub(crate) struct Standing {
     table: NodeTable,
-    desk: Desk,
     pub(crate) key: Key,
     pub(crate) past: Past,
-    ghost of_table: { IsDeskOf table desk },
     ghost same_key: { table.key ≡ key },
+}
+
+/// A table that stays open, with its one desk.
+#[derive(Drop)]
+pub(crate) struct OpenTable {
+    pub(crate) standing: Standing,
+    desk: Desk,
+    ghost of_table: { IsDeskOf standing.table desk },
 }
 
 impl OpenTable {
@@ -58,12 +64,8 @@ impl OpenTable {
         let Ok((table, desk)) = NodeTable::open(alloc, still, *rule, exponent) else {
             return Err(Refusal::NoMemory);
         };
-        Ok(OpenTable {
-            table,
-            desk,
-            key,
-            past,
-        })
+        let standing = Standing { table, key, past };
+        Ok(OpenTable { standing, desk })
     }
 
     /// A table of this shape without a square, with this past.
@@ -84,13 +86,13 @@ impl OpenTable {
 
     /// A table of this shape with all squares and results of this one, if it has room for them.
     pub(crate) fn enlarged(self, alloc: Global, shape: Shape) -> Result<Option<OpenTable>, Refusal>
-        ensures under { IfOk result (λ made. IfSome made (IsTableUnder self.key.rule self.key.exponent)) }
+        ensures under { IfOk result (λ made. IfSome made (IsTableUnder self.standing.key.rule self.standing.key.exponent)) }
         ensures pairs { IfOk result (λ made. IfSome made (λ larger. pairs_in larger ≡ 2 ^ shape.bits)) }
         ensures memory { IsOkUnless result Refusal.NoMemory }
     {
         let rule = self.rule();
-        let exponent = self.key.exponent;
-        let past = self.past.at_fresh(shape.bits);
+        let exponent = self.standing.key.exponent;
+        let past = self.standing.past.at_fresh(shape.bits);
         let still = self.close();
         let none = Sq {
             level: 4,
@@ -111,24 +113,24 @@ impl OpenTable {
     pub(crate) fn pair_count(&self) -> u64
         ensures { result ≡ pairs_in self.now }
     {
-        pair_count(self.key.shape)
+        pair_count(self.standing.key.shape)
     }
 
     /// The rule.
     pub(crate) fn rule(&self) -> Rule
-        ensures { result ≡ self.now.key.rule }
+        ensures { result ≡ self.now.standing.key.rule }
     {
-        self.key.rule
+        self.standing.key.rule
     }
 
     /// Whether it is under this rule and exponent.
     pub(crate) fn is_under(&self, rule: &Rule, exponent: u8) -> bool
         ensures { IsTrue result ↔ IsTableUnder rule.now exponent self.now }
     {
-        if self.key.exponent != exponent {
+        if self.standing.key.exponent != exponent {
             return false;
         }
-        if self.key.rule.code() != rule.code() {
+        if self.standing.key.rule.code() != rule.code() {
             return false;
         }
         true
@@ -136,25 +138,25 @@ impl OpenTable {
 
     /// How it grows, as long as it isn't large.
     pub(crate) fn growth(&self) -> Growth {
-        self.past.growth()
+        self.standing.past.growth()
     }
 
     /// Whether most of it is likely to be left over from earlier steps.
     pub(crate) fn is_worn(&self) -> bool {
-        self.past.is_worn(self.key.shape.bits)
+        self.standing.past.is_worn(self.standing.key.shape.bits)
     }
 
     /// The words, which say all that was known.
     pub(crate) fn close(self) -> Still
-        ensures key { key_of result ≡ self.key }
+        ensures key { key_of result ≡ self.standing.key }
         ensures says { SaysAll (known_at self) (book_in result) }
     {
-        let OpenTable {
+        let OpenTable { standing, desk } = self;
+        let Standing {
             table,
-            desk,
             key: _,
             past: _,
-        } = self;
+        } = standing;
         table.close(desk)
     }
 
@@ -166,28 +168,18 @@ impl OpenTable {
     ) -> (OpenTable, Result<Sq, Refusal>)
         requires known { IsKnown (known_at self) root.level root }
         requires level { (3 < root.level) × (root.level ≤ 63) }
-        requires exponent { self.key.exponent ≤ 62 }
+        requires exponent { self.standing.key.exponent ≤ 62 }
         ensures stays { StaysOpen self result.0 }
-        ensures ok { IfOk result.1 (IsRound (known_at result.0) (after self.key.rule (centred root.level ((known_at self).cells root)) (2 ^ self.key.exponent))) }
+        ensures ok { IfOk result.1 (IsRound (known_at result.0) (after self.standing.key.rule (centred root.level ((known_at self).cells root)) (2 ^ self.standing.key.exponent))) }
         ensures refusal { IfErr result.1 (λ refusal. (refusal ≡ Refusal.NoMemory) ⊎ ((refusal ≡ Refusal.NodesFull) × IsTrue (known_at result.0).is_full)) }
     {
-        let OpenTable {
-            table,
-            desk,
-            key,
-            past,
-        } = self;
+        let OpenTable { mut standing, desk } = self;
         let before = desk.expansions();
-        let team = team.at_most(past.most_workers());
-        let (desk, made) = step(&team, &table, desk, root);
-        let past = past.and_step(made.is_ok(), desk.expansions().saturating_sub(before));
-        let stepped = OpenTable {
-            table,
-            desk,
-            key,
-            past,
-        };
-        (stepped, made)
+        let team = team.at_most(standing.past.most_workers());
+        let (desk, made) = step(&team, &standing.table, desk, root);
+        let expansions = desk.expansions().saturating_sub(before);
+        standing.past = standing.past.and_step(made.is_ok(), expansions);
+        (OpenTable { standing, desk }, made)
     }
 
     /// The square of the live cells of the source. The table comes back, at a refusal too.
@@ -203,22 +195,11 @@ impl OpenTable {
         ensures full { IfErr result.1 (λ refusal. refusal ≡ Refusal.NodesFull → IsTrue (known_at result.0).is_full) }
         ensures refusal { IfErr result.1 (λ refusal. (refusal ≡ Refusal.NoMemory) ⊎ (refusal ≡ Refusal.NodesFull)) }
     {
-        let OpenTable {
-            table,
-            desk,
-            key,
-            past,
-        } = self;
-        let mut at = table.at(desk);
+        let OpenTable { standing, desk } = self;
+        let mut at = standing.table.at(desk);
         let made = source.build(alloc, &mut at);
         let desk = at.leave();
-        let same = OpenTable {
-            table,
-            desk,
-            key,
-            past,
-        };
-        (same, made)
+        (OpenTable { standing, desk }, made)
     }
 
     /// How many live cells a square has. The table comes back, at a refusal too.
@@ -229,22 +210,11 @@ impl OpenTable {
         ensures ok { IfOk result.1 (HasPopulation (centred root.level ((known_at self).cells root))) }
         ensures memory { IsOkUnless result.1 Refusal.NoMemory }
     {
-        let OpenTable {
-            table,
-            desk,
-            key,
-            past,
-        } = self;
-        let mut at = table.at(desk);
+        let OpenTable { standing, desk } = self;
+        let mut at = standing.table.at(desk);
         let found = population(&mut at, alloc, root);
         let desk = at.leave();
-        let same = OpenTable {
-            table,
-            desk,
-            key,
-            past,
-        };
-        (same, found)
+        (OpenTable { standing, desk }, found)
     }
 
     /// The square copied into another table. Both come back, at a refusal too.
@@ -260,37 +230,21 @@ impl OpenTable {
         ensures ok { IfOk result.2 (Shows (known_at result.1) root.level ((known_at self).cells root)) }
         ensures refusal { IfErr result.2 (λ refusal. (refusal ≡ Refusal.NoMemory) ⊎ (refusal ≡ Refusal.NodesFull)) }
     {
+        let OpenTable { standing, desk } = self;
         let OpenTable {
-            table,
-            desk,
-            key,
-            past,
-        } = self;
-        let OpenTable {
-            table: other_table,
+            standing: other_standing,
             desk: other_desk,
-            key: other_key,
-            past: other_past,
         } = other;
-        let mut at = table.at(desk);
-        let mut other_at = other_table.at(other_desk);
+        let mut at = standing.table.at(desk);
+        let mut other_at = other_standing.table.at(other_desk);
         let copied = copy_between(alloc, &mut at, root, &mut other_at);
         let desk = at.leave();
         let other_desk = other_at.leave();
-        (
-            OpenTable {
-                table,
-                desk,
-                key,
-                past,
-            },
-            OpenTable {
-                table: other_table,
-                desk: other_desk,
-                key: other_key,
-                past: other_past,
-            },
-            copied,
-        )
+        let left = OpenTable { standing, desk };
+        let reached = OpenTable {
+            standing: other_standing,
+            desk: other_desk,
+        };
+        (left, reached, copied)
     }
 }

@@ -24,7 +24,7 @@ impl Universe {
         ensures ok { IfOk result (IsTurned exponent self) }
         ensures memory { IsOkUnless result Refusal.NoMemory }
     {
-        if self.here.table.key.exponent == exponent {
+        if self.here.table.standing.key.exponent == exponent {
             return Ok(self);
         }
         let start = match self.turned_beside(alloc, exponent)? {
@@ -36,7 +36,7 @@ impl Universe {
             others,
             limit,
         } = start;
-        let past = here.table.past;
+        let past = here.table.standing.past;
         let shrunk = here.rest().shrunk(alloc)?;
         let past = past.at_fresh(shrunk.still.key().shape.bits);
         let here = shrunk.stand(alloc, exponent, past)?;
@@ -83,7 +83,7 @@ impl Universe {
             return Ok(Attempt::Full(self));
         }
         let rule = self.here.table.rule();
-        let past = self.here.table.past.at_fresh(shape.bits);
+        let past = self.here.table.standing.past.at_fresh(shape.bits);
         let table = OpenTable::fresh(alloc, shape, &rule, exponent, past)?;
         let start = self.with_room(pairs);
         start.moved(alloc, table)
@@ -93,9 +93,9 @@ impl Universe {
     // the one where they were, as the last that was used.
     #[cycle(moved)]
     fn moved(self, alloc: Global, other: OpenTable) -> Result<Attempt, Refusal>
-        requires rule { other.key.rule ≡ rule_of self }
+        requires rule { other.standing.key.rule ≡ rule_of self }
         requires room { pairs_in other + pairs_of self ≤ limit_of self }
-        ensures ok { IfOk result (IsTurn other.key.exponent self) }
+        ensures ok { IfOk result (IsTurn other.standing.key.exponent self) }
         ensures memory { IsOkUnless result Refusal.NoMemory }
     {
         let Universe {
@@ -129,11 +129,11 @@ impl Universe {
     // Enlarges another table that is full, and copies the cells there, if the limit leaves room for it.
     #[cycle(moved)]
     fn moved_to_larger(self, alloc: Global, other: OpenTable) -> Result<Attempt, Refusal>
-        requires rule { other.key.rule ≡ rule_of self }
-        ensures ok { IfOk result (IsTurn other.key.exponent self) }
+        requires rule { other.standing.key.rule ≡ rule_of self }
+        ensures ok { IfOk result (IsTurn other.standing.key.exponent self) }
         ensures memory { IsOkUnless result Refusal.NoMemory }
     {
-        let Some(shape) = larger(other.key.shape, self.limit, other.growth()) else {
+        let Some(shape) = larger(other.standing.key.shape, self.limit, other.growth()) else {
             return Ok(Attempt::Full(self));
         };
         let pairs = self.here.table.pair_count() + pair_count(shape);

@@ -7,11 +7,11 @@ use Rattle.universe.proofs.tables.OpenTable.build.Goals as goal
 
 pub returns-clause-stays : goal.returns-clause-stays
 returns-clause-stays g c =
-    let back = is_back c.args.self.table c.args.self.desk c.leave-desk.result _ _ c.at-at.ensures c.build-made.ensures.keeps c.leave-desk.ensures in
+    let back = is_back c.args.self.standing.table c.args.self.desk c.leave-desk.result _ _ c.at-at.ensures c.build-made.ensures.keeps c.leave-desk.ensures in
     record { same_key = refl; keeps = back.keeps }
 
 pub returns-clause-ok : goal.returns-clause-ok
 returns-clause-ok g c =
-    let back = is_back c.args.self.table c.args.self.desk c.leave-desk.result _ _ c.at-at.ensures c.build-made.ensures.keeps c.leave-desk.ensures in
+    let back = is_back c.args.self.standing.table c.args.self.desk c.leave-desk.result _ _ c.at-at.ensures c.build-made.ensures.keeps c.leave-desk.ensures in
     let live = g.B.Build.live c.args.source.now in
     ok_then (IsRound _ live) _ c.build-made.result (λ sq is. back_as_round live sq back is) c.build-made.ensures.ok

@@ -13,4 +13,4 @@ returns-clause-ok g c =
     let opened = c.args.self in
     let root = c.args.root in
     let was = known_at opened in
-    subst (λ (k : Key). IfOk c.step-desk.result.1 (IsRound (book_at opened.table c.step-desk.result.0) (after k.rule (centred root.level (was.cells root)) (2 ^ k.exponent)))) opened.same_key c.step-desk.ensures.ok
+    subst (λ (k : Key). IfOk c.step-desk.result.1 (IsRound (book_at opened.standing.table c.step-desk.result.0) (after k.rule (centred root.level (was.cells root)) (2 ^ k.exponent)))) opened.standing.same_key c.step-desk.ensures.ok
