@@ -33,7 +33,7 @@ GIGABYTE = 10**9
 MEMORY = 4 * GIGABYTE
 MEMORY_OF_JOB = 3 * GIGABYTE // 2
 MOST_JOBS = 4
-# A crate that no other waits for long takes what the others leave of the processors.
+# How a crate is proved that is not on the longest chain: by what the others leave of the processors.
 BEHIND = ["nice", "-n", "5"]
 # What all crates leave in their folders `out`.
 DISK = 2 * GIGABYTE
@@ -134,7 +134,7 @@ def words_of_check(name, crates, jobs):
 
 def commands_for(name, crates, jobs):
     """What has a crate proved and its library written, or the program built: it shows its help at the end."""
-    check = [*(BEHIND if jobs == 1 else []), kit() / "bin/rattle", "build", *words_of_check(name, crates, jobs)]
+    check = [kit() / "bin/rattle", "build", *words_of_check(name, crates, jobs)]
     if name != PROGRAM:
         return [[*check, "--statements", "-o", library(name)]]
     compiled, linked, toolchain = BUILT.with_suffix(".o"), BUILT.with_suffix(".new"), ["--toolchain", kit() / "toolchain"]
@@ -231,21 +231,22 @@ class Build:
     # The number of the signal that breaks the build off.
     signal: int = 0
 
-    def start(self, name, jobs):
+    def start(self, name, jobs, behind):
         shutil.rmtree(library(name).parent, ignore_errors=True)
         library(name).parent.mkdir(parents=True)
-        self.running[name] = Run(name, commands_for(name, self.crates, jobs), jobs, self.sums[name])
+        commands = [[*behind, *command] for command in commands_for(name, self.crates, jobs)]
+        self.running[name] = Run(name, commands, jobs, self.sums[name])
 
     def start_all(self, ready):
-        """Starts the crates that there is room for. One that has no longer chain above it than any that runs gets as many jobs as there are cores;
-        the others get one, behind it."""
+        """Starts the crates that there is room for. Of those that run, the one with the longest chain of crates above it gets as many jobs as
+        cores and memory allow; the others get one, behind it."""
         for name in ready:
             room = self.memory - sum(it.memory() for it in self.running.values())
             if self.running and (room < MEMORY or len(self.running) == self.cores):
                 return
             is_longest = all(self.chain[name] >= self.chain[it] for it in self.running)
             most = min(self.cores, MOST_JOBS, 1 + max(room - MEMORY, 0) // MEMORY_OF_JOB)
-            self.start(name, most if is_longest else 1)
+            self.start(name, most if is_longest else 1, [] if is_longest else BEHIND)
 
     def end(self, name, status):
         """Takes in a crate that is proved, or says why it isn't and answers False."""
