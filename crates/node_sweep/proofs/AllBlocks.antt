@@ -1,6 +1,6 @@
 -- Every block is copied.
 use Rattle.std.proofs.Common.{◌≡◌, ◌≢◌, ℕ, zero, suc, ◌+◌, ◌-◌, ◌^◌, ◌<◌, ◌⊎◌, List, sym, ◌∙◌, ap, subst, arith, refl, inl, inr, ⊎_elim}
-use Rattle.std.specs.Prelude.{slice_index, Option, None}
+use Rattle.std.specs.Prelude.{slice_index}
 use Rattle.std.proofs.lemmas.Bool.{cases_lt}
 use Rattle.table_core.specs.declared.key.Key.{Key}
 use Rattle.table_core.specs.declared.shape.Kind.{Kind}
@@ -14,6 +14,8 @@ use Rattle.node_sweep.specs.Reaching.{IsWanted}
 use Rattle.node_sweep.specs.Copies.{IsCopy, IsCopyOf, IsLowBlock, IsWantedCopy}
 use Rattle.node_sweep.specs.Copying.{AreCopied, IsCopying}
 use Rattle.node_sweep.specs.Keeping.{IsCopiedResult, IsKeeping}
+use Rattle.node_sweep.specs.declared.transfer.Wish.{Wish}
+use Rattle.node_sweep.specs.declared.transfer.Wish.TheVariants.{Everything}
 use Rattle.node_sweep.specs.Enlarges.{Enlarges, HasOriginal, IsSameResult}
 use Rattle.node_sweep.proofs.SameBlocks.{block_some, copy_later, copy_none, same_original, same_copy}
 use Rattle.node_sweep.proofs.Futures.{copy_at}
@@ -30,9 +32,9 @@ low_block_at key words n good some below there = ⊎_elim
     (λ high. let t = good.blocks n (record { from = high; below = below }) there in let less = t.1 in (suc t.0, omega arith, t.2))
     (cases_lt n (start key.shape.bits Pair))
 
--- without a root all numbers are wanted
-pub all_wanted : (bits : ℕ) (words : Words) (root : Option ℕ) (n : ℕ) → root ≡ None → IsWanted bits words root n
-all_wanted bits words root n e = subst (λ r. IsWanted bits words r n) (sym e) tt
+-- where everything is wished all numbers are wanted
+pub all_wanted : (bits : ℕ) (words : Words) (wish : Wish) (n : ℕ) → wish ≡ Everything → IsWanted bits words wish n
+all_wanted bits words wish n e = subst (λ r. IsWanted bits words r n) (sym e) tt
 
 slot_below_end : (bits : ℕ) (kind : Kind) (n : ℕ) → IsSlot bits kind n → n < start bits Pair + 2 ^ bits
 slot_below_end bits Leaf n slot = let below = slot.below in omega arith

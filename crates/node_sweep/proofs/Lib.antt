@@ -10,3 +10,7 @@ pub mod Squares
 pub mod AllBlocks
 pub mod Carried
 pub mod Transferred
+pub mod Ranked
+pub mod Ending
+pub mod Gathered
+pub mod Compacted

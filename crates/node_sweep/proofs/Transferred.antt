@@ -1,6 +1,6 @@
 -- What is copied out of words at rest.
-use Rattle.std.proofs.Common.{◌≡◌, ◌⊎◌, ℕ, List, Some, None, sym, subst, inl, inr, ⊎_elim}
-use Rattle.std.specs.Prelude.{Option, Result, Ok, Err, IfErr, IsOkUnless, slice_index}
+use Rattle.std.proofs.Common.{◌≡◌, ◌⊎◌, ℕ, List, sym, subst, inl, inr, ⊎_elim}
+use Rattle.std.specs.Prelude.{Result, Ok, Err, IfErr, IsOkUnless, slice_index}
 use Rattle.plane.specs.declared.refusal.Refusal.{Refusal}
 use Rattle.plane.specs.declared.refusal.Refusal.TheVariants.{NodesFull, NoMemory}
 use Rattle.squares.specs.declared.sq.Sq.{Sq}
@@ -13,6 +13,8 @@ use Rattle.node_sweep.specs.Reaching.{IsWanted}
 use Rattle.node_sweep.specs.SweptStills.{HasNoRoomFor, IsTransferOf, ReachesFewWords}
 use Rattle.node_sweep.specs.Transfers.{HasNoRoomLeft}
 use Rattle.node_sweep.specs.declared.transfer.Transfer.{Transfer}
+use Rattle.node_sweep.specs.declared.transfer.Wish.{Wish}
+use Rattle.node_sweep.specs.declared.transfer.Wish.TheVariants.{Everything, Reached}
 use Rattle.node_sweep.proofs.Few.{room_for_few}
 
 -- what is refused for one reason is refused for another that follows from it
@@ -26,27 +28,27 @@ pub only_memory : {T : Type 0} (P : Type 0) (r : Result T Refusal) → (P → �
 only_memory P (Ok x) none h = tt
 only_memory P (Err e) none h = ⊎_elim (λ memory. memory) (λ full. absurd (none full.1)) h
 
-module _ (still : Still) (root : Option ℕ) (pairs : ℕ) (transfer : Transfer) (is : IsTransferOf still root pairs transfer) where
+module _ (still : Still) (wish : Wish) (pairs : ℕ) (transfer : Transfer) (is : IsTransferOf still wish pairs transfer) where
   -- what holds of the words of the transfer holds of the words at rest
-  pub at_rest : (P : Key → List ℕ → Option ℕ → Type 0) → P transfer.from.now transfer.old.now transfer.root → P (key_of still) (items_of still) root
-  at_rest P p = subst (P (key_of still) (items_of still)) is.wanted (subst (λ ws. P (key_of still) ws transfer.root) is.old (subst (λ k. P k transfer.old.now transfer.root) is.from p))
+  pub at_rest : (P : Key → List ℕ → Wish → Type 0) → P transfer.from.now transfer.old.now transfer.wish → P (key_of still) (items_of still) wish
+  at_rest P p = subst (P (key_of still) (items_of still)) is.wanted (subst (λ ws. P (key_of still) ws transfer.wish) is.old (subst (λ k. P k transfer.old.now transfer.wish) is.from p))
 
   -- and the other way round
-  pub at_transfer : (P : Key → List ℕ → Option ℕ → Type 0) → P (key_of still) (items_of still) root → P transfer.from.now transfer.old.now transfer.root
-  at_transfer P p = subst (λ k. P k transfer.old.now transfer.root) (sym is.from) (subst (λ ws. P (key_of still) ws transfer.root) (sym is.old) (subst (P (key_of still) (items_of still)) (sym is.wanted) p))
+  pub at_transfer : (P : Key → List ℕ → Wish → Type 0) → P (key_of still) (items_of still) wish → P transfer.from.now transfer.old.now transfer.wish
+  at_transfer P p = subst (λ k. P k transfer.old.now transfer.wish) (sym is.from) (subst (λ ws. P (key_of still) ws transfer.wish) (sym is.old) (subst (P (key_of still) (items_of still)) (sym is.wanted) p))
 
-pub no_room_to_sweep : (still : Still) (root : Sq) (pairs : ℕ) (transfer : Transfer) → IsTransferOf still (Some root.num.0) pairs transfer → HasNoRoomLeft transfer → HasNoRoomFor still root pairs
+pub no_room_to_sweep : (still : Still) (root : Sq) (pairs : ℕ) (transfer : Transfer) → IsTransferOf still (Reached root.num.0) pairs transfer → HasNoRoomLeft transfer → HasNoRoomFor still root pairs
 no_room_to_sweep still root pairs transfer is h = record {
   to = transfer.to;
   resized = is.resized;
-  full = at_rest still (Some root.num.0) pairs transfer is (λ key words wanted. HasNoRoom key transfer.to (slice_index words) (IsWanted key.shape.bits (slice_index words) wanted)) h;
+  full = at_rest still (Reached root.num.0) pairs transfer is (λ key words wanted. HasNoRoom key transfer.to (slice_index words) (IsWanted key.shape.bits (slice_index words) wanted)) h;
 }
 
-pub no_room_to_enlarge : (still : Still) (pairs : ℕ) (transfer : Transfer) → IsTransferOf still None pairs transfer → HasNoRoomLeft transfer → HasNoRoomForAll still pairs
+pub no_room_to_enlarge : (still : Still) (pairs : ℕ) (transfer : Transfer) → IsTransferOf still Everything pairs transfer → HasNoRoomLeft transfer → HasNoRoomForAll still pairs
 no_room_to_enlarge still pairs transfer is h = record {
   to = transfer.to;
   resized = is.resized;
-  full = at_rest still None pairs transfer is (λ key words wanted. HasNoRoom key transfer.to (slice_index words) (IsWanted key.shape.bits (slice_index words) wanted)) h;
+  full = at_rest still Everything pairs transfer is (λ key words wanted. HasNoRoom key transfer.to (slice_index words) (IsWanted key.shape.bits (slice_index words) wanted)) h;
 }
 
 -- what a root that reaches few words needs always has room

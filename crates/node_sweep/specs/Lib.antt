@@ -1,9 +1,13 @@
+pub mod CollectedStills
+pub mod Collects
 pub mod Copies
 pub mod Copying
+pub mod Ends
 pub mod EnlargedStills
 pub mod Enlarges
 pub mod Keeping
 pub mod Placing
+pub mod Ranks
 pub mod Reaching
 pub mod Sweeps
 pub mod SweptStills

@@ -1,5 +1,5 @@
 -- Sweeping words in one owner's hands.
-use Rattle.std.specs.Prelude.{◌≡◌, ℕ, ◌^◌, Option}
+use Rattle.std.specs.Prelude.{◌≡◌, ℕ, ◌^◌}
 use Rattle.squares.specs.declared.sq.Sq.{Sq}
 use Rattle.squares.specs.Book.{Shows}
 use Rattle.table_core.specs.declared.key.Key.{Key}
@@ -11,6 +11,7 @@ use Rattle.node_sweep.specs.Reaching.{Reaches, ReachesFew}
 use Rattle.node_sweep.specs.Copies.{HasNoRoom}
 use Rattle.node_sweep.specs.Sweeps.{Sweeps}
 use Rattle.node_sweep.specs.declared.transfer.Transfer.{Transfer}
+use Rattle.node_sweep.specs.declared.transfer.Wish.{Wish}
 
 -- the old rule and exponent, and so many pair slots
 pub record IsResized (from to : Key) (pairs : ℕ) : Type 0 where
@@ -18,11 +19,11 @@ pub record IsResized (from to : Key) (pairs : ℕ) : Type 0 where
   pub rule : to.rule ≡ from.rule
   pub exponent : to.exponent ≡ from.exponent
 
--- out of these words, what this root reaches or all, into words of so many pair slots
-pub record IsTransferOf (still : Still) (root : Option ℕ) (pairs : ℕ) (transfer : Transfer) : Type 0 where
+-- out of these words, what is wished, into words of so many pair slots
+pub record IsTransferOf (still : Still) (wish : Wish) (pairs : ℕ) (transfer : Transfer) : Type 0 where
   pub from : transfer.from.now ≡ key_of still
   pub old : transfer.old.now ≡ items_of still
-  pub wanted : transfer.root ≡ root
+  pub wanted : transfer.wish ≡ wish
   pub resized : IsResized (key_of still) transfer.to pairs
 
 -- fresh words under the old rule and exponent, with what the root reaches and nothing else; the new root has the old

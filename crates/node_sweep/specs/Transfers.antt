@@ -20,7 +20,7 @@ new_bits transfer = transfer.to.shape.bits
 
 -- the number is to be copied
 abbrev pub wants : Transfer → ℕ → Type 0
-wants transfer = IsWanted (old_bits transfer) (old_words transfer) transfer.root
+wants transfer = IsWanted (old_bits transfer) (old_words transfer) transfer.wish
 
 -- the new words hold what the notes say, and nothing else
 abbrev pub IsUnderway : Transfer → List ℕ → List ℕ → Type 0

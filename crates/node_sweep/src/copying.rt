@@ -1,16 +1,14 @@
-ghost use Rattle.std.specs.Prelude.{◌≡◌, ◌≢◌, ◌<◌, ◌+◌, ◌^◌, None, length, IfOk, IfErr, slice_index};
+ghost use Rattle.std.specs.Prelude.{◌≡◌, ◌≢◌, ◌<◌, ◌+◌, ◌^◌, length, IfOk, IfErr, slice_index};
 ghost use Rattle.table_core.specs.declared.shape.Kind.TheVariants.{Pair};
 ghost use Rattle.table_core.specs.Good.{KeepsWords};
 ghost use Rattle.table_core.specs.Layout.{start};
 ghost use Rattle.node_sweep.specs.Copies.{IsLowBlock, IsWantedCopy};
 
 use crate::placing::place;
-use crate::transfer::Transfer;
+use crate::ranks::LARGEST_RANK;
+use crate::transfer::{Transfer, Wish};
 use plane::Refusal;
 use table_core::{Kind, pair_word, parts};
-
-// At least the rank of whatever a number shows.
-const LARGEST_RANK: u8 = 124;
 
 // The new words hold copies of old blocks, and `copies` has the new number of each old one, 0 where it has no copy yet.
 impl Transfer<'_> {
@@ -82,7 +80,7 @@ impl Transfer<'_> {
 
     // Copies every block.
     pub(crate) fn copy_all(&self, words: &mut [u64], copies: &mut [u32]) -> Result<(), Refusal>
-        requires all { self.now.root ≡ None }
+        requires all { self.now.wish ≡ Wish.Everything }
         requires underway { IsUnderway self.now words.old copies.old }
         requires long { length copies.old ≡ length self.now.old.now }
         ensures underway { IsUnderway self.now words.new copies.new }

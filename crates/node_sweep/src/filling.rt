@@ -1,8 +1,8 @@
-ghost use Rattle.std.specs.Prelude.{◌≡◌, ◌<◌, ◌⊎◌, None, Some, IfOk, IfErr, IsOkUnless, length, replicate};
+ghost use Rattle.std.specs.Prelude.{◌≡◌, ◌<◌, ◌⊎◌, IfOk, IfErr, IsOkUnless, length, replicate};
 ghost use Rattle.table_core.specs.Blocks.{IsBlock};
 ghost use Rattle.table_core.specs.Layout.{size};
 
-use crate::transfer::Transfer;
+use crate::transfer::{Transfer, Wish};
 use plane::Refusal;
 use std::alloc::Global;
 
@@ -12,7 +12,7 @@ impl Transfer<'_> {
     ghost use Rattle.node_sweep.specs.Transfers.{HasNoRoomLeft, IsCopyMade, IsUnderway, old_bits, old_words};
 
     // Fresh words without a square, and a note for each old number, that it has no copy.
-    fn begin(&self, alloc: Global) -> Result<(Vec<u64>, Vec<u32>), Refusal>
+    pub(crate) fn begin(&self, alloc: Global) -> Result<(Vec<u64>, Vec<u32>), Refusal>
         ensures underway { IfOk result (λ begun. IsUnderway self.now begun.0.items begun.1.items) }
         ensures long { IfOk result (λ begun. length begun.1.items ≡ length self.now.old.now) }
         ensures memory { IsOkUnless result Refusal.NoMemory }
@@ -35,7 +35,7 @@ impl Transfer<'_> {
         root: u32,
         rank: u8,
     ) -> Result<u32, Refusal>
-        requires root { self.now.root ≡ Some root }
+        requires root { self.now.wish ≡ Wish.Reached root }
         requires underway { IsUnderway self.now words.old copies.old }
         requires long { length copies.old ≡ length self.now.old.now }
         requires block { IsBlock (old_bits self.now) (old_words self.now) rank root }
@@ -49,7 +49,7 @@ impl Transfer<'_> {
 
     // Fills fresh words with all that the old ones show, and with all results.
     fn fill_whole(&self, words: &mut [u64], copies: &mut [u32], root: u32) -> Result<u32, Refusal>
-        requires all { self.now.root ≡ None }
+        requires all { self.now.wish ≡ Wish.Everything }
         requires underway { IsUnderway self.now words.old copies.old }
         requires long { length copies.old ≡ length self.now.old.now }
         requires inside { root < length self.now.old.now }
@@ -69,7 +69,7 @@ impl Transfer<'_> {
         root: u32,
         rank: u8,
     ) -> Result<(Vec<u64>, u32), Refusal>
-        requires root { self.now.root ≡ Some root }
+        requires root { self.now.wish ≡ Wish.Reached root }
         requires block { IsBlock (old_bits self.now) (old_words self.now) rank root }
         ensures ok { IfOk result (λ swept. Sweeps self.now.from.now self.now.to (old_words self.now) rank root swept.0.items swept.1) }
         ensures refusal { IfErr result (λ refusal.
@@ -82,7 +82,7 @@ impl Transfer<'_> {
 
     // Fresh words with all that the old ones show, and the number of the copy of one.
     pub(crate) fn enlarged(&self, alloc: Global, root: u32) -> Result<(Vec<u64>, u32), Refusal>
-        requires all { self.now.root ≡ None }
+        requires all { self.now.wish ≡ Wish.Everything }
         requires inside { root < length self.now.old.now }
         ensures ok { IfOk result (λ made. Enlarges self.now.from.now self.now.to (old_words self.now) made.0.items) }
         ensures root { IfOk result (λ made. IsCopyMade self.now made.0.items root made.1) }

@@ -1,11 +1,16 @@
-//! Squares copied into fresh words: a sweep takes along what one square reaches, and enlarging all that there is.
+//! Squares copied into fresh words: a copying garbage collection. A sweep keeps what one square reaches, a
+//! collection keeps small squares and finished large ones too, and enlarging keeps all that there is.
 #![tactic(auto)]
 
+mod census;
+mod collecting;
 mod copying;
 mod filling;
 mod placing;
+mod ranks;
 mod results;
 mod stills;
 mod transfer;
 
-pub use stills::{enlarge, sweep};
+pub use census::Finished;
+pub use stills::{Collected, collect, enlarge, sweep};

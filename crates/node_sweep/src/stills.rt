@@ -2,10 +2,12 @@ ghost use Rattle.std.specs.Prelude.{◌≡◌, ◌⊎◌, IfOk, IfErr, IsOkUnles
 ghost use Rattle.squares.specs.Book.{IsKnown};
 ghost use Rattle.table_core.specs.Sizes.{IsPairCount};
 ghost use Rattle.node_table.specs.Stills.{book_in};
+ghost use Rattle.node_sweep.specs.CollectedStills.{HasCollected, HasNoRoomToCollect};
 ghost use Rattle.node_sweep.specs.EnlargedStills.{HasNoRoomForAll, IsEnlarged};
 ghost use Rattle.node_sweep.specs.SweptStills.{HasNoRoomFor, IsResized, IsSwept, IsTransferOf, ReachesFewWords};
 
-use crate::transfer::Transfer;
+use crate::census::Finished;
+use crate::transfer::{Transfer, Wish};
 use node_table::Still;
 use plane::Refusal;
 use squares::{Num, Sq};
@@ -26,15 +28,15 @@ fn resized(from: &Key, pairs: u32) -> Key
 
 impl<'a> Transfer<'a> {
     // From words into those of so many pair slots.
-    fn of_still(still: &'a Still, root: Option<u32>, pairs: u32) -> Transfer<'a>
+    fn of_still(still: &'a Still, wish: Wish, pairs: u32) -> Transfer<'a>
         requires { IsPairCount pairs }
-        ensures { IsTransferOf still.now root pairs result }
+        ensures { IsTransferOf still.now wish pairs result }
     {
         let from = still.key();
         Transfer {
             from,
             old: still.words(),
-            root,
+            wish,
             to: resized(from, pairs),
         }
     }
@@ -55,7 +57,7 @@ pub fn sweep(alloc: Global, still: &Still, root: Sq, pairs: u32) -> Result<(Stil
     ensures few { ReachesFewWords still.now root → IsOkUnless result Refusal.NoMemory }
 {
     let level = root.level;
-    let transfer = Transfer::of_still(still, Some(root.num.0), pairs);
+    let transfer = Transfer::of_still(still, Wish::Reached(root.num.0), pairs);
     let (words, number) = transfer.swept(alloc, root.num.0, 2 * (level - 3))?;
     Ok((
         Still::of_words(transfer.to, words),
@@ -78,7 +80,7 @@ pub fn enlarge(alloc: Global, still: &Still, root: Sq, pairs: u32) -> Result<(St
     ensures refusal { IfErr result (λ refusal.
         (refusal ≡ Refusal.NoMemory) ⊎ ((refusal ≡ Refusal.NodesFull) × HasNoRoomForAll still.now pairs)) }
 {
-    let transfer = Transfer::of_still(still, None, pairs);
+    let transfer = Transfer::of_still(still, Wish::Everything, pairs);
     let (words, number) = transfer.enlarged(alloc, root.num.0)?;
     Ok((
         Still::of_words(transfer.to, words),
@@ -87,4 +89,46 @@ pub fn enlarge(alloc: Global, still: &Still, root: Sq, pairs: u32) -> Result<(St
             num: Num(number),
         },
     ))
+}
+
+/// What was collected in fresh words.
+#[derive(Drop)]
+pub struct Collected {
+    /// The fresh words.
+    pub still: Still,
+    /// The root in them.
+    pub root: Sq,
+    /// What was finished before.
+    pub finished: Finished,
+}
+
+/// Copies into fresh words of so many pair slots, under the same rule and exponent, the square and all that
+/// it reaches; all squares and halves up to some size; the squares from some larger size on that have a result, and
+/// this result; and all that these reach. The result of a square stays where it is the empty square or is copied
+/// too, and no other does. The old words stay as they are.
+///
+/// It refuses `NoMemory`, and `NodesFull` where the words of so many slots have no room for some of the
+/// squares beside others.
+pub fn collect(alloc: Global, still: &Still, root: Sq, pairs: u32) -> Result<Collected, Refusal>
+    requires known { IsKnown (book_in still.now) root.level root }
+    requires pairs { IsPairCount pairs }
+    ensures ok { IfOk result (λ made. HasCollected still.now root pairs made.still made.root) }
+    ensures refusal { IfErr result (λ refusal.
+        (refusal ≡ Refusal.NoMemory) ⊎ ((refusal ≡ Refusal.NodesFull) × HasNoRoomToCollect still.now root pairs)) }
+{
+    let level = root.level;
+    let scan = Transfer::of_still(still, Wish::Everything, pairs);
+    let ranks = scan.ranks(alloc)?;
+    let census = scan.census(ranks.as_slice());
+    let ends = census.ends(root.num.0, pairs);
+    let transfer = Transfer::of_still(still, Wish::Collected(ends), pairs);
+    let (words, number) = transfer.collected(alloc, ends, ranks.as_slice(), 2 * (level - 3))?;
+    Ok(Collected {
+        still: Still::of_words(transfer.to, words),
+        root: Sq {
+            level,
+            num: Num(number),
+        },
+        finished: census.finished(ends),
+    })
 }

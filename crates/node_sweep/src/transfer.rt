@@ -4,6 +4,28 @@ ghost use Rattle.node_table.specs.GoodWords.{good_prop};
 
 use table_core::Key;
 
+/// Between which ranks a collection keeps only what others reach.
+#[derive(Clone, Copy)]
+pub(crate) struct Ends {
+    /// The number of the root.
+    pub(crate) root: u32,
+    /// Each pair of at most this rank is kept.
+    pub(crate) low: u8,
+    /// Each pair of at least this rank that has a result is kept, and that result.
+    pub(crate) high: u8,
+}
+
+/// What a copy into fresh words keeps, with all that it reaches.
+#[derive(Clone, Copy)]
+pub(crate) enum Wish {
+    /// All that the old words show.
+    Everything,
+    /// What this number reaches.
+    Reached(u32),
+    /// What the root reaches, small squares, and large ones that have results.
+    Collected(Ends),
+}
+
 /// What is copied into fresh words, under the same rule and exponent.
 #[derive(Clone, Copy)]
 pub(crate) struct Transfer<'a> {
@@ -11,8 +33,8 @@ pub(crate) struct Transfer<'a> {
     pub(crate) from: &'a Key,
     /// The old words.
     pub(crate) old: &'a [u64],
-    /// The number whose tree is wanted, or none where all that the old words show is wanted.
-    pub(crate) root: Option<u32>,
+    /// Which numbers are copied.
+    pub(crate) wish: Wish,
     /// The head of the fresh words.
     pub(crate) to: Key,
     ghost good: { AreGoodWords from.now old.now } by { good_prop from.now old.now },

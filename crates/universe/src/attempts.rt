@@ -16,6 +16,9 @@ use std::thread::Threads;
 use table_core::Shape;
 use worker_split::{Gate, Team};
 
+// How often a table of the largest size is collected for one step: more often than any step brings on.
+const MOST_COLLECTIONS: u32 = 1 << 20;
+
 // What came of what a table may be too full for: the universe behind it, or, where the table was
 // full, the one before it.
 #[derive(Drop)]
@@ -31,7 +34,8 @@ impl Universe {
 
     // Takes one step of the table that is here. Where it is full the step is begun again: in one of its
     // size with the cells alone, if earlier steps have filled it; in larger ones with all that is known
-    // here, until it is the largest; and then in one with the cells alone.
+    // here, until it is the largest; then with what is collected, while that brings the step on; and then in one
+    // with the cells alone.
     pub(crate) fn attempt<R: Threads + Wait + Sync, G: Gate>(
         self,
         team: &Team<'_, R, G>,
@@ -55,11 +59,38 @@ impl Universe {
             };
             shape = next;
         }
-        start.tried_in(team, most, Kept::CellsAlone)
+        match start.tried_collected(team)? {
+            Attempt::Full(start) => start.tried_in(team, most, Kept::CellsAlone),
+            done => Ok(done),
+        }
     }
 
-    // Takes one step of the table that is here, or, where earlier steps have filled it, in one of its size
-    // with the cells alone.
+    // Takes one step in a table of the largest size with what was collected from the one before, again and
+    // again while that brings it on.
+    fn tried_collected<R: Threads + Wait + Sync, G: Gate>(
+        self,
+        team: &Team<'_, R, G>,
+    ) -> Result<Attempt, Refusal>
+        requires { MayStep self }
+        ensures ok { IfOk result (IsAttempt self) }
+        ensures memory { IsOkUnless result Refusal.NoMemory }
+    {
+        let most = self.limit;
+        let mut start = self;
+        'collections: for _ in 0..MOST_COLLECTIONS {
+            if !start.here.table.should_collect() {
+                break;
+            }
+            start = match start.tried_in(team, most, Kept::Collected)? {
+                Attempt::Full(start) => start,
+                done => return Ok(done),
+            };
+        }
+        Ok(Attempt::Full(start))
+    }
+
+    // Takes one step of the table that is here, or, where earlier steps have filled it and it isn't the
+    // largest, in one of its size with the cells alone.
     fn tried_here<R: Threads + Wait + Sync, G: Gate>(
         self,
         team: &Team<'_, R, G>,
@@ -72,10 +103,10 @@ impl Universe {
             Attempt::Full(start) => start,
             done => return Ok(done),
         };
-        if !start.here.table.is_worn() {
+        let shape = start.here.table.standing.key.shape;
+        if shape.bits >= start.limit.bits || !start.here.table.is_worn() {
             return Ok(Attempt::Full(start));
         }
-        let shape = start.here.table.standing.key.shape;
         start.tried_in(team, shape, Kept::CellsAlone)
     }
 
@@ -128,10 +159,10 @@ impl Universe {
         } = self.with_room(pair_count(shape));
         let past = here.table.standing.past;
         let start = here.rest();
-        match start.renewed(team.alloc, shape, kept)? {
-            Some(fresh) => {
+        match start.renewed(team.alloc, shape, kept, past)? {
+            Some((fresh, past)) => {
                 drop(start);
-                let here = fresh.resume(team.alloc, past.at_fresh(shape.bits))?;
+                let here = fresh.resume(team.alloc, past)?;
                 Universe {
                     here,
                     others,
@@ -140,7 +171,7 @@ impl Universe {
                 .tried(team)
             }
             None => {
-                let here = start.resume(team.alloc, past)?;
+                let here = start.resume(team.alloc, past.at_unrenewed())?;
                 Ok(Attempt::Full(Universe {
                     here,
                     others,

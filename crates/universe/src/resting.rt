@@ -12,7 +12,7 @@ use crate::past::Past;
 use crate::scenes::Scene;
 use crate::sizes::{Growth, larger, smallest};
 use crate::tables::OpenTable;
-use node_sweep::{enlarge, sweep};
+use node_sweep::{Collected, collect, enlarge, sweep};
 use node_table::Still;
 use plane::{Bounds, Refusal};
 use squares::Sq;
@@ -25,6 +25,8 @@ use viewport::bounds;
 pub(crate) enum Kept {
     /// All squares and results.
     Everything,
+    /// The square of the cells, small squares, and large ones that have results, with all that these are made of.
+    Collected,
     /// The square of the cells, with what it is made of.
     CellsAlone,
 }
@@ -89,20 +91,30 @@ impl Resting {
         self.stand(alloc, exponent, past)
     }
 
-    // The cells in fresh words of this shape, if these have room for what is kept.
+    // The cells in fresh words of this shape, and the past with which they come there. There are none where
+    // these have no room for what is kept, or a collection would keep nothing more than the last one.
     pub(crate) fn renewed(
         &self,
         alloc: Global,
         shape: Shape,
         kept: Kept,
-    ) -> Result<Option<Resting>, Refusal>
-        ensures ok { IfOk result (λ made. IfSome made (λ fresh. IsRenewed self.now fresh (2 ^ shape.bits))) }
+        past: Past,
+    ) -> Result<Option<(Resting, Past)>, Refusal>
+        ensures ok { IfOk result (λ made. IfSome made (λ fresh. IsRenewed self.now fresh.0 (2 ^ shape.bits))) }
         ensures full { kept ≡ CellsAlone → IfOk result (λ made. IfNone made (HasNoRoomFor (still_of self.now) (root_of self.now) (2 ^ shape.bits))) }
         ensures memory { IsOkUnless result Refusal.NoMemory }
     {
+        let later = past.at_fresh(shape.bits);
         match kept {
-            Kept::Everything => self.enlarged(alloc, shape),
-            Kept::CellsAlone => self.swept(alloc, shape),
+            Kept::Everything => match self.enlarged(alloc, shape)? {
+                Some(fresh) => Ok(Some((fresh, later))),
+                None => Ok(None),
+            },
+            Kept::Collected => self.collected(alloc, shape, past),
+            Kept::CellsAlone => match self.swept(alloc, shape)? {
+                Some(fresh) => Ok(Some((fresh, later))),
+                None => Ok(None),
+            },
         }
     }
 
@@ -117,6 +129,34 @@ impl Resting {
             Err(Refusal::NodesFull) => Ok(None),
             Err(_) => Err(Refusal::NoMemory),
         }
+    }
+
+    // The cells in words of this shape with what a collection keeps, if these have room for it and more is
+    // finished than at the last collection.
+    fn collected(
+        &self,
+        alloc: Global,
+        shape: Shape,
+        past: Past,
+    ) -> Result<Option<(Resting, Past)>, Refusal>
+        ensures ok { IfOk result (λ made. IfSome made (λ fresh. IsRenewed self.now fresh.0 (2 ^ shape.bits))) }
+        ensures memory { IsOkUnless result Refusal.NoMemory }
+    {
+        let made = match collect(alloc, &self.still, self.root, shape.slot_count(Kind::Pair)) {
+            Ok(made) => made,
+            Err(Refusal::NodesFull) => return Ok(None),
+            Err(_) => return Err(Refusal::NoMemory),
+        };
+        let Collected {
+            still,
+            root,
+            finished,
+        } = made;
+        if !past.is_brought_on(&finished) {
+            return Ok(None);
+        }
+        let past = past.at_collected(shape.bits, finished);
+        Ok(Some((Resting { still, root }, past)))
     }
 
     // The cells alone in words as small as have room for them, or else in their own.

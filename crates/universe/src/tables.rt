@@ -146,6 +146,11 @@ impl OpenTable {
         self.standing.past.is_worn(self.standing.key.shape.bits)
     }
 
+    /// Whether a collection may bring on the step for which it was full.
+    pub(crate) fn should_collect(&self) -> bool {
+        self.standing.past.should_collect(self.pair_count())
+    }
+
     /// The words, which say all that was known.
     pub(crate) fn close(self) -> Still
         ensures key { key_of result ≡ self.standing.key }

@@ -47,6 +47,12 @@ pub(crate) const GLIDER: Row = Row {
     ..FAR_GLIDER
 };
 
+// The same in so few slots that a step fills them more than once: squares are collected, and the step goes on.
+pub(crate) const COLLECTED: Row = Row {
+    pairs: 4096,
+    ..SETTLED
+};
+
 // Runs that have room in few slots.
 const SMALL: &[Row] = &[
     SETTLED,
@@ -54,6 +60,7 @@ const SMALL: &[Row] = &[
         pairs: 32768,
         ..SETTLED
     },
+    COLLECTED,
     Row {
         pairs: 4096,
         ..REPORTED

@@ -1,7 +1,7 @@
 //! Runs by several workers: they write what one writes.
 
 use crate::tests::ended::Ended;
-use crate::tests::nodes::{REPORTED, SETTLED};
+use crate::tests::nodes::{COLLECTED, REPORTED, SETTLED};
 use crate::tests::rows::{FAR_GLIDER, FAR_REPLICATOR, Row, assert_rows, assert_whole_or_refused};
 use crate::tests::sipping::Sipping;
 use engine::{Gate, run_gated};
@@ -13,8 +13,8 @@ use table_core::Shape;
 
 #[test]
 fn any_number_of_workers_writes_the_same(rt: HostRuntime) -> Result<(), AllocError> {
-    for workers in [1, 2, 64] {
-        for row in [SETTLED, REPORTED, FAR_GLIDER, FAR_REPLICATOR] {
+    for workers in [1, 2, 4, 64] {
+        for row in [SETTLED, COLLECTED, REPORTED, FAR_GLIDER, FAR_REPLICATOR] {
             assert_rows(&rt, &[Row { workers, ..row }])?;
         }
     }

@@ -8,7 +8,7 @@ use crate::tests::glider::of_leaves;
 use crate::tests::steps::R_PENTOMINO;
 use crate::tests::tables::{PAIRS, empty_table, open_table};
 use hashlife_step::{Tally, future, step};
-use node_sweep::{enlarge, sweep};
+use node_sweep::{collect, enlarge, sweep};
 use node_table::Still;
 use plane::Refusal;
 use rule_text::Rule;
@@ -193,6 +193,8 @@ fn many_words_have_no_room(rt: HostRuntime) -> Result<(), Fail> {
     assert_eq!(rt; refused, Err(Refusal::NodesFull));
     let refused = enlarge(rt.alloc(), &words, root, PAIRS).map(|made| made.1);
     assert_eq!(rt; refused, Err(Refusal::NodesFull));
+    let refused = collect(rt.alloc(), &words, root, PAIRS).map(|made| made.root);
+    assert_eq!(rt; refused, Err(Refusal::NodesFull));
     let (fresh, same) = words_of(&rt, Made::LargerLeaves, 16 * PAIRS, 5)?;
     assert!(rt; are_same(rt.alloc(), (&words, root), (&fresh, same))?);
     Ok(())
@@ -228,6 +230,38 @@ fn results_that_are_reached_stay(rt: HostRuntime) -> Result<(), Fail> {
         let (swept, _) = sweep(rt.alloc(), &words, root, PAIRS)?;
         let (table, desk) = open_table(rt.alloc(), swept, Rule::read(b"B3/S23")?, 3)?;
         assert_eq!(rt; has_result(&mut table.at(desk))?, is_reached);
+    }
+    Ok(())
+}
+
+// The number of squares that a step expands at these words, and the population of the cells that it begins with.
+fn expanded_at(rt: &(impl Abort + AllocGlobal), words: Still, root: Sq) -> Result<(u64, u128), Fail>
+    requires { IsKnown (book_in words) root.level root }
+{
+    let mut plain = PlainBook::new(rt.alloc(), Rule::read(b"B3/S23")?, 0);
+    let cells = copy_square(rt.alloc(), &words, root, &mut plain)?;
+    assert!(rt; cells.level <= 63);
+    let count = population(&mut plain, rt.alloc(), cells)?;
+    let (table, desk) = open_table(rt.alloc(), words, Rule::read(b"B3/S23")?, 10)?;
+    let mut at = table.at(desk);
+    assert!(rt; at.exponent() <= 62);
+    let expansions = step_again(&mut at)?;
+    Ok((expansions, count))
+}
+
+// A step whose square has its result is recalled after a collection, and made anew after a sweep, in tables of
+// the same size and of half of it.
+#[test]
+fn a_step_is_recalled_after_a_collection(rt: HostRuntime) -> Result<(), Fail> {
+    let (words, root) = words_of(&rt, Made::Step, 262144, 10)?;
+    for pairs in [131072, 262144] {
+        assert!(rt; Shape::is_pair_count(pairs));
+        let collected = collect(rt.alloc(), &words, root, pairs)?;
+        assert_eq!(rt; expanded_at(&rt, collected.still, collected.root)?, (0, 5));
+        let (swept, copy) = sweep(rt.alloc(), &words, root, pairs)?;
+        let (expansions, count) = expanded_at(&rt, swept, copy)?;
+        assert!(rt; expansions > 0);
+        assert_eq!(rt; count, 5);
     }
     Ok(())
 }

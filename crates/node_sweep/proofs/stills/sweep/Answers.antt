@@ -1,10 +1,11 @@
-use Rattle.std.proofs.Common.{◌≡◌, ◌⊎◌, ◌-◌, ◌*◌, Some, refl, rules}
+use Rattle.std.proofs.Common.{◌≡◌, ◌⊎◌, ◌-◌, ◌*◌, refl, rules}
 use Rattle.std.specs.Prelude.{slice_index, IfErr}
 use Rattle.plane.specs.declared.refusal.Refusal.TheVariants.{NodesFull, NoMemory}
 use Rattle.table_core.specs.Blocks.{IsBlock}
 use Rattle.squares.specs.Book.{numbered}
 use Rattle.node_sweep.specs.Sweeps.{Sweeps}
 use Rattle.node_sweep.specs.SweptStills.{HasNoRoomFor}
+use Rattle.node_sweep.specs.declared.transfer.Wish.TheVariants.{Reached}
 use Rattle.node_sweep.specs.Transfers.{HasNoRoomLeft}
 use Rattle.node_sweep.proofs.Squares.{known_shows, is_swept}
 use Rattle.node_sweep.proofs.Transferred.{at_rest, at_transfer, no_room_to_sweep, only_memory, refused_as, room_to_sweep}
@@ -12,7 +13,7 @@ use Rattle.node_sweep.proofs.stills.sweep.Goals as goal
 
 pub swept-requires-clause-block : goal.swept-requires-clause-block
 swept-requires-clause-block c =
-    at_transfer c.args.still.now (Some c.args.root.num.0) c.args.pairs c.of_still-transfer.result c.of_still-transfer.ensures
+    at_transfer c.args.still.now (Reached c.args.root.num.0) c.args.pairs c.of_still-transfer.result c.of_still-transfer.ensures
     (λ key words root. IsBlock key.shape.bits (slice_index words) (2 * (c.args.root.level - 3)) c.args.root.num.0)
     (known_shows c.args.still.now c.args.root c.requires.known).stands
 
@@ -34,7 +35,7 @@ pub returns-clause-ok : goal.returns-clause-ok
 returns-clause-ok c =
     let root = c.args.root in
     let transfer = c.of_still-transfer.result in
-    let swept = at_rest c.args.still.now (Some root.num.0) c.args.pairs transfer c.of_still-transfer.ensures
+    let swept = at_rest c.args.still.now (Reached root.num.0) c.args.pairs transfer c.of_still-transfer.ensures
     (λ key words from. Sweeps key transfer.to (slice_index words) (2 * (root.level - 3)) root.num.0 c.in_ok-words.words.items c.in_ok-words.number) c.in_ok-words.ensures.ok in
     is_swept c.args.still.now root (numbered root.level c.in_ok-words.number) c.args.pairs transfer.to c.in_ok-words.words.items c.of_words.result c.requires.known refl
     c.of_still-transfer.ensures.resized c.of_words.ensures swept

@@ -18,12 +18,12 @@ returns-then-number-eq0-clause-ok t c =
 pub returns-then-number-eq0-clause-noted : goal.returns-then-number-eq0-clause-noted
 returns-then-number-eq0-clause-noted t c =
     ap (slice_index c.args.copies.now) c.if-number-eq0.true
-    ∙ zero_noted c.args.self.now.from.now c.args.self.now.to (slice_index c.args.self.now.old.now) (IsWanted c.args.self.now.from.now.shape.bits (slice_index c.args.self.now.old.now) c.args.self.now.root) c.args.words.now c.args.copies.now
+    ∙ zero_noted c.args.self.now.from.now c.args.self.now.to (slice_index c.args.self.now.old.now) (IsWanted c.args.self.now.from.now.shape.bits (slice_index c.args.self.now.old.now) c.args.self.now.wish) c.args.words.now c.args.copies.now
     c.args.self.now.good.good c.requires.underway
 
 pub returns-then-done-ne0-clause-ok : goal.returns-then-done-ne0-clause-ok
 returns-then-done-ne0-clause-ok t c =
-    copy_of_all c.args.self.now.from.now.shape.bits c.args.self.now.to.shape.bits (slice_index c.args.self.now.old.now) (slice_index c.args.words.now) (IsWanted c.args.self.now.from.now.shape.bits (slice_index c.args.self.now.old.now) c.args.self.now.root)
+    copy_of_all c.args.self.now.from.now.shape.bits c.args.self.now.to.shape.bits (slice_index c.args.self.now.old.now) (slice_index c.args.words.now) (IsWanted c.args.self.now.from.now.shape.bits (slice_index c.args.self.now.old.now) c.args.self.now.wish)
     c.args.number _ c.if-number-eq0.false (c.requires.underway.copied c.args.number c.if-done-ne0.true)
 
 pub note-requires-clause-word : goal.note-requires-clause-word
@@ -40,7 +40,7 @@ returns-then-number-index-clause-ok t c =
     let to = c.args.self.now.to.shape.bits in
     let old = slice_index c.args.self.now.old.now in
     let new = slice_index c.note.new.words in
-    let wanted = IsWanted from old c.args.self.now.root in
+    let wanted = IsWanted from old c.args.self.now.wish in
     ok_then (IsWantedCopy from to old new wanted c.args.number) (IsCopyOf from to old new c.args.number) c.note.result
     (λ i h. copy_of_all from to old new wanted c.args.number i c.if-number-eq0.false h) c.note.ensures.ok
 
@@ -62,7 +62,7 @@ copy-requires t c =
           c.requires.long,
           (
             first_low from old c.args.height n some high c.requires.block c.parts-first.result.0 first,
-            first_wanted from old c.args.height n some high c.requires.block c.args.self.now.root c.parts-first.result.0 first c.requires.wanted,
+            first_wanted from old c.args.height n some high c.requires.block c.args.self.now.wish c.parts-first.result.0 first c.requires.wanted,
           ),
         ),
       ),
@@ -86,7 +86,7 @@ copy-requires-2 t c =
           c.copy.auto.copies ∙ c.requires.long,
           (
             second_low from old c.args.height n some high c.requires.block c.parts-first.result.1 second,
-            second_wanted from old c.args.height n some high c.requires.block c.args.self.now.root c.parts-first.result.1 second c.requires.wanted,
+            second_wanted from old c.args.height n some high c.requires.block c.args.self.now.wish c.parts-first.result.1 second c.requires.wanted,
           ),
         ),
       ),
@@ -131,6 +131,6 @@ returns-clause-ok t c =
     let to = c.args.self.now.to.shape.bits in
     let old = slice_index c.args.self.now.old.now in
     let new = slice_index c.note-2.new.words in
-    let wanted = IsWanted from old c.args.self.now.root in
+    let wanted = IsWanted from old c.args.self.now.wish in
     ok_then (IsWantedCopy from to old new wanted c.args.number) (IsCopyOf from to old new c.args.number) c.note-2.result
     (λ i h. copy_of_all from to old new wanted c.args.number i c.if-number-eq0.false h) c.note-2.ensures.ok

@@ -59,4 +59,4 @@ loop-number-preserved c =
 
 pub copy-requires-clause-wanted : goal.copy-requires-clause-wanted
 copy-requires-clause-wanted c =
-    all_wanted c.args.self.now.from.now.shape.bits (slice_index c.args.self.now.old.now) c.args.self.now.root c.loop-number.number c.requires.all
+    all_wanted c.args.self.now.from.now.shape.bits (slice_index c.args.self.now.old.now) c.args.self.now.wish c.loop-number.number c.requires.all

@@ -23,9 +23,17 @@ sizes-preserved g c =
     let again = subst (λ (a : Attempt). IsAttempt c.sizes.start a) c.in-Full-2.is c.in_ok-done-2.ensures.ok in
     attempt_again (Full c.in-Full-2.start) c.sizes.invariant again
 
-pub tried_in-requires-2-clause-step : goal.tried_in-requires-2-clause-step
-tried_in-requires-2-clause-step g c κs within = step_again c.requires c.sizes.invariant
+pub tried_collected-requires-after_bounds : goal.tried_collected-requires-after_bounds
+tried_collected-requires-after_bounds g c κs within = step_again c.requires c.sizes.invariant
 
-pub returns-clause-ok : goal.returns-clause-ok
-returns-clause-ok g c =
-    ok_then (IsAttempt c.sizes.start) (IsAttempt c.args.self) c.tried_in-2.result (λ attempt is. attempt_again attempt c.sizes.invariant is) c.tried_in-2.ensures.ok
+pub tried_in-requires-in-Full-3-clause-step : goal.tried_in-requires-in-Full-3-clause-step
+tried_in-requires-in-Full-3-clause-step g c κs within =
+    step_again c.requires (attempt_again (Full c.in-Full-3.start) c.sizes.invariant (subst (λ (a : Attempt). IsAttempt c.sizes.start a) c.in-Full-3.is c.in_ok-done-3.ensures.ok))
+
+pub returns-in-Full-3-clause-ok : goal.returns-in-Full-3-clause-ok
+returns-in-Full-3-clause-ok g c =
+    let again = attempt_again (Full c.in-Full-3.start) c.sizes.invariant (subst (λ (a : Attempt). IsAttempt c.sizes.start a) c.in-Full-3.is c.in_ok-done-3.ensures.ok) in
+    ok_then (IsAttempt c.in-Full-3.start) (IsAttempt c.args.self) c.tried_in-in-Full-3.result (λ attempt is. attempt_again attempt again is) c.tried_in-in-Full-3.ensures.ok
+
+pub returns-in_default-3-clause-ok : goal.returns-in_default-3-clause-ok
+returns-in_default-3-clause-ok g c = attempt_again c.in_ok-done-3.done c.sizes.invariant c.in_ok-done-3.ensures.ok
