@@ -5,11 +5,13 @@
     bench/compare.py --workers 1 4             by one worker and by four
     bench/compare.py --rounds 5 --rows gun     the rows with "gun" in their names, the best of five
     bench/compare.py --set formats             the rows that read, write and count, and run little
+    bench/compare.py --set long                long runs, most of which fill the tables
     bench/compare.py --processors 2            on two processors
 
 Build the program first: `./lifebatch --help`. Golly's patterns are sought where the package `golly` installs them; rows
 whose pattern or peer is missing say so. In a round each program runs once, one after the other, so that both
-meet the same moods of the machine. Behind a ratio, in brackets, stands what is aimed at.
+meet the same moods of the machine. Behind a ratio, in brackets, stands what is aimed at in the row's own set; the mean
+has an aim where the sets of all rows have the same aims.
 """
 import argparse
 import gzip
@@ -33,11 +35,19 @@ GOLLY_PATTERNS = [
     for p in ("/usr/share/golly", "/usr/local/share/golly", "/usr/lib/golly")
 ]
 SECONDS = 300
-# What is aimed at, beside bgolly: the most time of one worker, without report steps and with them, the mean of the times by so many
-# workers, and the most memory where bgolly takes as many megabytes or more.
-AIM, AIM_WITH_STEPS = 1.2, 1.0
-AIMS_OF_MEANS = {1: 0.75, 4: 0.4}
-AIM_OF_MEMORY, COUNTED_MEGABYTES = 1.5, 30
+# Memory counts where bgolly takes as many megabytes or more.
+COUNTED_MEGABYTES = 30
+
+
+@dataclass
+class Aims:
+    """What is aimed at, beside bgolly: the most time of one worker, without report steps and with them, the mean of the times by
+    so many workers, and the most memory."""
+
+    without_steps: float
+    with_steps: float
+    means: dict[int, float]
+    memory: float
 
 
 @dataclass
@@ -63,6 +73,12 @@ def soup(side=4096):
     return f"x = {side}, y = {side}\n" + "$\n".join(runs) + "!\n"
 
 
+USUAL = Aims(without_steps=1.2, with_steps=1.0, means={1: 0.75, 4: 0.4}, memory=1.5)
+AIMS = {
+    "runs": USUAL,
+    "formats": USUAL,
+    "long": Aims(without_steps=2.0, with_steps=2.0, means={1: 1.3, 4: 0.6}, memory=1.0),
+}
 SETS = {
     "runs": [
         Row("metapixel-galaxy", "HashLife/metapixel-galaxy.mc.gz", 2**16),
@@ -89,6 +105,20 @@ SETS = {
         Row("spacefiller", "Life/Breeders/spacefiller.rle", 2**14),
         Row("Turing machine", "Life/Signal-Circuitry/Turing-Machine-3-state.rle", 2**14),
         Row("metapixel galaxy, written", "HashLife/metapixel-galaxy.mc.gz", 0, output="out.rle"),
+    ],
+    "long": [
+        Row("hexadecimal", "HashLife/hexadecimal.mc.gz", 2**18),
+        Row("hexadecimal", "HashLife/hexadecimal.mc.gz", 2**20),
+        Row("loafer-gun-p8388608-linear", "HashLife/loafer-gun-p8388608-linear.mc.gz", 2**20),
+        Row("metapixel-p216-gun", "HashLife/metapixel-p216-gun.mc.gz", 2**20),
+        Row("demonoid-c512-hashlife-friendly", "HashLife/demonoid-c512-hashlife-friendly.mc.gz", 2**17),
+        Row("demonoid-c512-hashlife-friendly", "HashLife/demonoid-c512-hashlife-friendly.mc.gz", 2**20),
+        Row("gotts-dots", "HashLife/gotts-dots.mc", 2**24),
+        Row("jagged", "HashLife/jagged.mc", 2**20),
+        Row("jagged", "HashLife/jagged.mc", 2**24),
+        Row("metapixel-parity64", "HashLife/metapixel-parity64.mc.gz", 2**22),
+        Row("linear-propagator-p237228340", "HashLife/linear-propagator-p237228340.mc.gz", 2**23),
+        Row("broken-lines", "HashLife/broken-lines.mc", 2**22),
     ],
 }
 
@@ -190,19 +220,19 @@ def ratio(ours, theirs):
     return ours.seconds / theirs.seconds
 
 
-def timed(row, workers, times):
+def timed(row, aims, workers, times):
     """The ratio of the times, with what is aimed at by one worker."""
     if times is None:
         return ""
-    aim = f" ({AIM_WITH_STEPS if row.step else AIM})" if workers == 1 else ""
+    aim = f" ({aims.with_steps if row.step else aims.without_steps})" if workers == 1 else ""
     return f"{times:.2f}{aim}"
 
 
-def memory(found, theirs):
+def memory(aims, found, theirs):
     """The largest ratio of the memories, with what is aimed at, where they count."""
     if not all(isinstance(run, Run) for run in [*found, theirs]) or theirs.megabytes < COUNTED_MEGABYTES:
         return ""
-    return f"{max(run.megabytes for run in found) / theirs.megabytes:.2f} ({AIM_OF_MEMORY})"
+    return f"{max(run.megabytes for run in found) / theirs.megabytes:.2f} ({aims.memory})"
 
 
 def populations(found):
@@ -219,11 +249,18 @@ def mean(ratios):
 
 
 def chosen(options):
-    rows = [row for name in options.set for row in SETS[name]]
-    return [row for row in rows if not options.rows or any(part in row.name for part in options.rows)]
+    """The chosen rows, each with the aims of its set."""
+    rows = [(row, AIMS[name]) for name in options.set for row in SETS[name]]
+    return [(row, aims) for row, aims in rows if not options.rows or any(part in row.name for part in options.rows)]
 
 
-def compared(row, options, bgolly, folder):
+def aims_of_means(rows):
+    """What is aimed at in the means: nothing, unless all rows have the same aims."""
+    aims = [aims for _, aims in rows]
+    return aims[0].means if aims and all(it == aims[0] for it in aims) else {}
+
+
+def compared(row, aims, options, bgolly, folder):
     """The cells of a row of the table, and the ratio for each number of workers."""
     path = pattern_file(row.source, folder)
     cells = [row.name, f"{row.generations}, every {row.step}" if row.step else str(row.generations)]
@@ -236,8 +273,8 @@ def compared(row, options, bgolly, folder):
     *found, theirs = best_of_rounds(commands, options.rounds, folder)
     ratios = [ratio(run, theirs) for run in found]
     for workers, run, times in zip(options.workers, found, ratios):
-        cells += [str(run), timed(row, workers, times)]
-    return [*cells, str(theirs), memory(found, theirs), populations([*found, theirs])], ratios
+        cells += [str(run), timed(row, aims, workers, times)]
+    return [*cells, str(theirs), memory(aims, found, theirs), populations([*found, theirs])], ratios
 
 
 def print_table(options, bgolly):
@@ -247,16 +284,17 @@ def print_table(options, bgolly):
         heads += [f"{workers} worker{'s' if workers > 1 else ''}", "Ratio"]
     heads += ["bgolly, HashLife", "Memory", "Last population"]
     print(f"| {' | '.join(heads)} |\n{'|---' * len(heads)}|")
-    rows = []
+    rows, found = chosen(options), []
     with tempfile.TemporaryDirectory() as name:
-        for row in chosen(options):
-            cells, ratios = compared(row, options, bgolly, pathlib.Path(name))
-            rows.append(ratios)
+        for row, aims in rows:
+            cells, ratios = compared(row, aims, options, bgolly, pathlib.Path(name))
+            found.append(ratios)
             print(f"| {' | '.join(cells)} |", flush=True)
-    for workers, ratios in zip(options.workers, zip(*rows)):
+    means = aims_of_means(rows)
+    for workers, ratios in zip(options.workers, zip(*found)):
         ratios = [ratio for ratio in ratios if ratio is not None]
         if ratios:
-            aim = f" (aim {AIMS_OF_MEANS[workers]})" if workers in AIMS_OF_MEANS else ""
+            aim = f" (aim {means[workers]})" if workers in means else ""
             print(f"\nGeometric mean of the ratios, --workers {workers}: {mean(ratios):.2f}{aim}")
 
 

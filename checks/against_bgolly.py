@@ -2,12 +2,14 @@
 """Runs lifebatch and bgolly on Golly's own patterns, and compares the cells after some generations.
 
     checks/against_bgolly.py --generations 300 --workers 1 2 4
+    checks/against_bgolly.py --words='--nodes 65536'           lifebatch has further words
 
 All RLE and macrocell files of Golly's are tried, packed ones too. Each pattern is run by each number of workers, whose files and reports have
 to be the same to the byte; then both programs' RLE texts are compared from their header's sides on, since bgolly leaves the position out. With
 `--macrocell` bgolly also reads the macrocell file that lifebatch writes, and has to find the same cells in it. Patterns that
-lifebatch refuses by name (more states, bounded grids, other rules), those that take one of the programs too long and those that bgolly does
-not write are skipped and counted. Build the program first: `./lifebatch --help`. The status is 1 where something differs.
+lifebatch refuses by name (more states, bounded grids, other rules), those that take bgolly too long and those that bgolly does not write are
+skipped and counted. Any other end of lifebatch is a difference: a run that takes too long, a crash, or a status that is neither 0 nor that of a refusal.
+Build the program first: `./lifebatch --help`. The status is 1 where something differs or nothing is compared.
 """
 import argparse
 import gzip
@@ -49,10 +51,17 @@ def plain_file(path, folder):
 
 
 def run(words, folder, seconds):
+    """A run that has ended, or None if it takes too long."""
     try:
         return subprocess.run(words, cwd=folder, capture_output=True, text=True, timeout=seconds)
     except subprocess.TimeoutExpired:
-        raise Skipped(f"{pathlib.Path(words[0]).name} is slow") from None
+        return None
+
+
+def refusal(found):
+    """The name by which lifebatch refuses a run, or None if it ends in another way."""
+    line = re.search(r"^lifebatch: refused \d+(?: at \d+)?: (\w+)$", found.stderr, re.MULTILINE)
+    return line[1] if line and found.returncode == 1 else None
 
 
 def ours(path, options, folder, workers, output):
@@ -60,8 +69,15 @@ def ours(path, options, folder, workers, output):
     (folder / output).unlink(missing_ok=True)
     words = [str(options.program.resolve()), *options.words.split(), "-m", str(options.generations), "-o", output]
     found = run([*words, "--workers", str(workers), str(path)], folder, options.seconds)
+    if found is None:
+        raise Different(f"lifebatch takes more than {options.seconds:g} s by --workers {workers}")
+    name = refusal(found)
+    if name:
+        raise Skipped(name)
     if found.returncode:
-        raise Skipped(found.stderr.strip().rpartition(": ")[2])
+        raise Different(f"lifebatch ends with status {found.returncode} by --workers {workers}: {' '.join(found.stderr.split())}")
+    if not (folder / output).exists():
+        raise Different("lifebatch writes nothing")
     return found.stdout
 
 
@@ -70,6 +86,8 @@ def theirs(path, generation, options, folder, output):
     (folder / output).unlink(missing_ok=True)
     words = ["bgolly", "-a", "HashLife", "-m", str(generation), "-i", str(generation), "-q", "-q", "-o", output, str(path)]
     found = run(words, folder, options.seconds)
+    if found is None:
+        raise Skipped("bgolly is slow")
     if found.returncode or not (folder / output).exists():
         raise Skipped("bgolly writes nothing")
 
@@ -119,7 +137,7 @@ def main():
         sys.exit("bgolly is not installed: apt-get install golly")
     found = Counter()
     with tempfile.TemporaryDirectory() as name:
-        for path in sorted(options.patterns.rglob("*")):
+        for path in sorted(options.patterns.resolve().rglob("*")):
             if path.is_file() and re.search(r"\.(rle|mc)(\.gz)?$", path.name):
                 found[tried(path, options, pathlib.Path(name))] += 1
     reasons = ", ".join(f"{reason}: {count}" for (answer, reason), count in found.most_common() if answer == "skipped")
@@ -127,7 +145,7 @@ def main():
     for (answer, _), count in found.items():
         counts[answer] += count
     print(f"{counts['compared']} patterns compared and the same, {counts['skipped']} skipped ({reasons}), {counts['different']} differ")
-    sys.exit(1 if counts["different"] else 0)
+    sys.exit(1 if counts["different"] or not counts["compared"] else 0)
 
 
 if __name__ == "__main__":
