@@ -98,9 +98,11 @@ impl Census {
 }
 
 impl Finished {
-    /// Whether more large squares are finished than before an earlier collection, of those that it kept all of.
+    /// Whether more large squares are finished than before an earlier collection, of those that it kept all of:
+    /// by one in 32 at least.
     pub fn is_beyond(&self, earlier: &Finished) -> bool {
-        self.results_from(earlier.high) > earlier.results_from(earlier.high)
+        let before = earlier.results_from(earlier.high);
+        self.results_from(earlier.high) > before.saturating_add(before / 32)
     }
 
     // How many results there were from this rank on.
