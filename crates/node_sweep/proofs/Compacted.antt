@@ -1,5 +1,5 @@
 -- What collected words know.
-use Rattle.std.proofs.Common.{◌≡◌, ◌≢◌, ℕ, ◌+◌, ◌-◌, ◌^◌, ◌⊎◌, List, sym, ap, subst, arith, refl, ⊎_elim, inl, inr}
+use Rattle.std.proofs.Common.{◌≡◌, ◌≢◌, ℕ, List, sym, subst, refl, ⊎_elim}
 use Rattle.std.specs.Prelude.{IsTrue, Contains, slice_index}
 use Rattle.squares.specs.declared.sq.Sq.{Sq}
 use Rattle.squares.specs.Book.{IsKnown, numbered}
@@ -58,7 +58,7 @@ module _ (still now : Still) (wanted : ℕ → Type 0) (h : Collects (key_of sti
       record {
         twin = square_of twin;
         shown = shown_as still (square_of r) (square_of twin) now (known_at still (square_of r) s) refl c;
-        result = there_result (everything now).results twin ((all_known now.key now.words.items now.good).results twin true_there);
+        result = there_result (everything now).results twin ((all_known now.key now.words now.good).results twin true_there);
       })
       (λ none. absurd (none.0 future kept))
       (h.results r.square (square_rank r.level) t.0 is.slot is_wanted c)
@@ -67,7 +67,7 @@ module _ (still now : Still) (wanted : ℕ → Type 0) (h : Collects (key_of sti
       HasResultIn (book_in still) (book_in now) sq
   carried_result sq future s is_wanted kept =
       let t = result_there (everything still).results sq s in
-      let is = all_contains (IsTrueResult (key_of still).shape.bits (words_of still)) (everything still).results t.0 (all_known still.key still.words.items still.good).true_of.results t.1 in
+      let is = all_contains (IsTrueResult (key_of still).shape.bits (words_of still)) (everything still).results t.0 (all_known still.key still.words still.good).true_of.results t.1 in
       let known = (still.is_book.results sq s).0 in
       subst (HasResultIn (book_in still) (book_in now)) t.2
       (twin_result t.0 future is (subst (λ q. IsTrue ((book_in still).knows q)) (sym t.2) known) (subst (λ (q : Sq). wanted q.num.0) (sym t.2) is_wanted)

@@ -24,14 +24,14 @@ pub known_shows : (still : Still) (root : Sq) → IsKnown (book_in still) root.l
     ShowsBlock (key_of still).shape.bits (words_of still) (square_rank root.level) root.num.0 ((book_in still).cells root)
 known_shows still root known =
     block_true still.key.shape.bits (words_of still) (everything still) (square_rank root.level) root.num.0 (cells_in (everything still) root)
-    (all_known still.key still.words.items still.good).true_of (block_of (everything still) root known.known)
+    (all_known still.key still.words still.good).true_of (block_of (everything still) root known.known)
 
 -- a block of a square's rank is a known square
 pub block_shown : (still : Still) (sq : Sq) → 3 ≤ sq.level → sq.level ≤ 65 → IsBlock (key_of still).shape.bits (words_of still) (square_rank sq.level) sq.num.0 →
     Shows (book_in still) sq.level (cells_of (words_of still) (square_rank sq.level) sq.num.0) sq
 block_shown still sq low high b =
-    shows_of [] still.key (everything still) sq (cells_of (words_of still) (square_rank sq.level) sq.num.0) ∣ all_coherent still.key still.words.items still.good ∣₁ low high
-    ((all_known still.key still.words.items still.good).blocks (square_rank sq.level) sq.num.0 b)
+    shows_of [] still.key (everything still) sq (cells_of (words_of still) (square_rank sq.level) sq.num.0) ∣ all_coherent still.key still.words still.good ∣₁ low high
+    ((all_known still.key still.words still.good).blocks (square_rank sq.level) sq.num.0 b)
 
 pub shown_as : (still : Still) (root copy : Sq) (now : Still) → IsKnown (book_in still) root.level root → copy.level ≡ root.level →
     IsCopy (key_of still).shape.bits (key_of now).shape.bits (words_of still) (words_of now) (square_rank root.level) root.num.0 copy.num.0 →

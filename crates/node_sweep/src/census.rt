@@ -41,7 +41,7 @@ impl Transfer<'_> {
             let rank = ranks[slot as usize] as usize;
             pairs[rank] = pairs[rank].saturating_add(1);
             let pair = self.from.shape.index(Kind::Pair, slot);
-            if self.old[self.from.shape.result_index(pair) as usize] != 0 {
+            if self.old.word(self.from.shape.result_index(pair) as usize) != 0 {
                 results[rank] = results[rank].saturating_add(1);
             }
         }

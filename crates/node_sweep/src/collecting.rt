@@ -65,7 +65,7 @@ impl Transfer<'_> {
         if rank < ends.high {
             return Ok(());
         }
-        let result = self.old[self.from.shape.result_index(pair) as usize];
+        let result = self.old.word(self.from.shape.result_index(pair) as usize);
         if result == 0 {
             return Ok(());
         }

@@ -67,7 +67,7 @@ impl Transfer<'_> {
         if done != 0 {
             return Ok(done);
         }
-        let word = self.old[number as usize];
+        let word = self.old.word(number as usize);
         if number < self.from.shape.index(Kind::Pair, 0) {
             return self.note(words, copies, number, Kind::Leaf, word);
         }
@@ -89,7 +89,7 @@ impl Transfer<'_> {
     {
         let end = self.from.shape.index(Kind::Pair, 0) + self.from.shape.slot_count(Kind::Pair);
         for number in 1..end {
-            if self.old[number as usize] != 0 {
+            if self.old.word(number as usize) != 0 {
                 self.copy(words, copies, number, LARGEST_RANK)?;
             }
         }

@@ -48,7 +48,7 @@ impl Transfer<'_> {
         if known != 0 {
             return known;
         }
-        let part = some_part(self.old[number as usize]);
+        let part = some_part(self.old.word(number as usize));
         let rank = 1 + self.rank(ranks, part, height - 1);
         ranks[slot] = rank;
         rank
@@ -76,7 +76,7 @@ impl Transfer<'_> {
     {
         for slot in 0..self.from.shape.slot_count(Kind::Pair) {
             let pair = self.from.shape.index(Kind::Pair, slot);
-            if self.old[pair as usize] != 0 {
+            if self.old.word(pair as usize) != 0 {
                 self.rank(ranks, pair, LARGEST_RANK);
             }
         }

@@ -20,7 +20,7 @@ impl Transfer<'_> {
         if copy == 0 {
             return;
         }
-        let result = self.old[self.from.shape.result_index(pair) as usize];
+        let result = self.old.word(self.from.shape.result_index(pair) as usize);
         if result == 0 {
             return;
         }

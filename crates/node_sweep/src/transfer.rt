@@ -2,6 +2,7 @@ ghost use Rattle.std.specs.Prelude.{◌≡◌};
 ghost use Rattle.table_core.specs.Good.{AreGoodWords};
 ghost use Rattle.node_table.specs.GoodWords.{good_prop};
 
+use node_table::Held;
 use table_core::Key;
 
 /// Between which ranks a collection keeps only what others reach.
@@ -32,7 +33,7 @@ pub(crate) struct Transfer<'a> {
     /// The head of the old words.
     pub(crate) from: &'a Key,
     /// The old words.
-    pub(crate) old: &'a [u64],
+    pub(crate) old: &'a Held,
     /// Which numbers are copied.
     pub(crate) wish: Wish,
     /// The head of the fresh words.

@@ -15,6 +15,7 @@ pub mod Ranks
 pub mod Reopening
 pub mod Openings
 pub mod Everything
+pub mod SameStill
 pub mod Closing
 mod Working
 pub mod AtWork

@@ -19,7 +19,7 @@ use Rattle.node_table.specs.Stills.{words_of}
 use Rattle.node_table.proofs.Steps.{all_at, is_coherent, sound_by}
 
 pub everything_known : (still : Still) → KnowsAll still.key.shape.bits (words_of still) (everything still)
-everything_known still = all_known still.key still.words.items still.good
+everything_known still = all_known still.key still.words still.good
 
 pub everything_coherent : (still : Still) → IsCoherent still.key.shape.bits (everything still)
 everything_coherent still = is_coherent still.key (words_of still) (everything still) still.good.good (everything_known still).true_of
@@ -59,6 +59,6 @@ copied_on xs ys n v inside each is i less = ⊎_elim
     (same_or_other i n)
 
 -- the rule holds of the words of a table that is opened
-pub opening_holds : {S : Type 0} (still : Still) (words : List ℕ) → words ≡ still.words.items → Holds {S = S} still (opening words [] (opened still))
+pub opening_holds : {S : Type 0} (still : Still) (words : List ℕ) → words ≡ still.words → Holds {S = S} still (opening words [] (opened still))
 opening_holds {S} still words e = subst (λ (ws : List ℕ). Holds {S = S} still (opening ws [] (opened still))) (sym e)
     (record { words = still.good; views = (record { tied = refl; known = (everything_known still).true_of }, tt) })

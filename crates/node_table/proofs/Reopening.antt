@@ -45,13 +45,13 @@ module _ (was : Still) (key : Key) where
   bits : ℕ
   bits = was.key.shape.bits
 
-  pub through_start : (copy new : List ℕ) → copy ≡ was.words.items → new ≡ slice_set copy 0 (head key) → length new ≡ size was.key.shape.bits → head key < 2 ^ 64 → IsThrough was key new 0
+  pub through_start : (copy new : List ℕ) → copy ≡ was.words → new ≡ slice_set copy 0 (head key) → length new ≡ size was.key.shape.bits → head key < 2 ^ 64 → IsThrough was key new 0
   through_start copy new same set_head size_is fits =
-      let items = was.words.items in
-      let is : new ≡ slice_set was.words.items 0 (head key) = set_head ∙ ap (λ xs. slice_set xs 0 (head key)) same in
-      let long : length was.words.items ≡ size was.key.shape.bits = was.good.long in
-      let other = λ (i : ℕ) (n : i ≢ 0). ap (λ xs. slice_index xs i) is ∙ get_or-set_other was.words.items 0 i (head key) 0 n in
-      let first : slice_index new 0 ≡ head key = ap (λ xs. slice_index xs 0) is ∙ get_or-set_same was.words.items 0 (head key) 0 (omega arith) in
+      let items = was.words in
+      let is : new ≡ slice_set was.words 0 (head key) = set_head ∙ ap (λ xs. slice_set xs 0 (head key)) same in
+      let long : length was.words ≡ size was.key.shape.bits = was.good.long in
+      let other = λ (i : ℕ) (n : i ≢ 0). ap (λ xs. slice_index xs i) is ∙ get_or-set_other was.words 0 i (head key) 0 n in
+      let first : slice_index new 0 ≡ head key = ap (λ xs. slice_index xs 0) is ∙ get_or-set_same was.words 0 (head key) 0 (omega arith) in
       record {
         long = size_is;
         names = first;
@@ -180,7 +180,7 @@ opens_from was now rule exponent table desk is starts =
     record {
       of_table = starts.of_table;
       key = key;
-      words = now.words.items;
+      words = now.words;
       reopens = reopens;
       opening = every_reopening was.key table.key (words_of was) (words_of now) was.good.good reopens;
       known = subst (λ (k : Key). KnowsAll k.shape.bits (words_of now) desk.seat.me.0.known) (sym starts.key) starts.known;

@@ -3,8 +3,10 @@ pub mod Desks
 pub mod DesksAtWork
 pub mod GoodWords
 pub mod Halves
+pub mod Held
 pub mod Numbers
 pub mod Rule
+pub mod Shared
 pub mod Stills
 pub mod Openings
 pub mod Refusals

@@ -29,7 +29,7 @@ pub record Holds {S : Type 0} (still : Still) (state : State S View) : Type 0 wh
 
 -- all that the words say
 abbrev pub everything : Still → Knowledge
-everything still = all_of still.key still.words.items still.good
+everything still = all_of still.key still.words still.good
 
 abbrev pub opened : Still → View
 opened still = record { key = Some still.key; known = everything still }

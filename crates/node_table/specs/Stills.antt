@@ -12,14 +12,14 @@ abbrev pub key_of : Still → Key
 key_of still = still.key
 
 abbrev pub items_of : Still → List ℕ
-items_of still = still.words.items
+items_of still = still.words
 
 abbrev pub words_of : Still → Words
-words_of still = slice_index still.words.items
+words_of still = slice_index still.words
 
 -- what the words show, as a book
 abbrev pub book_in : Still → Book
-book_in still = book_of [] still.key (all_of still.key still.words.items still.good)
+book_in still = book_of [] still.key (all_of still.key still.words still.good)
 
 -- a table of so many pair slots without a square
 pub record IsVacant (still : Still) (pairs : ℕ) : Type 0 where

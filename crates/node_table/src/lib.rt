@@ -7,18 +7,22 @@
 mod at;
 mod desk;
 mod halves;
+mod held;
 mod look;
 mod ninths;
 mod pairs;
 mod rules;
 mod search;
+mod shared;
 mod still;
 mod table;
 mod view;
 
 pub use at::At;
 pub use desk::Desk;
+pub use held::Held;
 pub use rules::{Asks, Claims, Looks, Tells, Twins, Union, Words};
+pub use shared::SharedStill;
 pub use still::Still;
 pub use table::NodeTable;
 pub use view::View;

@@ -5,6 +5,8 @@ ghost use Rattle.squares.specs.Book.{IsBook};
 ghost use Rattle.node_table.specs.Books.{book_of};
 ghost use Rattle.node_table.specs.GoodWords.{all_of, good_prop};
 
+use crate::held::Held;
+use crate::shared::SharedStill;
 use plane::Refusal;
 use rule_text::Rule;
 use std::alloc::{AllocError, Global};
@@ -14,9 +16,9 @@ use table_core::{Key, Kind, Shape, parts};
 #[derive(Drop)]
 pub struct Still {
     pub(crate) key: Key,
-    pub(crate) words: Vec<u64>,
-    ghost good: { AreGoodWords key words.items } by { good_prop key words.items },
-    ghost is_book: { IsBook (book_of [] key (all_of key words.items good)) },
+    pub(crate) words: Held,
+    ghost good: { AreGoodWords key words } by { good_prop key words },
+    ghost is_book: { IsBook (book_of [] key (all_of key words good)) },
 }
 
 // More than the ranks of all squares and halves that a number may show.
@@ -24,7 +26,8 @@ const RANKS: u8 = 125;
 
 impl Still {
     ghost use Rattle.table_core.specs.Opening.{KeepsResult};
-    ghost use Rattle.node_table.specs.Stills.{IsVacant, IsReopened, HasRank, KeepsAtRank, HasWords, key_of, items_of};
+    ghost use Rattle.node_table.specs.Shared.{book_shown};
+    ghost use Rattle.node_table.specs.Stills.{IsVacant, IsReopened, HasRank, KeepsAtRank, HasWords, book_in, key_of, items_of};
 
     /// The words of a table of so many pair slots, with no square in it.
     pub fn empty(alloc: Global, pairs: u32) -> Result<Still, Refusal>
@@ -41,7 +44,10 @@ impl Still {
             exponent: 0,
         };
         match vec![in alloc; 0; key.shape.word_count() as usize] {
-            Ok(words) => Ok(Still { key, words }),
+            Ok(words) => Ok(Still {
+                key,
+                words: Held::of_vector(words),
+            }),
             Err(_) => Err(Refusal::NoMemory),
         }
     }
@@ -51,7 +57,10 @@ impl Still {
         requires { AreGoodWords key words.items }
         ensures { HasWords result key words.items }
     {
-        Still { key, words }
+        Still {
+            key,
+            words: Held::of_vector(words),
+        }
     }
 
     /// The shape, the rule and the exponent of the table.
@@ -62,10 +71,33 @@ impl Still {
     }
 
     /// The words.
-    pub fn words(&self) -> &[u64]
+    pub fn words(&self) -> &Held
         ensures { result.now ≡ items_of self.now }
     {
-        self.words.as_slice()
+        &self.words
+    }
+
+    /// The same words in a vector of their own, which several threads may read.
+    pub fn shared(&self, alloc: Global) -> Result<SharedStill, Refusal>
+        ensures ok { IfOk result (λ shared. book_shown shared ≡ book_in self.now) }
+        ensures memory { IsOkUnless result Refusal.NoMemory }
+    {
+        match self.words.copied(alloc) {
+            Ok(words) => Ok(SharedStill {
+                key: self.key,
+                words,
+            }),
+            Err(_) => Err(Refusal::NoMemory),
+        }
+    }
+
+    // The same words, held by a vector if there is memory for it.
+    pub(crate) fn in_vector(self, alloc: Global) -> Still
+        ensures { result ≡ self }
+    {
+        let Still { key, words } = self;
+        let words = words.in_vector(alloc);
+        Still { key, words }
     }
 
     // The words under another rule and exponent, with the results that are the same under both.
@@ -73,11 +105,11 @@ impl Still {
         requires { key.shape ≡ self.now.key.shape }
         ensures { IfOk result (IsReopened self.now key) }
     {
-        let mut words = Vec::from_slice(alloc, self.words.as_slice())?;
+        let mut words = self.words.copied(alloc)?;
         words[0] = key.head();
         let one_rule = self.has_rule_of(&key);
         if one_rule && self.key.exponent == key.exponent {
-            return Ok(Still { key, words });
+            return Ok(Still::of_words(key, words));
         }
         let shape = self.key.shape;
         for slot in 0..shape.slot_count(Kind::Pair) {
@@ -87,7 +119,7 @@ impl Still {
                 words[beside] = 0;
             }
         }
-        Ok(Still { key, words })
+        Ok(Still::of_words(key, words))
     }
 
     // Whether the words stand under this head.
@@ -125,7 +157,7 @@ impl Still {
             if number < first_pair || number as usize >= self.words.len() {
                 return rank;
             }
-            let (first, second) = parts(self.words[number as usize]);
+            let (first, second) = parts(self.words.word(number as usize));
             number = if first == 0 { second } else { first };
         }
         RANKS

@@ -1,8 +1,9 @@
-ghost use Rattle.std.specs.Prelude.{◌≡◌, ◌+◌, min, vec_len, IfOk, IfErr};
+ghost use Rattle.std.specs.Prelude.{◌≡◌, ◌+◌, min, IfOk, IfErr, IfSome};
 ghost use Rattle.table_core.specs.Layout.{size};
 
 use crate::at::At;
 use crate::desk::Desk;
+use crate::held::Held;
 use crate::rules::{Looks, Twins, Union, Words};
 use crate::still::Still;
 use crate::view::View;
@@ -14,17 +15,13 @@ use std::alloc::Global;
 use table_core::Key;
 
 /// A running table: words that threads share. Each thread has a desk of its own at it.
-///
-/// It also has the room into which the words go when the table is closed, so closing takes no memory.
 #[derive(Drop)]
 pub struct NodeTable {
     pub(crate) table: Table<(), View, Still, Words, Global>,
     pub(crate) key: Key,
-    room: Vec<u64>,
     ghost same_key: { table.shared.key.key ≡ key },
     ghost long: { table.shared.table_id.words ≡ size key.shape.bits },
     ghost no_slots: { table.shared.table_id.slots ≡ 0 },
-    ghost room_for_all: { vec_len room ≡ size key.shape.bits },
 }
 
 impl NodeTable {
@@ -34,7 +31,8 @@ impl NodeTable {
 
     /// A running table of these words under a rule and an exponent, and its first desk, which knows
     /// all that the words then say. The results that are the same under both heads stay, and no
-    /// other. Where memory is wanting, the words come back as they were.
+    /// other. Where memory is wanting, the words come back as they were. Words under the table's own head stand
+    /// in memory twice at most meanwhile, and others three times.
     pub fn open(
         alloc: Global,
         still: Still,
@@ -69,16 +67,25 @@ impl NodeTable {
         ensures ok { IfOk result (λ opened. StartsFrom still opened.0 opened.1) }
         ensures err { IfErr result (λ same. same ≡ still) }
     {
-        let Ok((table, seat)) = Table::of_words(alloc, still.words.as_slice(), &still) else {
-            return Err(still);
+        let still = still.in_vector(alloc);
+        match NodeTable::of_vector(alloc, &still) {
+            Some(opened) => Ok(opened),
+            None => Err(still),
+        }
+    }
+
+    // A running table of these words, under their own head. There is none where no vector holds the words, or
+    // memory is wanting.
+    fn of_vector(alloc: Global, still: &Still) -> Option<(NodeTable, Desk)>
+        ensures { IfSome result (λ opened. StartsFrom still.now opened.0 opened.1) }
+    {
+        let words = still.words.as_slice()?;
+        let Ok((table, seat)) = Table::of_words(alloc, words, still) else {
+            return None;
         };
-        let Still { key, words } = still;
-        Ok((
-            NodeTable {
-                table,
-                key,
-                room: words,
-            },
+        let key = still.key;
+        Some((
+            NodeTable { table, key },
             Desk {
                 seat,
                 expansions: 0,
@@ -86,22 +93,18 @@ impl NodeTable {
         ))
     }
 
-    /// The words in one owner's hands. They say all that the desk knew.
+    /// The words in one owner's hands, where the table had them: nothing is copied, and no memory is taken.
+    /// They say all that the desk knew.
     pub fn close(self, desk: Desk) -> Still
         requires { IsDeskOf self desk }
         ensures { Closes self desk result }
     {
-        let NodeTable { table, key, room } = self;
+        let NodeTable { table, key } = self;
         let Desk {
             seat,
             expansions: _,
         } = desk;
-        let mut words = room;
-        let closed = table.close_with(seat);
-        for index in 0..words.len() {
-            words[index] = closed.word(index);
-        }
-        closed.free();
+        let words = Held::of_table(table.close_with(seat));
         Still { key, words }
     }
 

@@ -1,7 +1,10 @@
 -- Cells in words at rest.
-use Rattle.std.proofs.Common.{◌≡◌, ◌∙◌, ap}
+use Rattle.std.proofs.Common.{◌≡◌, ◌∙◌, ap, subst, sym}
+use Rattle.node_table.specs.Shared.{book_shown}
 use Rattle.node_table.specs.Stills.{book_in}
+use Rattle.node_table.specs.declared.shared.SharedStill.{SharedStill}
 use Rattle.node_table.specs.declared.still.Still.{Still}
+use Rattle.squares.specs.Book.{Book, IsKnown}
 use Rattle.squares.specs.declared.sq.Sq.{Sq}
 use Rattle.universe.specs.Cells.{resting_cells, root_of, square_plane, still_of}
 use Rattle.universe.specs.declared.resting.Resting.{Resting}
@@ -10,3 +13,11 @@ use Rattle.universe.specs.declared.resting.Resting.{Resting}
 pub same_cells : (cells : Resting) (still : Still) (root : Sq) → still ≡ still_of cells → root ≡ root_of cells → square_plane (book_in still) root ≡ resting_cells cells
 same_cells cells still root words square =
     ap (λ (s : Still). square_plane (book_in s) root) words ∙ ap (λ (sq : Sq). square_plane (book_in (still_of cells)) sq) square
+
+-- a copy of the words that several threads may read shows them too
+module _ (cells : Resting) (still : Still) (shared : SharedStill) (root : Sq) (same : book_shown shared ≡ book_in still) (words : still ≡ still_of cells) where
+  pub shared_cells : root ≡ root_of cells → square_plane (book_shown shared) root ≡ resting_cells cells
+  shared_cells square = ap (λ (book : Book). square_plane book root) same ∙ same_cells cells still root words square
+
+  pub shared_known : IsKnown (book_in (still_of cells)) root.level root → IsKnown (book_shown shared) root.level root
+  shared_known known = subst (λ (book : Book). IsKnown book root.level root) (sym (same ∙ ap (λ (s : Still). book_in s) words)) known

@@ -80,7 +80,12 @@ impl Pattern {
     {
         let (book, root) = (self.cells.still(), self.cells.root());
         match format {
-            Some(Format::Rle) => write_rle(rt, book, alloc, root, comments, rule, generation, file),
+            Some(Format::Rle) => {
+                let Ok(shared) = book.shared(alloc) else {
+                    return Err(Refusal::NoMemory);
+                };
+                write_rle(rt, &shared, alloc, root, comments, rule, generation, file)
+            }
             Some(Format::Macrocell) => write_mc(
                 book, alloc, root, comments, rule, generation, file,
             ),

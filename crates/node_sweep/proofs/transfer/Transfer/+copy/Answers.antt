@@ -1,4 +1,4 @@
-use Rattle.std.proofs.Common.{◌≡◌, ◌≤◌, ◌+◌, ◌∙◌, ap, sym, subst, arith, refl}
+use Rattle.std.proofs.Common.{◌≡◌, ◌≤◌, ◌+◌, ◌∙◌, ap, sym, subst, arith}
 use Rattle.std.specs.Prelude.{slice_index}
 use Rattle.table_core.specs.declared.shape.Kind.TheVariants.{Pair}
 use Rattle.table_core.specs.Layout.{start, first_part, second_part}
@@ -31,7 +31,7 @@ note-requires-clause-word t c =
     let first : c.index.result ≡ start c.args.self.now.from.now.shape.bits Pair + 0 = c.index.ensures.index in
     let low = c.if-number-index.true in (
       leaf_below c.args.self.now.from.now.shape.bits (slice_index c.args.self.now.old.now) c.requires.block.0 c.args.number c.if-number-eq0.false (omega arith) c.requires.block.2,
-      refl,
+      c.word-word.ensures,
     )
 
 pub returns-then-number-index-clause-ok : goal.returns-then-number-index-clause-ok
@@ -53,7 +53,7 @@ copy-requires t c =
     let not_low = c.if-number-index.false in
     let high : start from Pair ≤ n = omega arith in
     let some = c.if-number-eq0.false in
-    let first = c.parts-first.ensures.first in
+    let first = c.parts-first.ensures.first ∙ ap first_part c.word-word.ensures in
     let above = higher from old c.args.height n some high c.requires.block in (
       omega arith,
       (
@@ -77,7 +77,7 @@ copy-requires-2 t c =
     let not_low = c.if-number-index.false in
     let high : start from Pair ≤ n = omega arith in
     let some = c.if-number-eq0.false in
-    let second = c.parts-first.ensures.second in
+    let second = c.parts-first.ensures.second ∙ ap second_part c.word-word.ensures in
     let above = higher from old c.args.height n some high c.requires.block in (
       omega arith,
       (
@@ -111,17 +111,19 @@ note-requires-2-clause-word t c =
     let n = c.args.number in
     let start_is : c.index.result ≡ start from Pair + 0 = c.index.ensures.index in
     let not_low = c.if-number-index.false in
+    let first = c.parts-first.ensures.first ∙ ap first_part c.word-word.ensures in
+    let second = c.parts-first.ensures.second ∙ ap second_part c.word-word.ensures in
     let p : IsPairOf from old c.args.height n = as_pair from old c.args.height n c.if-number-eq0.false (omega arith) c.requires.block in
     let both = block_parts from old p.rank n c.if-number-eq0.false p.pair in
     let one : IsCopy from to old between p.rank c.parts-first.result.0 c.in_ok-first.first =
-    c.in_ok-first.ensures.ok.at_rank p.rank (subst (IsBlock from old p.rank) (sym c.parts-first.ensures.first) both.0) in
+    c.in_ok-first.ensures.ok.at_rank p.rank (subst (IsBlock from old p.rank) (sym first) both.0) in
     let two : IsCopy from to old new p.rank c.parts-first.result.1 c.in_ok-second.second =
-    c.in_ok-second.ensures.ok.at_rank p.rank (subst (IsBlock from old p.rank) (sym c.parts-first.ensures.second) both.1) in (
+    c.in_ok-second.ensures.ok.at_rank p.rank (subst (IsBlock from old p.rank) (sym second) both.1) in (
       p.rank,
       p.pair,
-      copy_as from to old new p.rank c.parts-first.result.0 (first_part (old n)) c.in_ok-first.first (first_part c.pair_word-word.result) c.parts-first.ensures.first (sym c.pair_word-word.ensures.first)
+      copy_as from to old new p.rank c.parts-first.result.0 (first_part (old n)) c.in_ok-first.first (first_part c.pair_word-word.result) first (sym c.pair_word-word.ensures.first)
           (copy_later from to old between new p.rank c.parts-first.result.0 c.in_ok-first.first c.copy-2.ensures.keeps one),
-      copy_as from to old new p.rank c.parts-first.result.1 (second_part (old n)) c.in_ok-second.second (second_part c.pair_word-word.result) c.parts-first.ensures.second (sym c.pair_word-word.ensures.second)
+      copy_as from to old new p.rank c.parts-first.result.1 (second_part (old n)) c.in_ok-second.second (second_part c.pair_word-word.result) second (sym c.pair_word-word.ensures.second)
           two,
     )
 

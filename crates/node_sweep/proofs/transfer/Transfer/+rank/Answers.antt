@@ -1,10 +1,9 @@
-use Rattle.std.proofs.Common.{◌≡◌, ◌≢◌, ◌≤◌, ◌+◌, ◌-◌, ◌^◌, ◌<◌, ◌∙◌, length, arith, refl}
-use Rattle.std.specs.Prelude.{slice_index}
+use Rattle.std.proofs.Common.{◌≡◌, ◌≤◌, ◌+◌, ◌-◌, ◌<◌, length, subst, arith, refl}
 use Rattle.table_core.specs.declared.shape.Kind.TheVariants.{Pair}
 use Rattle.table_core.specs.Layout.{start}
-use Rattle.node_sweep.specs.Ranks.{KeepsRanks}
+use Rattle.node_sweep.specs.Ranks.{IsPart}
 use Rattle.node_sweep.specs.Transfers.{old_bits, old_words}
-use Rattle.node_sweep.proofs.Ranked.{kept_twice, leaf_ranked, noted_rank, part_low, rank_above, ranked_now, ranks_kept, ranks_still, word_there}
+use Rattle.node_sweep.proofs.Ranked.{noted_rank, part_low, rank_above, ranked_now, ranks_still}
 use Rattle.node_sweep.proofs.Recursing.{IsPairOf, as_pair, higher}
 use Rattle.node_sweep.proofs.transfer.Transfer.+rank.Goals as goal
 
@@ -29,7 +28,7 @@ rank-rank-requires t c =
           c.requires.long,
           (
             c.some_part-part.ensures.some,
-            part_low bits old c.args.number c.args.height c.requires.some high c.requires.block c.some_part-part.result c.some_part-part.ensures.part,
+            part_low bits old c.args.number c.args.height c.requires.some high c.requires.block c.some_part-part.result (subst (λ word. IsPart word c.some_part-part.result) c.word.ensures c.some_part-part.ensures.part),
           ),
         ),
       ),
@@ -59,7 +58,7 @@ returns-clause-ranks t c =
     let same = c.rank-rank.auto.ranks in
     let long = c.requires.long in
     let inside : c.args.number - c.index-first_pair.result < length c.rank-rank.new.ranks = omega arith in
-    let above = rank_above bits old c.args.number c.args.height c.requires.some high c.requires.block c.some_part-part.result c.rank-rank.result (1 + c.rank-rank.result) c.some_part-part.ensures.part c.some_part-part.ensures.some
+    let above = rank_above bits old c.args.number c.args.height c.requires.some high c.requires.block c.some_part-part.result c.rank-rank.result (1 + c.rank-rank.result) (subst (λ word. IsPart word c.some_part-part.result) c.word.ensures c.some_part-part.ensures.part) c.some_part-part.ensures.some
     c.rank-rank.ensures.rank.block refl in
     ranks_still bits old c.rank-rank.new.ranks _ c.args.number (c.args.number - c.index-first_pair.result) (1 + c.rank-rank.result) (λ z. absurd (omega arith)) c.rank-rank.ensures.ranks (omega arith) inside above.0 refl
 
@@ -75,6 +74,6 @@ returns-clause-rank t c =
     let same = c.rank-rank.auto.ranks in
     let long = c.requires.long in
     let inside : c.args.number - c.index-first_pair.result < length c.rank-rank.new.ranks = omega arith in
-    let above = rank_above bits old c.args.number c.args.height c.requires.some high c.requires.block c.some_part-part.result c.rank-rank.result (1 + c.rank-rank.result) c.some_part-part.ensures.part c.some_part-part.ensures.some
+    let above = rank_above bits old c.args.number c.args.height c.requires.some high c.requires.block c.some_part-part.result c.rank-rank.result (1 + c.rank-rank.result) (subst (λ word. IsPart word c.some_part-part.result) c.word.ensures c.some_part-part.ensures.part) c.some_part-part.ensures.some
     c.rank-rank.ensures.rank.block refl in
     ranked_now bits old c.rank-rank.new.ranks _ c.args.number (c.args.number - c.index-first_pair.result) (1 + c.rank-rank.result) (λ z. absurd (omega arith)) c.rank-rank.ensures.ranks (omega arith) inside above.0 refl c.args.height above.1

@@ -1,4 +1,4 @@
-use Rattle.std.proofs.Common.{◌≡◌, ◌+◌, ◌^◌, ◌∙◌, List, length, ℕ, ap, sym, subst, arith}
+use Rattle.std.proofs.Common.{◌≡◌, ◌≢◌, ◌+◌, ◌^◌, ◌∙◌, List, length, ℕ, ap, sym, subst, arith}
 use Rattle.std.specs.Prelude.{slice_index}
 use Rattle.table_core.specs.declared.shape.Kind.TheVariants.{Pair}
 use Rattle.table_core.specs.Layout.{start}
@@ -7,7 +7,7 @@ use Rattle.node_sweep.specs.Transfers.{wants}
 use Rattle.node_sweep.specs.Copies.{IsLowBlock}
 use Rattle.node_sweep.specs.Copying.{AreCopied, IsCopying}
 use Rattle.node_sweep.proofs.AllBlocks.{all_wanted, low_block_at, copied_on, copied_past}
-use Rattle.node_sweep.proofs.transfer.Transfer.copy_all.Goals.{then-self-number-ne0+in_ok-copy, else-self-number-ne0}
+use Rattle.node_sweep.proofs.transfer.Transfer.copy_all.Goals.{then-word-ne0+in_ok-copy, else-word-ne0}
 use Rattle.node_sweep.proofs.transfer.Transfer.copy_all.Goals as goal
 
 pub overflow_add-end : goal.overflow_add-end
@@ -23,7 +23,7 @@ copy-requires-clause-block c =
     let first : c.index.result ≡ start bits Pair + 0 = c.index.ensures.index in
     let count : c.slot_count.result ≡ 2 ^ bits = c.slot_count.ensures in
     let below = c.loop-number-test.true in
-    low_block_at c.args.self.now.from.now (slice_index c.args.self.now.old.now) c.loop-number.number c.args.self.now.good.good c.loop-number.invariant.some (omega arith) c.if-self-number-ne0.true
+    low_block_at c.args.self.now.from.now (slice_index c.args.self.now.old.now) c.loop-number.number c.args.self.now.good.good c.loop-number.invariant.some (omega arith) (subst (λ word. word ≢ 0) c.word.ensures c.if-word-ne0.true)
 
 pub loop-number-preserved : goal.loop-number-preserved
 loop-number-preserved c =
@@ -36,22 +36,22 @@ loop-number-preserved c =
     let first : c.index.result ≡ start bits Pair + 0 = c.index.ensures.index in
     let count : c.slot_count.result ≡ 2 ^ bits = c.slot_count.ensures in
     let below = c.loop-number-test.true in
-    elim c.if-self-number-ne0.branch [
-      | then-self-number-ne0+in_ok-copy w ↦
-          let block : IsLowBlock bits old 124 number = low_block_at from old number c.args.self.now.good.good h.some (omega arith) w.if-self-number-ne0.true in
+    elim c.if-word-ne0.branch [
+      | then-word-ne0+in_ok-copy w ↦
+          let block : IsLowBlock bits old 124 number = low_block_at from old number c.args.self.now.good.good h.some (omega arith) (subst (λ word. word ≢ 0) c.word.ensures w.if-word-ne0.true) in
           let noted = copied_on from to old (wants c.args.self.now) c.args.self.now.good.good c.loop-number.words c.loop-number.copies w.copy.new.words w.copy.new.copies number w.in_ok-copy.field-0
           h.underway w.copy.ensures.underway w.copy.ensures.keeps h.all h.some block w.in_ok-copy.ensures.ok w.in_ok-copy.ensures.noted in
           record {
-            underway = subst (λ (ws : List ℕ). IsCopying from to old (wants c.args.self.now) ws c.if-self-number-ne0.copies) (sym w.words-is)
+            underway = subst (λ (ws : List ℕ). IsCopying from to old (wants c.args.self.now) ws c.if-word-ne0.copies) (sym w.words-is)
                 (subst (λ (cs : List ℕ). IsCopying from to old (wants c.args.self.now) w.copy.new.words cs) (sym w.copies-is) w.copy.ensures.underway);
             all = subst (λ (cs : List ℕ). AreCopied old cs (number + 1)) (sym w.copies-is) noted;
             long = ap (λ (cs : List ℕ). length cs) w.copies-is ∙ w.copy.auto.copies ∙ h.long;
             some = λ z. absurd (omega arith);
           }
-      | else-self-number-ne0 w ↦ record {
-        underway = subst (λ (ws : List ℕ). IsCopying from to old (wants c.args.self.now) ws c.if-self-number-ne0.copies) (sym w.words-is)
+      | else-word-ne0 w ↦ record {
+        underway = subst (λ (ws : List ℕ). IsCopying from to old (wants c.args.self.now) ws c.if-word-ne0.copies) (sym w.words-is)
             (subst (λ (cs : List ℕ). IsCopying from to old (wants c.args.self.now) c.loop-number.words cs) (sym w.copies-is) h.underway);
-        all = subst (λ (cs : List ℕ). AreCopied old cs (number + 1)) (sym w.copies-is) (copied_past old c.loop-number.copies number h.all w.if-self-number-ne0.false);
+        all = subst (λ (cs : List ℕ). AreCopied old cs (number + 1)) (sym w.copies-is) (copied_past old c.loop-number.copies number h.all (sym c.word.ensures ∙ w.if-word-ne0.false));
         long = ap (λ (cs : List ℕ). length cs) w.copies-is ∙ h.long;
         some = λ z. absurd (omega arith);
       }

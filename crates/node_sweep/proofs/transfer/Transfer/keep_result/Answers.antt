@@ -8,8 +8,8 @@ use Rattle.node_sweep.proofs.transfer.Transfer.keep_result.Goals as goal
 
 pub bounds-copies-future : goal.bounds-copies-future
 bounds-copies-future c =
-    let r = result_at c.args.self.now.from.now (slice_index c.args.self.now.old.now) c.args.pair (slice_index c.args.self.now.old.now c.result_index.result) c.parts-future.result.1 c.args.self.now.good.good c.requires.pair
-    (ap (slice_index c.args.self.now.old.now) c.result_index.ensures.index) c.if-result-eq0.false c.parts-future.ensures.second in
+    let r = result_at c.args.self.now.from.now (slice_index c.args.self.now.old.now) c.args.pair c.word-result.result c.parts-future.result.1 c.args.self.now.good.good c.requires.pair
+    (c.word-result.ensures ∙ ap (slice_index c.args.self.now.old.now) c.result_index.ensures.index) c.if-result-eq0.false c.parts-future.ensures.second in
     let below = r.below in
     let same = c.requires.long in
     let long = c.args.self.now.good.long in
@@ -17,8 +17,8 @@ bounds-copies-future c =
 
 pub returns-then-future-ne0 : goal.returns-then-future-ne0
 returns-then-future-ne0 c =
-    let r = result_at c.args.self.now.from.now (slice_index c.args.self.now.old.now) c.args.pair (slice_index c.args.self.now.old.now c.result_index.result) c.parts-future.result.1 c.args.self.now.good.good c.requires.pair
-    (ap (slice_index c.args.self.now.old.now) c.result_index.ensures.index) c.if-result-eq0.false c.parts-future.ensures.second in
+    let r = result_at c.args.self.now.from.now (slice_index c.args.self.now.old.now) c.args.pair c.word-result.result c.parts-future.result.1 c.args.self.now.good.good c.requires.pair
+    (c.word-result.ensures ∙ ap (slice_index c.args.self.now.old.now) c.result_index.ensures.index) c.if-result-eq0.false c.parts-future.ensures.second in
     not_copied c.args.self.now.from.now c.args.self.now.to (slice_index c.args.self.now.old.now) (IsWanted c.args.self.now.from.now.shape.bits (slice_index c.args.self.now.old.now) c.args.self.now.wish) c.args.copies.now c.args.words.now c.args.self.now.good.good c.args.self.now.same_rule c.args.self.now.same_exponent c.args.slot c.requires.kept
     c.args.pair c.parts-future.result.1 c.requires.at r.told c.if-future-ne0.true c.if-number-eq0.true
 
@@ -29,8 +29,8 @@ result_index-requires-2 c =
 
 pub returns : goal.returns
 returns c =
-    let r = result_at c.args.self.now.from.now (slice_index c.args.self.now.old.now) c.args.pair (slice_index c.args.self.now.old.now c.result_index.result) c.parts-future.result.1 c.args.self.now.good.good c.requires.pair
-    (ap (slice_index c.args.self.now.old.now) c.result_index.ensures.index) c.if-result-eq0.false c.parts-future.ensures.second in
+    let r = result_at c.args.self.now.from.now (slice_index c.args.self.now.old.now) c.args.pair c.word-result.result c.parts-future.result.1 c.args.self.now.good.good c.requires.pair
+    (c.word-result.ensures ∙ ap (slice_index c.args.self.now.old.now) c.result_index.ensures.index) c.if-result-eq0.false c.parts-future.ensures.second in
     let number = slice_index c.args.copies.now c.parts-future.result.1 in
     let there : (c.parts-future.result.1 ≡ 0) ⊎ (number ≢ 0) = elim c.else-number-eq0.branch [
       | else-number-eq0-via-then-number-eq0+else-future-ne0 w ↦ inl w.if-future-ne0.false

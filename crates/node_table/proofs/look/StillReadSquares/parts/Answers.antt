@@ -22,5 +22,5 @@ returns c =
     let known = everything s in
     let sq = c.args.sq in
     same_quarters c.square.ensures c.square-2.ensures c.square-3.ensures c.square-4.ensures
-    (quarters_shown [] s.key sq.level (cells_in known sq) c.requires.level c.requires.known.high ∣ all_coherent s.key s.words.items s.good ∣₁
+    (quarters_shown [] s.key sq.level (cells_in known sq) c.requires.level c.requires.known.high ∣ all_coherent s.key s.words s.good ∣₁
     c.pair-upper.ensures c.pair-nw.ensures c.pair-sw.ensures (grows_refl known) (grows_refl known) (block_of known sq c.requires.known.known))

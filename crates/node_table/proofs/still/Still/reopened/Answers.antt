@@ -8,9 +8,7 @@ use Rattle.table_core.specs.Good.{AreGoodWords}
 use Rattle.table_core.specs.Opening.{Reopens}
 use Rattle.table_core.proofs.Lists.{length_set}
 use Rattle.table_core.proofs.Reopenings.{every_reopening}
-use Rattle.rule_text.specs.CountRule.{IsRule}
 use Rattle.node_table.specs.declared.still.Still.{Still}
-use Rattle.node_table.proofs.Everything.{all_book}
 use Rattle.node_table.specs.Stills.{words_of}
 use Rattle.node_table.proofs.Reopening.{IsThrough, rules_decided, through_kept, through_none, through_gone, through_same, through_all}
 use Rattle.node_table.proofs.still.Still.reopened.Goals.{then-index-ne0+then-not-keeps_result, else-index-ne0, else-index-ne0-via-then-index-ne0+else-not-keeps_result, else-index-ne0-via-else-index-ne0}
@@ -22,15 +20,13 @@ good_again was key new shape long reopens = record {
   good = (every_reopening was.key key (words_of was) (slice_index new) was.good.good reopens).good;
 }
 
-pub invariant_of-result : goal.invariant_of-result
-invariant_of-result c =
+pub of_words-requires : goal.of_words-requires
+of_words-requires c =
     let was = c.args.self.now in
     let new = slice_set c.in_ok-words.words.items 0 c.head.result in
     let h : IsThrough was c.args.key new 0 = search rules in
     let reopens = through_same was c.args.key new (c.has_rule_of-one_rule.ensures.0 c.if-one_rule.true) (search rules) c.requires h in
-    let good = good_again was c.args.key new c.requires h.long reopens in
-    let rule : IsRule c.args.key.rule = search rules in
-    record { good = good; is_book = all_book c.args.key new good rule }
+    good_again was c.args.key new c.requires h.long reopens
 
 pub loop-slot-preserved : goal.loop-slot-preserved
 loop-slot-preserved c =
@@ -60,11 +56,19 @@ loop-slot-preserved c =
           ])
     ]
 
-pub invariant_of-result-2 : goal.invariant_of-result-2
-invariant_of-result-2 c =
+pub of_words-requires-2 : goal.of_words-requires-2
+of_words-requires-2 c =
     let was = c.args.self.now in
     let new = c.loop-slot.words.items in
     let reopens = through_all was c.args.key new c.loop-slot.slot (let far = c.loop-slot-test.false in let count = c.slot_count-slot-end.ensures in omega arith) c.requires c.loop-slot.invariant in
-    let good = good_again was c.args.key new c.requires c.loop-slot.invariant.long reopens in
-    let rule : IsRule c.args.key.rule = search rules in
-    record { good = good; is_book = all_book c.args.key new good rule }
+    good_again was c.args.key new c.requires c.loop-slot.invariant.long reopens
+
+pub returns : goal.returns
+returns c =
+    let was = c.args.self.now in
+    let key = c.args.key in
+    let reopens = through_all was key c.loop-slot.words.items c.loop-slot.slot (let far = c.loop-slot-test.false in let count = c.slot_count-slot-end.ensures in omega arith) c.requires c.loop-slot.invariant in
+    record {
+      same_key = c.of_words-2.ensures.same_key;
+      reopens = subst (λ (ws : List ℕ). Reopens was.key key (words_of was) (slice_index ws)) (sym c.of_words-2.ensures.same_words) reopens;
+    }

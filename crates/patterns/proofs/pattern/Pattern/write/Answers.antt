@@ -4,24 +4,28 @@ use Rattle.plane.specs.Device.{IsWriteRefusal}
 use Rattle.plane.specs.Plane.{Plane}
 use Rattle.plane.specs.declared.refusal.Refusal.TheVariants.{BoxTooLarge, NoMemory}
 use Rattle.pattern_writers.specs.RleText.{IsTooLarge, WritesRle}
-use Rattle.patterns.proofs.CellsAtRest.{same_cells}
+use Rattle.patterns.proofs.CellsAtRest.{shared_cells, shared_known}
 use Rattle.patterns.specs.declared.format.Format.TheVariants.{Rle}
 use Rattle.patterns.proofs.pattern.Pattern.write.Goals as goal
 
-pub returns-in-Some-Rle-clause-written : goal.returns-in-Some-Rle-clause-written
-returns-in-Some-Rle-clause-written g c =
+pub returns-in-Ok-clause-written : goal.returns-in-Ok-clause-written
+returns-in-Ok-clause-written g c =
     let asked : c.args.format ≡ Some Rle = search rules in
-    let same = same_cells c.args.self.now.cells c.still-book.result.now c.root-root.result c.still-book.ensures c.root-root.ensures.root in
+    let same = shared_cells c.args.self.now.cells c.still-book.result.now c.in-Ok.shared c.root-root.result c.in-Ok.ensures.ok c.still-book.ensures c.root-root.ensures.root in
     rw asked (subst (λ (p : Plane). OnOk c.write_rle.result (WritesRle p c.args.comments c.args.rule.now c.args.generation (g.V.Sink.taken c.args.file.now) (g.V.Sink.taken c.write_rle.new.file))) same c.write_rle.ensures.written)
 
-pub returns-in-Some-Rle-clause-unfailed : goal.returns-in-Some-Rle-clause-unfailed
-returns-in-Some-Rle-clause-unfailed g c = c.write_rle.ensures.unfailed
+pub returns-in-Ok-clause-unfailed : goal.returns-in-Ok-clause-unfailed
+returns-in-Ok-clause-unfailed g c = c.write_rle.ensures.unfailed
 
-pub returns-in-Some-Rle-clause-refused : goal.returns-in-Some-Rle-clause-refused
-returns-in-Some-Rle-clause-refused g c =
+pub returns-in-Ok-clause-refused : goal.returns-in-Ok-clause-refused
+returns-in-Ok-clause-refused g c =
     let asked : c.args.format ≡ Some Rle = search rules in
-    let same = same_cells c.args.self.now.cells c.still-book.result.now c.root-root.result c.still-book.ensures c.root-root.ensures.root in
+    let same = shared_cells c.args.self.now.cells c.still-book.result.now c.in-Ok.shared c.root-root.result c.in-Ok.ensures.ok c.still-book.ensures c.root-root.ensures.root in
     rw asked (subst (λ (p : Plane). IfErr c.write_rle.result (λ refusal.
     ((refusal ≡ BoxTooLarge) × IsTooLarge p × (c.write_rle.new.file ≡ c.args.file.now))
     ⊎ ((refusal ≡ NoMemory) × (c.write_rle.new.file ≡ c.args.file.now))
     ⊎ IsWriteRefusal (g.V.Sink.failure_count c.args.file.now) (g.V.Sink.failure_count c.write_rle.new.file) refusal)) same c.write_rle.ensures.refused)
+
+pub write_rle-requires-clause-known : goal.write_rle-requires-clause-known
+write_rle-requires-clause-known g c =
+    λ _ _. shared_known c.args.self.now.cells c.still-book.result.now c.in-Ok.shared c.root-root.result c.in-Ok.ensures.ok c.still-book.ensures c.root-root.ensures.known

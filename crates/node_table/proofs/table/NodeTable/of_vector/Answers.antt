@@ -6,20 +6,20 @@ use Rattle.node_table.specs.declared.view.View.{View}
 use Rattle.node_table.specs.Books.{IsSound}
 use Rattle.node_table.specs.Stills.{words_of}
 use Rattle.node_table.proofs.Openings.{everything_known, opened_sound, opening_holds}
-use Rattle.node_table.proofs.table.NodeTable.of_still.Goals as goal
+use Rattle.node_table.proofs.table.NodeTable.of_vector.Goals as goal
 
 pub invariant_of-result-2 : goal.invariant_of-result-2
 invariant_of-result-2 c =
-    let still = c.args.still in
+    let still = c.args.still.now in
     let rule : IsRule still.key.rule = search rules in
     record {
       free = ap (λ me. me.1) c.in-Ok.ensures.4;
       sound = subst (λ (view : View). IsSound view) (sym (ap (λ me. me.0) c.in-Ok.ensures.4)) (opened_sound still rule);
     }
 
-pub returns-clause-ok : goal.returns-clause-ok
-returns-clause-ok c =
-    let still = c.args.still in
+pub returns : goal.returns
+returns c =
+    let still = c.args.still.now in
     let told = c.in-Ok.ensures in
     record {
       of_table = record { same_table = told.2; same_key = ap (λ me. me.0.key) told.4 };
@@ -29,4 +29,4 @@ returns-clause-ok c =
     }
 
 pub of_words-requires : goal.of_words-requires
-of_words-requires c = opening_holds c.args.still c.as_slice.result.now c.as_slice.ensures.value
+of_words-requires c = opening_holds c.args.still.now c.in_ok-words.words.now c.in_ok-words.ensures
