@@ -4,6 +4,8 @@
     bench/compare.py                           each row, the best of three rounds, one worker
     bench/compare.py --workers 1 4             by one worker and by four
     bench/compare.py --rounds 5 --rows gun     the rows with "gun" in their names, the best of five
+    bench/compare.py --set steps               runs with report lines
+    bench/compare.py --set rules               soups by rules other than Life
     bench/compare.py --set formats             the rows that read, write and count, and run little
     bench/compare.py --set long                long runs, most of which fill the tables
     bench/compare.py --processors 2            on two processors
@@ -41,24 +43,24 @@ COUNTED_MEGABYTES = 30
 
 @dataclass
 class Aims:
-    """What is aimed at, beside bgolly: the most time of one worker, without report steps and with them, the mean of the times by
-    so many workers, and the most memory."""
+    """What is aimed at, beside bgolly: the most time of one worker, the mean of the times by so many workers, and the most memory."""
 
-    without_steps: float
-    with_steps: float
+    time: float
     means: dict[int, float]
     memory: float
 
 
 @dataclass
 class Row:
-    """A run of both programs. The source is a file of Golly's, a text of one's own, or what makes one."""
+    """A run of both programs. The source is a file of Golly's, a text of one's own, or what makes one. The aim is the most time of
+    one worker beside bgolly's, where it is not that of the set."""
 
     name: str
     source: str | Callable[[], str]
     generations: int
     step: int = 0
     output: str = ""
+    aim: float | None = None
 
 
 R_PENTOMINO = "x = 3, y = 3, rule = B3/S23\nb2o$2o$bo!\n"
@@ -73,27 +75,46 @@ def soup(side=4096):
     return f"x = {side}, y = {side}\n" + "$\n".join(runs) + "!\n"
 
 
-USUAL = Aims(without_steps=1.2, with_steps=1.0, means={1: 0.75, 4: 0.4}, memory=1.5)
+def small_soup(rule):
+    """A square of 200 by 200 cells by a rule, 37 of 100 of them live, which fall alike at every call."""
+    coin = random.Random(7)
+    rows = ("".join("bo"[coin.random() < 0.37] for _ in range(200)) for _ in range(200))
+    return f"x = 200, y = 200, rule = {rule}\n" + "$\n".join(rows) + "!\n"
+
+
+USUAL = Aims(time=1.1, means={1: 0.6, 4: 0.4}, memory=1.5)
 AIMS = {
     "runs": USUAL,
+    "steps": USUAL,
+    "rules": Aims(time=0.35, means={}, memory=1.5),
     "formats": USUAL,
-    "long": Aims(without_steps=2.0, with_steps=2.0, means={1: 1.3, 4: 0.6}, memory=1.0),
+    "long": Aims(time=2.0, means={1: 1.3, 4: 0.6}, memory=1.0),
 }
 SETS = {
     "runs": [
         Row("metapixel-galaxy", "HashLife/metapixel-galaxy.mc.gz", 2**16),
         Row("hexadecimal", "HashLife/hexadecimal.mc.gz", 2**16),
-        Row("loafer-gun-p8388608-linear", "HashLife/loafer-gun-p8388608-linear.mc.gz", 2**16),
+        Row("loafer-gun-p8388608-linear", "HashLife/loafer-gun-p8388608-linear.mc.gz", 2**16, aim=1.8),
         Row("gotts-dots", "HashLife/gotts-dots.mc", 2**16),
         Row("LWSS-breeder", "Life/Breeders/LWSS-breeder.rle", 2**16),
         Row("one-cell-thick-quadratic-growth-2596x1", "Life/Breeders/one-cell-thick-quadratic-growth-2596x1.rle", 2**16),
         Row("pi-blink-breeder1", "Life/Breeders/pi-blink-breeder1.rle", 2**16),
         Row("replicator", REPLICATOR, 2**20),
         Row("R-pentomino", R_PENTOMINO, 1103),
+    ],
+    "steps": [
         Row("R-pentomino", R_PENTOMINO, 1103, step=1),
         Row("lidka-predecessor", "Life/Methuselahs/lidka-predecessor.rle", 30000, step=100),
         Row("gun-p165mwss", "Life/Guns/gun-p165mwss.rle", 100000, step=1000),
         Row("rabbits-relation-17423", "Life/Methuselahs/rabbits-relation-17423.rle", 17408, step=64),
+    ],
+    "rules": [
+        Row("soup by B36/S23", small_soup("B36/S23"), 4096),
+        Row("soup by B3678/S34678", small_soup("B3678/S34678"), 4096),
+        Row("soup by B36/S125", small_soup("B36/S125"), 4096),
+        Row("soup by B1357/S1357", small_soup("B1357/S1357"), 4096),
+        Row("soup by B2/S34H", small_soup("B2/S34H"), 4096),
+        Row("soup by B13/S012V", small_soup("B13/S012V"), 256),
     ],
     "formats": [
         Row("R-pentomino, written", R_PENTOMINO, 1103, output="out.rle"),
@@ -224,7 +245,7 @@ def timed(row, aims, workers, times):
     """The ratio of the times, with what is aimed at by one worker."""
     if times is None:
         return ""
-    aim = f" ({aims.with_steps if row.step else aims.without_steps})" if workers == 1 else ""
+    aim = f" ({row.aim or aims.time})" if workers == 1 else ""
     return f"{times:.2f}{aim}"
 
 
@@ -301,7 +322,7 @@ def print_table(options, bgolly):
 def main():
     parser = argparse.ArgumentParser(description=__doc__, formatter_class=argparse.RawDescriptionHelpFormatter)
     parser.add_argument("--rounds", type=int, default=3, help="how many runs of each, of which the best counts (3)")
-    parser.add_argument("--set", nargs="+", choices=sorted(SETS), default=["runs"], help="which rows")
+    parser.add_argument("--set", nargs="+", choices=sorted(SETS), default=["runs", "steps"], help="which rows")
     parser.add_argument("--rows", nargs="+", default=[], help="only the rows with one of these words in their names")
     parser.add_argument("--workers", type=int, nargs="+", default=[1], help="by how many workers, one number or several (1)")
     parser.add_argument("--program", type=pathlib.Path, default=LIFEBATCH, help="another build of lifebatch")

@@ -49,8 +49,9 @@ def random_corner(chance):
 
 
 def soup(chance, corner):
-    width, height = chance.randint(1, 40), chance.randint(1, 40)
-    density = chance.choice([0, 0.05, 0.2, 0.35, 0.5])
+    most, densities = chance.choice([(40, [0, 0.05, 0.2, 0.35, 0.5])] * 3 + [(130, [0.05, 0.1])])
+    width, height = chance.randint(1, most), chance.randint(1, most)
+    density = chance.choice(densities)
     places = ((corner[0] + x, corner[1] + y) for x in range(width) for y in range(height))
     return {
         (x, y) for x, y in places if chance.random() < density and max(x, y) < plain.END and min(x, y) >= -plain.END

@@ -1,5 +1,5 @@
--- A square of level 4 and its four leaves, and one of level 5 and its sixteen.
-use Rattle.std.proofs.Common.{◌≡◌, ℕ, ◌+◌, ◌-◌, ◌^◌, min, All, List, [], ◌∷◌, length, arith, sym, subst, refl}
+-- Squares of levels 4, 5 and 6 and their leaves.
+use Rattle.std.proofs.Common.{◌≡◌, ℕ, ◌+◌, ◌-◌, ◌^◌, min, All, List, [], ◌∷◌, length, arith, sym, ◌∙◌, ap, subst, refl}
 use Rattle.rule_text.specs.CountRule.{CountRule}
 use Rattle.plane.specs.Plane.{Plane, after}
 use Rattle.plane.specs.Square.{IsSame, IsSquare, bits_plane, joined, centre_of, future}
@@ -59,25 +59,25 @@ kernel_future book rule own exponent short level result plane leaves next e time
     cut_once : (exponent most : ℕ) → min (min exponent most) most ≡ min exponent most
     cut_once exponent most = omega arith
 
--- four squares of four leaves each that were read in turn
-pub sixteen_shown : (level : ℕ) (plane : Plane) (b1 b2 b3 b4 : Book) (q : List Sq) (a b c d : Plane) → level ≡ 5 → IsSquare (2 ^ level) plane →
+-- the quarters of a square of this level that were read in turn
+pub quarters_shown : (own level : ℕ) (plane : Plane) (b1 b2 b3 b4 : Book) (q : List Sq) (a b c d : Plane) → 2 ^ own ≡ 2 ^ (own - 1) + 2 ^ (own - 1) → level ≡ own → IsSquare (2 ^ level) plane →
     AreQuarters b1 level plane q → Keeps b1 b2 → Keeps b2 b3 → Keeps b3 b4 →
     IsSame a (b1.cells (nth q 0)) → IsSame b (b2.cells (nth q 1)) → IsSame c (b3.cells (nth q 2)) → IsSame d (b4.cells (nth q 3)) →
-    IsSame (joined 16 a b c d) plane
-sixteen_shown level plane b1 b2 b3 b4 q a b c d e square parts k2 k3 k4 is_a is_b is_c is_d =
-    let four : AreQuarters b1 5 plane q = lowered b1 level 5 plane q e parts in
-    let whole : IsSquare (16 + 16) plane = subst (λ n. IsSquare (2 ^ n) plane) e square in
-    whole_joined 16 plane a b c d whole
+    IsSame (joined (2 ^ (own - 1)) a b c d) plane
+quarters_shown own level plane b1 b2 b3 b4 q a b c d twice e square parts k2 k3 k4 is_a is_b is_c is_d =
+    let four : AreQuarters b1 own plane q = lowered b1 level own plane q e parts in
+    let whole : IsSquare (2 ^ (own - 1) + 2 ^ (own - 1)) plane = subst (λ n. IsSquare n plane) (ap (λ n. 2 ^ n) e ∙ twice) square in
+    whole_joined (2 ^ (own - 1)) plane a b c d whole
     (same_trans is_a four.nw.cells)
     (same_trans is_b (same_later k2 four.ne))
     (same_trans is_c (same_later (keeps_trans k2 k3) four.sw))
     (same_trans is_d (same_later (keeps_trans k2 (keeps_trans k3 k4)) four.se))
 
--- four leaves that were numbered in turn
-pub leaves_joined : (a b c d : ℕ) (b1 b2 b3 b4 b5 : Book) (nw ne sw se whole : Sq) → Keeps b1 b2 → Keeps b2 b3 → Keeps b3 b4 →
-    Shows b1 3 (bits_plane a) nw → Shows b2 3 (bits_plane b) ne → Shows b3 3 (bits_plane c) sw → Shows b4 3 (bits_plane d) se →
+-- four squares of one level that were numbered in turn
+pub numbered_joined : (own : ℕ) (a b c d : Plane) (b1 b2 b3 b4 b5 : Book) (nw ne sw se whole : Sq) → Keeps b1 b2 → Keeps b2 b3 → Keeps b3 b4 →
+    Shows b1 own a nw → Shows b2 own b ne → Shows b3 own c sw → Shows b4 own d se →
     Shows b5 (nw.level + 1) (joined_squares b4 nw.level (nw ∷ ne ∷ sw ∷ se ∷ [])) whole →
-    Shows b5 4 (joined 8 (bits_plane a) (bits_plane b) (bits_plane c) (bits_plane d)) whole
-leaves_joined a b c d b1 b2 b3 b4 b5 nw ne sw se whole k2 k3 k4 s1 s2 s3 s4 s =
-    joined_as b4 b5 3 (nw ∷ ne ∷ sw ∷ se ∷ []) (bits_plane a) (bits_plane b) (bits_plane c) (bits_plane d) whole s1.known.at_level
+    Shows b5 (own + 1) (joined (2 ^ own) a b c d) whole
+numbered_joined own a b c d b1 b2 b3 b4 b5 nw ne sw se whole k2 k3 k4 s1 s2 s3 s4 s =
+    joined_as b4 b5 own (nw ∷ ne ∷ sw ∷ se ∷ []) a b c d whole s1.known.at_level
     (same_later (keeps_trans k2 (keeps_trans k3 k4)) s1) (same_later (keeps_trans k3 k4) s2) (same_later k4 s3) s4.cells s

@@ -1,12 +1,11 @@
 ghost use Rattle.std.specs.Prelude.{◌≡◌, All, IfOk, IfErr};
-ghost use Rattle.leaf_kernels.specs.Life.{life};
-ghost use Rattle.leaf_kernels.specs.Rows.{leaves_plane, sixteen_plane};
+ghost use Rattle.leaf_kernels.specs.Rows.{four_fours_plane, four_sixteens_plane, leaves_plane, sixteen_plane};
 ghost use Rattle.plane.specs.Centred.{centred};
 ghost use Rattle.plane.specs.Square.{IsSame, centre_of};
 ghost use Rattle.squares.specs.Book.{IsFuture, IsKnown, Keeps, KeepsResults, MayRefuse, Shows, joined_squares};
 ghost use Rattle.hashlife_step.specs.Round.{ShowsRound};
 
-use leaf_kernels::{centre16, life32, result16};
+use leaf_kernels::{centre16, result16, result64};
 use plane::Refusal;
 use squares::{Sq, Squares};
 
@@ -68,19 +67,50 @@ fn join_leaves<S: Squares>(book: &mut S, leaves: [u64; 4]) -> Result<Sq, Refusal
     book.quad([upper_left, upper_right, lower_left, lower_right])
 }
 
-/// The future of a square of level 5 by B3/S23.
-pub(crate) fn life_future<S: Squares>(book: &mut S, sq: Sq) -> Result<Sq, Refusal>
+// The leaves of a square of level 6, quarter by quarter.
+fn read_quarters<S: Squares>(book: &mut S, sq: Sq) -> [[u64; 16]; 4]
     requires known { IsKnown (S.book book.old) sq.level sq }
-    requires level { sq.level ≡ 5 }
-    requires rule { (S.book book.old).rule ≡ life }
+    requires level { sq.level ≡ 6 }
+    ensures value { IsSame (four_sixteens_plane result) ((S.book book.old).cells sq) }
+    ensures keeps { Keeps (S.book book.old) (S.book book.new) }
+    ensures results { KeepsResults (S.book book.old) (S.book book.new) }
+{
+    let [nw, ne, sw, se] = book.read_parts(sq);
+    let upper_left = read_sixteen(book, nw);
+    let upper_right = read_sixteen(book, ne);
+    let lower_left = read_sixteen(book, sw);
+    let lower_right = read_sixteen(book, se);
+    [upper_left, upper_right, lower_left, lower_right]
+}
+
+// The square of level 5 that four times four leaves make.
+fn join_quarters<S: Squares>(book: &mut S, quarters: [[u64; 4]; 4]) -> Result<Sq, Refusal>
+    ensures ok { IfOk result (Shows (S.book book.new) 5 (four_fours_plane quarters)) }
+    ensures refusal { IfErr result (MayRefuse (S.book book.new)) }
+    ensures keeps { Keeps (S.book book.old) (S.book book.new) }
+    ensures results { KeepsResults (S.book book.old) (S.book book.new) }
+{
+    let [nw, ne, sw, se] = quarters;
+    let upper_left = join_leaves(book, nw)?;
+    let upper_right = join_leaves(book, ne)?;
+    let lower_left = join_leaves(book, sw)?;
+    let lower_right = join_leaves(book, se)?;
+    book.quad([upper_left, upper_right, lower_left, lower_right])
+}
+
+/// The future of a square of level 6.
+pub(crate) fn wide_future<S: Squares>(book: &mut S, sq: Sq) -> Result<Sq, Refusal>
+    requires known { IsKnown (S.book book.old) sq.level sq }
+    requires level { sq.level ≡ 6 }
     ensures ok { IfOk result (IsFuture (S.book book.new) sq) }
     ensures refusal { IfErr result (MayRefuse (S.book book.new)) }
     ensures keeps { Keeps (S.book book.old) (S.book book.new) }
     ensures results { KeepsResults (S.book book.old) (S.book book.new) }
 {
-    let leaves = read_sixteen(book, sq);
-    let exponent = u8::min(book.exponent(), 3);
-    join_leaves(book, life32(leaves, exponent))
+    let quarters = read_quarters(book, sq);
+    let exponent = u8::min(book.exponent(), 4);
+    let middle = result64(book.rule(), quarters, exponent);
+    join_quarters(book, middle)
 }
 
 /// The future of a square of level 4.

@@ -4,11 +4,10 @@ ghost use Rattle.hashlife_step.specs.Futures.{AreFinished, AreFutures};
 ghost use Rattle.hashlife_step.specs.Tallies.{Tallies};
 
 use crate::centres::middles;
-use crate::leaf_squares::{leaf_future, life_future};
+use crate::leaf_squares::{leaf_future, wide_future};
 use crate::neighbours::overlaps;
 use crate::orders::turn;
 use crate::tally::Tally;
-use leaf_kernels::is_life;
 use plane::Refusal;
 use squares::{Sq, Squares};
 
@@ -67,8 +66,8 @@ fn make<S: Squares>(book: &mut S, sq: Sq, order: u8, tally: &mut Tally) -> Resul
     if sq.level == 4 {
         return leaf_future(book, sq);
     }
-    if sq.level == 5 && is_life(book.rule()) {
-        return life_future(book, sq);
+    if sq.level == 6 {
+        return wide_future(book, sq);
     }
     let level = sq.level - 1;
     let mut parts = book.nine(sq)?;

@@ -1,6 +1,6 @@
 -- The cells that live by a rule, one number of live neighbours after the other.
-use Rattle.std.proofs.Common.{◌≡◌, ℕ, ◌+◌, ◌≤◌, ℤ, pos, ◌+ℤ◌, Bool, true, false, cond, List, length, refl, sym, ◌∙◌, ap, subst, arith, bit_and, bit_or, w16, inl, inr}
-use Rattle.std.specs.Prelude.{◌==◌, ◌&&◌, ◌||◌, nat_lt}
+use Rattle.std.proofs.Common.{◌≡◌, ℕ, ◌+◌, ◌≤◌, ℤ, pos, ◌+ℤ◌, Bool, true, false, cond, List, length, get_or, refl, sym, ◌∙◌, ap, subst, arith, bit_and, bit_or, w16, inl, inr}
+use Rattle.std.specs.Prelude.{◌==◌, ◌&&◌, ◌||◌, nat_lt, unsigned_abs}
 use Rattle.std.proofs.lemmas.Bool.{eq-eqb, ne_eqb, cases_order, lt-ltb, le-ltb}
 use Rattle.std.proofs.lemmas.Int.{ints}
 use Rattle.std.proofs.lemmas.List.Sums.{count_by-le-length}
@@ -10,8 +10,8 @@ use Rattle.rule_text.specs.declared.neighbourhood.Neighbourhood.TheVariants.{Moo
 use Rattle.rule_text.specs.Neighbourhood.{offsets}
 use Rattle.rule_text.specs.CountRule.{CountRule, lives}
 use Rattle.plane.specs.Plane.{Plane, live_neighbours, next}
-use Rattle.plane.specs.Square.{IsSame, spans, cut}
-use Rattle.leaf_kernels.specs.Rows.{rows_plane, square_rows}
+use Rattle.plane.specs.Square.{IsSame, spans, bit, cut}
+use Rattle.leaf_kernels.specs.Rows.{rows_plane}
 use Rattle.leaf_kernels.proofs.Lanes.{zip_length, cells-and, cells-or}
 
 -- the rows show the cells of the square that live by the rule with fewer live neighbours than this
@@ -58,10 +58,10 @@ pub one_more : (rule : CountRule) (plane : Plane) (count : ℤ → ℤ → ℕ) 
     ((x y : ℤ) → rows_plane by_state x y ≡ ((spans 16 x && spans 16 y) && cond (plane x y) survives is_born)) →
     LivesBelow rule plane count (k + 1) (rows_plane (zip2 bit_or old (zip2 bit_and equal by_state)))
 one_more rule plane count k old equal by_state survives is_born lo le lb is_survival is_birth so_far is_equal is_by_state x y inside =
-    cells-or w16 old (zip2 bit_and equal by_state) lo (zip_length w16 bit_and equal by_state le lb) x y
+    cells-or w16 16 old (zip2 bit_and equal by_state) lo (zip_length w16 16 bit_and equal by_state le lb) x y
     ∙ ap (λ t. t || rows_plane (zip2 bit_and equal by_state) x y) (so_far x y inside)
     ∙ ap (λ t. (nat_lt (count x y) k && lives rule (plane x y) (count x y)) || t)
-    (cells-and w16 equal by_state le lb x y
+    (cells-and w16 16 equal by_state le lb x y
     ∙ ap (λ t. t && rows_plane by_state x y) (is_equal x y ∙ ap (λ t. t && (count x y == k)) inside)
     ∙ ap (λ t. (count x y == k) && t) (is_by_state x y ∙ ap (λ t. t && cond (plane x y) survives is_born) inside
     ∙ ap (λ t. cond (plane x y) t is_born) is_survival ∙ ap (λ t. cond (plane x y) (lives rule true k) t) is_birth ∙ by_state_lives rule (plane x y) k))
@@ -94,16 +94,14 @@ few_neighbours neighbourhood plane x y =
 here : (z : ℤ) → z +ℤ pos 0 ≡ z
 here z = omega (arith, ints)
 
--- rows that show the cells that live by the rule, in the square, show its part of the next generation
-pub shows_living : (side : ℕ) (rule : CountRule) (rows result : List ℕ) (count : ℤ → ℤ → ℕ) →
-    ((x y : ℤ) → (spans side x && spans side y) ≡ true → square_rows side result x y ≡ lives rule (square_rows side rows x y) (count x y)) →
-    ((x y : ℤ) → (spans side x && spans side y) ≡ true → count x y ≡ live_neighbours rule.neighbourhood (square_rows side rows) x y) →
-    IsSame (square_rows side result) (cut side 0 0 (next rule (square_rows side rows)))
-shows_living side rule rows result count living counts = record {
+-- what shows the next generation at each cell of the square shows its part of it
+pub shows_generation : (side : ℕ) (rule : CountRule) (plane shown : Plane) →
+    ((x y : ℤ) → (spans side x && spans side y) ≡ true → ((spans side x && spans side y) && shown x y) ≡ next rule plane x y) →
+    IsSame (λ x y. (spans side x && spans side y) && shown x y) (cut side 0 0 (next rule plane))
+shows_generation side rule plane shown is_next = record {
   same = λ x y. in_and_out (spans side x && spans side y) _ _ (λ inside.
-      living x y inside
-      ∙ ap (lives rule (square_rows side rows x y)) (counts x y inside)
-      ∙ ap (λ u. next rule (square_rows side rows) u y) (sym (here x)) ∙ ap (λ v. next rule (square_rows side rows) (x +ℤ pos 0) v) (sym (here y)));
+      is_next x y inside
+      ∙ ap (λ u. next rule plane u y) (sym (here x)) ∙ ap (λ v. next rule plane (x +ℤ pos 0) v) (sym (here y)));
 }
   where
     in_and_out : (g p q : Bool) → (g ≡ true → (g && p) ≡ q) → (g && p) ≡ (g && q)
@@ -120,7 +118,7 @@ few_counted neighbourhood plane x y n counted =
 pub shows_next : (rule : CountRule) (rows result : List ℕ) (count : ℤ → ℤ → ℕ) → LivesBelow rule (rows_plane rows) count 9 (rows_plane result) →
     ((x y : ℤ) → (spans 16 x && spans 16 y) ≡ true → count x y ≡ live_neighbours rule.neighbourhood (rows_plane rows) x y) →
     IsSame (rows_plane result) (cut 16 0 0 (next rule (rows_plane rows)))
-shows_next rule rows result count lives_below counts = shows_living 16 rule rows result count (λ x y inside.
+shows_next rule rows result count lives_below counts = shows_generation 16 rule (rows_plane rows) (λ x y. bit (get_or result (unsigned_abs y) 0) (unsigned_abs x)) (λ x y inside.
     let few = few_counted rule.neighbourhood (rows_plane rows) x y (count x y) (counts x y inside) in
-    lives_below x y inside ∙ ap (λ t. t && lives rule (rows_plane rows x y) (count x y)) (lt-ltb (count x y) 9 (omega arith)))
-    counts
+    lives_below x y inside ∙ ap (λ t. t && lives rule (rows_plane rows x y) (count x y)) (lt-ltb (count x y) 9 (omega arith))
+    ∙ ap (lives rule (rows_plane rows x y)) (counts x y inside))

@@ -3,12 +3,15 @@ pub mod Births
 pub mod Bits
 pub mod Bytes
 pub mod Cells
+pub mod Choices
 pub mod Futures
 pub mod Joined
+pub mod LaneNeighbours
 pub mod Lanes
 pub mod LifeCells
 pub mod Moves
 pub mod Neighbours
 pub mod Numbers
 pub mod Squares
-pub mod Squares32
+pub mod Squares64
+pub mod Stacked

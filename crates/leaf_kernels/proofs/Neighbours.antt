@@ -7,7 +7,7 @@ use Rattle.rule_text.specs.Neighbourhood.{offsets, back, stay, on}
 use Rattle.plane.specs.Plane.{Plane, live_neighbours}
 use Rattle.plane.specs.Square.{spans}
 use Rattle.plane.proofs.Cuts.{and_left, and_right}
-use Rattle.leaf_kernels.proofs.Adders.{number}
+use Rattle.leaf_kernels.specs.Sums.{number}
 
 before : (z : ℤ) → z +ℤ back ≡ z -ℤ pos 1
 before z = omega (arith, ints)
@@ -33,15 +33,15 @@ at_steps f x y =
     ∙ ap (λ z. f (x -ℤ pos 1) x (x +ℤ on) z (y +ℤ stay) (y +ℤ on)) (before y)
     ∙ ap (λ z. f (x -ℤ pos 1) x (x +ℤ on) (y -ℤ pos 1) z (y +ℤ on)) (same y)
 
-eight_neighbours : (p : Plane) (x y : ℤ) → live_neighbours Moore p x y ≡ eight_of p (x -ℤ pos 1) x (x +ℤ pos 1) (y -ℤ pos 1) y (y +ℤ pos 1)
+pub eight_neighbours : (p : Plane) (x y : ℤ) → live_neighbours Moore p x y ≡ eight_of p (x -ℤ pos 1) x (x +ℤ pos 1) (y -ℤ pos 1) y (y +ℤ pos 1)
 unfolding offsets
 eight_neighbours p x y = at_steps (eight_of p) x y
 
-four_neighbours : (p : Plane) (x y : ℤ) → live_neighbours VonNeumann p x y ≡ four_of p (x -ℤ pos 1) x (x +ℤ pos 1) (y -ℤ pos 1) y (y +ℤ pos 1)
+pub four_neighbours : (p : Plane) (x y : ℤ) → live_neighbours VonNeumann p x y ≡ four_of p (x -ℤ pos 1) x (x +ℤ pos 1) (y -ℤ pos 1) y (y +ℤ pos 1)
 unfolding offsets
 four_neighbours p x y = at_steps (four_of p) x y
 
-six_neighbours : (p : Plane) (x y : ℤ) → live_neighbours Hexagonal p x y ≡ six_of p (x -ℤ pos 1) x (x +ℤ pos 1) (y -ℤ pos 1) y (y +ℤ pos 1)
+pub six_neighbours : (p : Plane) (x y : ℤ) → live_neighbours Hexagonal p x y ≡ six_of p (x -ℤ pos 1) x (x +ℤ pos 1) (y -ℤ pos 1) y (y +ℤ pos 1)
 unfolding offsets
 six_neighbours p x y = at_steps (six_of p) x y
 

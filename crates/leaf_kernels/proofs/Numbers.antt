@@ -5,8 +5,7 @@ use Rattle.std.proofs.lemmas.Bool.{eq-eqb, ne_eqb, cases_eq}
 use lib.Lanes.{zip2}
 use Rattle.plane.specs.Square.{spans}
 use Rattle.leaf_kernels.specs.Rows.{rows_plane}
-use Rattle.leaf_kernels.specs.Sums.{number_at}
-use Rattle.leaf_kernels.proofs.Adders.{number}
+use Rattle.leaf_kernels.specs.Sums.{number}
 use Rattle.leaf_kernels.proofs.Lanes.{zip_length, cells-and}
 
 -- two tests of equal numbers that hold at the same time
@@ -73,17 +72,17 @@ pub spelled : (ones twos fours eights p q r s : List ℕ) (a b c d : Bool) (n : 
     ((x y : ℤ) → rows_plane s x y ≡ ((spans 16 x && spans 16 y) && cond (rows_plane eights x y) d (not d))) →
     number a + 2 * number b + 4 * number c + 8 * number d ≡ n → (x y : ℤ) →
     rows_plane (zip2 bit_and (zip2 bit_and (zip2 bit_and p q) r) s) x y
-    ≡ ((spans 16 x && spans 16 y) && (number_at 16 ones x y + 2 * number_at 16 twos x y + 4 * number_at 16 fours x y + 8 * number_at 16 eights x y == n))
+    ≡ ((spans 16 x && spans 16 y) && (number (rows_plane ones x y) + 2 * number (rows_plane twos x y) + 4 * number (rows_plane fours x y) + 8 * number (rows_plane eights x y) == n))
 spelled ones twos fours eights p q r s a b c d n lp lq lr ls is_p is_q is_r is_s is x y =
-    let pq_length = zip_length w16 bit_and p q lp lq in
-    let pqr_length = zip_length w16 bit_and (zip2 bit_and p q) r pq_length lr in
+    let pq_length = zip_length w16 16 bit_and p q lp lq in
+    let pqr_length = zip_length w16 16 bit_and (zip2 bit_and p q) r pq_length lr in
     let g = spans 16 x && spans 16 y in
-    cells-and w16 (zip2 bit_and (zip2 bit_and p q) r) s pqr_length ls x y
-    ∙ ap (λ t. t && rows_plane s x y) (cells-and w16 (zip2 bit_and p q) r pq_length lr x y ∙ ap (λ t. t && rows_plane r x y) (cells-and w16 p q lp lq x y))
+    cells-and w16 16 (zip2 bit_and (zip2 bit_and p q) r) s pqr_length ls x y
+    ∙ ap (λ t. t && rows_plane s x y) (cells-and w16 16 (zip2 bit_and p q) r pq_length lr x y ∙ ap (λ t. t && rows_plane r x y) (cells-and w16 16 p q lp lq x y))
     ∙ ap (λ t. ((t && rows_plane q x y) && rows_plane r x y) && rows_plane s x y) (is_p x y)
     ∙ ap (λ t. (((g && cond (rows_plane ones x y) a (not a)) && t) && rows_plane r x y) && rows_plane s x y) (is_q x y)
     ∙ ap (λ t. (((g && cond (rows_plane ones x y) a (not a)) && (g && cond (rows_plane twos x y) b (not b))) && t) && rows_plane s x y) (is_r x y)
     ∙ ap (λ t. (((g && cond (rows_plane ones x y) a (not a)) && (g && cond (rows_plane twos x y) b (not b))) && (g && cond (rows_plane fours x y) c (not c))) && t) (is_s x y)
     ∙ guard_four g (cond (rows_plane ones x y) a (not a)) (cond (rows_plane twos x y) b (not b)) (cond (rows_plane fours x y) c (not c)) (cond (rows_plane eights x y) d (not d))
     ∙ ap (λ t. g && t) (sym (four_digits (rows_plane ones x y) (rows_plane twos x y) (rows_plane fours x y) (rows_plane eights x y) a b c d)
-    ∙ ap (λ m. number_at 16 ones x y + 2 * number_at 16 twos x y + 4 * number_at 16 fours x y + 8 * number_at 16 eights x y == m) is)
+    ∙ ap (λ m. number (rows_plane ones x y) + 2 * number (rows_plane twos x y) + 4 * number (rows_plane fours x y) + 8 * number (rows_plane eights x y) == m) is)

@@ -9,7 +9,7 @@ use Rattle.plane.proofs.Cuts.{joined_within}
 use Rattle.leaf_kernels.specs.Rows.{rows_plane, leaves_plane}
 use Rattle.leaf_kernels.proofs.Bits.{bit-low, bit-shr}
 use Rattle.leaf_kernels.proofs.Bytes.{bit-first_byte, bit-next_bytes, bit-byte}
-use Rattle.leaf_kernels.proofs.Cells.{and_true, less_spans, same_squares}
+use Rattle.leaf_kernels.proofs.Cells.{and_true, less_spans, same_cells}
 use Rattle.leaf_kernels.proofs.Joined.{four_squares}
 use Rattle.leaf_kernels.proofs.Lanes.{cell_in, rows_show}
 use Rattle.leaf_kernels.proofs.Moves.{with_each, shr}
@@ -79,7 +79,7 @@ module _ (leaves bytes pairs rows : List ℕ)
       (λ i j h k. right_bit (get_or rows (8 + j) 0) (get_or leaves 2 0) (get_or leaves 3 0) i j (lower_row j k) h k)
 
   pub rows_of_leaves : IsSame (rows_plane rows) (leaves_plane leaves)
-  rows_of_leaves = record { same = λ x y. rows_show w16 rows (leaves_plane leaves) leaf_cells x y ∙ in_square 16 (leaves_plane leaves) (leaves_square leaves) x y }
+  rows_of_leaves = record { same = λ x y. rows_show w16 16 rows (leaves_plane leaves) leaf_cells x y ∙ in_square 16 (leaves_plane leaves) (leaves_square leaves) x y }
 
 four_on : (i : ℕ) → pos (4 + i) ≡ pos i +ℤ pos 4
 four_on i = omega (arith, ints)
@@ -93,9 +93,9 @@ module _ (rows bytes middle : List ℕ) (word : ℕ) (long : length rows ≡ 16)
   middle_cell i j h k =
       is_word i j h k ∙ ap (λ n. bit n i) (is_middle j k ∙ is_bytes (4 + j) (omega arith))
       ∙ bit-low (get_or (zip2 shr rows (replicate 16 4)) (4 + j) 0) 8 i h
-      ∙ ap (λ n. bit n i) (with_each w16 shr rows 4 (4 + j) long (omega arith)) ∙ bit-shr (get_or rows (4 + j) 0) 4 i
-      ∙ sym (cell_in w16 rows (4 + i) (4 + j) (omega arith) (omega arith))
+      ∙ ap (λ n. bit n i) (with_each w16 16 shr rows 4 (4 + j) long (omega arith)) ∙ bit-shr (get_or rows (4 + j) 0) 4 i
+      ∙ sym (cell_in w16 16 rows (4 + i) (4 + j) (omega arith) (omega arith))
       ∙ ap (λ z. rows_plane rows z (pos (4 + j))) (four_on i) ∙ ap (λ z. rows_plane rows (pos i +ℤ pos 4) z) (four_on j)
 
   pub middle_of_rows : IsSame (bits_plane word) (cut 8 4 4 (rows_plane rows))
-  middle_of_rows = record { same = same_squares 8 (λ x y. bit word (8 * unsigned_abs y + unsigned_abs x)) (λ x y. rows_plane rows (x +ℤ pos 4) (y +ℤ pos 4)) middle_cell }
+  middle_of_rows = record { same = same_cells 8 8 (λ x y. bit word (8 * unsigned_abs y + unsigned_abs x)) (λ x y. rows_plane rows (x +ℤ pos 4) (y +ℤ pos 4)) middle_cell }

@@ -1,3 +1,4 @@
 pub mod Life
+pub mod Masks
 pub mod Rows
 pub mod Sums

@@ -1,19 +1,32 @@
--- Squares of 16 by 16 and of 32 by 32 cells: as rows, and as leaves.
-use Rattle.std.specs.Prelude.{ℕ, ◌+◌, List, unsigned_abs, slice_index, ◌&&◌}
+-- Squares of 16 by 16 and of 64 by 64 cells: as rows, and as leaves.
+use Rattle.std.specs.Prelude.{ℕ, ℤ, pos, ◌+◌, ◌/◌, ◌%◌, List, [], unsigned_abs, slice_index, slice_index_or, ◌&&◌, if◌then◌else◌, int_lt}
 use Rattle.plane.specs.Plane.{Plane}
 use Rattle.plane.specs.Square.{spans, bit, bits_plane, joined}
 
--- the cells of so many rows of as many cells, from the top: bit x of row y is the cell in column x, and none outside is live
-abbrev pub square_rows : ℕ → List ℕ → Plane
-square_rows side rows x y = (spans side x && spans side y) && bit (slice_index rows (unsigned_abs y)) (unsigned_abs x)
+-- the cells of so many rows of so many cells, from the top: bit x of row y is the cell in column x, and none outside is live
+abbrev pub cells_of_rows : ℕ → ℕ → List ℕ → Plane
+cells_of_rows width height rows x y = (spans width x && spans height y) && bit (slice_index rows (unsigned_abs y)) (unsigned_abs x)
 
--- the cells of sixteen rows
+-- the cells of sixteen rows of sixteen cells
 abbrev pub rows_plane : List ℕ → Plane
-rows_plane = square_rows 16
+rows_plane = cells_of_rows 16 16
 
--- the cells of thirty-two rows
-abbrev pub rows32_plane : List ℕ → Plane
-rows32_plane = square_rows 32
+-- the cells of four rows of sixty-four cells
+abbrev pub four_rows_plane : List ℕ → Plane
+four_rows_plane = cells_of_rows 64 4
+
+-- row y of the sixty-four in sixteen vectors: lane y / 16 of vector y % 16
+abbrev pub row_at : List (List ℕ) → ℕ → ℕ
+row_at vectors y = slice_index (slice_index_or vectors (y % 16) []) (y / 16)
+
+-- the cells of sixty-four rows of sixty-four cells in sixteen vectors
+abbrev pub rows64_plane : List (List ℕ) → Plane
+rows64_plane vectors x y = (spans 64 x && spans 64 y) && bit (row_at vectors (unsigned_abs y)) (unsigned_abs x)
+
+-- the rows in one lane of three vectors, one above the other: the middle one is row 0
+abbrev pub lane_plane : List ℕ → List ℕ → List ℕ → ℤ → Plane
+lane_plane above here below lane x y =
+    if int_lt y (pos 0) then four_rows_plane above x lane else if int_lt (pos 0) y then four_rows_plane below x lane else four_rows_plane here x lane
 
 -- the cells of the square that four leaves make: upper left, upper right, lower left and lower right
 abbrev pub leaves_plane : List ℕ → Plane
@@ -26,3 +39,12 @@ quarter_plane leaves k = joined 8 (bits_plane (slice_index leaves k)) (bits_plan
 -- the cells of the square that sixteen leaves make, row by row
 abbrev pub sixteen_plane : List ℕ → Plane
 sixteen_plane leaves = joined 16 (quarter_plane leaves 0) (quarter_plane leaves 2) (quarter_plane leaves 8) (quarter_plane leaves 10)
+
+-- the cells of four squares of sixteen leaves, and of four squares of four leaves
+abbrev pub four_sixteens_plane : List (List ℕ) → Plane
+four_sixteens_plane quarters =
+    joined 32 (sixteen_plane (slice_index_or quarters 0 [])) (sixteen_plane (slice_index_or quarters 1 [])) (sixteen_plane (slice_index_or quarters 2 [])) (sixteen_plane (slice_index_or quarters 3 []))
+
+abbrev pub four_fours_plane : List (List ℕ) → Plane
+four_fours_plane quarters =
+    joined 16 (leaves_plane (slice_index_or quarters 0 [])) (leaves_plane (slice_index_or quarters 1 [])) (leaves_plane (slice_index_or quarters 2 [])) (leaves_plane (slice_index_or quarters 3 []))

@@ -1,19 +1,21 @@
-//! Squares of 16 by 16 and of 32 by 32 cells, some generations on. A square is worked on as its rows,
-//! the lanes of one vector: all its cells at once.
+//! Squares of 16 by 16 and of 64 by 64 cells, some generations on. A square is worked on as its rows,
+//! the lanes of vectors: many cells at once.
 #![tactic(auto)]
 
+mod cells64;
 mod count;
-mod count32;
+mod count64;
+mod digit;
 mod generation;
 mod leaves;
-mod leaves32;
+mod leaves64;
 mod life;
+mod masks;
 mod result;
 mod rows;
-mod rows32;
+mod rows64;
 mod sum;
-mod sum32;
+mod sum64;
 
 pub use generation::next_rows;
-pub use life::is_life;
-pub use result::{centre16, life32, result16};
+pub use result::{centre16, result16, result64};

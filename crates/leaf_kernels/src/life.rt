@@ -1,10 +1,12 @@
-ghost use Rattle.std.specs.Prelude.{◌≡◌, ◌↔◌, IsTrue};
-ghost use Rattle.plane.specs.Plane.{next};
-ghost use Rattle.plane.specs.Square.{IsSame, cut};
+ghost use Rattle.std.specs.Prelude.{◌≡◌, ◌↔◌, ℤ, pos, ◌+◌, ◌+ℤ◌, ◌-ℤ◌, true, IsTrue};
+ghost use Rattle.plane.specs.Square.{spans};
 ghost use Rattle.leaf_kernels.specs.Life.{life};
-ghost use Rattle.leaf_kernels.specs.Rows.{rows32_plane};
+ghost use Rattle.leaf_kernels.specs.Rows.{four_rows_plane};
+ghost use Rattle.leaf_kernels.specs.Sums.{number, sum64_at};
 
-use crate::count32::Count32;
+use crate::cells64::NextCells;
+use crate::rows64::{dead_cells, from_left, from_right};
+use crate::sum64::Sum64;
 use rule_text::Rule;
 use std::simd::prelude::*;
 
@@ -12,18 +14,36 @@ use std::simd::prelude::*;
 const CODE: u32 = (1 << 3) + (1 << 11) + (1 << 12);
 
 /// Whether the rule is B3/S23.
-pub fn is_life(rule: &Rule) -> bool
+pub(crate) fn is_life(rule: &Rule) -> bool
     ensures { IsTrue result ↔ rule.now ≡ life }
 {
     rule.code() == CODE
 }
 
-/// The next generation of thirty-two rows by B3/S23: lane `y` is row `y`, bit `x` of it the cell
-/// `(x, y)`. Cells outside the 32 by 32 are taken as dead, and those that would become live there are
-/// left out.
+/// The next generation by B3/S23.
+#[derive(Drop)]
+pub(crate) struct Life;
+
+// The cell and the two beside it.
 #[inline(always)]
-pub(crate) fn next_rows32(rows: u32x32) -> u32x32
-    ensures { IsSame (rows32_plane result) (cut 32 0 0 (next life (rows32_plane rows))) }
+fn three(rows: u64x4) -> Sum64
+    ensures { (x lane : ℤ) → spans 64 x ≡ true → sum64_at result x lane
+        ≡ number (four_rows_plane rows (x -ℤ pos 1) lane) + number (four_rows_plane rows x lane) + number (four_rows_plane rows (x +ℤ pos 1) lane) }
 {
-    Count32::of_eight(rows).next_life(rows)
+    Sum64::of_three(from_left(rows), rows, from_right(rows))
+}
+
+impl NextCells for Life {
+    ghost rule = { λ _. life };
+
+    // A cell lives with three live neighbours, and a live one with two. No cell has more than eight.
+    #[inline(always)]
+    fn next_cells(&self, above: u64x4, here: u64x4, below: u64x4) -> u64x4 {
+        let upper = three(above);
+        let beside = Sum64::of_two(from_left(here), from_right(here));
+        let lower = three(below);
+        let ones = Sum64::of_three(upper.ones, beside.ones, lower.ones);
+        let twos = Sum64::of_three(upper.twos, beside.twos, lower.twos);
+        (ones.twos ^ twos.ones) & dead_cells(twos.twos) & (ones.ones | here)
+    }
 }

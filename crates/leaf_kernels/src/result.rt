@@ -1,11 +1,12 @@
 ghost use Rattle.std.specs.Prelude.{◌<◌};
 ghost use Rattle.plane.specs.Square.{IsSame, bits_plane, centre_of, future};
-ghost use Rattle.leaf_kernels.specs.Life.{life};
-ghost use Rattle.leaf_kernels.specs.Rows.{leaves_plane, sixteen_plane};
+ghost use Rattle.leaf_kernels.specs.Rows.{four_fours_plane, four_sixteens_plane, leaves_plane};
 
+use crate::cells64::{NextCells, next_rows64};
 use crate::generation::next_rows;
-use crate::life::next_rows32;
-use crate::{leaves, leaves32};
+use crate::life::{Life, is_life};
+use crate::masks::Masks;
+use crate::{leaves, leaves64};
 use rule_text::Rule;
 
 /// The 8 by 8 cells in the middle of a square of four leaves, 2^`exp` generations on, where all
@@ -22,18 +23,31 @@ pub fn result16(rule: &Rule, leaves: [u64; 4], exp: u8) -> u64
     leaves::centre_of(rows)
 }
 
-/// The four leaves in the middle of a square of sixteen leaves, 2^`exp` generations of B3/S23 on, where
-/// all cells outside the square are dead at first. The leaves stand row by row.
-pub fn life32(leaves: [u64; 16], exp: u8) -> [u64; 4]
-    requires { exp < 4 }
-    ensures { IsSame (leaves_plane result) (future life exp 5 (sixteen_plane leaves)) }
+/// The cells in the middle of a square of 64 by 64 cells, 2^`exp` generations on, where all cells outside the
+/// square are dead at first. The square stands in four quarters of sixteen leaves each, row by row, and its
+/// middle in four quarters of four leaves each.
+pub fn result64(rule: &Rule, quarters: [[u64; 16]; 4], exp: u8) -> [[u64; 4]; 4]
+    requires { exp < 5 }
+    ensures { IsSame (four_fours_plane result) (future rule.now exp 6 (four_sixteens_plane quarters)) }
 {
-    let mut rows = leaves32::rows_of(leaves);
+    if is_life(rule) {
+        middle_after(&Life, quarters, exp)
+    } else {
+        middle_after(&Masks::new(*rule), quarters, exp)
+    }
+}
+
+// The same by what makes the next generation.
+fn middle_after<N: NextCells>(kernel: &N, quarters: [[u64; 16]; 4], exp: u8) -> [[u64; 4]; 4]
+    requires { exp < 5 }
+    ensures { IsSame (four_fours_plane result) (future (N.rule kernel.now) exp 6 (four_sixteens_plane quarters)) }
+{
+    let mut rows = leaves64::rows_of(quarters);
     let generations = 1u8 << exp;
     for _ in 0..generations {
-        rows = next_rows32(rows);
+        next_rows64(kernel, &mut rows);
     }
-    leaves32::middle_of(rows)
+    leaves64::middle_of(rows)
 }
 
 /// The 8 by 8 cells in the middle of a square of four leaves.

@@ -1,6 +1,7 @@
 ghost use Rattle.std.specs.Prelude.{◌≡◌, ℤ, pos, ◌+◌, ◌+ℤ◌, ◌-ℤ◌, if◌then◌else◌};
 ghost use Rattle.plane.specs.Square.{spans};
-ghost use Rattle.leaf_kernels.specs.Sums.{number_at, sum_at};
+ghost use Rattle.leaf_kernels.specs.Rows.{rows_plane};
+ghost use Rattle.leaf_kernels.specs.Sums.{number, sum_at};
 
 use crate::rows::{from_above, from_below};
 use std::simd::prelude::*;
@@ -16,7 +17,7 @@ impl Sum {
     /// How many of two cells are live.
     #[inline(always)]
     pub(crate) fn of_two(first: u16x16, second: u16x16) -> Sum
-        ensures { (x y : ℤ) → sum_at result x y ≡ number_at 16 first x y + number_at 16 second x y }
+        ensures { (x y : ℤ) → sum_at result x y ≡ number (rows_plane first x y) + number (rows_plane second x y) }
     {
         Sum {
             ones: first ^ second,
@@ -27,7 +28,7 @@ impl Sum {
     /// How many of three cells are live.
     #[inline(always)]
     pub(crate) fn of_three(first: u16x16, second: u16x16, third: u16x16) -> Sum
-        ensures { (x y : ℤ) → sum_at result x y ≡ number_at 16 first x y + number_at 16 second x y + number_at 16 third x y }
+        ensures { (x y : ℤ) → sum_at result x y ≡ number (rows_plane first x y) + number (rows_plane second x y) + number (rows_plane third x y) }
     {
         let odd = first ^ second;
         Sum {

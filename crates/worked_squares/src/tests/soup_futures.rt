@@ -1,6 +1,6 @@
 //! Futures of squares of the levels 4 to 6, and the expansions that they take, reckoned cell by cell
-//! apart from this program. By B3/S23 nothing smaller than a square of level 5 is expanded for a larger
-//! one; by other rules squares of level 4 are.
+//! apart from this program. A square of level 5 takes nine futures of level 4, and four more where there
+//! is time for them; one of level 6 takes none.
 
 ghost use Rattle.squares.specs.Book.{IsKnown};
 
@@ -62,7 +62,7 @@ const ROWS: &[Row] = &[
             0x0667f94b69da52ec,
             0x58f06566f866285b,
         ],
-        expansions: 1,
+        expansions: 10,
     },
     Row {
         rule: "B3/S23",
@@ -74,7 +74,7 @@ const ROWS: &[Row] = &[
             0x0800080a088b030c,
             0x18000d0709040842,
         ],
-        expansions: 1,
+        expansions: 10,
     },
     Row {
         rule: "B3/S23",
@@ -86,7 +86,7 @@ const ROWS: &[Row] = &[
             0x140888129a18081b,
             0x41200d0c0f0e0680,
         ],
-        expansions: 1,
+        expansions: 10,
     },
     Row {
         rule: "B3/S23",
@@ -98,7 +98,7 @@ const ROWS: &[Row] = &[
             0x002f50560201027a,
             0x6687370300008080,
         ],
-        expansions: 1,
+        expansions: 14,
     },
     Row {
         rule: "B3/S23",
@@ -110,7 +110,7 @@ const ROWS: &[Row] = &[
             0x002f50560201027a,
             0x6687370300008080,
         ],
-        expansions: 1,
+        expansions: 14,
     },
     Row {
         rule: "B36/S23",
@@ -206,7 +206,7 @@ const ROWS: &[Row] = &[
             0x416343a2b8020f06,
             0x221e018056557b0c,
         ],
-        expansions: 10,
+        expansions: 1,
     },
     Row {
         rule: "B3/S23",
@@ -230,7 +230,7 @@ const ROWS: &[Row] = &[
             0xc08082a240181850,
             0x6040000020182830,
         ],
-        expansions: 10,
+        expansions: 1,
     },
     Row {
         rule: "B3/S23",
@@ -254,7 +254,7 @@ const ROWS: &[Row] = &[
             0x64e3600000000000,
             0xb140000609103010,
         ],
-        expansions: 14,
+        expansions: 1,
     },
     Row {
         rule: "B36/S23",
@@ -278,7 +278,7 @@ const ROWS: &[Row] = &[
             0xff44dc03121e0c80,
             0x41a0410100000000,
         ],
-        expansions: 140,
+        expansions: 1,
     },
 ];
 

@@ -1,15 +1,16 @@
 use Rattle.std.proofs.lemmas.Result.{IfOk-weaker}
 use Rattle.std.proofs.Common.{get_or}
+use Rattle.plane.specs.Square.{bits_plane}
 use Rattle.squares.proofs.Kept.{keeps_trans, known_kept, results_trans}
 use Rattle.hashlife_step.proofs.FourKnown.{four_known}
-use Rattle.hashlife_step.proofs.LeafSquares.{leaves_joined}
+use Rattle.hashlife_step.proofs.LeafSquares.{numbered_joined}
 use Rattle.hashlife_step.proofs.leaf_squares.join_leaves.Goals as goal
 
 pub returns-clause-ok : goal.returns-clause-ok
 returns-clause-ok g c =
     let book = g.S.Squares.book in
     IfOk-weaker c.quad.result _ _
-    (λ whole shown. leaves_joined (get_or c.args.leaves 0 0) (get_or c.args.leaves 1 0) (get_or c.args.leaves 2 0) (get_or c.args.leaves 3 0)
+    (λ whole shown. numbered_joined 3 (bits_plane (get_or c.args.leaves 0 0)) (bits_plane (get_or c.args.leaves 1 0)) (bits_plane (get_or c.args.leaves 2 0)) (bits_plane (get_or c.args.leaves 3 0))
     (book c.leaf.new.self) (book c.leaf-2.new.self) (book c.leaf-3.new.self) (book c.leaf-4.new.self) (book c.quad.new.self)
     c.in_ok-upper_left.upper_left c.in_ok-upper_right.upper_right c.in_ok-lower_left.lower_left c.in_ok-lower_right.lower_right whole
     c.leaf-2.ensures.keeps c.leaf-3.ensures.keeps c.leaf-4.ensures.keeps

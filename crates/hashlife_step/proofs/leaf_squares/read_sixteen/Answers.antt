@@ -1,12 +1,13 @@
+use Rattle.std.proofs.Common.{refl}
 use Rattle.leaf_kernels.specs.Rows.{leaves_plane}
-use Rattle.hashlife_step.proofs.LeafSquares.{sixteen_shown}
+use Rattle.hashlife_step.proofs.LeafSquares.{quarters_shown}
 use Rattle.hashlife_step.proofs.leaf_squares.read_sixteen.Goals as goal
 
 pub returns-clause-value : goal.returns-clause-value
 returns-clause-value g c =
     let book = g.S.Squares.book in
-    sixteen_shown c.args.sq.level ((book c.args.book.now).cells c.args.sq) (book c.read_parts.new.self) (book c.read_leaves.new.book) (book c.read_leaves-2.new.book) (book c.read_leaves-3.new.book)
+    quarters_shown 5 c.args.sq.level ((book c.args.book.now).cells c.args.sq) (book c.read_parts.new.self) (book c.read_leaves.new.book) (book c.read_leaves-2.new.book) (book c.read_leaves-3.new.book)
     c.read_parts.result (leaves_plane c.read_leaves.result) (leaves_plane c.read_leaves-2.result) (leaves_plane c.read_leaves-3.result) (leaves_plane c.read_leaves-4.result)
-    c.requires.level ((g.met.S.Squares.is_book c.args.book.now).square c.args.sq c.requires.known.known)
+    refl c.requires.level ((g.met.S.Squares.is_book c.args.book.now).square c.args.sq c.requires.known.known)
     c.read_parts.ensures.value c.read_leaves.ensures.keeps c.read_leaves-2.ensures.keeps c.read_leaves-3.ensures.keeps
     c.read_leaves.ensures.value c.read_leaves-2.ensures.value c.read_leaves-3.ensures.value c.read_leaves-4.ensures.value

@@ -8,7 +8,7 @@ use Rattle.leaf_kernels.proofs.generation.next_rows.Goals as goal
 use Rattle.leaf_kernels.proofs.generation.next_rows.Goals.{then-survives, else-survives+else-is_born}
 
 pub loop-number-init : goal.loop-number-init
-loop-number-init c = none_below c.args.rule.now (rows_plane c.args.rows) _ (count_at c.of_neighbours-counts.result) (cells-none w16)
+loop-number-init c = none_below c.args.rule.now (rows_plane c.args.rows) _ (count_at c.of_neighbours-counts.result) (cells-none w16 16)
 
 pub loop-number-preserved : goal.loop-number-preserved
 loop-number-preserved c = elim c.if-survives.branch [

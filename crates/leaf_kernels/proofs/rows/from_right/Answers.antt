@@ -3,4 +3,4 @@ use Rattle.leaf_kernels.proofs.Moves.{from_right_cells}
 use Rattle.leaf_kernels.proofs.rows.from_right.Goals as goal
 
 pub returns : goal.returns
-returns c = from_right_cells w16 c.args.rows c.fits-rows.0 c.fits-rows.1
+returns c = from_right_cells w16 16 c.args.rows c.fits-rows.0 c.fits-rows.1

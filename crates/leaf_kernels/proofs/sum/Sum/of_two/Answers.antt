@@ -3,4 +3,4 @@ use Rattle.leaf_kernels.proofs.Adders.{half_adder}
 use Rattle.leaf_kernels.proofs.sum.Sum.of_two.Goals as goal
 
 pub returns : goal.returns
-returns c = half_adder w16 c.args.first c.args.second c.fits-first.0 c.fits-second.0
+returns c = half_adder w16 16 c.args.first c.args.second c.fits-first.0 c.fits-second.0

@@ -1,0 +1,48 @@
+ghost use Rattle.std.specs.Prelude.{◌≡◌, ℕ, ℤ, ◌&&◌};
+ghost use Rattle.rule_text.specs.CountRule.{CountRule, lives};
+ghost use Rattle.plane.specs.Square.{spans};
+ghost use Rattle.leaf_kernels.specs.Masks.{IsDigit, mask_of};
+ghost use Rattle.leaf_kernels.specs.Rows.{four_rows_plane};
+
+use crate::rows64::everywhere;
+use rule_text::Rule;
+use std::simd::prelude::*;
+
+/// A word of which all bits are live, or none.
+pub(crate) fn mask(live: bool) -> u64
+    ensures { result ≡ mask_of live }
+{
+    if live { u64::MAX } else { 0 }
+}
+
+/// What a rule makes of the cells that have one number of live neighbours, for a whole word at once.
+#[derive(Clone, Copy)]
+pub(crate) struct Digit {
+    /// Whether dead cells become live.
+    pub(crate) births: u64,
+    /// Whether what live cells become is not what dead ones become.
+    pub(crate) changes: u64,
+}
+
+impl Digit {
+    /// What the rule makes of the cells with so many live neighbours.
+    pub(crate) fn new(rule: &Rule, count: u8) -> Digit
+        ensures { IsDigit rule.now count result }
+    {
+        let is_born = rule.lives(false, count);
+        let survives = rule.lives(true, count);
+        Digit {
+            births: mask(is_born),
+            changes: mask(is_born != survives),
+        }
+    }
+
+    /// The cells in the next generation, if all have this number of live neighbours.
+    #[inline(always)]
+    pub(crate) fn next(&self, cells: u64x4) -> u64x4
+        ensures { (rule : CountRule) (count : ℕ) → IsDigit rule count self.now → (x lane : ℤ) → four_rows_plane result x lane
+            ≡ ((spans 64 x && spans 4 lane) && lives rule (four_rows_plane cells x lane) count) }
+    {
+        everywhere(self.births) ^ (cells & everywhere(self.changes))
+    }
+}

@@ -1,0 +1,134 @@
+ghost use Rattle.std.specs.Prelude.{◌≡◌, ℕ, ◌+◌, ◌*◌, ◌/◌, ◌%◌, ◌^◌, ◌<◌, [], slice_index, slice_index_or};
+ghost use Rattle.plane.specs.Square.{IsSame, bit, centre_of};
+ghost use Rattle.leaf_kernels.specs.Rows.{four_fours_plane, four_sixteens_plane, rows64_plane};
+
+use std::simd::prelude::*;
+
+/// The rows of the square that four squares of sixteen leaves make.
+#[inline(always)]
+pub(crate) fn rows_of(quarters: [[u64; 16]; 4]) -> [u64x4; 16]
+    ensures { IsSame (rows64_plane result) (four_sixteens_plane quarters) }
+{
+    let [nw, ne, sw, se] = quarters;
+    let [first, second, third, fourth] = bands(nw, ne);
+    let [fifth, sixth, seventh, eighth] = bands(sw, se);
+    let [a, b, c, d, e, f, g, h] = by_lane([first, third, fifth, seventh]);
+    let [i, j, k, l, m, n, o, p] = by_lane([second, fourth, sixth, eighth]);
+    [a, b, c, d, e, f, g, h, i, j, k, l, m, n, o, p]
+}
+
+/// The leaves in the middle of sixty-four rows, quarter by quarter.
+#[inline(always)]
+pub(crate) fn middle_of(rows: [u64x4; 16]) -> [[u64; 4]; 4]
+    ensures { IsSame (four_fours_plane result) (centre_of 6 (rows64_plane rows)) }
+{
+    let [a, b, c, d, e, f, g, h, i, j, k, l, m, n, o, p] = rows;
+    let [first, third] = middle_lanes([a, b, c, d, e, f, g, h]);
+    let [second, fourth] = middle_lanes([i, j, k, l, m, n, o, p]);
+    let [_, _, a, b, c, d, _, _] = transposed(first).to_array();
+    let [_, _, e, f, g, h, _, _] = transposed(second).to_array();
+    let [_, _, i, j, k, l, _, _] = transposed(third).to_array();
+    let [_, _, m, n, o, p, _, _] = transposed(fourth).to_array();
+    [[a, b, e, f], [c, d, g, h], [i, j, m, n], [k, l, o, p]]
+}
+
+/// Four times eight rows, from the top, of two squares of sixteen leaves beside each other.
+#[inline(always)]
+fn bands(left: [u64; 16], right: [u64; 16]) -> [u64x8; 4]
+    ensures left { (four column place row : ℕ) → four < 4 → column < 4 → place < 8 → row < 8
+        → bit (slice_index (slice_index_or result four []) row) (8 * column + place) ≡ bit (slice_index left (4 * four + column)) (8 * row + place) }
+    ensures right { (four column place row : ℕ) → four < 4 → column < 4 → place < 8 → row < 8
+        → bit (slice_index (slice_index_or result four []) row) (8 * (4 + column) + place) ≡ bit (slice_index right (4 * four + column)) (8 * row + place) }
+{
+    let [a, b, c, d, e, f, g, h, i, j, k, l, m, n, o, p] = left;
+    let [q, r, s, t, u, v, w, x, y, z, aa, bb, cc, dd, ee, ff] = right;
+    [
+        transposed(u64x8::from_array([a, b, c, d, q, r, s, t])),
+        transposed(u64x8::from_array([e, f, g, h, u, v, w, x])),
+        transposed(u64x8::from_array([i, j, k, l, y, z, aa, bb])),
+        transposed(u64x8::from_array([m, n, o, p, cc, dd, ee, ff])),
+    ]
+}
+
+/// Four vectors of eight as eight of four: lane `y` of vector `x` is lane `x` of vector `y`.
+#[inline(always)]
+fn by_lane(bands: [u64x8; 4]) -> [u64x4; 8]
+    ensures { (row lane : ℕ) → row < 8 → lane < 4
+        → slice_index (slice_index_or result row []) lane ≡ slice_index (slice_index_or bands lane []) row }
+{
+    let [first, second, third, fourth] = bands;
+    let [a, b, c, d, e, f, g, h] = first.to_array();
+    let [i, j, k, l, m, n, o, p] = second.to_array();
+    let [q, r, s, t, u, v, w, x] = third.to_array();
+    let [y, z, aa, bb, cc, dd, ee, ff] = fourth.to_array();
+    [
+        u64x4::from_array([a, i, q, y]),
+        u64x4::from_array([b, j, r, z]),
+        u64x4::from_array([c, k, s, aa]),
+        u64x4::from_array([d, l, t, bb]),
+        u64x4::from_array([e, m, u, cc]),
+        u64x4::from_array([f, n, v, dd]),
+        u64x4::from_array([g, o, w, ee]),
+        u64x4::from_array([h, p, x, ff]),
+    ]
+}
+
+/// The lanes 1 and 2 of eight vectors.
+#[inline(always)]
+fn middle_lanes(rows: [u64x4; 8]) -> [u64x8; 2]
+    ensures { (row lane : ℕ) → row < 8 → lane < 2
+        → slice_index (slice_index_or result lane []) row ≡ slice_index (slice_index_or rows row []) (1 + lane) }
+{
+    let [a, b, c, d, e, f, g, h] = rows;
+    let [_, a1, a2, _] = a.to_array();
+    let [_, b1, b2, _] = b.to_array();
+    let [_, c1, c2, _] = c.to_array();
+    let [_, d1, d2, _] = d.to_array();
+    let [_, e1, e2, _] = e.to_array();
+    let [_, f1, f2, _] = f.to_array();
+    let [_, g1, g2, _] = g.to_array();
+    let [_, h1, h2, _] = h.to_array();
+    [
+        u64x8::from_array([a1, b1, c1, d1, e1, f1, g1, h1]),
+        u64x8::from_array([a2, b2, c2, d2, e2, f2, g2, h2]),
+    ]
+}
+
+/// Eight leaves beside each other as eight rows, and eight rows as the eight leaves.
+#[inline(always)]
+fn transposed(words: u64x8) -> u64x8
+    ensures { (column place row : ℕ) → column < 8 → place < 8 → row < 8
+        → bit (slice_index result row) (8 * column + place) ≡ bit (slice_index words column) (8 * row + place) }
+{
+    words_of_bytes(woven(bytes_of_words(words)))
+}
+
+/// The bytes of eight words, the lowest byte of each first.
+#[inline(always)]
+fn bytes_of_words(words: u64x8) -> u8x64
+    ensures { (word place : ℕ) → word < 8 → place < 8
+        → slice_index result (8 * word + place) ≡ slice_index words word / 256 ^ place % 256 }
+{
+    words.to_le_bytes()
+}
+
+/// The bytes of eight words in turn, the first byte of each first.
+#[inline(always)]
+fn woven(bytes: u8x64) -> u8x64
+    ensures { (word place : ℕ) → word < 8 → place < 8 → slice_index result (8 * place + word) ≡ slice_index bytes (8 * word + place) }
+{
+    bytes.swizzle([
+        0, 8, 16, 24, 32, 40, 48, 56, 1, 9, 17, 25, 33, 41, 49, 57, 2, 10, 18, 26, 34, 42, 50, 58,
+        3, 11, 19, 27, 35, 43, 51, 59, 4, 12, 20, 28, 36, 44, 52, 60, 5, 13, 21, 29, 37, 45, 53,
+        61, 6, 14, 22, 30, 38, 46, 54, 62, 7, 15, 23, 31, 39, 47, 55, 63,
+    ])
+}
+
+/// Words of eight bytes each, the lowest first.
+#[inline(always)]
+fn words_of_bytes(bytes: u8x64) -> u64x8
+    ensures { (column place row : ℕ) → column < 8 → place < 8 → row < 8
+        → bit (slice_index result row) (8 * column + place) ≡ bit (slice_index bytes (8 * row + column)) place }
+{
+    u64x8::from_le_bytes(bytes)
+}

@@ -1,0 +1,114 @@
+ghost use Rattle.std.specs.Prelude.{◌≡◌, ℤ, pos, ◌≤◌, ◌&&◌, true};
+ghost use Rattle.rule_text.specs.CountRule.{lives};
+ghost use Rattle.plane.specs.Plane.{live_neighbours};
+ghost use Rattle.plane.specs.Square.{spans};
+ghost use Rattle.leaf_kernels.specs.Masks.{AreDiagonals, AreDigits};
+ghost use Rattle.leaf_kernels.specs.Rows.{four_rows_plane, lane_plane};
+ghost use Rattle.leaf_kernels.specs.Sums.{count64_at};
+
+use crate::cells64::NextCells;
+use crate::count64::Count64;
+use crate::digit::{Digit, mask};
+use crate::rows64::{choose, everywhere, from_left, from_right};
+use crate::sum64::Sum64;
+use rule_text::{Neighbourhood, Rule};
+use std::simd::prelude::*;
+
+/// The next generation by any rule: what it says of every cell, for a whole word at once.
+#[derive(Drop)]
+pub(crate) struct Masks {
+    rule: Rule,
+    // Whether the upper left and the lower right cell count as neighbours.
+    falling: u64,
+    // Whether the lower left and the upper right cell do.
+    rising: u64,
+    // What becomes of the cells with each number of live neighbours.
+    digits: [Digit; 9],
+    ghost diagonals: { AreDiagonals rule.neighbourhood falling rising },
+    ghost are_digits: { AreDigits rule digits },
+}
+
+impl Masks {
+    /// What the rule says.
+    pub(crate) fn new(rule: Rule) -> Masks
+        ensures { result.rule ≡ rule }
+    {
+        let (falling, rising) = match rule.neighbourhood() {
+            Neighbourhood::Moore => (true, true),
+            Neighbourhood::VonNeumann => (false, false),
+            Neighbourhood::Hexagonal => (true, false),
+        };
+        let digits = [
+            Digit::new(&rule, 0),
+            Digit::new(&rule, 1),
+            Digit::new(&rule, 2),
+            Digit::new(&rule, 3),
+            Digit::new(&rule, 4),
+            Digit::new(&rule, 5),
+            Digit::new(&rule, 6),
+            Digit::new(&rule, 7),
+            Digit::new(&rule, 8),
+        ];
+        Masks {
+            rule,
+            falling: mask(falling),
+            rising: mask(rising),
+            digits,
+        }
+    }
+
+    // How many of its neighbours among three rows are live, for each cell of the middle ones.
+    #[inline(always)]
+    fn count(&self, above: u64x4, here: u64x4, below: u64x4) -> Count64
+        ensures { (x lane : ℤ) → (spans 64 x && spans 4 lane) ≡ true
+            → count64_at result x lane ≡ live_neighbours self.now.rule.neighbourhood (lane_plane above here below lane) x (pos 0) }
+    {
+        let falling = everywhere(self.falling);
+        let rising = everywhere(self.rising);
+        let upper = Sum64::of_three(
+            falling & from_left(above),
+            above,
+            rising & from_right(above),
+        );
+        let beside = Sum64::of_two(from_left(here), from_right(here));
+        let lower = Sum64::of_three(
+            rising & from_left(below),
+            below,
+            falling & from_right(below),
+        );
+        Count64::of_sums(upper, beside, lower)
+    }
+
+    // The cells in the next generation, by their numbers of live neighbours, which are at most 8.
+    #[inline(always)]
+    fn by_count(&self, cells: u64x4, count: Count64) -> u64x4
+        ensures { (x lane : ℤ) → (spans 64 x && spans 4 lane) ≡ true → count64_at count x lane ≤ 8
+            → four_rows_plane result x lane ≡ lives self.now.rule (four_rows_plane cells x lane) (count64_at count x lane) }
+    {
+        let [zero, one, two, three, four, five, six, seven, eight] = &self.digits;
+        let low = choose(
+            count.twos,
+            choose(count.ones, zero.next(cells), one.next(cells)),
+            choose(count.ones, two.next(cells), three.next(cells)),
+        );
+        let high = choose(
+            count.twos,
+            choose(count.ones, four.next(cells), five.next(cells)),
+            choose(count.ones, six.next(cells), seven.next(cells)),
+        );
+        choose(
+            count.eights,
+            choose(count.fours, low, high),
+            eight.next(cells),
+        )
+    }
+}
+
+impl NextCells for Masks {
+    ghost rule = { λ masks. masks.rule };
+
+    #[inline(always)]
+    fn next_cells(&self, above: u64x4, here: u64x4, below: u64x4) -> u64x4 {
+        self.by_count(here, self.count(above, here, below))
+    }
+}

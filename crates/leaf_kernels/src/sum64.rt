@@ -1,0 +1,37 @@
+ghost use Rattle.std.specs.Prelude.{◌≡◌, ℤ, ◌+◌};
+ghost use Rattle.leaf_kernels.specs.Rows.{four_rows_plane};
+ghost use Rattle.leaf_kernels.specs.Sums.{number, sum64_at};
+
+use std::simd::prelude::*;
+
+/// A number from 0 to 3 at each cell of four rows of sixty-four cells, by its two bits.
+#[derive(Clone, Copy)]
+pub(crate) struct Sum64 {
+    pub(crate) ones: u64x4,
+    pub(crate) twos: u64x4,
+}
+
+impl Sum64 {
+    /// How many of two cells are live.
+    #[inline(always)]
+    pub(crate) fn of_two(first: u64x4, second: u64x4) -> Sum64
+        ensures { (x y : ℤ) → sum64_at result x y ≡ number (four_rows_plane first x y) + number (four_rows_plane second x y) }
+    {
+        Sum64 {
+            ones: first ^ second,
+            twos: first & second,
+        }
+    }
+
+    /// How many of three cells are live.
+    #[inline(always)]
+    pub(crate) fn of_three(first: u64x4, second: u64x4, third: u64x4) -> Sum64
+        ensures { (x y : ℤ) → sum64_at result x y ≡ number (four_rows_plane first x y) + number (four_rows_plane second x y) + number (four_rows_plane third x y) }
+    {
+        let odd = first ^ second;
+        Sum64 {
+            ones: odd ^ third,
+            twos: (first & second) | (odd & third),
+        }
+    }
+}
