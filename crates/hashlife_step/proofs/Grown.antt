@@ -6,19 +6,10 @@ use Rattle.plane.specs.Square.{IsSame, IsSquare, cut, empty, joined}
 use Rattle.squares.specs.Book.{Book, IsBook, IsKnown, Shows, Keeps, AreQuarters, joined_squares, nth, numbered}
 use Rattle.squares.specs.declared.sq.Sq.{Sq}
 use Rattle.squares.proofs.Kept.{keeps_trans, same_later}
-use Rattle.squares.proofs.Centres.{shows_as}
-use Rattle.plane.proofs.Cuts.{joined_same}
 use Rattle.plane.proofs.Rounds.{surrounded_round}
 use Rattle.plane.proofs.Same.{same_refl, same_trans}
+use Rattle.squares.proofs.FourKnown.{joined_as}
 use Rattle.hashlife_step.specs.Round.{ShowsRound}
-
--- what four squares show, joined
-pub joined_as : (a b : Book) (level : ℕ) (quarters : List Sq) (p q r s : Plane) (sq : Sq) → (nth quarters 0).level ≡ level →
-    IsSame (a.cells (nth quarters 0)) p → IsSame (a.cells (nth quarters 1)) q → IsSame (a.cells (nth quarters 2)) r → IsSame (a.cells (nth quarters 3)) s →
-    Shows b ((nth quarters 0).level + 1) (joined_squares a (nth quarters 0).level quarters) sq → Shows b (level + 1) (joined (2 ^ level) p q r s) sq
-joined_as a b level quarters p q r s sq e is_p is_q is_r is_s shown =
-    let at_level : Shows b (level + 1) (joined_squares a level quarters) sq = subst (λ n. Shows b (n + 1) (joined_squares a n quarters) sq) e shown in
-    shows_as b (level + 1) (level + 1) _ _ sq refl (joined_same (2 ^ level) _ _ _ _ p q r s is_p is_q is_r is_s) at_level
 
 pub centred_same : (level : ℕ) (plane other : Plane) → IsSame plane other → IsSame (centred level plane) (centred level other)
 centred_same level plane other same = record { same = λ x y. same.same (x +ℤ pos (2 ^ (level - 1))) (y +ℤ pos (2 ^ (level - 1))) }

@@ -10,8 +10,7 @@ use Rattle.squares.specs.Book.{Book, IsKnown, IsFuture, Shows, Keeps, AreQuarter
 use Rattle.squares.specs.declared.sq.Sq.{Sq}
 use Rattle.squares.proofs.Kept.{keeps_trans, same_later}
 use Rattle.squares.proofs.Centres.{lowered, shows_as}
-use Rattle.hashlife_step.proofs.FourKnown.{all_four}
-use Rattle.hashlife_step.proofs.Grown.{joined_as}
+use Rattle.squares.proofs.FourKnown.{all_four, joined_as}
 
 -- four squares of level 3 that were read in turn
 pub four_read : (b1 b2 b3 b4 : Book) (q : List Sq) (a b c d : ℕ) → length q ≡ 4 → All (IsKnown b1 3) q → Keeps b1 b2 → Keeps b2 b3 → Keeps b3 b4 →

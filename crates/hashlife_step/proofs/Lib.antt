@@ -1,6 +1,5 @@
 pub mod Counted
 pub mod EmptyBorders
-pub mod FourKnown
 pub mod Grown
 pub mod LeafSquares
 pub mod Middles

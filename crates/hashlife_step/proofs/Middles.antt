@@ -10,10 +10,9 @@ use Rattle.squares.specs.Book.{Book, IsBook, IsKnown, Keeps, Shows, joined_squar
 use Rattle.squares.specs.declared.sq.Sq.{Sq}
 use Rattle.squares.proofs.Centres.{shows_as}
 use Rattle.squares.proofs.Kept.{keeps_trans, known_kept, same_later, shows_kept}
-use Rattle.hashlife_step.specs.Futures.{neighbours}
+use Rattle.squares.specs.Overlaps.{neighbours}
 use Rattle.hashlife_step.specs.Quarters.{AreRead, quarters_of}
-use Rattle.hashlife_step.proofs.FourKnown.{four_known}
-use Rattle.hashlife_step.proofs.Grown.{joined_as}
+use Rattle.squares.proofs.FourKnown.{four_known, joined_as}
 use Rattle.hashlife_step.proofs.NineFutures.{neighbours_later}
 
 -- the centre of neighbours that an older book knew, in the cells that this one shows

@@ -13,9 +13,9 @@ use Rattle.squares.specs.Book.{Book, IsKnown, Shows, Keeps, AreNinths, joined_sq
 use Rattle.squares.specs.declared.sq.Sq.{Sq}
 use Rattle.squares.proofs.Kept.{same_later}
 use Rattle.squares.proofs.Centres.{shows_as}
-use Rattle.hashlife_step.specs.Futures.{AreFinished, AreFutures, AreMade, AreOverlaps, neighbours}
-use Rattle.hashlife_step.proofs.FourKnown.{all_four, all_known}
-use Rattle.hashlife_step.proofs.Grown.{joined_as}
+use Rattle.squares.specs.Overlaps.{AreMade, AreOverlaps, neighbours}
+use Rattle.hashlife_step.specs.Futures.{AreFinished, AreFutures}
+use Rattle.squares.proofs.FourKnown.{all_four, all_known, joined_as}
 
 pub ninths_known : (book : Book) (level : ℕ) (plane : Plane) (squares : List Sq) → length squares ≡ 9 → AreNinths book level plane squares → All (IsKnown book (level - 1)) squares
 ninths_known book level plane squares nine are = all_known book (level - 1) squares (λ k less.

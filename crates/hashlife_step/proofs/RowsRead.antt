@@ -6,7 +6,7 @@ use Rattle.plane.proofs.Same.{same_refl}
 use Rattle.squares.proofs.Kept.{keeps_none, keeps_trans, known_kept, shows_kept}
 use Rattle.hashlife_step.specs.Quarters.{AreRead, quarters_of}
 use Rattle.hashlife_step.proofs.EmptyBorders.{quarters_as}
-use Rattle.hashlife_step.proofs.FourKnown.{all_known, known_as}
+use Rattle.squares.proofs.FourKnown.{all_known, known_as}
 
 -- what holds of each of three, six, nine
 at_three : (P : ℕ → Type 0) (k : ℕ) → k < 3 → P 0 → P 1 → P 2 → P k

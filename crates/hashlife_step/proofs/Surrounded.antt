@@ -13,7 +13,8 @@ use Rattle.squares.specs.Book.{Book, Keeps, Shows, joined_squares}
 use Rattle.squares.specs.declared.sq.Sq.{Sq}
 use Rattle.squares.proofs.Kept.{keeps_trans, same_later}
 use Rattle.hashlife_step.specs.Round.{ShowsRound}
-use Rattle.hashlife_step.proofs.Grown.{joined_as, centred_same, shows_round}
+use Rattle.squares.proofs.FourKnown.{joined_as}
+use Rattle.hashlife_step.proofs.Grown.{centred_same, shows_round}
 
 leaf_square : (word : ℕ) → IsSquare 8 (bits_plane word)
 leaf_square word = record { dead = λ x y e. ap (λ b. b && bit word (8 * unsigned_abs y + unsigned_abs x)) e }

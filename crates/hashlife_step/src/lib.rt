@@ -4,7 +4,6 @@
 
 mod centres;
 mod leaf_squares;
-mod neighbours;
 mod orders;
 mod padding;
 mod plans;
@@ -13,7 +12,6 @@ mod steps;
 mod tally;
 mod trimming;
 
-pub use neighbours::overlaps;
 pub use padding::pad;
 pub use plans::plan;
 pub use recursion::{future, future_in_order, replace_by_futures};

@@ -5,7 +5,6 @@ ghost use Rattle.hashlife_step.specs.Tallies.{Tallies};
 
 use crate::centres::middles;
 use crate::leaf_squares::{leaf_future, wide_future};
-use crate::neighbours::overlaps;
 use crate::orders::turn;
 use crate::tally::Tally;
 use plane::Refusal;
@@ -97,7 +96,7 @@ fn finish<S: Squares>(
     if book.exponent() < level {
         return middles(book, level, nine);
     }
-    let mut four = overlaps(book, level, nine)?;
+    let mut four = book.overlaps(level, nine)?;
     replace_by_futures(book, level + 1, &mut four, order, tally)?;
     Ok(four)
 }

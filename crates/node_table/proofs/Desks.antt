@@ -25,7 +25,7 @@ use Rattle.node_table.specs.declared.desk.Desk.{Desk}
 use Rattle.node_table.specs.declared.table.NodeTable.{NodeTable}
 use Rattle.node_table.specs.Books.{knows_in, cells_in, IsCoherent}
 use Rattle.node_table.specs.Desks.{IsDeskOf, store_of, book_at}
-use Rattle.node_table.specs.Numbers.{KnowsFullWay}
+use Rattle.table_core.specs.FullWays.{KnowsFullWay}
 use Rattle.node_table.proofs.Books.{alike, grows_keeps}
 use Rattle.node_table.proofs.Entries.{block_of, halved}
 

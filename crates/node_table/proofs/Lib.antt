@@ -7,6 +7,7 @@ pub mod TwoBlocks
 pub mod Refusing
 pub mod TwoHalves
 mod NineByHalves
+mod OverlapsByHalves
 pub mod Telling
 pub mod Joining
 pub mod Leaving

@@ -14,7 +14,8 @@ use Rattle.table_core.specs.Learning.{LearnsWord, MeetsWord}
 use Rattle.table_core.proofs.Claims.{same_or_other}
 use Rattle.table_core.proofs.Knowing.{grows_refl, grows_trans, knows_grown}
 use Rattle.table_core.proofs.Ways.{way_is_slot}
-use Rattle.node_table.specs.Numbers.{KeepsTold, IsNumber, HasSeenAnother, KnowsFullWay}
+use Rattle.table_core.specs.FullWays.{HasSeenAnother, KnowsFullWay}
+use Rattle.node_table.specs.Numbers.{KeepsTold, IsNumber}
 
 -- a desk that knew so much has seen other words at so many places of the word's way
 pub record Sought (bits : ℕ) (old now : Knowledge) (kind : Kind) (word place : ℕ) : Type 0 where

@@ -1,9 +1,10 @@
 -- What a desk at work knows is what the desk knows.
-use Rattle.std.proofs.Common.{ℕ, ◌+◌, ◌-◌, ◌*◌, List, [], ◌∷◌, ⊎_elim, inl, inr}
+use Rattle.std.proofs.Common.{ℕ, ◌+◌, ◌-◌, ◌*◌, All, List, [], ◌∷◌, ⊎_elim, inl, inr}
 use Rattle.std.specs.List.{AllByRecursion}
 use Rattle.plane.specs.Plane.{Plane}
 use Rattle.squares.specs.declared.sq.Sq.{Sq}
 use Rattle.squares.specs.Book.{Keeps, Shows, IsKnown, Learns, AddsResult, AreNinths, AreQuarters, nth}
+use Rattle.squares.specs.Overlaps.{AreOverlaps}
 use Rattle.table_core.specs.Knowledge.{Grows}
 use Rattle.node_table.specs.declared.desk.Desk.{Desk}
 use Rattle.node_table.specs.declared.table.NodeTable.{NodeTable}
@@ -23,6 +24,9 @@ all_known_at expansions table desk level [] h = h
 all_known_at expansions table desk level (sq ∷ squares) h =
     (known_at expansions table desk h.0, all_known_at expansions table desk level squares h.1)
 
+pub each_known_at : (expansions : ℕ) (table : NodeTable) (desk : Desk) {level : ℕ} (squares : List Sq) → All (IsKnown (work_at expansions table desk) level) squares → All (IsKnown (book_at table desk) level) squares
+each_known_at expansions table desk squares known k d less = known_at expansions table desk (known k d less)
+
 pub shows_working : (expansions : ℕ) (table : NodeTable) (desk : Desk) (level : ℕ) (plane : Plane) (sq : Sq) → Shows (book_at table desk) level plane sq → Shows (work_at expansions table desk) level plane sq
 shows_working expansions table desk level plane sq s =
     record { known = record { known = s.known.known; at_level = s.known.at_level; low = s.known.low; high = s.known.high }; cells = s.cells }
@@ -38,6 +42,14 @@ quarters_working expansions table desk level plane quarters h = record {
 pub ninths_working : (expansions : ℕ) (table : NodeTable) (desk : Desk) (level : ℕ) (plane : Plane) (squares : List Sq) → AreNinths (book_at table desk) level plane squares → AreNinths (work_at expansions table desk) level plane squares
 ninths_working expansions table desk level plane squares h =
     record { shown = λ row column above left. shows_working expansions table desk (level - 1) _ (nth squares (3 * row + column)) (h.shown row column above left) }
+
+pub overlaps_working : (expansions : ℕ) (table : NodeTable) (desk : Desk) (level : ℕ) (nine four : List Sq) → AreOverlaps (book_at table desk) level nine four → AreOverlaps (work_at expansions table desk) level nine four
+overlaps_working expansions table desk level nine four h = record {
+  nw = shows_working expansions table desk (level + 1) _ (nth four 0) h.nw;
+  ne = shows_working expansions table desk (level + 1) _ (nth four 1) h.ne;
+  sw = shows_working expansions table desk (level + 1) _ (nth four 2) h.sw;
+  se = shows_working expansions table desk (level + 1) _ (nth four 3) h.se;
+}
 
 pub learns_working : (expansions : ℕ) (table : NodeTable) (old new : Desk) (sq : Sq) → Learns (book_at table old) (book_at table new) sq → Learns (work_at expansions table old) (work_at expansions table new) sq
 learns_working expansions table old new sq l =

@@ -1,5 +1,5 @@
 -- Halves of squares, and what a desk knows of them.
-use Rattle.std.specs.Prelude.{◌≡◌, ℕ, ◌-◌, ◌<◌, List, [], ◌∷◌}
+use Rattle.std.specs.Prelude.{◌≡◌, ℕ, ◌-◌, ◌<◌, All, List, [], ◌∷◌}
 use Rattle.plane.specs.Plane.{Plane}
 use Rattle.squares.specs.declared.sq.Sq.{Sq}
 use Rattle.squares.specs.Book.{Book, AreQuarters, IsKnown, nth}
@@ -7,6 +7,7 @@ use Rattle.table_core.specs.Knowledge.{Grows}
 use Rattle.node_table.specs.declared.desk.Desk.{Desk}
 use Rattle.node_table.specs.declared.halves.Half.{Half}
 use Rattle.node_table.specs.declared.ninths.HalvesOfQuarters.{HalvesOfQuarters}
+use Rattle.node_table.specs.declared.overlaps.HalvesOfRows.{HalvesOfRows}
 use Rattle.node_table.specs.declared.table.NodeTable.{NodeTable}
 use Rattle.node_table.specs.Desks.{IsDeskOf, book_at}
 use Rattle.node_table.specs.Numbers.{KeepsTold}
@@ -59,3 +60,13 @@ pub record AreHalvesOfQuarters (table : NodeTable) (desk : Desk) (level : ℕ) (
   pub ne : AreHalves table desk (level - 1) ((book_at table desk).cells (nth parts.quarters 1)) parts.ne.0 parts.ne.1
   pub sw : AreHalves table desk (level - 1) ((book_at table desk).cells (nth parts.quarters 2)) parts.sw.0 parts.sw.1
   pub se : AreHalves table desk (level - 1) ((book_at table desk).cells (nth parts.quarters 3)) parts.se.0 parts.se.1
+
+-- the halves of the three rows of nine known squares of this level
+pub record AreHalvesOfRows (table : NodeTable) (desk : Desk) (level : ℕ) (nine : List Sq) (rows : HalvesOfRows) : Type 0 where
+  pub known : All (IsKnown (book_at table desk) level) nine
+  pub upper_left : IsHalfOf table desk (nth nine 0) (nth nine 1) rows.upper.0
+  pub upper_right : IsHalfOf table desk (nth nine 1) (nth nine 2) rows.upper.1
+  pub middle_left : IsHalfOf table desk (nth nine 3) (nth nine 4) rows.middle.0
+  pub middle_right : IsHalfOf table desk (nth nine 4) (nth nine 5) rows.middle.1
+  pub lower_left : IsHalfOf table desk (nth nine 6) (nth nine 7) rows.lower.0
+  pub lower_right : IsHalfOf table desk (nth nine 7) (nth nine 8) rows.lower.1

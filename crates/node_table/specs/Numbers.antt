@@ -1,13 +1,13 @@
 -- The number of a word.
-use Rattle.std.specs.Prelude.{◌≡◌, ◌≢◌, ℕ, suc, ◌<◌}
+use Rattle.std.specs.Prelude.{◌≡◌, ℕ, suc}
 use Rattle.plane.specs.Plane.{Plane}
 use Rattle.plane.specs.Square.{IsSame, bits_plane}
 use Rattle.table_core.specs.declared.knowledge.Knowledge.{Knowledge}
 use Rattle.table_core.specs.declared.shape.Kind.{Kind}
 use Rattle.table_core.specs.declared.shape.Kind.TheVariants.{Leaf, Pair}
-use Rattle.table_core.specs.Layout.{IsSlot, way}
+use Rattle.table_core.specs.Layout.{IsSlot}
 use Rattle.table_core.specs.Blocks.{paired}
-use Rattle.table_core.specs.Knowledge.{HasSeen, KnowsBlock}
+use Rattle.table_core.specs.Knowledge.{KnowsBlock}
 use Rattle.table_core.specs.Lawful.{KnowsBoth}
 
 -- the desk knows the results that it knew
@@ -20,14 +20,6 @@ pub record IsNumber (bits : ℕ) (old new : Knowledge) (kind : Kind) (word index
   pub slot : IsSlot bits kind index
   pub leaf : kind ≡ Leaf → KnowsBlock new 0 index (bits_plane word)
   pub pair : (rank : ℕ) (one two : Plane) → kind ≡ Pair → KnowsBoth old rank word one two → KnowsBlock new (suc rank) index (paired rank one two)
-
--- it has seen another word there, and not 0
-abbrev pub HasSeenAnother : Knowledge → ℕ → ℕ → Type 0
-HasSeenAnother known index word = (other : ℕ) × HasSeen known index other × (other ≢ 0) × (other ≢ word)
-
--- it has seen another word at each place of the word's way
-pub record KnowsFullWay (bits : ℕ) (known : Knowledge) (kind : Kind) (word : ℕ) : Type 0 where
-  pub full : (place : ℕ) → place < 256 → HasSeenAnother known (way bits kind word place) word
 
 -- the number shows the two blocks that the desk knew, beside or below one another
 pub record IsPair (old new : Knowledge) (first second number : ℕ) : Type 0 where

@@ -8,10 +8,10 @@ use Rattle.table_core.specs.declared.shape.Kind.TheVariants.{Pair}
 use Rattle.table_core.specs.Layout.{pair_of}
 use Rattle.table_core.specs.Blocks.{paired, square_rank}
 use Rattle.table_core.specs.Knowledge.{KnowsBlock}
+use Rattle.table_core.specs.FullWays.{KnowsFullWay}
 use Rattle.node_table.specs.declared.desk.Desk.{Desk}
 use Rattle.node_table.specs.declared.table.NodeTable.{NodeTable}
 use Rattle.node_table.specs.Books.{cells_in}
-use Rattle.node_table.specs.Numbers.{KnowsFullWay}
 
 abbrev pub known_by : Desk → Knowledge
 known_by desk = desk.seat.me.0.known

@@ -1,7 +1,7 @@
-ghost use Rattle.std.specs.Prelude.{◌≡◌, ◌<◌, ◌+◌, IfOk, IfErr, OnErr, IsOk};
+ghost use Rattle.std.specs.Prelude.{◌≡◌, ◌<◌, ◌+◌, IfOk, IfErr, OnErr, OnOk, IsOk};
 ghost use Rattle.std.specs.List.{AllByRecursion};
 ghost use Rattle.plane.specs.Square.{bits_plane};
-ghost use Rattle.squares.specs.Book.{IsKnown, Shows, IsEmpty, Keeps, KeepsResults, MayRefuse, numbered, joined_squares, nth};
+ghost use Rattle.squares.specs.Book.{AddsResult, IsFuture, IsKnown, Shows, IsEmpty, Keeps, KeepsResults, MayRefuse, numbered, joined_squares, nth};
 ghost use Rattle.table_core.specs.declared.shape.Kind.TheVariants.{Leaf};
 ghost use Rattle.node_table.specs.Desks.{IsDeskOf, work_store};
 ghost use Rattle.node_table.specs.Refusals.{HasNoRoom, HasNoRoomForQuad};
@@ -14,8 +14,8 @@ use squares::{Num, Sq, Squares};
 use table_core::{Kind, parts};
 
 /// A desk at work at its table. Its calls wait for nobody, take no memory and always return,
-/// whatever other desks do meanwhile. They refuse `NodesFull` alone, where each of the 256 slots of
-/// the way of a word that they need holds another word.
+/// whatever other desks do meanwhile. `leaf`, `quad`, `nine` and `overlaps` refuse `NodesFull` alone, where each of the
+/// 256 slots of the way of a word that they need holds another word; `keep` refuses nothing.
 #[derive(Drop)]
 pub struct At<'t> {
     pub(crate) table: &'t NodeTable,
@@ -116,6 +116,10 @@ impl Squares for At<'_> {
         self.desk.nine(self.table, sq)
     }
 
+    fn overlaps(&mut self, level: u8, nine: [Sq; 9]) -> Result<[Sq; 4], Refusal> {
+        self.desk.overlaps(self.table, level, nine)
+    }
+
     fn recall(&mut self, sq: Sq) -> Option<Sq> {
         let level = sq.level - 1;
         if sq.num.0 == 0 {
@@ -130,7 +134,16 @@ impl Squares for At<'_> {
         Some(square(level, number))
     }
 
-    fn keep(&mut self, sq: Sq, future: Sq) -> Result<(), Refusal> {
+    fn keep(&mut self, sq: Sq, future: Sq) -> Result<(), Refusal>
+        requires known { IsKnown (book_here self.old) sq.level sq }
+        requires level { 3 < sq.level }
+        requires future { IsFuture (book_here self.old) sq future }
+        ensures kept { IsOk result }
+        ensures ok { OnOk result (AddsResult (book_here self.old) (book_here self.new) sq) }
+        ensures err { OnErr result (KeepsResults (book_here self.old) (book_here self.new)) }
+        ensures refusal { IfErr result (MayRefuse (book_here self.new)) }
+        ensures keeps { Keeps (book_here self.old) (book_here self.new) }
+    {
         if sq.num.0 != 0 {
             let index = self.table.key.shape.result_index(sq.num.0);
             self.desk.tell(self.table, index, future.num.0);

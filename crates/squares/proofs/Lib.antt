@@ -2,6 +2,7 @@ pub mod Added
 pub mod Centres
 pub mod CopyMaps
 pub mod EmptyFutures
+pub mod FourKnown
 pub mod Kept
 pub mod KeptResults
 pub mod KnownCopies

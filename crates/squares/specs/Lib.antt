@@ -3,6 +3,7 @@ pub mod Book
 pub mod Copies
 pub mod Nodes
 pub mod Noted
+pub mod Overlaps
 pub mod Parts
 pub mod Quarters
 pub mod Rounds

@@ -1,7 +1,8 @@
-ghost use Rattle.std.specs.Prelude.{◌≡◌, ◌<◌, ◌+◌, ◌-◌, IfOk, OnOk, OnErr, IfErr, IfSome, IfNone, IsOk, Some, MatchOption};
+ghost use Rattle.std.specs.Prelude.{◌≡◌, ◌<◌, ◌+◌, ◌-◌, IfOk, OnOk, OnErr, IfErr, IfSome, IfNone, IsOk, Some, MatchOption, All};
 ghost use Rattle.std.specs.List.{AllByRecursion};
 ghost use Rattle.plane.specs.Square.{bits_plane};
 ghost use Rattle.squares.specs.Book.{Book, IsBook, IsKnown, Shows, IsEmpty, IsFuture, HasResult, Keeps, KeepsResults, Learns, AddsResult, AreNinths, AreQuarters, MayRefuse, joined_squares, numbered, nth};
+ghost use Rattle.squares.specs.Overlaps.{AreOverlaps};
 
 use crate::sq::Sq;
 use plane::Refusal;
@@ -83,6 +84,16 @@ pub trait Squares {
         requires known { IsKnown (book self.old) sq.level sq }
         requires level { 4 < sq.level }
         ensures ok { IfOk result (AreNinths (book self.new) sq.level ((book self.old).cells sq)) }
+        ensures refusal { IfErr result (MayRefuse (book self.new)) }
+        ensures keeps { Keeps (book self.old) (book self.new) }
+        ensures results { KeepsResults (book self.old) (book self.new) };
+
+    /// Of nine squares of one level in three rows, the four that neighbours make: those at the upper
+    /// left, the upper right, the lower left and the lower right.
+    fn overlaps(&mut self, level: u8, nine: [Sq; 9]) -> Result<[Sq; 4], Refusal>
+        requires known { All (IsKnown (book self.old) level) nine }
+        requires level { level < 65 }
+        ensures ok { IfOk result (AreOverlaps (book self.new) level nine) }
         ensures refusal { IfErr result (MayRefuse (book self.new)) }
         ensures keeps { Keeps (book self.old) (book self.new) }
         ensures results { KeepsResults (book self.old) (book self.new) };

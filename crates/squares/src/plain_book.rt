@@ -204,6 +204,15 @@ impl Squares for PlainBook {
         Ok([nw, upper, ne, left, middle, right, sw, lower, se])
     }
 
+    fn overlaps(&mut self, level: u8, nine: [Sq; 9]) -> Result<[Sq; 4], Refusal> {
+        let [nw, upper, ne, left, middle, right, sw, lower, se] = nine;
+        let upper_left = self.quad([nw, upper, left, middle])?;
+        let upper_right = self.quad([upper, ne, middle, right])?;
+        let lower_left = self.quad([left, middle, sw, lower])?;
+        let lower_right = self.quad([middle, right, lower, se])?;
+        Ok([upper_left, upper_right, lower_left, lower_right])
+    }
+
     fn recall(&mut self, sq: Sq) -> Option<Sq> {
         let level = sq.level - 1;
         if sq.num.0 == 0 {

@@ -5,6 +5,7 @@ pub mod Consistency
 pub mod Entries
 pub mod Everything
 pub mod FullShards
+pub mod FullWays
 pub mod Knowing
 pub mod Learned
 pub mod Lists

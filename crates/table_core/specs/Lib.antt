@@ -1,6 +1,7 @@
 pub mod Blocks
 pub mod Events
 pub mod FullShards
+pub mod FullWays
 pub mod Good
 pub mod Knowledge
 pub mod Lawful

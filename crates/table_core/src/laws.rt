@@ -1,5 +1,6 @@
 //! What holds of all tables, as calls that do nothing and say it in their clause.
 
+ghost use Rattle.table_core.specs.FullWays.{EveryFullWayStays};
 ghost use Rattle.table_core.specs.Laws.{EveryWay, EveryEventTeaches, EveryTruthIsConsistent, FullShardIsSeen, GoodWordsCanBeKnown};
 ghost use Rattle.table_core.specs.Opening.{EveryFreshTable, EveryReopening};
 ghost use Rattle.table_core.specs.Runs.{EveryRun};
@@ -46,4 +47,10 @@ pub fn good_words_can_be_known()
 /// The test for a full shard tells whether a desk has seen a word in each slot of one.
 pub fn full_shard_is_seen()
     ensures { FullShardIsSeen }
+{}
+
+/// Where a desk has seen other words in all slots of a word's way, these stay there for good: whatever the desk learns and
+/// whatever words come, it knows so, and that word stands nowhere.
+pub fn every_full_way_stays()
+    ensures { EveryFullWayStays }
 {}

@@ -7,7 +7,7 @@ ghost use Rattle.worker_split.specs.Batches.{AreKnown};
 ghost use Rattle.worker_split.specs.Jobs.{Refuses};
 ghost use Rattle.worker_split.specs.Rounds.{Continues};
 
-use hashlife_step::{Tally, overlaps, replace_by_futures};
+use hashlife_step::{Tally, replace_by_futures};
 use node_table::{Desk, NodeTable};
 use plane::Refusal;
 use squares::{Num, Sq, Squares};
@@ -66,7 +66,7 @@ fn overlaps_of_futures<S: Squares>(
 {
     let mut futures = nine;
     replace_by_futures(book, level, &mut futures, 0, tally)?;
-    overlaps(book, level - 1, futures)
+    book.overlaps(level - 1, futures)
 }
 
 /// Of nine squares in three rows, the four that the futures of neighbours make.

@@ -2,7 +2,7 @@ use Rattle.std.proofs.Common.{◌≡◌, ℕ, ◌<◌, length, arith, rules}
 use Rattle.squares.specs.Book.{Book, Keeps, numbered}
 use Rattle.squares.specs.declared.sq.Sq.{Sq}
 use Rattle.squares.proofs.Kept.{keeps_none, keeps_trans, known_kept}
-use Rattle.hashlife_step.proofs.FourKnown.{each_known}
+use Rattle.squares.proofs.FourKnown.{each_known}
 use Rattle.hashlife_step.proofs.Middles.{middle_later}
 use Rattle.hashlife_step.proofs.centres.leaf_middles.Goals as goal
 

@@ -2,7 +2,7 @@ use Rattle.std.proofs.lemmas.Result.{IfOk-weaker}
 use Rattle.std.proofs.Common.{[], get_or}
 use Rattle.leaf_kernels.specs.Rows.{leaves_plane}
 use Rattle.squares.proofs.Kept.{keeps_trans, known_kept, results_trans}
-use Rattle.hashlife_step.proofs.FourKnown.{four_known}
+use Rattle.squares.proofs.FourKnown.{four_known}
 use Rattle.hashlife_step.proofs.LeafSquares.{numbered_joined}
 use Rattle.hashlife_step.proofs.leaf_squares.join_quarters.Goals as goal
 

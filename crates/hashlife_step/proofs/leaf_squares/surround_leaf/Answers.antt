@@ -1,6 +1,6 @@
 use Rattle.std.proofs.lemmas.Result.{IfOk-weaker}
 use Rattle.squares.proofs.Kept.{keeps_trans, known_kept, results_trans}
-use Rattle.hashlife_step.proofs.FourKnown.{four_known}
+use Rattle.squares.proofs.FourKnown.{four_known}
 use Rattle.hashlife_step.proofs.Surrounded.{leaf_surrounded}
 use Rattle.hashlife_step.proofs.leaf_squares.surround_leaf.Goals as goal
 

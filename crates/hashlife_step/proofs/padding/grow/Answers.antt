@@ -1,7 +1,7 @@
 use Rattle.std.proofs.Common.{◌+◌, ◌-◌, ap, arith}
 use Rattle.std.proofs.lemmas.Result.{IfOk-weaker}
 use Rattle.squares.proofs.Kept.{keeps_trans, known_kept, results_trans}
-use Rattle.hashlife_step.proofs.FourKnown.{empty_known, four_known, known_as}
+use Rattle.squares.proofs.FourKnown.{empty_known, four_known, known_as}
 use Rattle.hashlife_step.proofs.Grown.{grown_shown}
 use Rattle.hashlife_step.proofs.padding.grow.Goals as goal
 

@@ -7,7 +7,7 @@ use Rattle.squares.proofs.Kept.{keeps_none, keeps_trans, known_kept}
 use Rattle.squares.proofs.Results.{future_kept}
 use Rattle.hashlife_step.specs.Tallies.{Tallies}
 use Rattle.hashlife_step.proofs.Counted.{made_and_kept, made_between, made_twice, results_none, tallies_learned, tallies_none, tallies_trans}
-use Rattle.hashlife_step.proofs.FourKnown.{known_as}
+use Rattle.squares.proofs.FourKnown.{known_as}
 use Rattle.hashlife_step.proofs.LeafSquares.{future_later}
 use Rattle.hashlife_step.proofs.NineFutures.{finished_known, futures_known, made_known, nine_futures, ninths_known, of_first, overlaps_finished}
 use Rattle.hashlife_step.proofs.Replaced.{IsReplaced, all_futures, future_shown, next_known, next_made, replaced_kept, replaced_more}
@@ -220,7 +220,7 @@ finish-returns-in_err-four-clause-tally g t c = tallies_none _ _ _ _ c.overlaps.
 pub finish-replace_by_futures-requires : goal.finish-replace_by_futures-requires
 finish-replace_by_futures-requires g t c κs within =
     let four : length c.in_ok-four.four ≡ 4 = search rules in
-    let known = made_known (λ plane. plane) (g.S.Squares.book c.overlaps.new.book) (c.args.level + 1) c.args.level c.args.nine c.in_ok-four.four four c.in_ok-four.ensures.ok in
+    let known = made_known (λ plane. plane) (g.S.Squares.book c.overlaps.new.self) (c.args.level + 1) c.args.level c.args.nine c.in_ok-four.four four c.in_ok-four.ensures.ok in
     search rules
 
 pub finish-returns-in_err-replace_by_futures-clause-keeps : goal.finish-returns-in_err-replace_by_futures-clause-keeps
@@ -229,7 +229,7 @@ finish-returns-in_err-replace_by_futures-clause-keeps g t c = keeps_trans c.over
 pub finish-returns-in_err-replace_by_futures-clause-tally : goal.finish-returns-in_err-replace_by_futures-clause-tally
 finish-returns-in_err-replace_by_futures-clause-tally g t c =
     let book = g.S.Squares.book in
-    made_between (book c.args.book.now) (book c.overlaps.new.book) (book c.replace_by_futures.new.book) (book c.replace_by_futures.new.book)
+    made_between (book c.args.book.now) (book c.overlaps.new.self) (book c.replace_by_futures.new.book) (book c.replace_by_futures.new.book)
     (c.args.level + 1) (c.args.level + 1) _ _ (omega arith) c.overlaps.ensures.results c.replace_by_futures.ensures.tally (results_none _)
 
 pub finish-returns-clause-ok : goal.finish-returns-clause-ok
@@ -241,7 +241,7 @@ finish-returns-clause-ok g t c =
     let exponent = kept.exponent in
     let known = λ (i : ℕ) (d : Sq) (less : i < length c.args.nine). known_kept c.overlaps.ensures.keeps (c.requires.known i d less) in
     record {
-      futures = λ long. overlaps_finished (book c.overlaps.new.book) (book c.replace_by_futures.new.book) c.args.level c.args.nine c.in_ok-four.four c.replace_by_futures.new.squares nine four
+      futures = λ long. overlaps_finished (book c.overlaps.new.self) (book c.replace_by_futures.new.book) c.args.level c.args.nine c.in_ok-four.four c.replace_by_futures.new.squares nine four
           known c.in_ok-four.ensures.ok c.replace_by_futures.ensures.keeps c.in_ok-replace_by_futures.ensures.ok;
       middles = λ short. absurd (omega arith);
     }
@@ -252,5 +252,5 @@ finish-returns-clause-keeps g t c = keeps_trans c.overlaps.ensures.keeps c.repla
 pub finish-returns-clause-tally : goal.finish-returns-clause-tally
 finish-returns-clause-tally g t c =
     let book = g.S.Squares.book in
-    made_between (book c.args.book.now) (book c.overlaps.new.book) (book c.replace_by_futures.new.book) (book c.replace_by_futures.new.book)
+    made_between (book c.args.book.now) (book c.overlaps.new.self) (book c.replace_by_futures.new.book) (book c.replace_by_futures.new.book)
     (c.args.level + 1) (c.args.level + 1) _ _ (omega arith) c.overlaps.ensures.results c.replace_by_futures.ensures.tally (results_none _)

@@ -11,8 +11,8 @@ pub overlaps-requires-clause-known : goal.overlaps-requires-clause-known
 overlaps-requires-clause-known g c =
     futures_known (g.S.Squares.book c.replace_by_futures.new.book) c.args.level c.args.nine c.replace_by_futures.new.squares c.replace_by_futures.auto.squares c.in_ok-replace_by_futures.ensures.ok
 
-pub overlaps-requires-clause-high : goal.overlaps-requires-clause-high
-overlaps-requires-clause-high g c =
+pub overlaps-requires-clause-level : goal.overlaps-requires-clause-level
+overlaps-requires-clause-level g c =
     let nine : length c.args.nine ≡ 9 = search rules in
     let low = c.requires.low in
     let high = (c.requires.known 0 (numbered 0 0) (omega (arith, nine))).high in
@@ -24,7 +24,7 @@ returns-clause-ok g c =
     let up : c.args.level - 1 + 1 ≡ c.args.level = omega (arith, low) in
     let long : IfOk c.overlaps.result (λ four. length four ≡ 4) = search rules in
     on_two c.overlaps.result _ _ _
-    (λ four four_long are. subst (λ n. All (IsKnown (g.S.Squares.book c.overlaps.new.book) n) four) up (made_known _ _ (c.args.level - 1 + 1) (c.args.level - 1) c.replace_by_futures.new.squares four four_long are))
+    (λ four four_long are. subst (λ n. All (IsKnown (g.S.Squares.book c.overlaps.new.self) n) four) up (made_known _ _ (c.args.level - 1 + 1) (c.args.level - 1) c.replace_by_futures.new.squares four four_long are))
     long c.overlaps.ensures.ok
 
 pub returns-clause-keeps : goal.returns-clause-keeps
@@ -32,5 +32,5 @@ returns-clause-keeps g c = keeps_trans c.replace_by_futures.ensures.keeps c.over
 
 pub returns-clause-tally : goal.returns-clause-tally
 returns-clause-tally g c =
-    made_between (g.S.Squares.book c.args.book.now) (g.S.Squares.book c.args.book.now) (g.S.Squares.book c.replace_by_futures.new.book) (g.S.Squares.book c.overlaps.new.book)
+    made_between (g.S.Squares.book c.args.book.now) (g.S.Squares.book c.args.book.now) (g.S.Squares.book c.replace_by_futures.new.book) (g.S.Squares.book c.overlaps.new.self)
     c.args.level c.args.level _ _ (omega arith) (results_none _) c.replace_by_futures.ensures.tally c.overlaps.ensures.results

@@ -2,12 +2,22 @@
 use Rattle.std.proofs.Common.{◌≡◌, ℕ, zero, suc, ◌+◌, ◌≤◌, ◌<◌, ◌^◌, All, List, [], ◌∷◌, length, arith, sym, subst, refl}
 use Rattle.std.specs.List.{AllByRecursion}
 use Rattle.std.proofs.lemmas.List.{get_or_default}
-use Rattle.plane.specs.Square.{joined}
+use Rattle.plane.specs.Plane.{Plane}
+use Rattle.plane.specs.Square.{IsSame, joined}
+use Rattle.plane.proofs.Cuts.{joined_same}
 use Rattle.plane.proofs.Same.{same_sym}
 use Rattle.squares.specs.Book.{Book, IsBook, IsKnown, Shows, Keeps, joined_squares, nth, numbered}
 use Rattle.squares.specs.declared.sq.Sq.{Sq}
+use Rattle.squares.proofs.Centres.{shows_as}
 use Rattle.squares.proofs.Kept.{keeps_trans, shows_kept}
-use Rattle.hashlife_step.proofs.Grown.{joined_as}
+
+-- what four squares show, joined
+pub joined_as : (a b : Book) (level : ℕ) (quarters : List Sq) (p q r s : Plane) (sq : Sq) → (nth quarters 0).level ≡ level →
+    IsSame (a.cells (nth quarters 0)) p → IsSame (a.cells (nth quarters 1)) q → IsSame (a.cells (nth quarters 2)) r → IsSame (a.cells (nth quarters 3)) s →
+    Shows b ((nth quarters 0).level + 1) (joined_squares a (nth quarters 0).level quarters) sq → Shows b (level + 1) (joined (2 ^ level) p q r s) sq
+joined_as a b level quarters p q r s sq e is_p is_q is_r is_s shown =
+    let at_level : Shows b (level + 1) (joined_squares a level quarters) sq = subst (λ n. Shows b (n + 1) (joined_squares a n quarters) sq) e shown in
+    shows_as b (level + 1) (level + 1) _ _ sq refl (joined_same (2 ^ level) _ _ _ _ p q r s is_p is_q is_r is_s) at_level
 
 pub known_as : {book : Book} {level level' : ℕ} {sq : Sq} → level ≡ level' → IsKnown book level sq → IsKnown book level' sq
 known_as {book = book} {sq = sq} e known = subst (λ n. IsKnown book n sq) e known

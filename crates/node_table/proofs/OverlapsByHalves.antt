@@ -1,0 +1,57 @@
+-- The four squares that neighbours make, put together of the halves of rows.
+use Rattle.std.proofs.Common.{◌≡◌, ℕ, ◌+◌, ◌^◌, ◌<◌, All, List, length, arith}
+use Rattle.plane.specs.Square.{joined}
+use Rattle.squares.specs.declared.sq.Sq.{Sq}
+use Rattle.squares.specs.Book.{Book, IsKnown, Keeps, Shows, joined_squares, nth, numbered}
+use Rattle.squares.proofs.FourKnown.{joined_later}
+use Rattle.squares.proofs.Kept.{known_kept}
+use Rattle.node_table.specs.declared.desk.Desk.{Desk}
+use Rattle.node_table.specs.declared.halves.Half.{Half}
+use Rattle.node_table.specs.declared.overlaps.HalvesOfRows.{HalvesOfRows}
+use Rattle.node_table.specs.declared.table.NodeTable.{NodeTable}
+use Rattle.node_table.specs.Desks.{book_at}
+use Rattle.node_table.specs.Halves.{AreBeside, AreHalvesOfRows, IsHalfOf, LearnsBlocks, MakeSquare, squares_of}
+use Rattle.node_table.proofs.TwoHalves.{beside, book_kept, half_kept, half_of, joined_of, make_square}
+
+pub beside_kept : {table : NodeTable} {old new : Desk} {left right : Sq} → LearnsBlocks table old new → AreBeside (book_at table old) left right → AreBeside (book_at table new) left right
+beside_kept learns are = record { fits = are.fits; left = known_kept (book_kept learns) are.left; right = known_kept (book_kept learns) are.right }
+
+pub half_stays : {table : NodeTable} {old new : Desk} {left right : Sq} {half : Half} → LearnsBlocks table old new → IsHalfOf table old left right half → IsHalfOf table new left right half
+half_stays learns is = record { left = is.left; right = is.right; known = half_kept learns is.known }
+
+pub all_kept : {old new : Book} {level : ℕ} (nine : List Sq) → Keeps old new → All (IsKnown old level) nine → All (IsKnown new level) nine
+all_kept nine keeps known k d less = known_kept keeps (known k d less)
+
+pub rows_kept : {table : NodeTable} {old new : Desk} {level : ℕ} {nine : List Sq} {rows : HalvesOfRows} → LearnsBlocks table old new → AreHalvesOfRows table old level nine rows → AreHalvesOfRows table new level nine rows
+rows_kept learns are = record {
+  known = all_kept _ (book_kept learns) are.known;
+  upper_left = half_stays learns are.upper_left;
+  upper_right = half_stays learns are.upper_right;
+  middle_left = half_stays learns are.middle_left;
+  middle_right = half_stays learns are.middle_right;
+  lower_left = half_stays learns are.lower_left;
+  lower_right = half_stays learns are.lower_right;
+}
+
+-- one of nine known squares
+nth_known : {book : Book} {level : ℕ} (nine : List Sq) → length nine ≡ 9 → All (IsKnown book level) nine → (k : ℕ) → k < 9 → IsKnown book level (nth nine k)
+nth_known nine long known k less = known k (numbered 0 0) (omega arith)
+
+-- two of them stand beside one another
+pub two_beside : {book : Book} {level : ℕ} (nine : List Sq) → length nine ≡ 9 → level < 65 → All (IsKnown book level) nine → (k : ℕ) → k < 8 → AreBeside book (nth nine k) (nth nine (k + 1))
+two_beside nine long fits known k less = beside fits (nth_known nine long known k (omega arith)) (nth_known nine long known (k + 1) (omega arith))
+
+-- two halves, the lower one a row below, make a square
+pub corner : {table : NodeTable} {desk : Desk} {level : ℕ} {upper lower : Half} (nine : List Sq) → length nine ≡ 9 → level < 65 → All (IsKnown (book_at table desk) level) nine → (k : ℕ) → k < 5 →
+    IsHalfOf table desk (nth nine k) (nth nine (k + 1)) upper → IsHalfOf table desk (nth nine (k + 3)) (nth nine (k + 4)) lower → MakeSquare table desk upper lower
+corner nine long fits known k less is also =
+    make_square fits (half_of (nth_known nine long known k (omega arith)).at_level is) (half_of (nth_known nine long known (k + 3) (omega arith)).at_level also)
+
+-- and the square shows the neighbours there, to one that knows more too
+pub corner_shown : {table : NodeTable} {desk made last : Desk} {level : ℕ} {upper lower : Half} {sq : Sq} (nine : List Sq) → length nine ≡ 9 → All (IsKnown (book_at table desk) level) nine → (k : ℕ) → k < 5 →
+    IsHalfOf table desk (nth nine k) (nth nine (k + 1)) upper → IsHalfOf table desk (nth nine (k + 3)) (nth nine (k + 4)) lower → LearnsBlocks table desk made → LearnsBlocks table made last →
+    Shows (book_at table made) (upper.left.level + 1) (joined_squares (book_at table desk) upper.left.level (squares_of upper lower)) sq →
+    (let cells = (book_at table last).cells in Shows (book_at table last) (level + 1) (joined (2 ^ level) (cells (nth nine k)) (cells (nth nine (k + 1))) (cells (nth nine (k + 3))) (cells (nth nine (k + 4)))) sq)
+corner_shown {table} {desk} {made} {upper = upper} {lower = lower} {sq = sq} nine long known k less is also learns later shown =
+    joined_later (nth_known nine long known k (omega arith)) (nth_known nine long known (k + 1) (omega arith)) (nth_known nine long known (k + 3) (omega arith)) (nth_known nine long known (k + 4) (omega arith)) (book_kept learns) (book_kept later)
+    (joined_of (book_at table desk) (book_at table made) upper lower sq is.left is.right also.left also.right shown)

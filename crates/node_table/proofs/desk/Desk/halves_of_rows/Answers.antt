@@ -1,0 +1,55 @@
+use Rattle.std.proofs.Common.{◌≡◌, length, arith, rules}
+use Rattle.node_table.proofs.OverlapsByHalves.{all_kept, half_stays, two_beside}
+use Rattle.node_table.proofs.TwoHalves.{book_kept, learns_trans}
+use Rattle.node_table.proofs.desk.Desk.halves_of_rows.Goals as goal
+
+pub halves_of_row-requires-clause-first : goal.halves_of_row-requires-clause-first
+halves_of_row-requires-clause-first c =
+    let long : length c.args.nine ≡ 9 = search rules in
+    two_beside c.args.nine long c.requires.level c.requires.known 0 (omega arith)
+
+pub halves_of_row-requires-clause-last : goal.halves_of_row-requires-clause-last
+halves_of_row-requires-clause-last c =
+    let long : length c.args.nine ≡ 9 = search rules in
+    two_beside c.args.nine long c.requires.level c.requires.known 1 (omega arith)
+
+pub halves_of_row-requires-2-clause-first : goal.halves_of_row-requires-2-clause-first
+halves_of_row-requires-2-clause-first c =
+    let long : length c.args.nine ≡ 9 = search rules in
+    two_beside c.args.nine long c.requires.level (all_kept c.args.nine (book_kept c.halves_of_row.ensures.desk) c.requires.known) 3 (omega arith)
+
+pub halves_of_row-requires-2-clause-last : goal.halves_of_row-requires-2-clause-last
+halves_of_row-requires-2-clause-last c =
+    let long : length c.args.nine ≡ 9 = search rules in
+    two_beside c.args.nine long c.requires.level (all_kept c.args.nine (book_kept c.halves_of_row.ensures.desk) c.requires.known) 4 (omega arith)
+
+pub halves_of_row-requires-3-clause-first : goal.halves_of_row-requires-3-clause-first
+halves_of_row-requires-3-clause-first c =
+    let long : length c.args.nine ≡ 9 = search rules in
+    two_beside c.args.nine long c.requires.level (all_kept c.args.nine (book_kept (learns_trans c.halves_of_row.ensures.desk c.halves_of_row-2.ensures.desk)) c.requires.known) 6 (omega arith)
+
+pub halves_of_row-requires-3-clause-last : goal.halves_of_row-requires-3-clause-last
+halves_of_row-requires-3-clause-last c =
+    let long : length c.args.nine ≡ 9 = search rules in
+    two_beside c.args.nine long c.requires.level (all_kept c.args.nine (book_kept (learns_trans c.halves_of_row.ensures.desk c.halves_of_row-2.ensures.desk)) c.requires.known) 7 (omega arith)
+
+pub returns-in_err-middle-clause-desk : goal.returns-in_err-middle-clause-desk
+returns-in_err-middle-clause-desk c = learns_trans c.halves_of_row.ensures.desk c.halves_of_row-2.ensures.desk
+
+pub returns-in_err-lower-clause-desk : goal.returns-in_err-lower-clause-desk
+returns-in_err-lower-clause-desk c = learns_trans c.halves_of_row.ensures.desk (learns_trans c.halves_of_row-2.ensures.desk c.halves_of_row-3.ensures.desk)
+
+pub returns-clause-desk : goal.returns-clause-desk
+returns-clause-desk c = learns_trans c.halves_of_row.ensures.desk (learns_trans c.halves_of_row-2.ensures.desk c.halves_of_row-3.ensures.desk)
+
+pub returns-clause-ok : goal.returns-clause-ok
+returns-clause-ok c =
+    let later = learns_trans c.halves_of_row-2.ensures.desk c.halves_of_row-3.ensures.desk in record {
+      known = all_kept c.args.nine (book_kept (learns_trans c.halves_of_row.ensures.desk later)) c.requires.known;
+      upper_left = half_stays later c.in_ok-upper.ensures.first;
+      upper_right = half_stays later c.in_ok-upper.ensures.last;
+      middle_left = half_stays c.halves_of_row-3.ensures.desk c.in_ok-middle.ensures.first;
+      middle_right = half_stays c.halves_of_row-3.ensures.desk c.in_ok-middle.ensures.last;
+      lower_left = c.in_ok-lower.ensures.first;
+      lower_right = c.in_ok-lower.ensures.last;
+    }
