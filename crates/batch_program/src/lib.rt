@@ -10,7 +10,10 @@ mod request;
 mod window_option;
 
 pub use command_line::{WordsFault, asked};
-pub use engine::{Format, Options, Summary, load, one_ending, one_judgement, run};
+pub use engine::{
+    Format, Gate, OpenGate, Options, Summary, every_number_of_workers, load, one_ending,
+    one_judgement, run, run_gated,
+};
 pub use entry::program;
 pub use messages::{refused_status, tell_fault};
 pub use pattern_writers::{distinct_texts, same_text};

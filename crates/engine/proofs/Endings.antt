@@ -19,14 +19,14 @@ use Rattle.plane.specs.declared.refusal.Refusal.TheVariants.{BoxTooLarge, NodesF
 use Rattle.patterns.specs.Meaning.{Meaning, judged, placeless}
 use Rattle.plane.specs.Device.{IsWriteRefusal}
 use Rattle.plane.proofs.Uniqueness.{one_listing_lem}
-use Rattle.patterns.specs.FileText.{HasText, IsFileText, Exceeds, Writes}
+use Rattle.patterns.specs.FileText.{HasText, IsFileText, Exceeds, Fits, Writes}
 use Rattle.engine.specs.Accepted.{IsAccepted, SumsUp}
 use Rattle.engine.specs.Judgement.{Start, Judges, ReadsRule}
 use Rattle.engine.specs.Report.{Shows, shown}
 use Rattle.engine.specs.Room.{IsStuckWithin}
 use Rattle.patterns.specs.Drawing.{picture_of}
 use Rattle.universe.specs.Tables.{HasFullTable}
-use Rattle.engine.specs.Run.{IsLast, IsReport, Finishes, HasBegun, HasReported, IsBegun, IsStopped, IsTooLarge, IsOutOfRoom, last_generation}
+use Rattle.engine.specs.Run.{CanBeWritten, IsLast, IsReport, Finishes, HasBegun, HasReported, IsBegun, IsStopped, IsTooLarge, IsOutOfRoom, last_generation}
 use Rattle.engine.specs.declared.running.Summary.{Summary}
 use Rattle.patterns.specs.declared.format.Format.{Format}
 use Rattle.patterns.specs.declared.format.Format.TheVariants.{Rle, Macrocell}
@@ -51,12 +51,13 @@ reported_none bytes options meaning rule text read = record {
   rule = rule;
   text = text;
   read = read;
+  accepted = inl refl;
   report = (0, shows_none rule meaning.live meaning.generation);
 }
 
 -- a run that has said its first lines has begun
 pub begun_of : {bytes : List ℕ} {options : Options} {said : List ℕ} → HasReported bytes options said → HasBegun bytes options said
-begun_of reported = record { meaning = reported.meaning; rule = reported.rule; text = reported.text; read = reported.read; report = inl reported.report }
+begun_of reported = record { meaning = reported.meaning; rule = reported.rule; text = reported.text; read = reported.read; accepted = reported.accepted; report = inl reported.report }
 
 -- a run whose text and rule are accepted was stopped
 pub stopped_by : (bytes : List ℕ) (options : Options) (refusal : Refusal) (said : List ℕ) → IsOutOfRoom refusal → (reported : HasReported bytes options said) →
@@ -124,6 +125,7 @@ module _ (bytes : List ℕ) (options : Options) (meaning : Meaning) (rule : Coun
     rule = rule;
     text = run.accepted.0.text;
     read = run.accepted.0.rule;
+    accepted = inr (start, run.accepted);
     report = (lines, same_shows rule here meaning.live run.same.same meaning.generation (take lines (shown options)) said shows);
   }
 
@@ -152,6 +154,7 @@ module _ (bytes : List ℕ) (options : Options) (meaning : Meaning) (rule : Coun
     rule = rule;
     text = run.accepted.0.text;
     read = run.accepted.0.rule;
+    accepted = inr (start, run.accepted);
     report = inr (whole_report last lines is shows);
   })
 
@@ -217,16 +220,22 @@ module _ (bytes : List ℕ) (options : Options) (meaning : Meaning) (rule : Coun
       said_all : Appends old drawn (reported.0 ++ picture_of options.window last)
       said_all = Appends-trans _ _ _ reported.0 (picture_of options.window last) reported.2 draws
 
+      -- the format can hold the last cells
+      can_be_written : (format : Option Format) (cells : List Cell) → options.format ≡ format → IsListing cells last → Fits format last → CanBeWritten bytes options
+      can_be_written None cells asked listing fits = record { start = start; cells = cells; accepted = run.accepted; last = last_cells last cells is listing; fits = rw asked tt }
+      can_be_written (Some Macrocell) cells asked listing fits = record { start = start; cells = cells; accepted = run.accepted; last = last_cells last cells is listing; fits = rw asked tt }
+      can_be_written (Some Rle) cells asked listing fits = record { start = start; cells = fits.cells; accepted = run.accepted; last = last_cells last fits.cells is fits.listing; fits = rw asked fits.fits }
+
       -- the file was not written
-      pub refused_writing : (format : Option Format) (refusal : Refusal) (failed_before failed_after : ℕ) (Unaccepted FileSame ReportFailed : Type 0) → options.format ≡ format →
-          ((refusal ≡ BoxTooLarge) × Exceeds format last × FileSame) ⊎ ((refusal ≡ NoMemory) × FileSame) ⊎ IsWriteRefusal failed_before failed_after refusal →
+      pub refused_writing : (format : Option Format) (cells : List Cell) (refusal : Refusal) (failed_before failed_after : ℕ) (Unaccepted FileSame ReportFailed : Type 0) → options.format ≡ format → IsListing cells last →
+          ((refusal ≡ BoxTooLarge) × Exceeds format last × FileSame) ⊎ ((refusal ≡ NoMemory) × FileSame) ⊎ (IsWriteRefusal failed_before failed_after refusal × Fits format last) →
           Unaccepted
           ⊎ ((placeless refusal ≡ placeless BoxTooLarge) × FileSame × ((said : List ℕ) × IsTooLarge bytes options said × Appends old drawn said))
           ⊎ (FileSame × ((said : List ℕ) × IsStopped bytes options (placeless refusal) said × Appends old drawn said))
-          ⊎ ((placeless refusal ≡ placeless WriteFailed) × (ReportFailed ⊎ HasFailed failed_before failed_after))
-      refused_writing None refusal failed_before failed_after Unaccepted FileSame ReportFailed asked (inl (large, unfit, unchanged)) = absurd unfit
-      refused_writing (Some Macrocell) refusal failed_before failed_after Unaccepted FileSame ReportFailed asked (inl (large, unfit, unchanged)) = absurd unfit
-      refused_writing (Some Rle) refusal failed_before failed_after Unaccepted FileSame ReportFailed asked (inl (large, unfit, unchanged)) =
+          ⊎ ((placeless refusal ≡ placeless WriteFailed) × (ReportFailed ⊎ (HasFailed failed_before failed_after × CanBeWritten bytes options)))
+      refused_writing None cells refusal failed_before failed_after Unaccepted FileSame ReportFailed asked listing (inl (large, unfit, unchanged)) = absurd unfit
+      refused_writing (Some Macrocell) cells refusal failed_before failed_after Unaccepted FileSame ReportFailed asked listing (inl (large, unfit, unchanged)) = absurd unfit
+      refused_writing (Some Rle) cells refusal failed_before failed_after Unaccepted FileSame ReportFailed asked listing (inl (large, unfit, unchanged)) =
           inr (inl (
             ap placeless large,
             unchanged,
@@ -243,10 +252,10 @@ module _ (bytes : List ℕ) (options : Options) (meaning : Meaning) (rule : Coun
               said_all,
             ),
           ))
-      refused_writing format refusal failed_before failed_after Unaccepted FileSame ReportFailed asked (inr (inl (memory, unchanged))) =
+      refused_writing format cells refusal failed_before failed_after Unaccepted FileSame ReportFailed asked listing (inr (inl (memory, unchanged))) =
           inr (inr (inl (unchanged, (reported.0 ++ picture_of options.window last, inl (ap placeless memory, begun_whole last reported.0 is shows_all), said_all))))
-      refused_writing format refusal failed_before failed_after Unaccepted FileSame ReportFailed asked (inr (inr (failing, failed))) =
-          inr (inr (inr (ap placeless failing, inr failed)))
+      refused_writing format cells refusal failed_before failed_after Unaccepted FileSame ReportFailed asked listing (inr (inr ((failing, failed), fits))) =
+          inr (inr (inr (ap placeless failing, inr (failed, can_be_written format cells asked listing fits))))
 
       -- what an accepted run that ends well writes and answers
       pub ends_well : (comments : List (List ℕ)) (answer : Summary) (file written : Option (List ℕ)) → comments ≡ meaning.comments → SumsUp (from + options.gens) last answer →

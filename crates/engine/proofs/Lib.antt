@@ -2,5 +2,6 @@ pub mod Acceptance
 pub mod Endings
 mod Onward
 pub mod OneRun
+pub mod OtherWorkers
 pub mod Reports
 pub mod Steps

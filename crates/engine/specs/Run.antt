@@ -60,24 +60,32 @@ pub record IsTooLarge (bytes : List ℕ) (options : Options) (said : List ℕ) :
   pub report : IsReport start.meaning start.rule options said
   pub unfit : HasText options.format cells → ⊥
 
--- the run's text and rule are accepted, and this is the whole of its report, or its first lines, or none
+-- where a run has said anything, it is accepted
+abbrev pub IsSilentOrAccepted : List ℕ → Options → List ℕ → Type 0
+IsSilentOrAccepted bytes options said = (said ≡ []) ⊎ ((start : Start) × Judges bytes options (Ok start))
+
+-- the run's text and rule are accepted, and its range where it has said anything; and this is the whole of its report, or
+-- its first lines, or none
 pub record HasBegun (bytes : List ℕ) (options : Options) (said : List ℕ) : Type 0 where
   pub meaning : Meaning
   pub rule : CountRule
   pub text : judged bytes ≡ Ok meaning
   pub read : ReadsRule options.rule meaning (Ok rule)
+  pub accepted : IsSilentOrAccepted bytes options said
   pub report : IsBeginning meaning rule options said ⊎ IsReport meaning rule options said
 
 -- a run is about to read a macrocell file, which takes memory, and has said nothing; or it has begun
 abbrev pub IsBegun : List ℕ → Options → List ℕ → Type 0
 IsBegun bytes options said = ((is_macrocell bytes ≡ true) × (said ≡ [])) ⊎ HasBegun bytes options said
 
--- the run's text and rule are accepted, and these are the first lines of its report, or none
+-- the run's text and rule are accepted, and its range where it has said anything; and these are the first lines of its
+-- report, or none
 pub record HasReported (bytes : List ℕ) (options : Options) (said : List ℕ) : Type 0 where
   pub meaning : Meaning
   pub rule : CountRule
   pub text : judged bytes ≡ Ok meaning
   pub read : ReadsRule options.rule meaning (Ok rule)
+  pub accepted : IsSilentOrAccepted bytes options said
   pub report : IsBeginning meaning rule options said
 
 -- so it is, and tables of as many pair slots as the options allow are too small: a full one has no room for the cells of the
@@ -102,6 +110,14 @@ abbrev pub HasFinished : List ℕ → Options → Option (List ℕ) → Option (
 HasFinished bytes options report report_after file file_after answer =
     (start : Start) × (said : List ℕ) × (drawn : List ℕ) × Judges bytes options (Ok start) × Finishes start options answer said drawn
     × Appends report report_after said × Appends file file_after drawn
+
+-- the run is accepted, and the format can hold its last cells
+pub record CanBeWritten (bytes : List ℕ) (options : Options) : Type 0 where
+  pub start : Start
+  pub cells : List Cell
+  pub accepted : Judges bytes options (Ok start)
+  pub last : IsLast start options cells
+  pub fits : HasText options.format cells
 
 -- a run of these bytes was refused: they are not accepted, and nothing was written; or what comes out has no text in the
 -- format, after the whole report; or memory ran out, or the tables are full; or a sink failed

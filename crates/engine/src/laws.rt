@@ -4,6 +4,7 @@ ghost use Rattle.std.specs.Prelude.{◌≡◌, ℕ, List, Result};
 ghost use Rattle.plane.specs.declared.fault.Fault.{Fault};
 ghost use Rattle.engine.specs.Judgement.{Start, Judges};
 ghost use Rattle.engine.specs.Run.{Finishes};
+ghost use Rattle.engine.specs.Workers.{with_workers};
 ghost use Rattle.engine.specs.declared.running.Summary.{Summary};
 ghost use Rattle.engine.specs.declared.options.Options.{Options};
 
@@ -16,5 +17,15 @@ pub fn one_judgement()
 pub fn one_ending()
     ensures { (start : Start) (options : Options) (a b : Summary) (said others drawn other : List ℕ) →
         Finishes start options a said drawn → Finishes start options b others other →
+        (a ≡ b) × (said ≡ others) × (drawn ≡ other) }
+{}
+
+/// By every number of workers, and in tables of every size, a run has the same judgement, and an accepted one the same
+/// answer, the same report and the same file.
+pub fn every_number_of_workers()
+    ensures judged { (bytes : List ℕ) (options : Options) (workers pairs : ℕ) (a b : Result Start Fault) →
+        Judges bytes options a → Judges bytes (with_workers workers pairs options) b → a ≡ b }
+    ensures ended { (start : Start) (options : Options) (workers pairs : ℕ) (a b : Summary) (said others drawn other : List ℕ) →
+        Finishes start options a said drawn → Finishes start (with_workers workers pairs options) b others other →
         (a ≡ b) × (said ≡ others) × (drawn ≡ other) }
 {}

@@ -10,7 +10,7 @@ mod reported;
 mod running;
 
 pub use input::load;
-pub use laws::{one_ending, one_judgement};
+pub use laws::{every_number_of_workers, one_ending, one_judgement};
 pub use options::Options;
 pub use patterns::Format;
 pub use running::{Summary, rule_refusal, run, run_gated};

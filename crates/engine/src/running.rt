@@ -7,7 +7,7 @@ ghost use Rattle.engine.specs.Accepted.{SumsUp};
 ghost use Rattle.engine.specs.Judgement.{rule_refusal};
 ghost use Rattle.patterns.specs.Pattern.{plane_of};
 ghost use Rattle.engine.specs.Workers.{IsWorkerCount};
-ghost use Rattle.engine.specs.Run.{HasFinished, HasStopped};
+ghost use Rattle.engine.specs.Run.{CanBeWritten, HasFinished, HasStopped};
 
 use crate::accepted::judge;
 use crate::options::Options;
@@ -41,7 +41,7 @@ pub struct Summary {
 /// would leave the range (`TooFar`). Until then nothing is written. `BoxTooLarge`, where a side of the last
 /// pattern's box is 2^31 or more, `NoMemory`, and `NodesFull`, where the cells of the file or those after a single
 /// generation have no room in the tables that the options allow, leave `file` as it was. `WriteFailed` comes where a
-/// sink failed.
+/// sink failed; that of the file is asked for nothing before the box is known to fit.
 pub fn run<R: Threads + Wait + Sync, W: Sink, V: Sink>(
     rt: &R,
     alloc: Global,
@@ -61,20 +61,20 @@ pub fn run<R: Threads + Wait + Sync, W: Sink, V: Sink>(
     // text in the format, after the whole report; and else only where memory ran out, the tables are full, or a sink
     // failed.
     ensures refused { IfErr result (HasStopped bytes.now options.now (W.taken report.old) (W.taken report.new) (report.new ≡ report.old) (file.new ≡ file.old)
-        (HasFailed (W.failure_count report.old) (W.failure_count report.new) ⊎ HasFailed (V.failure_count file.old) (V.failure_count file.new))) }
+        (HasFailed (W.failure_count report.old) (W.failure_count report.new) ⊎ (HasFailed (V.failure_count file.old) (V.failure_count file.new) × CanBeWritten bytes.now options.now))) }
 {
-    run_gated(rt, &OpenGate, alloc, bytes, options, report, file)
+    run_gated(rt, alloc, bytes, options, report, file, &OpenGate)
 }
 
 /// The same, with a gate, which is called before and after each job of several workers.
 pub fn run_gated<R: Threads + Wait + Sync, G: Gate, W: Sink, V: Sink>(
     rt: &R,
-    gate: &G,
     alloc: Global,
     bytes: &[u8],
     options: &Options,
     report: &mut W,
     file: &mut V,
+    gate: &G,
 ) -> Result<Summary, Fault>
     requires pairs { IsPairCount options.now.pairs }
     requires workers { IsWorkerCount options.now.workers }
@@ -87,7 +87,7 @@ pub fn run_gated<R: Threads + Wait + Sync, G: Gate, W: Sink, V: Sink>(
     // text in the format, after the whole report; and else only where memory ran out, the tables are full, or a sink
     // failed.
     ensures refused { IfErr result (HasStopped bytes.now options.now (W.taken report.old) (W.taken report.new) (report.new ≡ report.old) (file.new ≡ file.old)
-        (HasFailed (W.failure_count report.old) (W.failure_count report.new) ⊎ HasFailed (V.failure_count file.old) (V.failure_count file.new))) }
+        (HasFailed (W.failure_count report.old) (W.failure_count report.new) ⊎ (HasFailed (V.failure_count file.old) (V.failure_count file.new) × CanBeWritten bytes.now options.now))) }
 {
     let begun = judge(alloc, bytes, options)?;
     let start = begun.text.generation();

@@ -5,4 +5,5 @@ mod ended;
 mod failing;
 mod files;
 mod folder;
+mod outputs;
 mod programs;

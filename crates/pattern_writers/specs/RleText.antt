@@ -40,6 +40,12 @@ pub record WritesRle (plane : Plane) (comments : List (List ℕ)) (rule : CountR
   pub fits : FitsRle (bounds_of cells)
   pub appends : Appends before after (rle_text comments rule generation cells)
 
+-- the plane's cells have a text: both sides of their box are short enough
+pub record HasRleText (plane : Plane) : Type 0 where
+  pub cells : List Cell
+  pub listing : IsListing cells plane
+  pub fits : FitsRle (bounds_of cells)
+
 -- the plane's cells have no text: a side of their box is too long
 pub record IsTooLarge (plane : Plane) : Type 0 where
   pub cells : List Cell

@@ -26,8 +26,8 @@ use std::alloc::Global;
 /// Writes the cells of a square of a level from 4 to 63, whose centre corner is (0,0), with the comments, the rule
 /// and the generation. It refuses `NoMemory` before the first byte, and `WriteFailed` where the sink failed.
 pub fn write_mc<B: ReadSquares, V: Sink>(
-    book: &B,
     alloc: Global,
+    book: &B,
     sq: Sq,
     comments: Comments<'_>,
     rule: &Rule,
@@ -43,7 +43,7 @@ pub fn write_mc<B: ReadSquares, V: Sink>(
         (refusal ≡ Refusal.NoMemory × file.new ≡ file.old)
         ⊎ IsWriteRefusal (V.failure_count file.old) (V.failure_count file.new) refusal) }
 {
-    let nodes = listed_nodes(book, alloc, sq)?;
+    let nodes = listed_nodes(alloc, book, sq)?;
     let opening = opening_lines(rule.text().as_str(), generation);
     let mut block = ArrayVec::new();
     begin(file, &mut block, opening.as_str(), comments)?;

@@ -5,7 +5,7 @@ ghost use Rattle.plane.specs.Centred.{centred};
 ghost use Rattle.plane.specs.Device.{IsWriteRefusal};
 ghost use Rattle.squares.specs.Book.{IsKnown};
 ghost use Rattle.std.specs.Io.KnownBytes.{Appends};
-ghost use Rattle.pattern_writers.specs.RleText.{IsTooLarge, WritesRle, items_text};
+ghost use Rattle.pattern_writers.specs.RleText.{HasRleText, IsTooLarge, WritesRle, items_text};
 
 mod bands;
 mod frame;
@@ -32,11 +32,12 @@ use std::thread::Threads;
 
 /// Writes the cells of a square of a level up to 63, whose centre corner is (0,0), with the comments, the rule and
 /// the generation. It refuses `NoMemory`, or `BoxTooLarge` where a side of the cells' box is 2^31 or more, both
-/// before the first byte, and `WriteFailed` where the sink failed. The runs of the rows are found in threads.
+/// before the first byte, and `WriteFailed` where the sink failed and no side was too long. The runs of the rows are found
+/// in threads.
 pub fn write_rle<R: Threads + Sync, B: ReadSquares + Sync, V: Sink>(
     rt: &R,
-    book: &B,
     alloc: Global,
+    book: &B,
     sq: Sq,
     comments: Comments<'_>,
     rule: &Rule,
@@ -50,9 +51,9 @@ pub fn write_rle<R: Threads + Sync, B: ReadSquares + Sync, V: Sink>(
     ensures refused { IfErr result (λ refusal.
         (refusal ≡ Refusal.BoxTooLarge × IsTooLarge (centred sq.level ((B.book book.now).cells sq)) × file.new ≡ file.old)
         ⊎ (refusal ≡ Refusal.NoMemory × file.new ≡ file.old)
-        ⊎ IsWriteRefusal (V.failure_count file.old) (V.failure_count file.new) refusal) }
+        ⊎ (IsWriteRefusal (V.failure_count file.old) (V.failure_count file.new) refusal × HasRleText (centred sq.level ((B.book book.now).cells sq)))) }
 {
-    let (frame, items) = framed_items(rt, book, alloc, sq)?;
+    let (frame, items) = framed_items(rt, alloc, book, sq)?;
     write_items(file, frame, items.as_slice(), comments, rule, generation)
 }
 

@@ -38,6 +38,12 @@ Writes None plane comments rule generation before after = Appends before after [
 Writes (Some Rle) plane comments rule generation before after = WritesRle plane comments rule generation before after
 Writes (Some Macrocell) plane comments rule generation before after = WritesMc plane comments rule generation before after
 
+-- the format can hold the plane's cells
+abbrev pub Fits : Option Format → Plane → Type 0
+Fits None plane = ⊤
+Fits (Some Rle) plane = writers.HasRleText plane
+Fits (Some Macrocell) plane = ⊤
+
 -- the format can't hold the plane's cells
 abbrev pub Exceeds : Option Format → Plane → Type 0
 Exceeds None plane = ⊥

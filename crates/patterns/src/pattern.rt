@@ -23,7 +23,7 @@ pub struct Pattern {
 
 impl Pattern {
     ghost use Rattle.plane.specs.Device.{IsWriteRefusal};
-    ghost use Rattle.patterns.specs.FileText.{Exceeds, Writes};
+    ghost use Rattle.patterns.specs.FileText.{Exceeds, Fits, Writes};
     ghost use Rattle.patterns.specs.Pattern.{plane_of};
     ghost use Rattle.patterns.specs.Drawing.{picture_of};
     ghost use Rattle.std.specs.Io.KnownBytes.{Appends};
@@ -59,7 +59,7 @@ impl Pattern {
 
     /// Writes the pattern in the format that is asked for, if one is, with the comments, the rule and the generation. It
     /// refuses `BoxTooLarge` where RLE is asked for and a side of its box is 2^31 or more, and `NoMemory`, both before
-    /// the first byte, and `WriteFailed`. The runs of RLE's rows are found in threads.
+    /// the first byte, and `WriteFailed`, where the sink failed and the box fits. The runs of RLE's rows are found in threads.
     pub fn write<R: Threads + Sync, V: Sink>(
         &self,
         rt: &R,
@@ -76,7 +76,7 @@ impl Pattern {
         ensures refused { IfErr result (λ refusal.
             (refusal ≡ Refusal.BoxTooLarge × Exceeds format (plane_of self.now) × file.new ≡ file.old)
             ⊎ (refusal ≡ Refusal.NoMemory × file.new ≡ file.old)
-            ⊎ IsWriteRefusal (V.failure_count file.old) (V.failure_count file.new) refusal) }
+            ⊎ (IsWriteRefusal (V.failure_count file.old) (V.failure_count file.new) refusal × Fits format (plane_of self.now))) }
     {
         let (book, root) = (self.cells.still(), self.cells.root());
         match format {
@@ -84,10 +84,10 @@ impl Pattern {
                 let Ok(shared) = book.shared(alloc) else {
                     return Err(Refusal::NoMemory);
                 };
-                write_rle(rt, &shared, alloc, root, comments, rule, generation, file)
+                write_rle(rt, alloc, &shared, root, comments, rule, generation, file)
             }
             Some(Format::Macrocell) => write_mc(
-                book, alloc, root, comments, rule, generation, file,
+                alloc, book, root, comments, rule, generation, file,
             ),
             None => Ok(()),
         }

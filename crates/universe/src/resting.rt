@@ -66,7 +66,7 @@ impl Resting {
         ensures ok { IfOk result (HasBounds (resting_cells self.now)) }
         ensures memory { IsOkUnless result Refusal.NoMemory }
     {
-        bounds(&self.still, alloc, self.root)
+        bounds(alloc, &self.still, self.root)
     }
 
     // The cells at a table of these words under another exponent, with this past.

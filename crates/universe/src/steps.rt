@@ -1,6 +1,6 @@
 //! The cells some generations on.
 
-ghost use Rattle.std.specs.Prelude.{◌≡◌, ◌⊎◌, ◌≤◌, ◌<◌, ◌^◌, IfErr, IfOk};
+ghost use Rattle.std.specs.Prelude.{◌≡◌, ◌⊎◌, ◌≤◌, ◌<◌, ◌^◌, IfErr, IfOk, Ok};
 ghost use Rattle.plane.specs.Plane.{after};
 ghost use Rattle.plane.specs.Square.{IsSame, empty};
 ghost use Rattle.universe.specs.Held.{StaysHeld};
@@ -74,6 +74,7 @@ impl Universe {
         ensures ok { IfOk result (λ later. IsSame (live_cells later) (after (rule_of self) (live_cells self) generations)) }
         ensures rule { IfOk result (λ later. rule_of later ≡ rule_of self) }
         ensures limit { IfOk result (λ later. limit_of later ≡ limit_of self) }
+        ensures no_step { IsSame (live_cells self) empty → result ≡ Ok self }
         ensures full { IfErr result (λ refusal. refusal ≡ Refusal.NodesFull → IsStuck self generations) }
         ensures refusal { IfErr result (λ refusal. (refusal ≡ Refusal.NoMemory) ⊎ (refusal ≡ Refusal.NodesFull)) }
     {

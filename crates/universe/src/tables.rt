@@ -217,7 +217,7 @@ impl OpenTable {
     {
         let OpenTable { standing, desk } = self;
         let mut at = standing.table.at(desk);
-        let found = population(&mut at, alloc, root);
+        let found = population(alloc, &mut at, root);
         let desk = at.leave();
         (OpenTable { standing, desk }, found)
     }

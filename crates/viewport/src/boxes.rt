@@ -16,7 +16,7 @@ type Boxes = HashMap<(u8, u32), Option<Bounds>>;
 
 /// The smallest box round the live cells of a square of a level up to 63, if it has any. Each number
 /// above level 3 is visited once. `NoMemory` where there is no room for one more box.
-pub fn bounds<B: ReadSquares>(book: &B, alloc: Global, sq: Sq) -> Result<Option<Bounds>, Refusal>
+pub fn bounds<B: ReadSquares>(alloc: Global, book: &B, sq: Sq) -> Result<Option<Bounds>, Refusal>
     requires known { IsKnown (B.book book.now) sq.level sq }
     requires level { sq.level ≤ 63 }
     ensures ok { IfOk result (HasBounds (centred sq.level ((B.book book.now).cells sq))) }

@@ -17,7 +17,7 @@ const LOWEST_NOTED: u8 = 6;
 
 /// How many live cells a square of a level up to 63 has: up to 2^126. Each number above level 5 is
 /// counted once. The book goes on knowing what it knew. `NoMemory` where there is no room for one more count.
-pub fn population<S: Squares>(book: &mut S, alloc: Global, sq: Sq) -> Result<u128, Refusal>
+pub fn population<S: Squares>(alloc: Global, book: &mut S, sq: Sq) -> Result<u128, Refusal>
     requires known { IsKnown (S.book book.old) sq.level sq }
     requires level { sq.level ≤ 63 }
     ensures ok { IfOk result (HasPopulation (centred sq.level ((S.book book.old).cells sq))) }

@@ -14,8 +14,8 @@ use std::alloc::{AllocError, Global};
 /// as it can be: its first cell, and how many there are. Empty squares are passed over. `NoMemory`
 /// where there is no room for one more run.
 pub fn row_runs<B: ReadSquares>(
-    book: &B,
     alloc: Global,
+    book: &B,
     sq: Sq,
     y: i64,
 ) -> Result<Vec<(i64, u64)>, Refusal>

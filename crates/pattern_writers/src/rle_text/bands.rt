@@ -16,8 +16,8 @@ use std::thread::Threads;
 // bands are made in threads.
 pub(crate) fn banded_runs<R: Threads + Sync, B: ReadSquares + Sync>(
     rt: &R,
-    book: &B,
     alloc: Global,
+    book: &B,
     sq: Sq,
     frame: Frame,
 ) -> Result<Vec<Vec<RowRun>>, AllocError>
@@ -41,8 +41,8 @@ pub(crate) fn banded_runs<R: Threads + Sync, B: ReadSquares + Sync>(
                     (centred sq.level ((B.book book.entry.now).cells sq))) runs.items) }
             {
                 runs_between(
-                    book,
                     alloc,
+                    book,
                     sq,
                     frame.band_row(band),
                     frame.band_row(band + 1),

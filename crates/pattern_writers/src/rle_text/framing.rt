@@ -16,8 +16,8 @@ use viewport::bounds;
 // The frame of a square's cells, and their items in it.
 pub(crate) fn framed_items<R: Threads + Sync, B: ReadSquares + Sync>(
     rt: &R,
-    book: &B,
     alloc: Global,
+    book: &B,
     sq: Sq,
 ) -> Result<(Frame, Vec<Item>), Refusal>
     requires known { IsKnown (B.book book.now) sq.level sq }
@@ -27,8 +27,8 @@ pub(crate) fn framed_items<R: Threads + Sync, B: ReadSquares + Sync>(
         (refusal ≡ Refusal.BoxTooLarge × IsTooLarge (centred sq.level ((B.book book.now).cells sq)))
         ⊎ refusal ≡ Refusal.NoMemory) }
 {
-    let frame = cells_frame(book, alloc, sq)?;
-    let Ok(bands) = banded_runs(rt, book, alloc, sq, frame) else {
+    let frame = cells_frame(alloc, book, sq)?;
+    let Ok(bands) = banded_runs(rt, alloc, book, sq, frame) else {
         return Err(Refusal::NoMemory);
     };
     let Ok(items) = items(alloc, frame.corner, bands.as_slice()) else {
@@ -38,7 +38,7 @@ pub(crate) fn framed_items<R: Threads + Sync, B: ReadSquares + Sync>(
 }
 
 // The frame of a square's cells.
-fn cells_frame<B: ReadSquares>(book: &B, alloc: Global, sq: Sq) -> Result<Frame, Refusal>
+fn cells_frame<B: ReadSquares>(alloc: Global, book: &B, sq: Sq) -> Result<Frame, Refusal>
     requires known { IsKnown (B.book book.now) sq.level sq }
     requires level { sq.level ≤ 63 }
     ensures frame { IfOk result (HasFrame (centred sq.level ((B.book book.now).cells sq))) }
@@ -47,5 +47,5 @@ fn cells_frame<B: ReadSquares>(book: &B, alloc: Global, sq: Sq) -> Result<Frame,
         (refusal ≡ Refusal.BoxTooLarge × IsTooLarge (centred sq.level ((B.book book.now).cells sq)))
         ⊎ refusal ≡ Refusal.NoMemory) }
 {
-    Frame::round(bounds(book, alloc, sq)?)
+    Frame::round(bounds(alloc, book, sq)?)
 }

@@ -48,8 +48,8 @@ impl RowRun {
 
 // The longest runs of a square's cells in the rows from one on and above another, row by row and from left to right.
 pub(crate) fn runs_between<B: ReadSquares>(
-    book: &B,
     alloc: Global,
+    book: &B,
     sq: Sq,
     from: i64,
     end: i64,
@@ -61,7 +61,7 @@ pub(crate) fn runs_between<B: ReadSquares>(
     let mut runs = Vec::new(alloc);
     let mut next = next_row(book, sq, from, end);
     'rows: while let Some(row) = next {
-        add_row(book, alloc, sq, row, &mut runs)?;
+        add_row(alloc, book, sq, row, &mut runs)?;
         next = next_row(book, sq, row + 1, end);
     }
     Ok(runs)
@@ -79,8 +79,8 @@ fn next_row<B: ReadSquares>(book: &B, sq: Sq, from: i64, end: i64) -> Option<i64
 
 // Adds the runs of a row.
 fn add_row<B: ReadSquares>(
-    book: &B,
     alloc: Global,
+    book: &B,
     sq: Sq,
     row: i64,
     runs: &mut Vec<RowRun>,
@@ -89,7 +89,7 @@ fn add_row<B: ReadSquares>(
     requires level { sq.level ≤ 63 }
     ensures { OnOk result (AddsRow (centred sq.level ((B.book book.now).cells sq)) row runs.old.items runs.new.items) }
 {
-    let Ok(found) = viewport::row_runs(book, alloc, sq, row) else {
+    let Ok(found) = viewport::row_runs(alloc, book, sq, row) else {
         return Err(AllocError);
     };
     'found: for run in &found {

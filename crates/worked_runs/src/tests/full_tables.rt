@@ -42,7 +42,7 @@ fn assert_in_the_fewest<R: Abort + AllocGlobal + Threads + Wait + Sync>(
 }
 
 /// The rows of short runs.
-const SHORT: [&[Row]; 6] = [PATTERNS, LIMITS, LONG_ROWS, STEPS, WRITTEN, REFUSED];
+pub(crate) const SHORT: [&[Row]; 6] = [PATTERNS, LIMITS, LONG_ROWS, STEPS, WRITTEN, REFUSED];
 
 #[test]
 fn runs_each_pattern_in_the_fewest_slots(rt: HostRuntime) -> Result<(), AllocError> {

@@ -26,6 +26,18 @@ pub(crate) const FULL: &str = "[M2] (lifebatch 1)\n#R B3/S23\n#G 0\n\
      57 54 54 54 54\n58 55 55 55 55\n59 56 56 56 56\n60 57 57 57 57\n61 58 58 58 58\n\
      62 59 59 59 59\n63 60 60 60 60\n";
 
+// The cell (0,0), in the corner of a chain of squares up to the largest.
+const CHAIN: &str = "[M2]\n*$\n\
+     4 1 0 0 0\n5 2 0 0 0\n6 3 0 0 0\n7 4 0 0 0\n8 5 0 0 0\n9 6 0 0 0\n10 7 0 0 0\n11 8 0 0 0\n\
+     12 9 0 0 0\n13 10 0 0 0\n14 11 0 0 0\n15 12 0 0 0\n16 13 0 0 0\n17 14 0 0 0\n18 15 0 0 0\n\
+     19 16 0 0 0\n20 17 0 0 0\n21 18 0 0 0\n22 19 0 0 0\n23 20 0 0 0\n24 21 0 0 0\n25 22 0 0 0\n\
+     26 23 0 0 0\n27 24 0 0 0\n28 25 0 0 0\n29 26 0 0 0\n30 27 0 0 0\n31 28 0 0 0\n32 29 0 0 0\n\
+     33 30 0 0 0\n34 31 0 0 0\n35 32 0 0 0\n36 33 0 0 0\n37 34 0 0 0\n38 35 0 0 0\n39 36 0 0 0\n\
+     40 37 0 0 0\n41 38 0 0 0\n42 39 0 0 0\n43 40 0 0 0\n44 41 0 0 0\n45 42 0 0 0\n46 43 0 0 0\n\
+     47 44 0 0 0\n48 45 0 0 0\n49 46 0 0 0\n50 47 0 0 0\n51 48 0 0 0\n52 49 0 0 0\n53 50 0 0 0\n\
+     54 51 0 0 0\n55 52 0 0 0\n56 53 0 0 0\n57 54 0 0 0\n58 55 0 0 0\n59 56 0 0 0\n60 57 0 0 0\n\
+     61 58 0 0 0\n62 59 0 0 0\n63 0 0 0 60\n";
+
 // Two cells at the ends of a row of 2^31 columns.
 const WIDE: &str =
     "[M2] (lifebatch 1)\n#R B3/S23\n#G 0\n*$\n4 1 0 0 0\n5 2 0 0 0\n6 3 0 0 0\n7 4 0 0 0\n\
@@ -110,6 +122,33 @@ pub(crate) const WRITTEN: &[Row] = &[
         file: "[M2]\n*$\n*$\n4 1 2 0 2\n5 0 0 0 3\n6 4 0 0 0\n",
         report: "0: 3\n",
         text: "[M2] (lifebatch 1)\n#R B3/S23\n#G 0\n*$\n4 1 1 0 1\n5 2 0 0 0\n",
+        ..MACROCELL
+    },
+    // Two equal leaves are one node.
+    Row {
+        file: "[M2]\n*$\n*$\n4 1 0 0 2\n",
+        report: "0: 2\n",
+        text: "[M2] (lifebatch 1)\n#R B3/S23\n#G 0\n*$\n4 1 0 0 1\n",
+        ..MACROCELL
+    },
+    // The cell (0,0), from roots of 32 cells on a side and of 2^63.
+    Row {
+        file: "[M2]\n*$\n4 1 0 0 0\n5 0 0 0 2\n",
+        report: "0: 1\n",
+        text: "[M2] (lifebatch 1)\n#R B3/S23\n#G 0\n*$\n4 0 0 0 1\n",
+        ..MACROCELL
+    },
+    Row {
+        file: CHAIN,
+        report: "0: 1\n",
+        text: "[M2] (lifebatch 1)\n#R B3/S23\n#G 0\n*$\n4 0 0 0 1\n",
+        ..MACROCELL
+    },
+    // A leaf comes into the middle of a square of 16 cells on a side.
+    Row {
+        file: "[M2]\n*$\n",
+        report: "0: 1\n",
+        text: "[M2] (lifebatch 1)\n#R B3/S23\n#G 0\n$$$$....*$\n4 1 0 0 0\n",
         ..MACROCELL
     },
     // A box that no RLE text can hold.

@@ -2,6 +2,7 @@
 
 use crate::tests::ended::Ended;
 use crate::tests::rows::{PLAIN, assert_told};
+use engine::Options;
 use std::alloc::{AllocError, Global};
 
 // How many squares of four smaller ones there are of each level.
@@ -63,7 +64,10 @@ pub(crate) fn many_leaves(alloc: Global) -> Result<String, AllocError> {
 #[test]
 fn counts_the_cells_of_many_leaves(rt: HostRuntime) -> Result<(), AllocError> {
     let file = many_leaves(rt.alloc())?;
-    let end = Ended::of(&rt, file.as_str(), &PLAIN)?;
-    assert_told(&rt, "", &end, (None, "0: 524289\n", ""));
+    for workers in [1, 2] {
+        let options = Options { workers, ..PLAIN };
+        let end = Ended::of(&rt, file.as_str(), &options)?;
+        assert_told(&rt, "", &end, (None, "0: 524289\n", ""));
+    }
     Ok(())
 }

@@ -80,6 +80,16 @@ fn runs_in_few_slots(rt: HostRuntime) -> Result<(), AllocError> {
     assert_rows(&rt, SMALL)
 }
 
+#[test]
+fn two_workers_run_in_few_slots(rt: HostRuntime) -> Result<(), AllocError> {
+    let row = Row {
+        pairs: 32768,
+        workers: 2,
+        ..SETTLED
+    };
+    assert_rows(&rt, &[row])
+}
+
 // The leaves of the words 1 to 300 side by side: bit j of the word i is the cell (8i + j mod 8, j div 8).
 fn leaves_in_a_row(alloc: Global) -> Result<String, AllocError> {
     let mut text = String::from_str(alloc, "x = 2408, y = 2\n8b")?;
@@ -166,8 +176,15 @@ fn refuses_the_first_generation_of_160_leaves(rt: HostRuntime) -> Result<(), All
         let end = Ended::of(&rt, file.as_str(), &one)?;
         assert_told(&rt, "", &end, (Some(FULL), "0: 562\n", ""));
     }
-    let end = Ended::of(&rt, file.as_str(), &Options { gens: 1, ..PLAIN })?;
-    assert_told(&rt, "", &end, (None, "0: 562\n1: 1736\n", ""));
+    for workers in [1, 2] {
+        let options = Options {
+            gens: 1,
+            workers,
+            ..PLAIN
+        };
+        let end = Ended::of(&rt, file.as_str(), &options)?;
+        assert_told(&rt, "", &end, (None, "0: 562\n1: 1736\n", ""));
+    }
     Ok(())
 }
 
@@ -175,11 +192,14 @@ fn refuses_the_first_generation_of_160_leaves(rt: HostRuntime) -> Result<(), All
 #[test]
 fn refuses_65536_leaves(rt: HostRuntime) -> Result<(), AllocError> {
     let file = many_leaves(rt.alloc())?;
-    let options = Options {
-        pairs: 65536,
-        ..RLE.options()
-    };
-    let end = Ended::of(&rt, file.as_str(), &options)?;
-    assert_told(&rt, "", &end, (Some(FULL), "", ""));
+    for workers in [1, 2] {
+        let options = Options {
+            pairs: 65536,
+            workers,
+            ..RLE.options()
+        };
+        let end = Ended::of(&rt, file.as_str(), &options)?;
+        assert_told(&rt, "", &end, (Some(FULL), "", ""));
+    }
     Ok(())
 }

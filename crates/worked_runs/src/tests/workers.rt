@@ -1,6 +1,7 @@
 //! Runs by several workers: they write what one writes.
 
 use crate::tests::ended::Ended;
+use crate::tests::full_tables::SHORT;
 use crate::tests::nodes::{COLLECTED, REPORTED, SETTLED};
 use crate::tests::rows::{FAR_GLIDER, FAR_REPLICATOR, Row, assert_rows, assert_whole_or_refused};
 use crate::tests::sipping::Sipping;
@@ -16,6 +17,16 @@ fn any_number_of_workers_writes_the_same(rt: HostRuntime) -> Result<(), AllocErr
     for workers in [1, 2, 4, 64] {
         for row in [SETTLED, COLLECTED, REPORTED, FAR_GLIDER, FAR_REPLICATOR] {
             assert_rows(&rt, &[Row { workers, ..row }])?;
+        }
+    }
+    Ok(())
+}
+
+#[test]
+fn two_workers_answer_each_row(rt: HostRuntime) -> Result<(), AllocError> {
+    for rows in SHORT {
+        for row in rows {
+            assert_rows(&rt, &[Row { workers: 2, ..*row }])?;
         }
     }
     Ok(())
@@ -88,12 +99,12 @@ fn two_workers_of_a_run_meet(rt: HostRuntime) -> Result<(), Fail> {
     let mut file = Sipping::new(rt.alloc(), usize::MAX, 0)?;
     let outcome = run_gated(
         &rt,
-        &gate,
         rt.alloc(),
         row.file.as_bytes(),
         &options,
         &mut report,
         &mut file,
+        &gate,
     );
     assert!(rt; outcome.is_ok());
     assert_eq!(rt; gate.seen.load(Ordering::SeqCst), 2);

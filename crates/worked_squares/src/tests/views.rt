@@ -48,11 +48,11 @@ fn sides_of(bounds: Bounds) -> [i64; 4] {
 fn size_of(alloc: Global, word: u64, level: u8) -> Result<(u128, Option<[i64; 4]>), Refusal> {
     let mut book = empty_book(alloc)?;
     let sq = filled(&mut book, word, level)?;
-    let sides = match bounds(&book, alloc, sq)? {
+    let sides = match bounds(alloc, &book, sq)? {
         Some(bounds) => Some(sides_of(bounds)),
         None => None,
     };
-    Ok((population(&mut book, alloc, sq)?, sides))
+    Ok((population(alloc, &mut book, sq)?, sides))
 }
 
 const FULL: u64 = u64::MAX;
@@ -105,7 +105,7 @@ fn row_of(
 ) -> Result<(Vec<(i64, u64)>, Option<i64>), Refusal> {
     let mut book = empty_book(alloc)?;
     let sq = filled(&mut book, word, level)?;
-    Ok((row_runs(&book, alloc, sq, y)?, first_row(&book, sq, y)))
+    Ok((row_runs(alloc, &book, sq, y)?, first_row(&book, sq, y)))
 }
 
 // A leaf, the level of the square that has it everywhere, a row, its runs, and the first live row

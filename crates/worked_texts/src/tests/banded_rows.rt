@@ -63,7 +63,7 @@ fn written<R: Threads + Sync>(
     if sq.level > 63 {
         return Err(Refusal::BoxTooLarge);
     }
-    let outcome = write_rle(rt, &book, alloc, sq, read.comments(), &rule, 0, &mut file);
+    let outcome = write_rle(rt, alloc, &book, sq, read.comments(), &rule, 0, &mut file);
     Ok((outcome, file))
 }
 

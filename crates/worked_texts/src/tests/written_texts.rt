@@ -86,7 +86,7 @@ fn has_text(
     let sq = placed(&mut book, leaves, place).ok()?;
     let read = RleFile::open(if commented { COMMENTED } else { NO_COMMENTS }).ok()?;
     let mut file = Memory::with_room(alloc, 1000).ok()?;
-    write_mc(&book, alloc, sq, read.comments(), &rule, 4, &mut file).ok()?;
+    write_mc(alloc, &book, sq, read.comments(), &rule, 4, &mut file).ok()?;
     Some(file.bytes().strip_prefix(OPENING) == Some(wanted.as_bytes()))
 }
 
@@ -151,8 +151,8 @@ fn answers_of_writers<R: Threads + Sync>(
     let mut book = PlainBook::new(alloc, rule, 0);
     let sq = placed(&mut book, [1; 4], Place::Alone).ok()?;
     let mut file = FailAt::new(memory, 1);
-    let first = write_mc(&book, alloc, sq, read.comments(), &rule, 0, &mut file);
-    let second = write_rle(rt, &book, alloc, sq, read.comments(), &rule, 0, &mut file);
+    let first = write_mc(alloc, &book, sq, read.comments(), &rule, 0, &mut file);
+    let second = write_rle(rt, alloc, &book, sq, read.comments(), &rule, 0, &mut file);
     Some((first, second, file.failures()))
 }
 

@@ -62,7 +62,7 @@ returns-in_err-write-clause-refused g c =
     let is : c.from_residual-in_err-write.result ≡ Err (placeless c.in_err-write.field-0.0) = search rules in
     rw is (refused_writing c.args.bytes.now c.args.options.now (meaning_of c.in_ok-begun.begun.text) (rule_of c.in_ok-begun.begun.universe) (live_cells c.in_ok-begun.begun.universe) c.in_ok-begun.ensures.accepted
     c.generation-start.result (plane_of c.in_ok-last.last) _ _ c.generation-start.ensures (same_trans c.in_ok-last.ensures.same c.in_ok-universe.ensures.cells) c.in_ok-universe.ensures.reported _ c.in_ok-draw.ensures.drawn
-    c.args.options.now.format c.in_err-write.field-0.0 _ _ _ _ _ refl c.in_err-write.ensures.refused)
+    c.args.options.now.format c.in_ok-last.ensures.ok.bounds.cells c.in_err-write.field-0.0 _ _ _ _ _ refl c.in_ok-last.ensures.ok.bounds.listing c.in_err-write.ensures.refused)
 
 pub returns-clause-finished : goal.returns-clause-finished
 returns-clause-finished g c =

@@ -1,6 +1,6 @@
-use Rattle.std.proofs.Common.{rules, subst}
+use Rattle.std.proofs.Common.{inr, rules, subst}
 use Rattle.std.specs.Io.KnownBytes.{Appends}
-use Rattle.std.proofs.lemmas.Result.{on_ok_weaker}
+use Rattle.std.proofs.lemmas.Result.{IfErr-weaker, on_ok_weaker}
 use Rattle.pattern_writers.proofs.WholeText.{whole_text}
 use Rattle.pattern_writers.proofs.rle_text.write_rle.Goals as goal
 
@@ -18,3 +18,8 @@ returns-clause-written g c =
 
 pub returns-in_err-frame-clause-refused : goal.returns-in_err-frame-clause-refused
 returns-in_err-frame-clause-refused g c = search rules
+
+pub returns-clause-refused : goal.returns-clause-refused
+returns-clause-refused g c =
+    let framed = c.in_ok-frame.ensures.ok in
+    IfErr-weaker c.write_items.result _ _ (λ refusal is. inr (inr (is, record { cells = framed.cells; listing = framed.listing; fits = framed.fits }))) c.write_items.ensures.refused

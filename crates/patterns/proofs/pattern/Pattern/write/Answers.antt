@@ -3,7 +3,7 @@ use Rattle.std.specs.Prelude.{OnOk, IfErr}
 use Rattle.plane.specs.Device.{IsWriteRefusal}
 use Rattle.plane.specs.Plane.{Plane}
 use Rattle.plane.specs.declared.refusal.Refusal.TheVariants.{BoxTooLarge, NoMemory}
-use Rattle.pattern_writers.specs.RleText.{IsTooLarge, WritesRle}
+use Rattle.pattern_writers.specs.RleText.{HasRleText, IsTooLarge, WritesRle}
 use Rattle.patterns.proofs.CellsAtRest.{shared_cells, shared_known}
 use Rattle.patterns.specs.declared.format.Format.TheVariants.{Rle}
 use Rattle.patterns.proofs.pattern.Pattern.write.Goals as goal
@@ -24,7 +24,7 @@ returns-in-Ok-clause-refused g c =
     rw asked (subst (λ (p : Plane). IfErr c.write_rle.result (λ refusal.
     ((refusal ≡ BoxTooLarge) × IsTooLarge p × (c.write_rle.new.file ≡ c.args.file.now))
     ⊎ ((refusal ≡ NoMemory) × (c.write_rle.new.file ≡ c.args.file.now))
-    ⊎ IsWriteRefusal (g.V.Sink.failure_count c.args.file.now) (g.V.Sink.failure_count c.write_rle.new.file) refusal)) same c.write_rle.ensures.refused)
+    ⊎ (IsWriteRefusal (g.V.Sink.failure_count c.args.file.now) (g.V.Sink.failure_count c.write_rle.new.file) refusal × HasRleText p))) same c.write_rle.ensures.refused)
 
 pub write_rle-requires-clause-known : goal.write_rle-requires-clause-known
 write_rle-requires-clause-known g c =
