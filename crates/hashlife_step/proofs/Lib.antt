@@ -2,7 +2,7 @@ pub mod Counted
 pub mod EmptyBorders
 pub mod Grown
 pub mod LeafSquares
-pub mod Middles
+pub mod FourCentres
 pub mod NineFutures
 pub mod Planned
 pub mod Replaced

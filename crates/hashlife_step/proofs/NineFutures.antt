@@ -5,11 +5,11 @@ use Rattle.std.proofs.lemmas.List.Elements.{recursion_from_All}
 use Rattle.rule_text.specs.CountRule.{CountRule}
 use Rattle.plane.specs.Laws.{four_futures}
 use Rattle.plane.specs.Plane.{Plane}
-use Rattle.plane.specs.Square.{IsSame, joined, centre_of, future, ninth}
+use Rattle.plane.specs.Square.{IsSame, joined, centre_of, future, subsquare}
 use Rattle.plane.proofs.Parts.{nine_parts_lem}
 use Rattle.plane.proofs.Cuts.{joined_same}
 use Rattle.plane.proofs.Same.{same_sym, same_trans, plane_equal}
-use Rattle.squares.specs.Book.{Book, IsKnown, Shows, Keeps, AreNinths, joined_squares, nth, numbered}
+use Rattle.squares.specs.Book.{Book, IsKnown, Shows, Keeps, AreSubsquares, joined_squares, nth, numbered}
 use Rattle.squares.specs.declared.sq.Sq.{Sq}
 use Rattle.squares.proofs.Kept.{same_later}
 use Rattle.squares.proofs.Centres.{shows_as}
@@ -17,8 +17,8 @@ use Rattle.squares.specs.Overlaps.{AreMade, AreOverlaps, neighbours}
 use Rattle.hashlife_step.specs.Futures.{AreFinished, AreFutures}
 use Rattle.squares.proofs.FourKnown.{all_four, all_known, joined_as}
 
-pub ninths_known : (book : Book) (level : ℕ) (plane : Plane) (squares : List Sq) → length squares ≡ 9 → AreNinths book level plane squares → All (IsKnown book (level - 1)) squares
-ninths_known book level plane squares nine are = all_known book (level - 1) squares (λ k less.
+pub subsquares_known : (book : Book) (level : ℕ) (plane : Plane) (squares : List Sq) → length squares ≡ 9 → AreSubsquares book level plane squares → All (IsKnown book (level - 1)) squares
+subsquares_known book level plane squares nine are = all_known book (level - 1) squares (λ k less.
     let e : 3 * (k / 3) + k % 3 ≡ k = omega arith in
     subst (λ n. IsKnown book (level - 1) (nth squares n)) e (are.shown (k / 3) (k % 3) (omega arith) (omega arith)).known)
 
@@ -35,7 +35,7 @@ le_or_lt (suc a) (suc b) = ⊎_elim (λ h. inl (omega arith)) (λ h. inr (omega 
 
 pub finished_known : (book : Book) (level : ℕ) (nine four : List Sq) → length four ≡ 4 → AreFinished book level nine four → All (IsKnown book level) four
 finished_known book level nine four long is =
-    ⊎_elim (λ long_enough. made_known _ book level level nine four long (is.futures long_enough)) (λ short. made_known _ book level level nine four long (is.middles short)) (le_or_lt level book.exponent)
+    ⊎_elim (λ long_enough. made_known _ book level level nine four long (is.futures long_enough)) (λ short. made_known _ book level level nine four long (is.four_centres short)) (le_or_lt level book.exponent)
 
 -- squares of one level, as they are joined
 pub of_first : (book : Book) (level : ℕ) (four : List Sq) → 0 < length four → All (IsKnown book level) four → AllByRecursion (IsKnown book (nth four 0).level) four
@@ -68,21 +68,21 @@ future_of book level rule exponent squares futures plane k are less is_rule is_e
 
 module _ (level : ℕ) (rule : CountRule) (exponent : ℕ) (plane : Plane) (b1 b2 b3 b4 : Book) (parts futures quarters : List Sq) (res : Sq) (least : 4 < level)
     (nine : length parts ≡ 9) (rule2 : b2.rule ≡ rule) (exponent2 : b2.exponent ≡ exponent) (rule3 : b3.rule ≡ rule) (exponent3 : b3.exponent ≡ exponent)
-    (ninths : AreNinths b1 level plane parts) (k2 : Keeps b1 b2) (are : AreFutures b2 (level - 1) parts futures) (k3 : Keeps b2 b3)
+    (subsquares : AreSubsquares b1 level plane parts) (k2 : Keeps b1 b2) (are : AreFutures b2 (level - 1) parts futures) (k3 : Keeps b2 b3)
     (finished : AreFinished b3 (level - 1 - 1) futures quarters) (shown : Shows b4 ((nth quarters 0).level + 1) (joined_squares b3 (nth quarters 0).level quarters) res) where
   side : 2 ^ (level - 1 - 1) ≡ 2 ^ (level - 2)
   side = let e : level - 1 - 1 ≡ level - 2 = omega arith in ap (λ n. 2 ^ n) e
 
-  -- a ninth's future
-  part : (n row column : ℕ) → n ≡ 3 * row + column → row < 3 → column < 3 → IsSame (b3.cells (nth futures n)) (future rule exponent (level - 1) (ninth level row column plane))
-  part n row column e above left = subst (λ (k : ℕ). IsSame (b3.cells (nth futures k)) (future rule exponent (level - 1) (ninth level row column plane))) (sym e)
-      (same_later k3 (future_of b2 (level - 1) rule exponent parts futures (ninth level row column plane) (3 * row + column) are (omega arith) rule2 exponent2 (same_later k2 (ninths.shown row column above left))))
+  -- a subsquare's future
+  part : (n row column : ℕ) → n ≡ 3 * row + column → row < 3 → column < 3 → IsSame (b3.cells (nth futures n)) (future rule exponent (level - 1) (subsquare level row column plane))
+  part n row column e above left = subst (λ (k : ℕ). IsSame (b3.cells (nth futures k)) (future rule exponent (level - 1) (subsquare level row column plane))) (sym e)
+      (same_later k3 (future_of b2 (level - 1) rule exponent parts futures (subsquare level row column plane) (3 * row + column) are (omega arith) rule2 exponent2 (same_later k2 (subsquares.shown row column above left))))
 
   -- four of them
   corner : (row column : ℕ) → row < 2 → column < 2 → neighbours b3 (level - 1 - 1) futures (3 * row + column) ≡ four_futures rule exponent level plane row column
   corner row column above left =
-      let Joined : ℕ → Plane = λ n. joined n (future rule exponent (level - 1) (ninth level row column plane)) (future rule exponent (level - 1) (ninth level row (column + 1) plane))
-      (future rule exponent (level - 1) (ninth level (row + 1) column plane)) (future rule exponent (level - 1) (ninth level (row + 1) (column + 1) plane)) in
+      let Joined : ℕ → Plane = λ n. joined n (future rule exponent (level - 1) (subsquare level row column plane)) (future rule exponent (level - 1) (subsquare level row (column + 1) plane))
+      (future rule exponent (level - 1) (subsquare level (row + 1) column plane)) (future rule exponent (level - 1) (subsquare level (row + 1) (column + 1) plane)) in
       plane_equal _ _ (joined_same (2 ^ (level - 1 - 1)) _ _ _ _ _ _ _ _ (part (3 * row + column) row column (omega arith) (omega arith) (omega arith)) (part (3 * row + column + 1) row (column + 1) (omega arith) (omega arith) (omega arith))
       (part (3 * row + column + 3) (row + 1) column (omega arith) (omega arith) (omega arith)) (part (3 * row + column + 4) (row + 1) (column + 1) (omega arith) (omega arith) (omega arith)))
       ∙ ap Joined side
@@ -114,5 +114,5 @@ module _ (level : ℕ) (rule : CountRule) (exponent : ℕ) (plane : Plane) (b1 b
       let by_rule = subst (λ r. Made (future r b3.exponent (level - 1 - 1 + 1))) rule3 made in
       let by_exponent = subst (λ n. Made (future rule n (level - 1 - 1 + 1))) exponent3 by_rule in
       whole (future rule exponent (level - 1)) (subst (λ n. Made (future rule exponent n)) up by_exponent) (laws.by_futures (omega arith)))
-      (λ short. whole (centre_of (level - 1)) (subst (λ n. Made (centre_of n)) up (finished.middles short)) (laws.by_centres (omega arith)))
+      (λ short. whole (centre_of (level - 1)) (subst (λ n. Made (centre_of n)) up (finished.four_centres short)) (laws.by_centres (omega arith)))
       (le_or_lt (level - 1 - 1) b3.exponent)

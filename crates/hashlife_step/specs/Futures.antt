@@ -10,10 +10,10 @@ pub record AreFutures (book : Book) (level : ℕ) (squares futures : List Sq) : 
   pub each : (k : ℕ) → k < length squares → Shows book (level - 1) (future book.rule book.exponent level (book.cells (nth squares k))) (nth futures k)
 
 -- of nine squares in three rows, the centres of the four that neighbours make
-abbrev pub AreMiddles : Book → ℕ → List Sq → List Sq → Type 0
-AreMiddles book level = AreMade (centre_of (level + 1)) book level level
+abbrev pub AreCentres : Book → ℕ → List Sq → List Sq → Type 0
+AreCentres book level = AreMade (centre_of (level + 1)) book level level
 
 -- their futures where there is time for them, else their centres
 pub record AreFinished (book : Book) (level : ℕ) (nine four : List Sq) : Type 0 where
   pub futures : level ≤ book.exponent → AreMade (future book.rule book.exponent (level + 1)) book level level nine four
-  pub middles : book.exponent < level → AreMiddles book level nine four
+  pub four_centres : book.exponent < level → AreCentres book level nine four

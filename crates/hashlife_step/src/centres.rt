@@ -1,25 +1,25 @@
+//! The centres of the four squares that neighbours make among nine squares in three rows.
 ghost use Rattle.std.specs.Prelude.{◌<◌, All, IfOk, IfErr};
 ghost use Rattle.squares.specs.Book.{IsKnown, Keeps, KeepsResults, MayRefuse};
-ghost use Rattle.hashlife_step.specs.Futures.{AreMiddles};
+ghost use Rattle.hashlife_step.specs.Futures.{AreCentres};
 ghost use Rattle.hashlife_step.specs.Quarters.{AreRead};
 
-use crate::leaf_squares::leaf_middle;
 use plane::Refusal;
-use squares::{Sq, Squares};
+use squares::{Sq, Squares, leaf_centre};
 
-// The same centres as `middles`, of nine squares of level 3.
-fn leaf_middles<S: Squares>(book: &mut S, nine: [Sq; 9]) -> Result<[Sq; 4], Refusal>
+// The same centres as `four_centres`, of nine squares of level 3.
+fn leaf_centres<S: Squares>(book: &mut S, nine: [Sq; 9]) -> Result<[Sq; 4], Refusal>
     requires known { All (IsKnown (S.book book.old) 3) nine }
-    ensures ok { IfOk result (AreMiddles (S.book book.new) 3 nine) }
+    ensures ok { IfOk result (AreCentres (S.book book.new) 3 nine) }
     ensures refusal { IfErr result (MayRefuse (S.book book.new)) }
     ensures keeps { Keeps (S.book book.old) (S.book book.new) }
     ensures results { KeepsResults (S.book book.old) (S.book book.new) }
 {
     let [a, b, c, d, e, f, g, h, i] = nine;
-    let nw = leaf_middle(book, [a, b, d, e])?;
-    let ne = leaf_middle(book, [b, c, e, f])?;
-    let sw = leaf_middle(book, [d, e, g, h])?;
-    let se = leaf_middle(book, [e, f, h, i])?;
+    let nw = leaf_centre(book, [a, b, d, e])?;
+    let ne = leaf_centre(book, [b, c, e, f])?;
+    let sw = leaf_centre(book, [d, e, g, h])?;
+    let se = leaf_centre(book, [e, f, h, i])?;
     Ok([nw, ne, sw, se])
 }
 
@@ -55,19 +55,19 @@ fn read_nine<S: Squares>(book: &mut S, level: u8, nine: [Sq; 9]) -> [[Sq; 4]; 9]
 }
 
 /// Of nine squares in three rows, the centres of the four that neighbours make.
-pub(crate) fn middles<S: Squares>(
+pub(crate) fn four_centres<S: Squares>(
     book: &mut S,
     level: u8,
     nine: [Sq; 9],
 ) -> Result<[Sq; 4], Refusal>
     requires known { All (IsKnown (S.book book.old) level) nine }
-    ensures ok { IfOk result (AreMiddles (S.book book.new) level nine) }
+    ensures ok { IfOk result (AreCentres (S.book book.new) level nine) }
     ensures refusal { IfErr result (MayRefuse (S.book book.new)) }
     ensures keeps { Keeps (S.book book.old) (S.book book.new) }
     ensures results { KeepsResults (S.book book.old) (S.book book.new) }
 {
     if level == 3 {
-        return leaf_middles(book, nine);
+        return leaf_centres(book, nine);
     }
     // A centre is made of the quarters where its four squares meet.
     let [a, b, c, d, e, f, g, h, i] = read_nine(book, level, nine);

@@ -1,40 +1,15 @@
-ghost use Rattle.std.specs.Prelude.{◌≡◌, All, IfOk, IfErr};
+//! Squares of levels 3 to 6, by the cells of their leaves: read and joined, their futures, and the
+//! square round a leaf.
+ghost use Rattle.std.specs.Prelude.{◌≡◌, IfOk, IfErr};
 ghost use Rattle.leaf_kernels.specs.Rows.{four_fours_plane, four_sixteens_plane, leaves_plane, sixteen_plane};
 ghost use Rattle.plane.specs.Centred.{centred};
-ghost use Rattle.plane.specs.Square.{IsSame, centre_of};
-ghost use Rattle.squares.specs.Book.{IsFuture, IsKnown, Keeps, KeepsResults, MayRefuse, Shows, joined_squares};
+ghost use Rattle.plane.specs.Square.{IsSame};
+ghost use Rattle.squares.specs.Book.{IsFuture, IsKnown, Keeps, KeepsResults, MayRefuse, Shows};
 ghost use Rattle.hashlife_step.specs.Round.{ShowsRound};
 
 use leaf_kernels::{centre16, result16, result64};
 use plane::Refusal;
-use squares::{Sq, Squares};
-
-// The cells of four squares of level 3.
-fn read_four<S: Squares>(book: &mut S, four: [Sq; 4]) -> [u64; 4]
-    requires known { All (IsKnown (S.book book.old) 3) four }
-    ensures value { IsSame (leaves_plane result) (joined_squares (S.book book.old) 3 four) }
-    ensures keeps { Keeps (S.book book.old) (S.book book.new) }
-    ensures results { KeepsResults (S.book book.old) (S.book book.new) }
-{
-    let [nw, ne, sw, se] = four;
-    let upper_left = book.read_bits(nw);
-    let upper_right = book.read_bits(ne);
-    let lower_left = book.read_bits(sw);
-    let lower_right = book.read_bits(se);
-    [upper_left, upper_right, lower_left, lower_right]
-}
-
-// The four leaves of a square of level 4.
-fn read_leaves<S: Squares>(book: &mut S, sq: Sq) -> [u64; 4]
-    requires known { IsKnown (S.book book.old) sq.level sq }
-    requires level { sq.level ≡ 4 }
-    ensures value { IsSame (leaves_plane result) ((S.book book.old).cells sq) }
-    ensures keeps { Keeps (S.book book.old) (S.book book.new) }
-    ensures results { KeepsResults (S.book book.old) (S.book book.new) }
-{
-    let quarters = book.read_parts(sq);
-    read_four(book, quarters)
-}
+use squares::{Sq, Squares, read_leaves};
 
 // The sixteen leaves of a square of level 5, row by row.
 fn read_sixteen<S: Squares>(book: &mut S, sq: Sq) -> [u64; 16]
@@ -126,18 +101,6 @@ pub(crate) fn leaf_future<S: Squares>(book: &mut S, sq: Sq) -> Result<Sq, Refusa
     let exponent = u8::min(book.exponent(), 2);
     let word = result16(book.rule(), leaves, exponent);
     book.leaf(word)
-}
-
-/// The centre of the square that four squares of level 3 make.
-pub(crate) fn leaf_middle<S: Squares>(book: &mut S, four: [Sq; 4]) -> Result<Sq, Refusal>
-    requires known { All (IsKnown (S.book book.old) 3) four }
-    ensures ok { IfOk result (Shows (S.book book.new) 3 (centre_of 4 (joined_squares (S.book book.old) 3 four))) }
-    ensures refusal { IfErr result (MayRefuse (S.book book.new)) }
-    ensures keeps { Keeps (S.book book.old) (S.book book.new) }
-    ensures results { KeepsResults (S.book book.old) (S.book book.new) }
-{
-    let leaves = read_four(book, four);
-    book.leaf(centre16(leaves))
 }
 
 /// The square of level 4 that has this one, of level 3, in its middle: each quarter is the middle of

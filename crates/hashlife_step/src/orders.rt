@@ -5,7 +5,7 @@ ghost use Rattle.std.specs.Prelude.{◌<◌};
 ///
 /// Workers share their work best where their orders begin at different squares. No result hangs on an
 /// order, so nothing says that each square has its turn.
-pub(crate) fn turn(order: u8, k: usize, count: usize) -> usize
+pub(crate) fn permuted(order: u8, k: usize, count: usize) -> usize
     requires { 0 < count }
     ensures { result < count }
 {

@@ -1,3 +1,4 @@
+//! Empty squares round a square, so that a step has room.
 ghost use Rattle.std.specs.Prelude.{◌≡◌, ◌+◌, ◌-◌, ◌^◌, ◌<◌, ◌≤◌, max, IfOk, IfErr};
 ghost use Rattle.plane.specs.Centred.{centred, Holds};
 ghost use Rattle.plane.specs.Plane.{after};

@@ -1,11 +1,13 @@
+//! The recursion of HashLife: the future of a square from the futures of smaller ones. The book is the
+//! memo: it recalls the results that it knows and keeps those that are made.
 ghost use Rattle.std.specs.Prelude.{◌≡◌, ◌+◌, ◌-◌, ◌<◌, ◌≤◌, All, IfOk, IfErr, OnOk};
 ghost use Rattle.squares.specs.Book.{HasResult, IsFuture, IsKnown, Keeps, KeepsResults, MayRefuse};
 ghost use Rattle.hashlife_step.specs.Futures.{AreFinished, AreFutures};
 ghost use Rattle.hashlife_step.specs.Tallies.{Tallies};
 
-use crate::centres::middles;
+use crate::centres::four_centres;
 use crate::leaf_squares::{leaf_future, wide_future};
-use crate::orders::turn;
+use crate::orders::permuted;
 use crate::tally::Tally;
 use plane::Refusal;
 use squares::{Sq, Squares};
@@ -94,7 +96,7 @@ fn finish<S: Squares>(
     ensures tally { Tallies (S.book book.old) (S.book book.new) (level + 1) tally.old.expansions tally.new.expansions }
 {
     if book.exponent() < level {
-        return middles(book, level, nine);
+        return four_centres(book, level, nine);
     }
     let mut four = book.overlaps(level, nine)?;
     replace_by_futures(book, level + 1, &mut four, order, tally)?;
@@ -118,7 +120,7 @@ pub fn replace_by_futures<S: Squares>(
     ensures keeps { Keeps (S.book book.old) (S.book book.new) }
     ensures tally { Tallies (S.book book.old) (S.book book.new) level tally.old.expansions tally.new.expansions }
 {
-    visit(book, level, squares, order, tally)?;
+    ask_ahead(book, level, squares, order, tally)?;
     for i in 0..squares.len() {
         squares[i] = future_in_order(book, squares[i], order, tally)?;
     }
@@ -127,7 +129,7 @@ pub fn replace_by_futures<S: Squares>(
 
 // Asks for the futures of the squares in this order; in order 0 for none.
 #[cycle(future)]
-fn visit<S: Squares>(
+fn ask_ahead<S: Squares>(
     book: &mut S,
     level: u8,
     squares: &[Sq],
@@ -144,7 +146,12 @@ fn visit<S: Squares>(
         return Ok(());
     }
     for k in 0..squares.len() {
-        future_in_order(book, squares[turn(order, k, squares.len())], order, tally)?;
+        future_in_order(
+            book,
+            squares[permuted(order, k, squares.len())],
+            order,
+            tally,
+        )?;
     }
     Ok(())
 }

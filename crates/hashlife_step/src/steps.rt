@@ -1,3 +1,4 @@
+//! One step of a run: the square is padded, its future taken and trimmed.
 ghost use Rattle.std.specs.Prelude.{◌+◌, ◌^◌, ◌<◌, ◌≤◌, max, IfOk, IfErr};
 ghost use Rattle.plane.specs.Centred.{centred};
 ghost use Rattle.plane.specs.Plane.{after};

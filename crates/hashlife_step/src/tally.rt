@@ -1,3 +1,4 @@
+//! How many results were made.
 ghost use Rattle.std.specs.Prelude.{◌≡◌, ◌+◌, min};
 
 /// How many results were made and kept. A count that is full stays.

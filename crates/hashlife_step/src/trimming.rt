@@ -1,3 +1,4 @@
+//! A square without its empty border.
 ghost use Rattle.std.specs.Prelude.{◌↔◌, ◌-◌, ◌<◌, All, IfOk, IfErr, IsTrue};
 ghost use Rattle.plane.specs.Centred.{centred, Holds, IsSmallestLevel};
 ghost use Rattle.squares.specs.Book.{IsEmpty, IsKnown, Keeps, KeepsResults, MayRefuse};

@@ -1,3 +1,4 @@
+//! The number of live neighbours of each cell of sixteen rows, for all cells at once.
 ghost use Rattle.std.specs.Prelude.{◌≡◌, ℤ, ◌+◌, ◌<◌, ◌==◌, ◌&&◌, true};
 ghost use Rattle.plane.specs.Plane.{live_neighbours};
 ghost use Rattle.plane.specs.Square.{spans};

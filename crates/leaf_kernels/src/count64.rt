@@ -1,3 +1,4 @@
+//! A number from 0 to 15 at each cell of four rows of sixty-four cells.
 ghost use Rattle.std.specs.Prelude.{◌≡◌, ℤ, ◌+◌};
 ghost use Rattle.leaf_kernels.specs.Sums.{count64_at, sum64_at};
 

@@ -1,3 +1,4 @@
+//! What a rule makes of the cells that have one number of live neighbours.
 ghost use Rattle.std.specs.Prelude.{◌≡◌, ℕ, ℤ, ◌&&◌};
 ghost use Rattle.rule_text.specs.CountRule.{CountRule, lives};
 ghost use Rattle.plane.specs.Square.{spans};

@@ -1,3 +1,4 @@
+//! The next generation of sixteen rows of sixteen cells.
 ghost use Rattle.plane.specs.Plane.{next};
 ghost use Rattle.plane.specs.Square.{IsSame, cut};
 ghost use Rattle.leaf_kernels.specs.Rows.{rows_plane};

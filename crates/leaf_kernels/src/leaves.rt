@@ -1,3 +1,4 @@
+//! The leaves of a square of 16 by 16 cells and its rows, each from the other.
 ghost use Rattle.std.specs.Prelude.{◌≡◌, ℕ, ◌+◌, ◌*◌, ◌/◌, ◌%◌, ◌^◌, ◌<◌, slice_index};
 ghost use Rattle.plane.specs.Square.{IsSame, bit, bits_plane, centre_of};
 ghost use Rattle.leaf_kernels.specs.Rows.{leaves_plane, rows_plane};

@@ -1,3 +1,4 @@
+//! The leaves of a square of 64 by 64 cells and its rows, each from the other.
 ghost use Rattle.std.specs.Prelude.{◌≡◌, ℕ, ◌+◌, ◌*◌, ◌/◌, ◌%◌, ◌^◌, ◌<◌, [], slice_index, slice_index_or};
 ghost use Rattle.plane.specs.Square.{IsSame, bit, centre_of};
 ghost use Rattle.leaf_kernels.specs.Rows.{four_fours_plane, four_sixteens_plane, rows64_plane};

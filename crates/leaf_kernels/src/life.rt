@@ -1,3 +1,4 @@
+//! The next generation by Conway's Life (B3/S23), in fewer steps than by any rule.
 ghost use Rattle.std.specs.Prelude.{◌≡◌, ◌↔◌, ℤ, pos, ◌+◌, ◌+ℤ◌, ◌-ℤ◌, true, IsTrue};
 ghost use Rattle.plane.specs.Square.{spans};
 ghost use Rattle.leaf_kernels.specs.Life.{life};

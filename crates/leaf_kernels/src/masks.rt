@@ -1,3 +1,4 @@
+//! The next generation by any rule, for four rows of sixty-four cells at once.
 ghost use Rattle.std.specs.Prelude.{◌≡◌, ℤ, pos, ◌≤◌, ◌&&◌, true};
 ghost use Rattle.rule_text.specs.CountRule.{lives};
 ghost use Rattle.plane.specs.Plane.{live_neighbours};

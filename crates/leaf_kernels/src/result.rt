@@ -1,3 +1,4 @@
+//! The middle of a square, some generations on.
 ghost use Rattle.std.specs.Prelude.{◌<◌};
 ghost use Rattle.plane.specs.Square.{IsSame, bits_plane, centre_of, future};
 ghost use Rattle.leaf_kernels.specs.Rows.{four_fours_plane, four_sixteens_plane, leaves_plane};

@@ -1,3 +1,4 @@
+//! Sixteen rows of sixteen cells, a lane of a vector for each: moved by one cell, and chosen by state.
 ghost use Rattle.std.specs.Prelude.{◌≡◌, ℤ, pos, ◌+ℤ◌, ◌-ℤ◌, ◌&&◌, if◌then◌else◌};
 ghost use Rattle.plane.specs.Square.{spans};
 ghost use Rattle.leaf_kernels.specs.Rows.{rows_plane};

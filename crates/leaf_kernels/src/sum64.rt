@@ -1,3 +1,4 @@
+//! A number from 0 to 3 at each cell of four rows of sixty-four cells.
 ghost use Rattle.std.specs.Prelude.{◌≡◌, ℤ, ◌+◌};
 ghost use Rattle.leaf_kernels.specs.Rows.{four_rows_plane};
 ghost use Rattle.leaf_kernels.specs.Sums.{number, sum64_at};

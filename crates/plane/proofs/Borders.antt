@@ -5,7 +5,7 @@ use Rattle.plane.specs.Centred.{centred, Holds}
 use Rattle.plane.specs.Plane.{Plane}
 use Rattle.plane.specs.Square.{IsSame, IsSquare, empty, spans, cut, joined}
 use Rattle.plane.proofs.Cuts.{joined_same, joined_within}
-use Rattle.plane.proofs.Ninths.{half_of}
+use Rattle.plane.proofs.Subsquares.{half_of}
 use Rattle.plane.proofs.Paddings.{square_held, holds_same}
 use Rattle.plane.proofs.Rounds.{Border, border_piece, inner_round, whole_joined}
 use Rattle.plane.proofs.Rounds.Border.{at_left, at_right, at_top, at_bottom}

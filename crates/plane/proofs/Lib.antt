@@ -9,7 +9,7 @@ pub mod Growth
 pub mod LeafBits
 pub mod Listings
 pub mod Living
-pub mod Ninths
+pub mod Subsquares
 pub mod Paddings
 pub mod Parts
 pub mod Populations

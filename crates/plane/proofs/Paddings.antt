@@ -12,7 +12,7 @@ use Rattle.plane.specs.Plane.{Plane, after}
 use Rattle.plane.specs.Square.{IsSame, IsSquare, empty, spans, centre_of, future}
 use Rattle.plane.proofs.Cones.{light_cone_lem, next_same, translation_lem}
 use Rattle.plane.proofs.Cuts.{cut_case}
-use Rattle.plane.proofs.Ninths.{half_of}
+use Rattle.plane.proofs.Subsquares.{half_of}
 use Rattle.plane.proofs.Parts.{after_same}
 use Rattle.plane.proofs.Same.{same_trans, same_sym}
 

@@ -8,7 +8,7 @@ use Rattle.plane.specs.Plane.{Plane, next, after}
 use Rattle.plane.specs.Square.{IsSame, spans, cut, joined}
 use Rattle.plane.proofs.Cones.{light_cone_lem, translation_lem}
 use Rattle.plane.proofs.Cuts.{and_case, and_left, and_right, cut_cut, cut_same, joined_cuts, moved_to}
-use Rattle.plane.proofs.Ninths.{half_of}
+use Rattle.plane.proofs.Subsquares.{half_of}
 use Rattle.plane.proofs.Same.{same_trans}
 
 -- generations follow one another

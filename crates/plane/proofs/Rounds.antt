@@ -7,7 +7,7 @@ use Rattle.plane.specs.Plane.{Plane}
 use Rattle.plane.specs.Square.{IsSame, IsSquare, empty, spans, cut, joined}
 use Rattle.plane.specs.Laws.{moved}
 use Rattle.plane.proofs.Cuts.{cut_case, joined_cuts, joined_nw, joined_ne, joined_sw, joined_se, joined_within, moved_to}
-use Rattle.plane.proofs.Ninths.{half_of, part_of}
+use Rattle.plane.proofs.Subsquares.{half_of, part_of}
 use Rattle.plane.proofs.Paddings.{both_outside, twice_half}
 use Rattle.plane.proofs.Same.{same_trans, same_sym, plane_equal}
 

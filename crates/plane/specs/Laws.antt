@@ -7,7 +7,7 @@ use Rattle.plane.specs.declared.cell.Bounds.{Bounds}
 use Rattle.plane.specs.Bounds.{bounds_of, IsWithin}
 use Rattle.plane.specs.Listing.{IsListing}
 use Rattle.plane.specs.Plane.{Plane, after}
-use Rattle.plane.specs.Square.{IsSame, joined, centre_of, ninth, future}
+use Rattle.plane.specs.Square.{IsSame, joined, centre_of, subsquare, future}
 use Rattle.plane.specs.Window.{cells_in, IsInWindow}
 
 -- a plane has at most one listing
@@ -52,8 +52,8 @@ BoundedListing = (left top : ℤ) (wide tall : ℕ) (plane : Plane) → IsInWind
 abbrev pub four_futures : CountRule → ℕ → ℕ → Plane → ℕ → ℕ → Plane
 four_futures rule exponent level plane row column =
     joined (2 ^ (level - 2))
-    (future rule exponent (level - 1) (ninth level row column plane)) (future rule exponent (level - 1) (ninth level row (column + 1) plane))
-    (future rule exponent (level - 1) (ninth level (row + 1) column plane)) (future rule exponent (level - 1) (ninth level (row + 1) (column + 1) plane))
+    (future rule exponent (level - 1) (subsquare level row column plane)) (future rule exponent (level - 1) (subsquare level row (column + 1) plane))
+    (future rule exponent (level - 1) (subsquare level (row + 1) column plane)) (future rule exponent (level - 1) (subsquare level (row + 1) (column + 1) plane))
 
 -- the nine futures make four squares, and these make the future: by their futures where there is time for it, else by their centres
 pub record HasNineParts (rule : CountRule) (exponent level : ℕ) (plane : Plane) : Type 0 where

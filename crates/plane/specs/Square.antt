@@ -35,8 +35,8 @@ abbrev pub centre_of : ℕ → Plane → Plane
 centre_of level = cut (2 ^ (level - 1)) (2 ^ (level - 2)) (2 ^ (level - 2))
 
 -- one of the nine overlapping squares of the level below: it begins so many quarters of the side from the top and the left
-abbrev pub ninth : ℕ → ℕ → ℕ → Plane → Plane
-ninth level row column = cut (2 ^ (level - 1)) (column * 2 ^ (level - 2)) (row * 2 ^ (level - 2))
+abbrev pub subsquare : ℕ → ℕ → ℕ → Plane → Plane
+subsquare level row column = cut (2 ^ (level - 1)) (column * 2 ^ (level - 2)) (row * 2 ^ (level - 2))
 
 -- the cells of a leaf
 abbrev pub bit : ℕ → ℕ → Bool

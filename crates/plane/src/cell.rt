@@ -1,3 +1,5 @@
+//! Cells and bounding boxes.
+
 /// A place on the plane: `x` counts to the right and `y` downwards. Cells are ordered as they are
 /// read, by row and then from left to right.
 #[derive(Clone, Copy, Debug, PartialEq, Eq, PartialOrd, Ord)]

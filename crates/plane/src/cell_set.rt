@@ -1,3 +1,5 @@
+//! Sets of cells.
+
 ghost use Rattle.std.specs.Prelude.{◌≡◌, ◌↔◌, [], length, Some, IsTrue, OnErr, OnOk, IsOkUnless};
 ghost use Rattle.plane.specs.Bounds.{bounds_of, box_with};
 ghost use Rattle.plane.specs.CellSet.{IsCellSet, with_cell};
@@ -105,9 +107,7 @@ impl CellSet {
         ensures err { OnErr result (self.new ≡ self.old) }
         ensures memory { IsOkUnless result Refusal.NoMemory }
     {
-        let Ok(_) = self.cells.insert(cell) else {
-            return Err(Refusal::NoMemory);
-        };
+        self.cells.insert(cell)?;
         Ok(())
     }
 }

@@ -1,3 +1,5 @@
+//! Refusals with their places.
+
 ghost use Rattle.std.specs.Prelude.{◌≡◌, None};
 
 use crate::refusal::Refusal;

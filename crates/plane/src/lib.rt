@@ -17,6 +17,6 @@ pub use cell_set::CellSet;
 pub use device::{Counted, FailAt, Failed, Memory, Sink, Source, write_all};
 pub use fault::Fault;
 pub use laws::{bounded_listing, light_cone, nine_parts, one_listing, smallest_box, translation};
-pub use range::{COORDINATE_LIMIT, GENERATION_LIMIT, LIVE_CELL_LIMIT, reach};
+pub use range::{COORDINATE_LIMIT, GENERATION_LIMIT, LIVE_CELL_LIMIT, is_coordinate, reach};
 pub use refusal::Refusal;
 pub use window::{WINDOW_SIDE_LIMIT, Window};

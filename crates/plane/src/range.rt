@@ -1,3 +1,5 @@
+//! The range of coordinates and generations, and which runs stay within it.
+
 ghost use Rattle.std.specs.Prelude.{◌≡◌, ◌↔◌, ◌+ℤ◌, ◌-ℤ◌, pos, IsTrue, IfOk, IfErr};
 ghost use Rattle.std.specs.Option.{option_map, SomeIff};
 ghost use Rattle.plane.specs.Range.{widened, IsBoxInRange, IsCoordinate, StaysWithin};
@@ -15,7 +17,7 @@ pub const GENERATION_LIMIT: u64 = 1 << 63;
 pub const LIVE_CELL_LIMIT: u64 = 1 << 28;
 
 /// Whether a cell may have this coordinate.
-fn is_coordinate(z: i64) -> bool
+pub fn is_coordinate(z: i64) -> bool
     ensures { IsTrue result ↔ IsCoordinate z }
 {
     -COORDINATE_LIMIT <= z && z < COORDINATE_LIMIT

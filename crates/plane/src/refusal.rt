@@ -1,6 +1,10 @@
+//! The twenty refusals.
+
 ghost use Rattle.std.specs.Prelude.{◌≡◌};
+ghost use Rattle.plane.specs.declared.refusal.Refusal.TheVariants.{NoMemory};
 ghost use Rattle.plane.specs.Refusal.{name_of, number_of};
 
+use std::alloc::{AllocError, AllocFailed};
 use std::error::Error;
 use std::fmt;
 
@@ -93,3 +97,21 @@ impl fmt::Display for Refusal {
 }
 
 impl Error for Refusal {}
+
+/// Want of memory is `NoMemory`.
+impl From<AllocError> for Refusal {
+    ghost from_gives = { λ _ refusal. refusal ≡ NoMemory };
+
+    fn from(_error: AllocError) -> Refusal {
+        Refusal::NoMemory
+    }
+}
+
+/// What found no room is let go, and the refusal is `NoMemory`.
+impl<T: Drop> From<AllocFailed<T>> for Refusal {
+    ghost from_gives = { λ _ refusal. refusal ≡ NoMemory };
+
+    fn from(_error: AllocFailed<T>) -> Refusal {
+        Refusal::NoMemory
+    }
+}

@@ -1,3 +1,5 @@
+//! Windows: rectangles of the plane that a picture can show.
+
 ghost use Rattle.std.specs.Prelude.{◌≡◌, ◌↔◌, IfOk, IfErr, IsTrue};
 ghost use Rattle.plane.specs.Window.{IsWindow, IsWindowCorner, IsWindowSide};
 

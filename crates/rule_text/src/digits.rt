@@ -1,3 +1,5 @@
+//! Sets of digits, in which births and survivals are counted.
+
 ghost use Rattle.std.specs.Prelude.{◌≡◌, ℕ, ◌+◌, ◌^◌, ◌<◌, ◌≤◌, List, [], ◌∷◌, ◌++◌, length, sum_by, IfSome, IfNone};
 ghost use Rattle.arrayvec.specs.ArrayString.{array_string_len};
 ghost use Rattle.std.specs.Char.{is_ascii_digit};

@@ -1,3 +1,5 @@
+//! Why a text is no rule.
+
 use std::error::Error;
 use std::fmt;
 

@@ -1,3 +1,5 @@
+//! The three neighbourhoods, and which cells each counts.
+
 ghost use Rattle.std.specs.Prelude.{◌≡◌, length, All};
 ghost use Rattle.rule_text.specs.Neighbourhood.{neighbour_count, offsets, IsStep};
 ghost use Rattle.std.specs.Option.{option_to_list};

@@ -1,3 +1,5 @@
+//! Rules that count live neighbours, and their texts.
+
 ghost use Rattle.std.specs.Prelude.{◌≡◌, ◌^◌, ◌<◌, IfOk};
 ghost use Rattle.rule_text.specs.CountRule.{IsRule, lives};
 ghost use Rattle.rule_text.specs.RuleCode.{code_of};

@@ -3,6 +3,7 @@ pub mod Centres
 pub mod CopyMaps
 pub mod EmptyFutures
 pub mod FourKnown
+pub mod FourLeaves
 pub mod Kept
 pub mod KeptResults
 pub mod KnownCopies

@@ -1,8 +1,7 @@
 -- What stands at a place of a list that grows or changes.
-use Rattle.std.proofs.Common.{◌≡◌, ◌≢◌, ℕ, zero, suc, ◌<◌, ◌⊎◌, cond, false, List, [], ◌∷◌, ◌++◌, length, ◌∙◌, ap, refl, inl, inr, ⊎_elim, arith}
-use Rattle.std.specs.Prelude.{Some, None, Result, Ok, Err, is_ok, is_err, slice_get, slice_set, slice_index_or}
+use Rattle.std.proofs.Common.{◌≡◌, ◌≢◌, ℕ, zero, suc, ◌<◌, ◌⊎◌, List, [], ◌∷◌, ◌++◌, length, ◌∙◌, ap, refl, inl, inr, ⊎_elim, arith}
+use Rattle.std.specs.Prelude.{Some, None, slice_get, slice_set, slice_index_or}
 use Rattle.std.specs.List.{AllByRecursion}
-use Rattle.std.proofs.lemmas.Bool.{false≢true}
 
 some_same : {X : Type 0} (a b : X) → Some a ≡ Some b → a ≡ b
 some_same a b e = cc
@@ -42,11 +41,6 @@ pub read_there : {X : Type 0} (xs : List X) (i : ℕ) (x read : X) → slice_get
 read_there [] i x read h e = absurd (none_there x h)
 read_there (y ∷ ys) zero x read h e = e ∙ some_same y x h
 read_there (y ∷ ys) (suc i) x read h e = read_there ys i x read h e
-
--- what a push that was made leaves
-pub pushed : {X T E : Type 0} (r : Result T E) (new with_it without : List X) → new ≡ cond (is_ok r) with_it without → false ≡ is_err r → new ≡ with_it
-pushed (Ok x) new with_it without h e = h
-pushed (Err x) new with_it without h e = absurd (false≢true e)
 
 -- a fact of each of some, at one more and at one of them
 pub all_push : {X : Type 0} (P : X → Type 0) (xs : List X) (x : X) → AllByRecursion P xs → P x → AllByRecursion P (xs ++ x ∷ [])

@@ -2,7 +2,7 @@
 use Rattle.std.specs.Prelude.{◌≡◌, ℕ, suc, ◌+◌, ◌-◌, ◌*◌, ◌<◌, ◌≤◌, ◌^◌, ◌⊎◌, ◌↔◌, Bool, IsTrue, List, [], length, Some, Contains, slice_index_or, slice_get}
 use Rattle.rule_text.specs.CountRule.{CountRule, IsRule}
 use Rattle.plane.specs.Plane.{Plane}
-use Rattle.plane.specs.Square.{IsSame, IsSquare, cut, joined, ninth, empty, future}
+use Rattle.plane.specs.Square.{IsSame, IsSquare, cut, joined, subsquare, empty, future}
 use Rattle.plane.specs.declared.refusal.Refusal.{Refusal}
 use Rattle.plane.specs.declared.refusal.Refusal.TheVariants.{NodesFull, NoMemory}
 use Rattle.squares.specs.declared.sq.Sq.{Sq}
@@ -114,8 +114,8 @@ pub record AreQuarters (book : Book) (level : ℕ) (plane : Plane) (quarters : L
   pub se : Shows book (level - 1) (cut (2 ^ (level - 1)) (2 ^ (level - 1)) (2 ^ (level - 1)) plane) (nth quarters 3)
 
 -- the nine overlapping squares of a square of this level with these cells, row by row
-pub record AreNinths (book : Book) (level : ℕ) (plane : Plane) (squares : List Sq) : Type 0 where
-  pub shown : (row column : ℕ) → row < 3 → column < 3 → Shows book (level - 1) (ninth level row column plane) (nth squares (3 * row + column))
+pub record AreSubsquares (book : Book) (level : ℕ) (plane : Plane) (squares : List Sq) : Type 0 where
+  pub shown : (row column : ℕ) → row < 3 → column < 3 → Shows book (level - 1) (subsquare level row column plane) (nth squares (3 * row + column))
 
 -- the cells of four squares of a level, beside and below one another
 abbrev pub joined_squares : Book → ℕ → List Sq → Plane

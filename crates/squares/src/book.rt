@@ -1,7 +1,9 @@
+//! What a book of squares can be asked: to read squares, and to make them.
+
 ghost use Rattle.std.specs.Prelude.{◌≡◌, ◌<◌, ◌+◌, ◌-◌, IfOk, OnOk, OnErr, IfErr, IfSome, IfNone, IsOk, Some, MatchOption, All};
 ghost use Rattle.std.specs.List.{AllByRecursion};
 ghost use Rattle.plane.specs.Square.{bits_plane};
-ghost use Rattle.squares.specs.Book.{Book, IsBook, IsKnown, Shows, IsEmpty, IsFuture, HasResult, Keeps, KeepsResults, Learns, AddsResult, AreNinths, AreQuarters, MayRefuse, joined_squares, numbered, nth};
+ghost use Rattle.squares.specs.Book.{Book, IsBook, IsKnown, Shows, IsEmpty, IsFuture, HasResult, Keeps, KeepsResults, Learns, AddsResult, AreSubsquares, AreQuarters, MayRefuse, joined_squares, numbered, nth};
 ghost use Rattle.squares.specs.Overlaps.{AreOverlaps};
 
 use crate::sq::Sq;
@@ -10,7 +12,7 @@ use rule_text::Rule;
 
 /// Squares that can be read, and where none is made. Number 0 is known at each level, and two known squares of one
 /// level have one number exactly if they have the same cells.
-pub trait ReadSquares {
+pub trait Look {
     // What is known.
     ghost book: { Self → Book };
 
@@ -83,7 +85,7 @@ pub trait Squares {
     fn nine(&mut self, sq: Sq) -> Result<[Sq; 9], Refusal>
         requires known { IsKnown (book self.old) sq.level sq }
         requires level { 4 < sq.level }
-        ensures ok { IfOk result (AreNinths (book self.new) sq.level ((book self.old).cells sq)) }
+        ensures ok { IfOk result (AreSubsquares (book self.new) sq.level ((book self.old).cells sq)) }
         ensures refusal { IfErr result (MayRefuse (book self.new)) }
         ensures keeps { Keeps (book self.old) (book self.new) }
         ensures results { KeepsResults (book self.old) (book self.new) };

@@ -1,10 +1,12 @@
+//! Squares copied from a book that is only read into another.
+
 ghost use Rattle.std.specs.Prelude.{◌≡◌, ◌⊎◌, IfOk, IfErr, OnOk, OnErr, IsOkUnless, Some};
 ghost use Rattle.std.specs.HashMap.{IsUnchanged, Updates};
 ghost use Rattle.squares.specs.Book.{IsKnown, Keeps, KeepsResults, MayRefuse, Shows};
 ghost use Rattle.squares.specs.Copies.{AreCopies};
 ghost use Rattle.squares.specs.Noted.{is_same_key};
 
-use crate::book::{ReadSquares, Squares};
+use crate::book::{Look, Squares};
 use crate::sq::{Num, Sq};
 use plane::Refusal;
 use std::alloc::Global;
@@ -20,14 +22,12 @@ pub(crate) fn noted(copies: &mut Copies, sq: Sq, copy: Sq) -> Result<Sq, Refusal
     ensures err { OnErr result (IsUnchanged copies.old copies.new) }
     ensures memory { IsOkUnless result Refusal.NoMemory }
 {
-    if copies.insert((sq.level, sq.num.0), copy.num).is_err() {
-        return Err(Refusal::NoMemory);
-    }
+    copies.insert((sq.level, sq.num.0), copy.num)?;
     Ok(copy)
 }
 
 // Copies a square, and notes the copies that are made on the way.
-fn copy_into<B: ReadSquares, S: Squares>(
+fn copy_into<B: Look, S: Squares>(
     from: &B,
     sq: Sq,
     to: &mut S,
@@ -62,7 +62,7 @@ fn copy_into<B: ReadSquares, S: Squares>(
 
 /// The square with the same level and the same cells in another book; each number is copied once.
 /// `NoMemory` where memory ran out, and what that book refuses.
-pub fn copy_square<B: ReadSquares, S: Squares>(
+pub fn copy_square<B: Look, S: Squares>(
     alloc: Global,
     from: &B,
     sq: Sq,

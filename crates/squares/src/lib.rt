@@ -4,6 +4,7 @@
 mod between;
 mod book;
 mod copies;
+mod leaves;
 mod node;
 mod plain_book;
 mod runs;
@@ -12,8 +13,9 @@ mod sq;
 mod subsquares;
 
 pub use between::copy_between;
-pub use book::{ReadSquares, Squares};
+pub use book::{Look, Squares};
 pub use copies::copy_square;
+pub use leaves::{leaf_centre, read_leaves};
 pub use plain_book::PlainBook;
 pub use runs::{cells_to_square, runs_to_square};
 pub use sq::{Num, Sq};

@@ -1,3 +1,5 @@
+//! What the numbers of a book stand for.
+
 ghost use Rattle.std.specs.Prelude.{◌≡◌, ◌<◌, ◌+◌, ◌↔◌, IsTrue};
 ghost use Rattle.squares.specs.Book.{nth};
 ghost use Rattle.squares.specs.Quarters.{quarters_of};

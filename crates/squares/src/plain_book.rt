@@ -1,3 +1,5 @@
+//! A book of squares in one owner's hands.
+
 ghost use Rattle.std.specs.Prelude.{◌≡◌, ◌-◌, ◌++◌, ◌∷◌, suc, length, vec_len, [], IsTrue, is_some, slice_get, Some, IfOk, OnErr, IsOkUnless};
 ghost use Rattle.std.specs.BTreeMap.{IsUnchanged, Updates};
 ghost use Rattle.squares.specs.Book.{IsBook, IsFresh, numbered};
@@ -5,7 +7,7 @@ ghost use Rattle.squares.specs.Nodes.{AreFutures, HasNumbers, IsGood, node_at, n
 ghost use Rattle.squares.specs.declared.node.Node.TheVariants.{Leaf, Inner};
 ghost use Rattle.std.specs.Ordering.{nat_cmp};
 
-use crate::book::{ReadSquares, Squares};
+use crate::book::{Look, Squares};
 use crate::node::{Node, Quarters, Record};
 use crate::sq::{Num, Sq};
 use plane::Refusal;
@@ -47,10 +49,7 @@ fn push_node(records: &mut Vec<Record>, node: Node) -> Result<Num, Refusal>
     if count >= u32::MAX as usize {
         return Err(Refusal::NoMemory);
     }
-    let record = Record { node, future: None };
-    if records.push(record).is_err() {
-        return Err(Refusal::NoMemory);
-    }
+    records.push(Record { node, future: None })?;
     Ok(Num(count as u32 + 1))
 }
 
@@ -100,7 +99,7 @@ impl PlainBook {
     }
 }
 
-impl ReadSquares for PlainBook {
+impl Look for PlainBook {
     ghost book = { λ s. plain_book s.rule s.exponent s.records.items };
 
     fn bits(&self, sq: Sq) -> u64 {

@@ -1,3 +1,5 @@
+//! The square of some runs of live cells, or of a set of cells.
+
 ghost use Rattle.std.specs.Prelude.{◌≡◌, ◌⊎◌, ◌+◌, ◌-◌, ◌^◌, ◌<◌, ◌≤◌, ◌↔◌, IfOk, IfErr, IsOkUnless, IsTrue, map};
 ghost use Rattle.std.specs.List.{AllByRecursion};
 ghost use Rattle.plane.specs.Centred.{IsSmallestLevel};
@@ -112,9 +114,7 @@ fn runs_of(alloc: Global, cells: &CellSet) -> Result<Vec<(Cell, u64)>, Refusal>
 {
     let mut runs = Vec::new(alloc);
     for cell in cells.iter() {
-        if runs.push((*cell, 1)).is_err() {
-            return Err(Refusal::NoMemory);
-        }
+        runs.push((*cell, 1))?;
     }
     Ok(runs)
 }

@@ -1,3 +1,5 @@
+//! Live cells of one row of a square, counted from its upper left corner, and what parts of the square have of them.
+
 ghost use Rattle.std.specs.Prelude.{◌≡◌, ℕ, ◌+◌, ◌-◌, ◌*◌, ◌^◌, ◌<◌, ◌≤◌, false, MatchOption, IfSome, IfOk, IsOkUnless, pos, ◌+ℤ◌, ◌-ℤ◌, ◌≤ℤ◌, ◌<ℤ◌, unsigned_abs, map};
 ghost use Rattle.std.specs.List.{AllByRecursion};
 ghost use Rattle.plane.specs.Square.{IsSame, bit, bits_plane, cut};
@@ -107,9 +109,7 @@ pub fn clipped(
         let Some(part) = span.clip(left, top, side) else {
             continue;
         };
-        if parts.push(part).is_err() {
-            return Err(Refusal::NoMemory);
-        }
+        parts.push(part)?;
     }
     Ok(parts)
 }
@@ -158,9 +158,7 @@ pub fn spans_of(alloc: Global, runs: &[(Cell, u64)], half: u64) -> Result<Vec<Sp
 {
     let mut spans = Vec::new(alloc);
     for run in runs {
-        if spans.push(Span::of(*run, half)).is_err() {
-            return Err(Refusal::NoMemory);
-        }
+        spans.push(Span::of(*run, half))?;
     }
     Ok(spans)
 }

@@ -1,3 +1,5 @@
+//! A square of a book: its level and its number.
+
 /// The number of a square in its book. Number 0 is the empty square of each level.
 #[derive(Clone, Copy, Debug, PartialEq, Eq, PartialOrd, Ord)]
 pub struct Num(pub u32);

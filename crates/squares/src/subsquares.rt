@@ -1,14 +1,48 @@
-ghost use Rattle.std.specs.Prelude.{◌-◌, ◌<◌, IfOk, IfErr};
+//! The square at the centre of a square.
+
+ghost use Rattle.std.specs.Prelude.{◌≡◌, ◌-◌, ◌<◌, IfOk, IfErr};
 ghost use Rattle.squares.specs.Book.{IsKnown, Shows, Keeps, KeepsResults, MayRefuse};
 ghost use Rattle.plane.specs.Square.{centre_of};
 ghost use Rattle.squares.specs.Parts.{ArePartsOfParts};
 
 use crate::book::Squares;
+use crate::leaves::leaf_centre;
 use crate::sq::Sq;
 use plane::Refusal;
 
-/// The square at the centre of a square above level 4, with half its side.
+/// The square at the centre of a square above level 3, with half its side.
 pub fn centre<S: Squares>(book: &mut S, sq: Sq) -> Result<Sq, Refusal>
+    requires known { IsKnown (S.book book.old) sq.level sq }
+    requires level { 3 < sq.level }
+    ensures ok { IfOk result (Shows (S.book book.new) (sq.level - 1)
+        (centre_of sq.level ((S.book book.old).cells sq))) }
+    ensures refusal { IfErr result (MayRefuse (S.book book.new)) }
+    ensures keeps { Keeps (S.book book.old) (S.book book.new) }
+    ensures results { KeepsResults (S.book book.old) (S.book book.new) }
+{
+    if sq.level == 4 {
+        centre_of_leaves(book, sq)
+    } else {
+        centre_of_parts(book, sq)
+    }
+}
+
+// The centre of a square of level 4.
+fn centre_of_leaves<S: Squares>(book: &mut S, sq: Sq) -> Result<Sq, Refusal>
+    requires known { IsKnown (S.book book.old) sq.level sq }
+    requires level { sq.level ≡ 4 }
+    ensures ok { IfOk result (Shows (S.book book.new) (sq.level - 1)
+        (centre_of sq.level ((S.book book.old).cells sq))) }
+    ensures refusal { IfErr result (MayRefuse (S.book book.new)) }
+    ensures keeps { Keeps (S.book book.old) (S.book book.new) }
+    ensures results { KeepsResults (S.book book.old) (S.book book.new) }
+{
+    let leaves = book.read_parts(sq);
+    leaf_centre(book, leaves)
+}
+
+// The centre of a square above level 4: the quarters of its quarters that meet there.
+fn centre_of_parts<S: Squares>(book: &mut S, sq: Sq) -> Result<Sq, Refusal>
     requires known { IsKnown (S.book book.old) sq.level sq }
     requires level { 4 < sq.level }
     ensures ok { IfOk result (Shows (S.book book.new) (sq.level - 1)

@@ -1,3 +1,5 @@
+//! The smallest box round the live cells of a square.
+
 ghost use Rattle.std.specs.Prelude.{◌≡◌, ◌≤◌, ◌<◌, ◌-◌, ◌^◌, IfOk, IsOkUnless};
 ghost use Rattle.std.specs.Option.{ForSome};
 ghost use Rattle.plane.specs.Centred.{centred};
@@ -7,7 +9,7 @@ ghost use Rattle.viewport.specs.BoundingBox.{AreBoxes, FitsMoved, HasBounds, IsI
 
 use crate::sides::half_side;
 use plane::{Bounds, Refusal};
-use squares::{ReadSquares, Sq};
+use squares::{Look, Sq};
 use std::alloc::Global;
 use std::collections::HashMap;
 
@@ -16,7 +18,7 @@ type Boxes = HashMap<(u8, u32), Option<Bounds>>;
 
 /// The smallest box round the live cells of a square of a level up to 63, if it has any. Each number
 /// above level 3 is visited once. `NoMemory` where there is no room for one more box.
-pub fn bounds<B: ReadSquares>(alloc: Global, book: &B, sq: Sq) -> Result<Option<Bounds>, Refusal>
+pub fn bounds<B: Look>(alloc: Global, book: &B, sq: Sq) -> Result<Option<Bounds>, Refusal>
     requires known { IsKnown (B.book book.now) sq.level sq }
     requires level { sq.level ≤ 63 }
     ensures ok { IfOk result (HasBounds (centred sq.level ((B.book book.now).cells sq))) }
@@ -30,7 +32,7 @@ pub fn bounds<B: ReadSquares>(alloc: Global, book: &B, sq: Sq) -> Result<Option<
 
 // The box of the square's live cells, by the boxes that are known; it adds what it finds to them.
 #[cycle(local_box)]
-fn local_box<B: ReadSquares>(book: &B, sq: Sq, boxes: &mut Boxes) -> Result<Option<Bounds>, Refusal>
+fn local_box<B: Look>(book: &B, sq: Sq, boxes: &mut Boxes) -> Result<Option<Bounds>, Refusal>
     requires known { IsKnown (B.book book.now) sq.level sq }
     requires level { sq.level ≤ 63 }
     requires boxed { AreBoxes (B.book book.now) boxes.old }
@@ -49,19 +51,13 @@ fn local_box<B: ReadSquares>(book: &B, sq: Sq, boxes: &mut Boxes) -> Result<Opti
         return Ok(*known);
     }
     let whole = quarters_box(book, sq, boxes)?;
-    let Ok(_) = boxes.insert(key, whole) else {
-        return Err(Refusal::NoMemory);
-    };
+    boxes.insert(key, whole)?;
     Ok(whole)
 }
 
 // The box of the live cells of a square's quarters.
 #[cycle(local_box)]
-fn quarters_box<B: ReadSquares>(
-    book: &B,
-    sq: Sq,
-    boxes: &mut Boxes,
-) -> Result<Option<Bounds>, Refusal>
+fn quarters_box<B: Look>(book: &B, sq: Sq, boxes: &mut Boxes) -> Result<Option<Bounds>, Refusal>
     requires known { IsKnown (B.book book.now) sq.level sq }
     requires low { 3 < sq.level }
     requires high { sq.level ≤ 63 }

@@ -1,12 +1,14 @@
+//! The two quarters of a square that have one of its rows.
+
 ghost use Rattle.std.specs.Prelude.{◌<◌, ◌≤◌, ◌-◌, ◌^◌};
 ghost use Rattle.squares.specs.Book.{IsKnown};
 ghost use Rattle.viewport.specs.Halves.{IsHalfRow};
 
 use crate::sides::side;
-use squares::{ReadSquares, Sq};
+use squares::{Look, Sq};
 
 // The two quarters of a square that have one of its rows, from left to right, and the row there.
-pub fn half_with_row<B: ReadSquares>(book: &B, sq: Sq, y: u64) -> (Sq, Sq, u64)
+pub fn half_with_row<B: Look>(book: &B, sq: Sq, y: u64) -> (Sq, Sq, u64)
     requires known { IsKnown (B.book book.now) sq.level sq }
     requires low { 3 < sq.level }
     requires high { sq.level ≤ 63 }

@@ -1,3 +1,5 @@
+//! The picture of a window on a square.
+
 ghost use Rattle.std.specs.Prelude.{◌≡◌, ◌≤◌, ◌<◌, ◌+◌, ◌^◌, [], ◌∷◌, pos, ◌+ℤ◌, length, OnOk, IfErr};
 ghost use Rattle.std.specs.Io.KnownBytes.{Appends};
 ghost use Rattle.plane.specs.Centred.{centred};
@@ -8,7 +10,7 @@ ghost use Rattle.viewport.specs.Picture.{mark_of, picture_text, row_text};
 use crate::halves::half_with_row;
 use crate::sides::{place, side};
 use plane::{Refusal, Sink, WINDOW_SIDE_LIMIT, Window, write_all};
-use squares::{ReadSquares, Sq};
+use squares::{Look, Sq};
 
 // Room for the widest row and its line end.
 const LINE_ROOM: usize = WINDOW_SIDE_LIMIT as usize + 1;
@@ -16,7 +18,7 @@ const LINE_ROOM: usize = WINDOW_SIDE_LIMIT as usize + 1;
 /// Draws the cells of a window that looks at a square of a level up to 63: a line for each row, with
 /// `*` for each live cell and `.` for each dead one. What lies outside the square is dead. It takes no
 /// memory. `WriteFailed` where the sink failed in this call; it may have taken some of the text then.
-pub fn picture<B: ReadSquares, W: Sink>(
+pub fn picture<B: Look, W: Sink>(
     book: &B,
     sq: Sq,
     window: &Window,
@@ -39,7 +41,7 @@ pub fn picture<B: ReadSquares, W: Sink>(
 }
 
 // Draws a row of the window, counted from its first one, and the line end behind it.
-fn draw_row<B: ReadSquares>(book: &B, sq: Sq, window: &Window, row: u32, line: &mut [u8])
+fn draw_row<B: Look>(book: &B, sq: Sq, window: &Window, row: u32, line: &mut [u8])
     requires known { IsKnown (B.book book.now) sq.level sq }
     requires level { sq.level ≤ 63 }
     requires row { row < window.now.height }
@@ -62,7 +64,7 @@ fn mark(live: bool) -> u8
 }
 
 // Whether the cell (x, y) is live; outside the square none is.
-fn is_live<B: ReadSquares>(book: &B, sq: Sq, x: i64, y: i64) -> bool
+fn is_live<B: Look>(book: &B, sq: Sq, x: i64, y: i64) -> bool
     requires known { IsKnown (B.book book.now) sq.level sq }
     requires level { sq.level ≤ 63 }
     ensures { result ≡ centred sq.level ((B.book book.now).cells sq) x y }
@@ -77,7 +79,7 @@ fn is_live<B: ReadSquares>(book: &B, sq: Sq, x: i64, y: i64) -> bool
 }
 
 // Whether the cell is live that lies so far from the left side and from the top of the square.
-fn has_cell<B: ReadSquares>(book: &B, sq: Sq, x: u64, y: u64) -> bool
+fn has_cell<B: Look>(book: &B, sq: Sq, x: u64, y: u64) -> bool
     requires known { IsKnown (B.book book.now) sq.level sq }
     requires level { sq.level ≤ 63 }
     requires column { x < 2 ^ sq.level }

@@ -1,11 +1,14 @@
+//! How many live cells a square has.
+
 ghost use Rattle.std.specs.Prelude.{◌≡◌, ◌≤◌, ◌<◌, IfOk, IsOkUnless};
 ghost use Rattle.plane.specs.Centred.{centred};
 ghost use Rattle.plane.specs.Square.{bits_plane};
 ghost use Rattle.squares.specs.Book.{IsKnown, Keeps, KeepsResults};
 ghost use Rattle.viewport.specs.Population.{AreCounts, HasPopulation, IsCount, cell_count};
 
+use crate::reading::{Looked, Reading};
 use plane::Refusal;
-use squares::{Sq, Squares};
+use squares::{Look, Sq, Squares};
 use std::alloc::Global;
 use std::collections::HashMap;
 
@@ -16,8 +19,20 @@ type Counts = HashMap<(u8, u32), u128>;
 const LOWEST_NOTED: u8 = 6;
 
 /// How many live cells a square of a level up to 63 has: up to 2^126. Each number above level 5 is
-/// counted once. The book goes on knowing what it knew. `NoMemory` where there is no room for one more count.
-pub fn population<S: Squares>(alloc: Global, book: &mut S, sq: Sq) -> Result<u128, Refusal>
+/// counted once. `NoMemory` where there is no room for one more count.
+pub fn population<L: Look>(alloc: Global, look: &L, sq: Sq) -> Result<u128, Refusal>
+    requires known { IsKnown (L.book look.now) sq.level sq }
+    requires level { sq.level ≤ 63 }
+    ensures ok { IfOk result (HasPopulation (centred sq.level ((L.book look.now).cells sq))) }
+    ensures memory { IsOkUnless result Refusal.NoMemory }
+{
+    let mut counts = HashMap::new(alloc);
+    count(&mut Looked(look), sq, &mut counts)
+}
+
+/// How many live cells a square of a level up to 63 has, counted at a book that makes squares. The book
+/// goes on knowing what it knew. `NoMemory` where there is no room for one more count.
+pub fn population_at<S: Squares>(alloc: Global, book: &mut S, sq: Sq) -> Result<u128, Refusal>
     requires known { IsKnown (S.book book.old) sq.level sq }
     requires level { sq.level ≤ 63 }
     ensures ok { IfOk result (HasPopulation (centred sq.level ((S.book book.old).cells sq))) }
@@ -31,52 +46,50 @@ pub fn population<S: Squares>(alloc: Global, book: &mut S, sq: Sq) -> Result<u12
 
 // How many live cells the square has, by the counts that are known; it adds what it finds to them.
 #[cycle(count)]
-fn count<S: Squares>(book: &mut S, sq: Sq, counts: &mut Counts) -> Result<u128, Refusal>
-    requires known { IsKnown (S.book book.old) sq.level sq }
+fn count<R: Reading>(from: &mut R, sq: Sq, counts: &mut Counts) -> Result<u128, Refusal>
+    requires known { IsKnown (R.book from.old) sq.level sq }
     requires level { sq.level ≤ 63 }
-    requires counted { AreCounts (S.book book.old) counts.old }
-    ensures ok { IfOk result (IsCount (S.book book.old) sq) }
-    ensures counted { AreCounts (S.book book.new) counts.new }
+    requires counted { AreCounts (R.book from.old) counts.old }
+    ensures ok { IfOk result (IsCount (R.book from.old) sq) }
+    ensures counted { AreCounts (R.book from.new) counts.new }
     ensures memory { IsOkUnless result Refusal.NoMemory }
-    ensures keeps { Keeps (S.book book.old) (S.book book.new) }
-    ensures results { KeepsResults (S.book book.old) (S.book book.new) }
+    ensures keeps { Keeps (R.book from.old) (R.book from.new) }
+    ensures results { KeepsResults (R.book from.old) (R.book from.new) }
 {
     if sq.num.0 == 0 {
         return Ok(0);
     }
     if sq.level == 3 {
-        return Ok(leaf_count(book.read_bits(sq)));
+        return Ok(leaf_count(from.cells_of(sq)));
     }
     if sq.level < LOWEST_NOTED {
-        return count_quarters(book, sq, counts);
+        return count_quarters(from, sq, counts);
     }
     let key = (sq.level, sq.num.0);
     if let Some(known) = counts.get(&key) {
         return Ok(*known);
     }
-    let whole = count_quarters(book, sq, counts)?;
-    let Ok(_) = counts.insert(key, whole) else {
-        return Err(Refusal::NoMemory);
-    };
+    let whole = count_quarters(from, sq, counts)?;
+    counts.insert(key, whole)?;
     Ok(whole)
 }
 
 // How many live cells the quarters of a square have.
 #[cycle(count)]
-fn count_quarters<S: Squares>(book: &mut S, sq: Sq, counts: &mut Counts) -> Result<u128, Refusal>
-    requires known { IsKnown (S.book book.old) sq.level sq }
+fn count_quarters<R: Reading>(from: &mut R, sq: Sq, counts: &mut Counts) -> Result<u128, Refusal>
+    requires known { IsKnown (R.book from.old) sq.level sq }
     requires low { 3 < sq.level }
     requires high { sq.level ≤ 63 }
-    requires counted { AreCounts (S.book book.old) counts.old }
-    ensures ok { IfOk result (IsCount (S.book book.old) sq) }
-    ensures counted { AreCounts (S.book book.new) counts.new }
+    requires counted { AreCounts (R.book from.old) counts.old }
+    ensures ok { IfOk result (IsCount (R.book from.old) sq) }
+    ensures counted { AreCounts (R.book from.new) counts.new }
     ensures memory { IsOkUnless result Refusal.NoMemory }
-    ensures keeps { Keeps (S.book book.old) (S.book book.new) }
-    ensures results { KeepsResults (S.book book.old) (S.book book.new) }
+    ensures keeps { Keeps (R.book from.old) (R.book from.new) }
+    ensures results { KeepsResults (R.book from.old) (R.book from.new) }
 {
-    let [nw, ne, sw, se] = book.read_parts(sq);
-    let upper = count(book, nw, counts)? + count(book, ne, counts)?;
-    let lower = count(book, sw, counts)? + count(book, se, counts)?;
+    let [nw, ne, sw, se] = from.quarters_of(sq);
+    let upper = count(from, nw, counts)? + count(from, ne, counts)?;
+    let lower = count(from, sw, counts)? + count(from, se, counts)?;
     Ok(upper + lower)
 }
 

@@ -1,3 +1,5 @@
+//! The first row of a square with a live cell.
+
 ghost use Rattle.std.specs.Prelude.{◌≡◌, ◌≤◌, ◌<◌, ◌^◌};
 ghost use Rattle.plane.specs.Centred.{centred};
 ghost use Rattle.plane.specs.Square.{bits_plane};
@@ -6,12 +8,12 @@ ghost use Rattle.viewport.specs.Halves.{beside};
 ghost use Rattle.viewport.specs.Rows.{IsFirstRow, IsFirstRowBelow};
 
 use crate::sides::{half_side, row_at, rows_above, side};
-use squares::{ReadSquares, Sq};
+use squares::{Look, Sq};
 
 /// The first row, from row y on downwards, in which a square of a level up to 63 has a live cell.
 /// Empty squares are passed over, so that its time follows what the square has near the rows from y to
 /// that one, and not how many rows lie between.
-pub fn first_row<B: ReadSquares>(book: &B, sq: Sq, y: i64) -> Option<i64>
+pub fn first_row<B: Look>(book: &B, sq: Sq, y: i64) -> Option<i64>
     requires known { IsKnown (B.book book.now) sq.level sq }
     requires level { sq.level ≤ 63 }
     ensures { IsFirstRow (centred sq.level ((B.book book.now).cells sq)) y result }
@@ -27,7 +29,7 @@ pub fn first_row<B: ReadSquares>(book: &B, sq: Sq, y: i64) -> Option<i64>
 
 // The first row with a live cell, from one row on and above another, counted from the square's top.
 #[cycle(first_row_below)]
-fn first_row_below<B: ReadSquares>(book: &B, sq: Sq, from: u64, end: u64) -> Option<u64>
+fn first_row_below<B: Look>(book: &B, sq: Sq, from: u64, end: u64) -> Option<u64>
     requires known { IsKnown (B.book book.now) sq.level sq }
     requires level { sq.level ≤ 63 }
     ensures { IsFirstRowBelow ((B.book book.now).cells sq) from end result }
@@ -52,13 +54,7 @@ fn first_row_below<B: ReadSquares>(book: &B, sq: Sq, from: u64, end: u64) -> Opt
 
 // The same of two squares beside one another.
 #[cycle(first_row_below)]
-fn first_row_beside<B: ReadSquares>(
-    book: &B,
-    left: Sq,
-    right: Sq,
-    from: u64,
-    end: u64,
-) -> Option<u64>
+fn first_row_beside<B: Look>(book: &B, left: Sq, right: Sq, from: u64, end: u64) -> Option<u64>
     requires left { IsKnown (B.book book.now) left.level left }
     requires right { IsKnown (B.book book.now) left.level right }
     requires level { left.level ≤ 63 }

@@ -1,3 +1,5 @@
+//! The runs of live cells in a row of a square.
+
 ghost use Rattle.std.specs.Prelude.{◌≡◌, ◌≤◌, ◌<◌, ◌^◌, ◌+◌, ◌+ℤ◌, ◌≤ℤ◌, ◌<ℤ◌, ◌↔◌, ℤ, pos, IfOk, IsOkUnless, IsTrue, OnOk, true};
 ghost use Rattle.plane.specs.Centred.{centred};
 ghost use Rattle.plane.specs.Square.{bits_plane};
@@ -7,13 +9,13 @@ ghost use Rattle.viewport.specs.RowRuns.{AddsCells, AreRowRuns, EndBy, cells_at,
 use crate::halves::half_with_row;
 use crate::sides::{half_side, place, side};
 use plane::Refusal;
-use squares::{ReadSquares, Sq};
+use squares::{Look, Sq};
 use std::alloc::{AllocError, Global};
 
 /// The runs of live cells in row y of a square of a level up to 63, from left to right, each as long
 /// as it can be: its first cell, and how many there are. Empty squares are passed over. `NoMemory`
 /// where there is no room for one more run.
-pub fn row_runs<B: ReadSquares>(
+pub fn row_runs<B: Look>(
     alloc: Global,
     book: &B,
     sq: Sq,
@@ -28,14 +30,12 @@ pub fn row_runs<B: ReadSquares>(
     let Some(row) = place(y, sq.level) else {
         return Ok(runs);
     };
-    let Ok(_) = add_row(book, sq, -half_side(sq.level), row, &mut runs) else {
-        return Err(Refusal::NoMemory);
-    };
+    add_row(book, sq, -half_side(sq.level), row, &mut runs)?;
     Ok(runs)
 }
 
 // Adds the cells of a row of the square that begins at left; the runs so far end there or before.
-fn add_row<B: ReadSquares>(
+fn add_row<B: Look>(
     book: &B,
     sq: Sq,
     left: i64,

@@ -1,3 +1,5 @@
+//! The sides of squares, and where a column or a row lies in one.
+
 ghost use Rattle.std.specs.Prelude.{◌≡◌, ◌≤◌, ◌<◌, ◌-◌, ◌^◌, pos, ◌+ℤ◌, ◌-ℤ◌, ◌≤ℤ◌, ◌<ℤ◌};
 ghost use Rattle.std.specs.Int.{int_max};
 ghost use Rattle.viewport.specs.Places.{IsPlace};

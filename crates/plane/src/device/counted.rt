@@ -1,3 +1,5 @@
+//! Readers and writers of the standard library as devices.
+
 ghost use Rattle.std.specs.Prelude.{◌≡◌, ◌+◌, min};
 ghost use Rattle.plane.specs.Device.{most_failures};
 ghost use Rattle.plane.specs.DeviceParts.{counted_failures, counted_inner};

@@ -1,3 +1,5 @@
+//! All of some bytes, written to a sink.
+
 ghost use Rattle.std.specs.Prelude.{◌≡◌, OnOk, IfErr};
 ghost use Rattle.std.specs.Io.KnownBytes.{Appends};
 ghost use Rattle.plane.specs.Device.{IsWriteRefusal};

@@ -9,7 +9,7 @@ use Rattle.hashlife_step.specs.Tallies.{Tallies}
 use Rattle.hashlife_step.proofs.Counted.{made_and_kept, made_between, made_twice, results_none, tallies_learned, tallies_none, tallies_trans}
 use Rattle.squares.proofs.FourKnown.{known_as}
 use Rattle.hashlife_step.proofs.LeafSquares.{future_later}
-use Rattle.hashlife_step.proofs.NineFutures.{finished_known, futures_known, made_known, nine_futures, ninths_known, of_first, overlaps_finished}
+use Rattle.hashlife_step.proofs.NineFutures.{finished_known, futures_known, made_known, nine_futures, subsquares_known, of_first, overlaps_finished}
 use Rattle.hashlife_step.proofs.Replaced.{IsReplaced, all_futures, future_shown, next_known, next_made, replaced_kept, replaced_more}
 use Rattle.hashlife_step.proofs.recursion.+future.Goals as goal
 
@@ -45,7 +45,7 @@ future_in_order-returns-clause-tally g t c =
 
 pub make-replace_by_futures-requires : goal.make-replace_by_futures-requires
 make-replace_by_futures-requires g t c κs within =
-    let known = ninths_known (g.S.Squares.book c.nine.new.self) c.args.sq.level _ c.in_ok-parts.parts (search rules) c.in_ok-parts.ensures.ok in
+    let known = subsquares_known (g.S.Squares.book c.nine.new.self) c.args.sq.level _ c.in_ok-parts.parts (search rules) c.in_ok-parts.ensures.ok in
     search rules
 
 pub make-returns-in_err-replace_by_futures-clause-tally :
@@ -95,7 +95,7 @@ pub make-returns-in_err-replace_by_futures-clause-keeps : goal.make-returns-in_e
 make-returns-in_err-replace_by_futures-clause-keeps g t c = keeps_trans c.nine.ensures.keeps c.replace_by_futures.ensures.keeps
 
 pub replace_by_futures-loop-i-init : goal.replace_by_futures-loop-i-init
-replace_by_futures-loop-i-init g t c = (replaced_kept _ _ _ _ _ c.visit.ensures.keeps, c.visit.ensures.tally)
+replace_by_futures-loop-i-init g t c = (replaced_kept _ _ _ _ _ c.ask_ahead.ensures.keeps, c.ask_ahead.ensures.tally)
 
 pub replace_by_futures-future_in_order-requires : goal.replace_by_futures-future_in_order-requires
 replace_by_futures-future_in_order-requires g t c κs within =
@@ -120,31 +120,31 @@ replace_by_futures-returns-clause-ok g t c =
     all_futures old now c.args.level c.args.squares.now c.loop-i.squares
     (subst (λ n. IsReplaced (future old.rule old.exponent c.args.level) old now c.args.level n c.args.squares.now c.loop-i.squares) all replaced) c.requires.known
 
-pub visit-returns-then-order-eq0-clause-tally : goal.visit-returns-then-order-eq0-clause-tally
-visit-returns-then-order-eq0-clause-tally g t c = tallies_none _ _ _ _ (results_none _)
+pub ask_ahead-returns-then-order-eq0-clause-tally : goal.ask_ahead-returns-then-order-eq0-clause-tally
+ask_ahead-returns-then-order-eq0-clause-tally g t c = tallies_none _ _ _ _ (results_none _)
 
-pub visit-loop-k-init : goal.visit-loop-k-init
-visit-loop-k-init g t c = (keeps_none _, tallies_none _ _ _ _ (results_none _))
+pub ask_ahead-loop-k-init : goal.ask_ahead-loop-k-init
+ask_ahead-loop-k-init g t c = (keeps_none _, tallies_none _ _ _ _ (results_none _))
 
-pub visit-future_in_order-requires : goal.visit-future_in_order-requires
-visit-future_in_order-requires g t c κs within =
+pub ask_ahead-future_in_order-requires : goal.ask_ahead-future_in_order-requires
+ask_ahead-future_in_order-requires g t c κs within =
     let book = g.S.Squares.book in
-    let known : IsKnown (book c.loop-k.book) c.args.level (nth c.args.squares.now c.turn.result) = known_kept c.loop-k.invariant.0 (c.requires.known c.turn.result (numbered 0 0) c.turn.ensures) in
+    let known : IsKnown (book c.loop-k.book) c.args.level (nth c.args.squares.now c.permuted.result) = known_kept c.loop-k.invariant.0 (c.requires.known c.permuted.result (numbered 0 0) c.permuted.ensures) in
     let at_level = known.at_level in let low = c.requires.low in
     let own = known_as (sym at_level) known in
     search rules
 
-pub visit-returns-in_err-future_in_order-clause-tally : goal.visit-returns-in_err-future_in_order-clause-tally
-visit-returns-in_err-future_in_order-clause-tally g t c =
+pub ask_ahead-returns-in_err-future_in_order-clause-tally : goal.ask_ahead-returns-in_err-future_in_order-clause-tally
+ask_ahead-returns-in_err-future_in_order-clause-tally g t c =
     let book = g.S.Squares.book in
-    let known : IsKnown (book c.loop-k.book) c.args.level (nth c.args.squares.now c.turn.result) = known_kept c.loop-k.invariant.0 (c.requires.known c.turn.result (numbered 0 0) c.turn.ensures) in
+    let known : IsKnown (book c.loop-k.book) c.args.level (nth c.args.squares.now c.permuted.result) = known_kept c.loop-k.invariant.0 (c.requires.known c.permuted.result (numbered 0 0) c.permuted.ensures) in
     tallies_trans (book c.args.book.now) (book c.loop-k.book) (book c.future_in_order.new.book) c.args.level c.args.level _ _ _ (omega arith) c.loop-k.invariant.1
     (subst (λ n. Tallies (book c.loop-k.book) (book c.future_in_order.new.book) n c.loop-k.tally.expansions c.future_in_order.new.tally.expansions) known.at_level c.future_in_order.ensures.tally)
 
-pub visit-loop-k-preserved : goal.visit-loop-k-preserved
-visit-loop-k-preserved g t c =
+pub ask_ahead-loop-k-preserved : goal.ask_ahead-loop-k-preserved
+ask_ahead-loop-k-preserved g t c =
     let book = g.S.Squares.book in
-    let known : IsKnown (book c.loop-k.book) c.args.level (nth c.args.squares.now c.turn.result) = known_kept c.loop-k.invariant.0 (c.requires.known c.turn.result (numbered 0 0) c.turn.ensures) in (
+    let known : IsKnown (book c.loop-k.book) c.args.level (nth c.args.squares.now c.permuted.result) = known_kept c.loop-k.invariant.0 (c.requires.known c.permuted.result (numbered 0 0) c.permuted.ensures) in (
       keeps_trans c.loop-k.invariant.0 c.future_in_order.ensures.keeps,
       tallies_trans (book c.args.book.now) (book c.loop-k.book) (book c.future_in_order.new.book) c.args.level c.args.level _ _ _ (omega arith) c.loop-k.invariant.1
           (subst (λ n. Tallies (book c.loop-k.book) (book c.future_in_order.new.book) n c.loop-k.tally.expansions c.future_in_order.new.tally.expansions) known.at_level c.future_in_order.ensures.tally),
@@ -208,11 +208,11 @@ make-returns-clause-tally g t c =
 
 pub finish-returns-then-exponent-level-clause-ok : goal.finish-returns-then-exponent-level-clause-ok
 finish-returns-then-exponent-level-clause-ok g t c =
-    let exponent = c.middles.ensures.keeps.exponent in
-    IfOk-weaker c.middles.result _ _ (λ four are. record { futures = λ long. absurd (omega arith); middles = λ short. are }) c.middles.ensures.ok
+    let exponent = c.four_centres.ensures.keeps.exponent in
+    IfOk-weaker c.four_centres.result _ _ (λ four are. record { futures = λ long. absurd (omega arith); four_centres = λ short. are }) c.four_centres.ensures.ok
 
 pub finish-returns-then-exponent-level-clause-tally : goal.finish-returns-then-exponent-level-clause-tally
-finish-returns-then-exponent-level-clause-tally g t c = tallies_none _ _ _ _ c.middles.ensures.results
+finish-returns-then-exponent-level-clause-tally g t c = tallies_none _ _ _ _ c.four_centres.ensures.results
 
 pub finish-returns-in_err-four-clause-tally : goal.finish-returns-in_err-four-clause-tally
 finish-returns-in_err-four-clause-tally g t c = tallies_none _ _ _ _ c.overlaps.ensures.results
@@ -243,7 +243,7 @@ finish-returns-clause-ok g t c =
     record {
       futures = λ long. overlaps_finished (book c.overlaps.new.self) (book c.replace_by_futures.new.book) c.args.level c.args.nine c.in_ok-four.four c.replace_by_futures.new.squares nine four
           known c.in_ok-four.ensures.ok c.replace_by_futures.ensures.keeps c.in_ok-replace_by_futures.ensures.ok;
-      middles = λ short. absurd (omega arith);
+      four_centres = λ short. absurd (omega arith);
     }
 
 pub finish-returns-clause-keeps : goal.finish-returns-clause-keeps

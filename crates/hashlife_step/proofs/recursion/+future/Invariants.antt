@@ -17,14 +17,14 @@ decreases-finish g l = 5 * l.level + 11
 abbrev pub decreases-replace_by_futures : goal.decreases-replace_by_futures
 decreases-replace_by_futures g l = 5 * l.level + 5
 
-abbrev pub decreases-visit : goal.decreases-visit
-decreases-visit g l = 5 * l.level + 4
+abbrev pub decreases-ask_ahead : goal.decreases-ask_ahead
+decreases-ask_ahead g l = 5 * l.level + 4
 
 abbrev pub invariant-replace_by_futures-loop-i : goal.invariant-replace_by_futures-loop-i
 invariant-replace_by_futures-loop-i g l =
     IsReplaced (future (g.S.Squares.book l.fn.book).rule (g.S.Squares.book l.fn.book).exponent l.fn.level) (g.S.Squares.book l.fn.book) (g.S.Squares.book l.book) l.fn.level l.i l.fn.squares l.squares
     × Tallies (g.S.Squares.book l.fn.book) (g.S.Squares.book l.book) l.fn.level l.fn.tally.expansions l.tally.expansions
 
-abbrev pub invariant-visit-loop-k : goal.invariant-visit-loop-k
-invariant-visit-loop-k g l =
+abbrev pub invariant-ask_ahead-loop-k : goal.invariant-ask_ahead-loop-k
+invariant-ask_ahead-loop-k g l =
     Keeps (g.S.Squares.book l.fn.book) (g.S.Squares.book l.book) × Tallies (g.S.Squares.book l.fn.book) (g.S.Squares.book l.book) l.fn.level l.fn.tally.expansions l.tally.expansions

@@ -12,14 +12,14 @@ returns-in_err-copy-clause-copies g t c = copies_kept c.leaf.ensures.keeps c.req
 
 pub returns-then-level-eq3-clause-copies : goal.returns-then-level-eq3-clause-copies
 returns-then-level-eq3-clause-copies g t c =
-    let from = g.B.ReadSquares.book c.args.from.now in
+    let from = g.B.Look.book c.args.from.now in
     let to = g.S.Squares.book c.leaf.new.self in
     noted_copies from to c.args.copies.now c.noted.new.copies c.args.sq c.in_ok-copy.copy c.noted.result c.noted.ensures.updates c.noted.ensures.err
     (leaf_copied from to c.args.sq c.in_ok-copy.copy c.bits.result c.if-level-eq3.true c.bits.ensures c.in_ok-copy.ensures.ok) (copies_kept c.leaf.ensures.keeps c.requires.copies)
 
 pub returns-then-sq-eq0-clause-ok : goal.returns-then-sq-eq0-clause-ok
 returns-then-sq-eq0-clause-ok g t c =
-    empty_copied (g.B.ReadSquares.book c.args.from.now) (g.S.Squares.book c.args.to.now) c.args.sq (g.met.B.ReadSquares.is_book c.args.from.now) (g.met.S.Squares.is_book c.args.to.now) c.requires.known c.if-sq-eq0.true
+    empty_copied (g.B.Look.book c.args.from.now) (g.S.Squares.book c.args.to.now) c.args.sq (g.met.B.Look.is_book c.args.from.now) (g.met.S.Squares.is_book c.args.to.now) c.requires.known c.if-sq-eq0.true
 
 pub returns-in-Some-clause-ok : goal.returns-in-Some-clause-ok
 returns-in-Some-clause-ok g t c = c.requires.copies.same c.args.sq c.in-Some.num.now (sym c.in-Some.ensures.value)
@@ -31,11 +31,11 @@ pub returns-then-sq-eq0-clause-keeps : goal.returns-then-sq-eq0-clause-keeps
 returns-then-sq-eq0-clause-keeps g t c = keeps_none _
 
 pub bits-requires : goal.bits-requires
-bits-requires g t c = subst (λ n. IsKnown (g.B.ReadSquares.book c.args.from.now) n c.args.sq) c.if-level-eq3.true c.requires.known
+bits-requires g t c = subst (λ n. IsKnown (g.B.Look.book c.args.from.now) n c.args.sq) c.if-level-eq3.true c.requires.known
 
 pub returns-then-level-eq3-clause-ok : goal.returns-then-level-eq3-clause-ok
 returns-then-level-eq3-clause-ok g t c =
-    let from = g.B.ReadSquares.book c.args.from.now in
+    let from = g.B.Look.book c.args.from.now in
     let to = g.S.Squares.book c.leaf.new.self in
     let sq = c.args.sq in
     let shown = leaf_copied from to sq c.in_ok-copy.copy c.bits.result c.if-level-eq3.true c.bits.ensures c.in_ok-copy.ensures.ok in
@@ -52,7 +52,7 @@ loop-quarter-init g t c = record {
 
 pub loop-quarter-preserved : goal.loop-quarter-preserved
 loop-quarter-preserved g t c =
-    let from = g.B.ReadSquares.book c.args.from.now in
+    let from = g.B.Look.book c.args.from.now in
     let h = c.loop-quarter.invariant in
     let made = c.copy_into.ensures in
     let size = h.size in
@@ -70,7 +70,7 @@ loop-quarter-preserved g t c =
 
 pub copy_into-requires : goal.copy_into-requires
 copy_into-requires g t c κs within =
-    let book = g.B.ReadSquares.book c.args.from.now in
+    let book = g.B.Look.book c.args.from.now in
     let next = nth c.loop-quarter.quarter-items c.loop-quarter.quarter-index in
     let below : c.loop-quarter.quarter-index < 4 = c.loop-quarter-test.true in
     let part = part_known book c.args.sq.level (book.cells c.args.sq) c.parts-quarters.result c.loop-quarter.quarter-index below c.parts-quarters.ensures in
@@ -83,7 +83,7 @@ copy_into-requires g t c κs within =
 
 pub quad-requires-clause-known : goal.quad-requires-clause-known
 quad-requires-clause-known g t c =
-    let from = g.B.ReadSquares.book c.args.from.now in
+    let from = g.B.Look.book c.args.from.now in
     let to = g.S.Squares.book c.loop-quarter.to in
     copies_known from to c.args.sq.level (from.cells c.args.sq) c.parts-quarters.result c.loop-quarter.quarter-items _ c.loop-quarter.invariant.size c.parts-quarters.ensures (omega arith) c.loop-quarter.invariant.copied
 
@@ -97,24 +97,24 @@ quad-requires-clause-level g t c =
 
 pub returns-clause-ok : goal.returns-clause-ok
 returns-clause-ok g t c =
-    let from = g.B.ReadSquares.book c.args.from.now in
+    let from = g.B.Look.book c.args.from.now in
     let to = g.S.Squares.book c.loop-quarter.to in
     let sq = c.args.sq in
     let low = c.requires.known.low in
     let more = c.if-level-eq3.false in
     let shown = quad_copied from to (g.S.Squares.book c.quad.new.self) sq.level (from.cells sq) c.parts-quarters.result c.loop-quarter.quarter-items _ c.in_ok-copy-2.copy (omega arith)
-    ((g.met.B.ReadSquares.is_book c.args.from.now).square sq c.requires.known.known) c.parts-quarters.ensures (omega arith) c.loop-quarter.invariant.copied c.in_ok-copy-2.ensures.ok in
+    ((g.met.B.Look.is_book c.args.from.now).square sq c.requires.known.known) c.parts-quarters.ensures (omega arith) c.loop-quarter.invariant.copied c.in_ok-copy-2.ensures.ok in
     IfOk-weaker c.noted-2.result _ _ (λ (noted : Sq) same. subst (Shows (g.S.Squares.book c.quad.new.self) sq.level (from.cells sq)) (sym same) shown) c.noted-2.ensures.ok
 
 pub returns-clause-copies : goal.returns-clause-copies
 returns-clause-copies g t c =
-    let from = g.B.ReadSquares.book c.args.from.now in
+    let from = g.B.Look.book c.args.from.now in
     let to = g.S.Squares.book c.loop-quarter.to in
     let sq = c.args.sq in
     let low = c.requires.known.low in
     let more = c.if-level-eq3.false in
     let shown = quad_copied from to (g.S.Squares.book c.quad.new.self) sq.level (from.cells sq) c.parts-quarters.result c.loop-quarter.quarter-items _ c.in_ok-copy-2.copy (omega arith)
-    ((g.met.B.ReadSquares.is_book c.args.from.now).square sq c.requires.known.known) c.parts-quarters.ensures (omega arith) c.loop-quarter.invariant.copied c.in_ok-copy-2.ensures.ok in
+    ((g.met.B.Look.is_book c.args.from.now).square sq c.requires.known.known) c.parts-quarters.ensures (omega arith) c.loop-quarter.invariant.copied c.in_ok-copy-2.ensures.ok in
     noted_copies from (g.S.Squares.book c.quad.new.self) c.loop-quarter.copies c.noted-2.new.copies sq c.in_ok-copy-2.copy c.noted-2.result c.noted-2.ensures.updates c.noted-2.ensures.err shown (copies_kept c.quad.ensures.keeps c.loop-quarter.invariant.copies)
 
 pub returns-clause-keeps : goal.returns-clause-keeps

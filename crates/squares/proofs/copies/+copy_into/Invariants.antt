@@ -9,7 +9,7 @@ decreases-copy_into g l = l.sq.level
 
 -- the quarters so far are copied, and all that was known and noted still is
 abbrev pub invariant-loop-quarter : goal.invariant-loop-quarter
-invariant-loop-quarter g l = let from = g.B.ReadSquares.book l.from in let to = g.S.Squares.book l.to in record {
+invariant-loop-quarter g l = let from = g.B.Look.book l.from in let to = g.S.Squares.book l.to in record {
   size : length l.quarter-items ≡ 4;
   copied : AreCopied from to l.initial.quarter-items l.quarter-index l.quarter-items;
   copies : AreCopies from to l.copies;

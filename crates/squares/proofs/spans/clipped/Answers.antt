@@ -2,7 +2,7 @@ use Rattle.std.proofs.Common.{◌≡◌, ◌+◌, ◌++◌, ◌∷◌, [], ◌�
 use Rattle.std.specs.List.{AllByRecursion}
 use Rattle.std.specs.Prelude.{◌||◌}
 use Rattle.squares.specs.Spans.{HasCells, HasCellOf, in_span, in_spans}
-use Rattle.squares.proofs.Places.{all_at, all_push, pushed}
+use Rattle.squares.proofs.Places.{all_at, all_push}
 use Rattle.squares.proofs.SpanCells.{more_in, none_in, or_none, pushed_in}
 use Rattle.squares.proofs.spans.clipped.Goals as goal
 
@@ -28,7 +28,7 @@ loop-span-preserved c =
     let i = c.loop-span.span-index in
     let parts = c.loop-span.parts.items in
     let part = c.in-Some.part in
-    let items : c.push.new.self.items ≡ parts ++ part ∷ [] = pushed c.push.result _ _ _ c.push.ensures.items c.if-is_err.ensures.value in record {
+    let items : c.push.new.self.items ≡ parts ++ part ∷ [] = c.in_ok-push.ensures.items in record {
       cells = λ x y hx hy. ap (λ ss. in_spans ss x y) items ∙ pushed_in parts part x y
           ∙ ap (λ b. b || in_span x y part) (c.loop-span.invariant.cells x y hx hy)
           ∙ ap (λ b. in_spans (take i spans) (x + c.args.left) (y + c.args.top) || b) (c.in-Some.ensures.cells x y hx hy)

@@ -12,7 +12,7 @@ use Rattle.viewport.proofs.boxes.+local_box.Goals as goal
 
 pub local_box-returns-then-sq-eq0-clause-ok : goal.local_box-returns-then-sq-eq0-clause-ok
 local_box-returns-then-sq-eq0-clause-ok g t c =
-    let none = zero_is_empty (g.B.ReadSquares.book c.args.book.now) c.args.sq (g.met.B.ReadSquares.is_book c.args.book.now) c.if-sq-eq0.true in
+    let none = zero_is_empty (g.B.Look.book c.args.book.now) c.args.sq (g.met.B.Look.is_book c.args.book.now) c.if-sq-eq0.true in
     record { same = λ x y. ap (λ p. p x y) none }
 
 pub local_box-returns-in-Some-clause-ok : goal.local_box-returns-in-Some-clause-ok
@@ -26,8 +26,8 @@ local_box-returns-clause-ok g t c = c.in_ok-whole.ensures.ok
 
 pub local_box-returns-clause-boxed : goal.local_box-returns-clause-boxed
 local_box-returns-clause-boxed g t c =
-    let book = g.B.ReadSquares.book c.args.book.now in
-    record { box = true_of_kept (λ q o. IsLocalBox (2 ^ q.level) (book.cells q) o) c.quarters_box.new.boxes c.insert.new.self c.args.sq c.in_ok-whole.whole c.in_ok-whole.ensures.boxed.box c.in_ok-whole.ensures.ok c.in-Ok.ensures.updates }
+    let book = g.B.Look.book c.args.book.now in
+    record { box = true_of_kept (λ q o. IsLocalBox (2 ^ q.level) (book.cells q) o) c.quarters_box.new.boxes c.insert.new.self c.args.sq c.in_ok-whole.whole c.in_ok-whole.ensures.boxed.box c.in_ok-whole.ensures.ok c.in_ok-insert.ensures.updates }
 
 pub quarters_box-local_box-requires : goal.quarters_box-local_box-requires
 quarters_box-local_box-requires g t c κs within =
@@ -60,10 +60,10 @@ quarters_box-box_of_quarters-requires-clause-se g t c = λ x e. inside_of _ _ c.
 
 pub quarters_box-returns-clause-ok : goal.quarters_box-returns-clause-ok
 quarters_box-returns-clause-ok g t c =
-    let book = g.B.ReadSquares.book c.args.book.now in
+    let book = g.B.Look.book c.args.book.now in
     let h : ℕ = 2 ^ (c.args.sq.level - 1) in
     let twice = twice_half c.args.sq.level (omega arith) in
-    let laws = g.met.B.ReadSquares.is_book c.args.book.now in
+    let laws = g.met.B.Look.is_book c.args.book.now in
     let square = subst (λ n. IsSquare n (book.cells c.args.sq)) twice (known_square book c.args.sq.level c.args.sq laws c.requires.known) in
     subst (λ (o : Option Bounds). IsLocalBox (2 ^ c.args.sq.level) (book.cells c.args.sq) o) (sym c.box_of_quarters.ensures)
     (subst (λ n. IsLocalBox n (book.cells c.args.sq) (joined_boxes h c.in_ok-nw.nw c.in_ok-ne.ne c.in_ok-sw.sw c.in_ok-se.se)) (sym twice)

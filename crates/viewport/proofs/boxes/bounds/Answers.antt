@@ -18,10 +18,10 @@ moved-requires g c = λ x e.
 
 pub returns-clause-ok : goal.returns-clause-ok
 returns-clause-ok g c =
-    let book = g.B.ReadSquares.book c.args.book.now in
+    let book = g.B.Look.book c.args.book.now in
     let half : SFits w64 c.half_side-half.result = search rules in
     let small = c.half_side-half.ensures.small in
     let back : SFits w64 (pos 0 -ℤ c.half_side-half.result) = rw c.half_side-half.ensures.side (omega (arith, ints, small)) in
     let moved_is = simp c.half_side-half.ensures.side at (simp to_z-of_z at c.moved.ensures) in
     subst (λ (o : Option Bounds). HasBounds (centred c.args.sq.level (book.cells c.args.sq)) o) (sym moved_is)
-    (centred_bounds c.args.sq.level (book.cells c.args.sq) c.in_ok-local.local (known_square book c.args.sq.level c.args.sq (g.met.B.ReadSquares.is_book c.args.book.now) c.requires.known) c.in_ok-local.ensures.ok)
+    (centred_bounds c.args.sq.level (book.cells c.args.sq) c.in_ok-local.local (known_square book c.args.sq.level c.args.sq (g.met.B.Look.is_book c.args.book.now) c.requires.known) c.in_ok-local.ensures.ok)

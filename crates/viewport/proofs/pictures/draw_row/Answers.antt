@@ -11,7 +11,7 @@ loop-column-init g c = sym (none_drawn _ _)
 
 pub loop-column-preserved : goal.loop-column-preserved
 loop-column-preserved g c =
-    let plane : Plane = centred c.args.sq.level ((g.B.ReadSquares.book c.args.book.now).cells c.args.sq) in
+    let plane : Plane = centred c.args.sq.level ((g.B.Look.book c.args.book.now).cells c.args.sq) in
     let window = c.args.window.now in
     let n = c.loop-column.column in
     let draw : ℤ → List ℕ = λ z. mark_of (plane z (window.y +ℤ pos c.args.row)) in

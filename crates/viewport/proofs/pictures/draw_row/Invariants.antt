@@ -6,4 +6,4 @@ use Rattle.viewport.proofs.pictures.draw_row.Given as goal
 
 abbrev pub invariant-loop-column : goal.invariant-loop-column
 invariant-loop-column g l =
-    take l.column l.line ≡ flat_map (λ z. mark_of (centred l.sq.level ((g.B.ReadSquares.book l.book).cells l.sq) z (l.window.y +ℤ pos l.row))) (coordinates l.window.x l.column)
+    take l.column l.line ≡ flat_map (λ z. mark_of (centred l.sq.level ((g.B.Look.book l.book).cells l.sq) z (l.window.y +ℤ pos l.row))) (coordinates l.window.x l.column)

@@ -5,21 +5,21 @@ use Rattle.viewport.proofs.pictures.is_live.Goals as goal
 
 pub returns-in_default : goal.returns-in_default
 returns-in_default g c =
-    let book = g.B.ReadSquares.book c.args.book.now in
+    let book = g.B.Look.book c.args.book.now in
     let x : SFits w64 c.args.x = c.ranges.x in
-    let square = known_square book c.args.sq.level c.args.sq (g.met.B.ReadSquares.is_book c.args.book.now) c.requires.known in
+    let square = known_square book c.args.sq.level c.args.sq (g.met.B.Look.is_book c.args.book.now) c.requires.known in
     sym (dead_column (2 ^ c.args.sq.level) (book.cells c.args.sq) square _ _ (simp to_z-of_z at c.in_default.ensures))
 
 pub returns-in_default-place : goal.returns-in_default-place
 returns-in_default-place g c =
-    let book = g.B.ReadSquares.book c.args.book.now in
+    let book = g.B.Look.book c.args.book.now in
     let y : SFits w64 c.args.y = c.ranges.y in
-    let square = known_square book c.args.sq.level c.args.sq (g.met.B.ReadSquares.is_book c.args.book.now) c.requires.known in
+    let square = known_square book c.args.sq.level c.args.sq (g.met.B.Look.is_book c.args.book.now) c.requires.known in
     sym (dead_row (2 ^ c.args.sq.level) (book.cells c.args.sq) square _ _ (simp to_z-of_z at c.in_default-place.ensures))
 
 pub returns : goal.returns
 returns g c =
-    let book = g.B.ReadSquares.book c.args.book.now in
+    let book = g.B.Look.book c.args.book.now in
     let x : SFits w64 c.args.x = c.ranges.x in
     let y : SFits w64 c.args.y = c.ranges.y in
     let column = simp to_z-of_z at c.in-Some.ensures.0 in

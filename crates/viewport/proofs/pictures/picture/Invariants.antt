@@ -9,4 +9,4 @@ abbrev pub invariant-loop-row : goal.invariant-loop-row
 invariant-loop-row g l =
     (g.W.Sink.failure_count l.sink ≡ g.W.Sink.failure_count l.fn.sink)
     × Appends (g.W.Sink.taken l.fn.sink) (g.W.Sink.taken l.sink)
-    (flat_map (λ z. row_text (centred l.sq.level ((g.B.ReadSquares.book l.book).cells l.sq)) z l.window.x l.window.width) (coordinates l.window.y l.row))
+    (flat_map (λ z. row_text (centred l.sq.level ((g.B.Look.book l.book).cells l.sq)) z l.window.x l.window.width) (coordinates l.window.y l.row))

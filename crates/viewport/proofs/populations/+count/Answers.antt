@@ -11,97 +11,97 @@ use Rattle.viewport.proofs.CountsLater.{count_before, count_later, kept_counts}
 use Rattle.viewport.proofs.populations.+count.Goals as goal
 
 pub count-returns-then-sq-eq0-clause-ok : goal.count-returns-then-sq-eq0-clause-ok
-count-returns-then-sq-eq0-clause-ok g t c = none_counted (g.S.Squares.book c.args.book.now) c.args.sq (g.met.S.Squares.is_book c.args.book.now) c.if-sq-eq0.true
+count-returns-then-sq-eq0-clause-ok g t c = none_counted (g.R.Reading.book c.args.from.now) c.args.sq (g.met.R.Reading.is_book c.args.from.now) c.if-sq-eq0.true
 
 pub count-returns-then-sq-eq3-clause-ok : goal.count-returns-then-sq-eq3-clause-ok
 count-returns-then-sq-eq3-clause-ok g t c =
-    counted_as (g.S.Squares.book c.args.book.now) c.args.sq 3 c.leaf_count.result _ c.if-sq-eq3.true c.read_bits.ensures.value.cells c.leaf_count.ensures.count c.leaf_count.ensures.most
+    counted_as (g.R.Reading.book c.args.from.now) c.args.sq 3 c.leaf_count.result _ c.if-sq-eq3.true c.cells_of.ensures.value.cells c.leaf_count.ensures.count c.leaf_count.ensures.most
 
 pub count-returns-then-sq-eq3-clause-counted : goal.count-returns-then-sq-eq3-clause-counted
-count-returns-then-sq-eq3-clause-counted g t c = kept_counts (g.S.Squares.book c.args.book.now) (g.S.Squares.book c.read_bits.new.self) c.args.counts.now c.read_bits.ensures.keeps c.requires.counted
+count-returns-then-sq-eq3-clause-counted g t c = kept_counts (g.R.Reading.book c.args.from.now) (g.R.Reading.book c.cells_of.new.self) c.args.counts.now c.cells_of.ensures.keeps c.requires.counted
 
 pub count-returns-in-Some-clause-ok : goal.count-returns-in-Some-clause-ok
 count-returns-in-Some-clause-ok g t c = (c.requires.counted.count c.args.sq c.in-Some.known.now (sym c.in-Some.ensures.value)).1
 
 pub count-returns-clause-counted : goal.count-returns-clause-counted
 count-returns-clause-counted g t c =
-    let was = g.S.Squares.book c.args.book.now in
-    let now = g.S.Squares.book c.count_quarters-2.new.book in
+    let was = g.R.Reading.book c.args.from.now in
+    let now = g.R.Reading.book c.count_quarters-2.new.from in
     let keeps = c.in_ok-whole.ensures.keeps in
     record {
       count = true_of_kept (IsKnownCount now) c.count_quarters-2.new.counts c.insert.new.self c.args.sq c.in_ok-whole.whole c.in_ok-whole.ensures.counted.count
-          (keeps.known c.args.sq c.requires.known.known, count_later was now c.args.sq c.in_ok-whole.whole keeps c.requires.known.known c.in_ok-whole.ensures.ok) c.in-Ok.ensures.updates;
+          (keeps.known c.args.sq c.requires.known.known, count_later was now c.args.sq c.in_ok-whole.whole keeps c.requires.known.known c.in_ok-whole.ensures.ok) c.in_ok-insert.ensures.updates;
     }
 
 pub count_quarters-count-requires : goal.count_quarters-count-requires
 count_quarters-count-requires g t c κs within =
-    let at_level = c.read_parts.ensures.value.nw.known.at_level in (
+    let at_level = c.quarters_of.ensures.value.nw.known.at_level in (
       search rules,
       (
         search rules,
-        of_quarter _ _ _ c.requires.high c.read_parts.ensures.value.nw.known
-            (kept_counts (g.S.Squares.book c.args.book.now) (g.S.Squares.book c.read_parts.new.self) c.args.counts.now c.read_parts.ensures.keeps c.requires.counted),
+        of_quarter _ _ _ c.requires.high c.quarters_of.ensures.value.nw.known
+            (kept_counts (g.R.Reading.book c.args.from.now) (g.R.Reading.book c.quarters_of.new.self) c.args.counts.now c.quarters_of.ensures.keeps c.requires.counted),
       ),
     )
 
 pub count_quarters-count-requires-2 : goal.count_quarters-count-requires-2
 count_quarters-count-requires-2 g t c κs within =
-    let at_level = c.read_parts.ensures.value.ne.known.at_level in
-    (search rules, (search rules, of_quarter _ _ _ c.requires.high (known_kept c.in_ok-count.ensures.keeps c.read_parts.ensures.value.ne.known) c.in_ok-count.ensures.counted))
+    let at_level = c.quarters_of.ensures.value.ne.known.at_level in
+    (search rules, (search rules, of_quarter _ _ _ c.requires.high (known_kept c.in_ok-count.ensures.keeps c.quarters_of.ensures.value.ne.known) c.in_ok-count.ensures.counted))
 
 pub count_quarters-count-requires-3 : goal.count_quarters-count-requires-3
 count_quarters-count-requires-3 g t c κs within =
-    let at_level = c.read_parts.ensures.value.sw.known.at_level in
-    (search rules, (search rules, of_quarter _ _ _ c.requires.high (known_kept c.in_ok-upper.ensures.keeps (known_kept c.in_ok-count.ensures.keeps c.read_parts.ensures.value.sw.known)) c.in_ok-upper.ensures.counted))
+    let at_level = c.quarters_of.ensures.value.sw.known.at_level in
+    (search rules, (search rules, of_quarter _ _ _ c.requires.high (known_kept c.in_ok-upper.ensures.keeps (known_kept c.in_ok-count.ensures.keeps c.quarters_of.ensures.value.sw.known)) c.in_ok-upper.ensures.counted))
 
 pub count_quarters-count-requires-4 : goal.count_quarters-count-requires-4
 count_quarters-count-requires-4 g t c κs within =
-    let at_level = c.read_parts.ensures.value.se.known.at_level in
-    (search rules, (search rules, of_quarter _ _ _ c.requires.high (known_kept c.in_ok-count-2.ensures.keeps (known_kept c.in_ok-upper.ensures.keeps (known_kept c.in_ok-count.ensures.keeps c.read_parts.ensures.value.se.known))) c.in_ok-count-2.ensures.counted))
+    let at_level = c.quarters_of.ensures.value.se.known.at_level in
+    (search rules, (search rules, of_quarter _ _ _ c.requires.high (known_kept c.in_ok-count-2.ensures.keeps (known_kept c.in_ok-upper.ensures.keeps (known_kept c.in_ok-count.ensures.keeps c.quarters_of.ensures.value.se.known))) c.in_ok-count-2.ensures.counted))
 
 pub count_quarters-overflow_add-upper : goal.count_quarters-overflow_add-upper
 count_quarters-overflow_add-upper g t c =
-    let a = few _ (nth c.read_parts.result 0) _ _ c.read_parts.ensures.value.nw.known.at_level (omega arith) c.in_ok-count.ensures.ok in
-    let b = few _ (nth c.read_parts.result 1) _ _ c.read_parts.ensures.value.ne.known.at_level (omega arith) c.in_ok-upper.ensures.ok in
+    let a = few _ (nth c.quarters_of.result 0) _ _ c.quarters_of.ensures.value.nw.known.at_level (omega arith) c.in_ok-count.ensures.ok in
+    let b = few _ (nth c.quarters_of.result 1) _ _ c.quarters_of.ensures.value.ne.known.at_level (omega arith) c.in_ok-upper.ensures.ok in
     omega (arith, a, b)
 
 pub count_quarters-overflow_add-lower : goal.count_quarters-overflow_add-lower
 count_quarters-overflow_add-lower g t c =
-    let a = few _ (nth c.read_parts.result 2) _ _ c.read_parts.ensures.value.sw.known.at_level (omega arith) c.in_ok-count-2.ensures.ok in
-    let b = few _ (nth c.read_parts.result 3) _ _ c.read_parts.ensures.value.se.known.at_level (omega arith) c.in_ok-lower.ensures.ok in
+    let a = few _ (nth c.quarters_of.result 2) _ _ c.quarters_of.ensures.value.sw.known.at_level (omega arith) c.in_ok-count-2.ensures.ok in
+    let b = few _ (nth c.quarters_of.result 3) _ _ c.quarters_of.ensures.value.se.known.at_level (omega arith) c.in_ok-lower.ensures.ok in
     omega (arith, a, b)
 
 pub count_quarters-overflow_add-result : goal.count_quarters-overflow_add-result
 count_quarters-overflow_add-result g t c =
-    let a = few _ (nth c.read_parts.result 0) _ _ c.read_parts.ensures.value.nw.known.at_level (omega arith) c.in_ok-count.ensures.ok in
-    let b = few _ (nth c.read_parts.result 1) _ _ c.read_parts.ensures.value.ne.known.at_level (omega arith) c.in_ok-upper.ensures.ok in
-    let d = few _ (nth c.read_parts.result 2) _ _ c.read_parts.ensures.value.sw.known.at_level (omega arith) c.in_ok-count-2.ensures.ok in
-    let e = few _ (nth c.read_parts.result 3) _ _ c.read_parts.ensures.value.se.known.at_level (omega arith) c.in_ok-lower.ensures.ok in
+    let a = few _ (nth c.quarters_of.result 0) _ _ c.quarters_of.ensures.value.nw.known.at_level (omega arith) c.in_ok-count.ensures.ok in
+    let b = few _ (nth c.quarters_of.result 1) _ _ c.quarters_of.ensures.value.ne.known.at_level (omega arith) c.in_ok-upper.ensures.ok in
+    let d = few _ (nth c.quarters_of.result 2) _ _ c.quarters_of.ensures.value.sw.known.at_level (omega arith) c.in_ok-count-2.ensures.ok in
+    let e = few _ (nth c.quarters_of.result 3) _ _ c.quarters_of.ensures.value.se.known.at_level (omega arith) c.in_ok-lower.ensures.ok in
     omega (arith, a, b, d, e)
 
 pub count_quarters-returns-clause-ok : goal.count_quarters-returns-clause-ok
 count_quarters-returns-clause-ok g t c =
-    let was = g.S.Squares.book c.args.book.now in
-    let read = g.S.Squares.book c.read_parts.new.self in
-    let one = g.S.Squares.book c.count.new.book in
-    let two = g.S.Squares.book c.count-2.new.book in
-    let three = g.S.Squares.book c.count-3.new.book in
-    let value = c.read_parts.ensures.value in
-    let k0 = c.read_parts.ensures.keeps in
+    let was = g.R.Reading.book c.args.from.now in
+    let read = g.R.Reading.book c.quarters_of.new.self in
+    let one = g.R.Reading.book c.count.new.from in
+    let two = g.R.Reading.book c.count-2.new.from in
+    let three = g.R.Reading.book c.count-3.new.from in
+    let value = c.quarters_of.ensures.value in
+    let k0 = c.quarters_of.ensures.keeps in
     let k1 = c.in_ok-count.ensures.keeps in
     let k2 = keeps_trans k1 c.in_ok-upper.ensures.keeps in
     let k3 = keeps_trans k2 c.in_ok-count-2.ensures.keeps in
     let sq = c.args.sq in
     let same = plane_equal (read.cells sq) (was.cells sq) (k0.cells sq c.requires.known.known) in
-    let parts = subst (λ (p : Plane). AreQuarters read sq.level p c.read_parts.result) (sym same) value in
+    let parts = subst (λ (p : Plane). AreQuarters read sq.level p c.quarters_of.result) (sym same) value in
     count_before was read sq _ k0 c.requires.known.known
-    (four_counted read sq (nth c.read_parts.result 0) (nth c.read_parts.result 1) (nth c.read_parts.result 2) (nth c.read_parts.result 3) _ _ _ _ (omega arith)
-    (quartered read sq c.read_parts.result (g.met.S.Squares.is_book c.read_parts.new.self) (known_kept k0 c.requires.known) (omega arith) parts)
+    (four_counted read sq (nth c.quarters_of.result 0) (nth c.quarters_of.result 1) (nth c.quarters_of.result 2) (nth c.quarters_of.result 3) _ _ _ _ (omega arith)
+    (quartered read sq c.quarters_of.result (g.met.R.Reading.is_book c.quarters_of.new.self) (known_kept k0 c.requires.known) (omega arith) parts)
     value.nw.known.at_level value.ne.known.at_level value.sw.known.at_level value.se.known.at_level
     c.in_ok-count.ensures.ok
-    (count_before read one (nth c.read_parts.result 1) _ k1 value.ne.known.known c.in_ok-upper.ensures.ok)
-    (count_before read two (nth c.read_parts.result 2) _ k2 value.sw.known.known c.in_ok-count-2.ensures.ok)
-    (count_before read three (nth c.read_parts.result 3) _ k3 value.se.known.known c.in_ok-lower.ensures.ok))
+    (count_before read one (nth c.quarters_of.result 1) _ k1 value.ne.known.known c.in_ok-upper.ensures.ok)
+    (count_before read two (nth c.quarters_of.result 2) _ k2 value.sw.known.known c.in_ok-count-2.ensures.ok)
+    (count_before read three (nth c.quarters_of.result 3) _ k3 value.se.known.known c.in_ok-lower.ensures.ok))
 
 pub count-returns-clause-ok : goal.count-returns-clause-ok
 count-returns-clause-ok g t c = c.in_ok-whole.ensures.ok

@@ -5,4 +5,4 @@ use Rattle.viewport.proofs.populations.population.Goals as goal
 pub returns-clause-ok : goal.returns-clause-ok
 returns-clause-ok g c =
     IfOk-weaker c.count.result _ _
-    (λ n is. population_of (g.S.Squares.book c.args.book.now) c.args.sq n (g.met.S.Squares.is_book c.args.book.now) c.requires.known is) c.count.ensures.ok
+    (λ n is. population_of (g.L.Look.book c.args.look.now) c.args.sq n (g.met.L.Look.is_book c.args.look.now) c.requires.known is) c.count.ensures.ok

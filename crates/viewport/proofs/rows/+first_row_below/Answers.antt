@@ -9,16 +9,16 @@ use Rattle.viewport.proofs.rows.+first_row_below.Goals as goal
 
 pub first_row_below-returns-then-is_some : goal.first_row_below-returns-then-is_some
 first_row_below-returns-then-is_some g t c =
-    let book = g.B.ReadSquares.book c.args.book.now in
-    let quarters = quartered_by book c.args.sq c.parts.result _ (g.met.B.ReadSquares.is_book c.args.book.now) c.requires.known (omega arith) c.parts.ensures c.side-half.ensures.side in
+    let book = g.B.Look.book c.args.book.now in
+    let quarters = quartered_by book c.args.sq c.parts.result _ (g.met.B.Look.is_book c.args.book.now) c.requires.known (omega arith) c.parts.ensures c.side-half.ensures.side in
     let upper_side : 2 ^ (nth c.parts.result 0).level ≡ c.side-half.result = ap (λ n. 2 ^ n) c.parts.ensures.nw.known.at_level ∙ sym c.side-half.ensures.side in
     upper_part c.side-half.result (book.cells c.args.sq) _ _ _ _ quarters c.args.from c.args.end c.min.result c.first_row_beside-upper.result c.min.ensures
     (rw upper_side at c.first_row_beside-upper.ensures) (sym c.is_some.ensures ∙ c.if-is_some.true)
 
 pub first_row_below-returns-in_err-lower : goal.first_row_below-returns-in_err-lower
 first_row_below-returns-in_err-lower g t c =
-    let book = g.B.ReadSquares.book c.args.book.now in
-    let quarters = quartered_by book c.args.sq c.parts.result _ (g.met.B.ReadSquares.is_book c.args.book.now) c.requires.known (omega arith) c.parts.ensures c.side-half.ensures.side in
+    let book = g.B.Look.book c.args.book.now in
+    let quarters = quartered_by book c.args.sq c.parts.result _ (g.met.B.Look.is_book c.args.book.now) c.requires.known (omega arith) c.parts.ensures c.side-half.ensures.side in
     let upper_side : 2 ^ (nth c.parts.result 0).level ≡ c.side-half.result = ap (λ n. 2 ^ n) c.parts.ensures.nw.known.at_level ∙ sym c.side-half.ensures.side in
     let lower_side : 2 ^ (nth c.parts.result 2).level ≡ c.side-half.result = ap (λ n. 2 ^ n) c.parts.ensures.sw.known.at_level ∙ sym c.side-half.ensures.side in
     let lower = lower_part c.side-half.result (book.cells c.args.sq) _ _ _ _ quarters c.args.from c.args.end c.min.result c.first_row_beside-upper.result c.min.ensures
@@ -29,8 +29,8 @@ first_row_below-returns-in_err-lower g t c =
 
 pub first_row_below-returns : goal.first_row_below-returns
 first_row_below-returns g t c =
-    let book = g.B.ReadSquares.book c.args.book.now in
-    let quarters = quartered_by book c.args.sq c.parts.result _ (g.met.B.ReadSquares.is_book c.args.book.now) c.requires.known (omega arith) c.parts.ensures c.side-half.ensures.side in
+    let book = g.B.Look.book c.args.book.now in
+    let quarters = quartered_by book c.args.sq c.parts.result _ (g.met.B.Look.is_book c.args.book.now) c.requires.known (omega arith) c.parts.ensures c.side-half.ensures.side in
     let upper_side : 2 ^ (nth c.parts.result 0).level ≡ c.side-half.result = ap (λ n. 2 ^ n) c.parts.ensures.nw.known.at_level ∙ sym c.side-half.ensures.side in
     let lower_side : 2 ^ (nth c.parts.result 2).level ≡ c.side-half.result = ap (λ n. 2 ^ n) c.parts.ensures.sw.known.at_level ∙ sym c.side-half.ensures.side in
     let lower = lower_part c.side-half.result (book.cells c.args.sq) _ _ _ _ quarters c.args.from c.args.end c.min.result c.first_row_beside-upper.result c.min.ensures
@@ -43,6 +43,6 @@ first_row_below-returns-then-sq-eq3 g t c = rows_as _ _ c.args.from c.args.end c
 
 pub first_row_beside-returns : goal.first_row_beside-returns
 first_row_beside-returns g t c =
-    let book = g.B.ReadSquares.book c.args.book.now in
+    let book = g.B.Look.book c.args.book.now in
     half_rows (2 ^ c.args.left.level) (book.cells c.args.left) (book.cells c.args.right) c.args.from c.args.end c.unwrap_or.result c.first_row_below-found.result c.first_row_below.result c.or.result
     c.first_row_below-found.ensures c.unwrap_or.ensures c.first_row_below.ensures c.or.ensures

@@ -15,10 +15,10 @@ use Rattle.viewport.proofs.runs.+add_row.Goals as goal
 
 pub returns-then-sq-eq0 : goal.returns-then-sq-eq0
 returns-then-sq-eq0 g t c =
-    let book = g.B.ReadSquares.book c.args.book.now in
+    let book = g.B.Look.book c.args.book.now in
     record {
       ok = adds_none c.args.left (2 ^ c.args.sq.level) (cells_at (book.cells c.args.sq) c.args.left c.args.y) c.args.runs.now.items c.requires.before
-          (λ x. ap (λ p. p (x -ℤ c.args.left) (pos c.args.y)) (zero_is_empty book c.args.sq (g.met.B.ReadSquares.is_book c.args.book.now) c.if-sq-eq0.true));
+          (λ x. ap (λ p. p (x -ℤ c.args.left) (pos c.args.y)) (zero_is_empty book c.args.sq (g.met.B.Look.is_book c.args.book.now) c.if-sq-eq0.true));
     }
 
 pub returns-then-sq-eq3 : goal.returns-then-sq-eq3
@@ -39,7 +39,7 @@ add_run-requires-clause-room g t c =
 
 pub returns-then-is_covered : goal.returns-then-is_covered
 returns-then-is_covered g t c =
-    let book = g.B.ReadSquares.book c.args.book.now in
+    let book = g.B.Look.book c.args.book.now in
     let first = c.half_with_row-row.result.0 in
     let second = c.half_with_row-row.result.1 in
     let left : SFits w64 c.args.left = c.ranges.left in
@@ -51,7 +51,7 @@ returns-then-is_covered g t c =
     let covered = rw c.deref.ensures.value at (simp to_z-of_z at (c.if-is_covered.ensures yes)) in
     let run_is = simp to_z-of_z at c.add_run.ensures.ok in
     let same : second ≡ first = same_sq second first (eqb-true _ _ (and_left _ _ (sym c.if-eq.ensures))) (eqb-true _ _ (and_right _ _ (sym c.if-eq.ensures))) in
-    let square = known_square book _ first (g.met.B.ReadSquares.is_book c.args.book.now) c.half_with_row-row.ensures.first in
+    let square = known_square book _ first (g.met.B.Look.is_book c.args.book.now) c.half_with_row-row.ensures.first in
     record {
       ok = IfOk-weaker c.add_run.result _ _
           (λ _ run. again_adds c.args.sq.level c.args.left c.half_side.result c.half_side.ensures.side (book.cells c.args.sq) _ _ c.args.y _ c.half_with_row-row.ensures.row c.args.runs.now.items c.add_row.new.runs.items
@@ -65,7 +65,7 @@ add_row-requires-2 g t c κs within =
     let half : SFits w64 c.half_side.result = search rules in
     let least : 1 ≤ c.args.sq.level = omega arith in
     let middle : SFits w64 (c.args.left +ℤ c.half_side.result) = middle_fits c.args.left c.half_side.result c.args.sq.level least left c.half_side.ensures.side c.requires.room in
-    let book = g.B.ReadSquares.book c.args.book.now in
+    let book = g.B.Look.book c.args.book.now in
     let second = c.half_with_row-row.result.1 in
     let known = c.half_with_row-row.ensures.second in
     let is = c.half_with_row-row.ensures.row in
@@ -77,7 +77,7 @@ add_row-requires-2 g t c κs within =
 
 pub returns : goal.returns
 returns g t c =
-    let book = g.B.ReadSquares.book c.args.book.now in
+    let book = g.B.Look.book c.args.book.now in
     let left : SFits w64 c.args.left = c.ranges.left in
     let half : SFits w64 c.half_side.result = search rules in
     let least : 1 ≤ c.args.sq.level = omega arith in

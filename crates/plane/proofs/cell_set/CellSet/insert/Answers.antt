@@ -5,12 +5,12 @@ use Rattle.plane.proofs.cell_set.CellSet.insert.Goals as goal
 
 pub invariant_of-self-2 : goal.invariant_of-self-2
 invariant_of-self-2 c = record {
-  rising = c.in-Ok.ensures.ordered;
-  in_range = rw c.in-Ok.ensures.keys (AllByRecursion-insert_key IsInRange reading_order _ _ c.requires c.self.invariant.in_range);
+  rising = c.in_ok-insert.ensures.ordered;
+  in_range = rw c.in_ok-insert.ensures.keys (AllByRecursion-insert_key IsInRange reading_order _ _ c.requires c.self.invariant.in_range);
 }
 
 pub returns-clause-ok : goal.returns-clause-ok
 returns-clause-ok c = rw (← c.self.view_is) (record {
-  rising = c.in-Ok.ensures.ordered;
-  live = plane_of-one_more _ _ _ c.in-Ok.ensures.updates.0;
+  rising = c.in_ok-insert.ensures.ordered;
+  live = plane_of-one_more _ _ _ c.in_ok-insert.ensures.updates.0;
 })

@@ -1,8 +1,8 @@
 use Rattle.std.proofs.Common.{◌≡◌, length, arith, rules}
 use Rattle.squares.specs.Book.{numbered}
 use Rattle.squares.proofs.Kept.{keeps_none, keeps_trans}
-use Rattle.hashlife_step.proofs.Middles.{inner_known, middle_shown}
-use Rattle.hashlife_step.proofs.centres.middles.Goals as goal
+use Rattle.hashlife_step.proofs.FourCentres.{inner_known, middle_shown}
+use Rattle.hashlife_step.proofs.centres.four_centres.Goals as goal
 
 pub read_nine-requires-clause-low : goal.read_nine-requires-clause-low
 read_nine-requires-clause-low g c =

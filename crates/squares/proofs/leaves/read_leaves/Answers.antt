@@ -1,6 +1,6 @@
 use Rattle.std.proofs.Common.{◌≡◌, length, rules}
-use Rattle.hashlife_step.proofs.LeafSquares.{leaves_known, leaves_shown}
-use Rattle.hashlife_step.proofs.leaf_squares.read_leaves.Goals as goal
+use Rattle.squares.proofs.FourLeaves.{leaves_known, leaves_shown}
+use Rattle.squares.proofs.leaves.read_leaves.Goals as goal
 
 pub read_four-requires : goal.read_four-requires
 read_four-requires g c =

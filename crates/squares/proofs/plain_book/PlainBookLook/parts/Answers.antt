@@ -3,7 +3,7 @@ use Rattle.squares.specs.declared.sq.Sq.{Sq}
 use Rattle.squares.specs.Book.{AreQuarters}
 use Rattle.squares.specs.Nodes.{plain_book, plane_at, nodes_of}
 use Rattle.squares.proofs.PlainLaws.{zero_quarters, node_quarters}
-use Rattle.squares.proofs.plain_book.PlainBookReadSquares.parts.Goals as goal
+use Rattle.squares.proofs.plain_book.PlainBookLook.parts.Goals as goal
 
 pub returns-then-sq-eq0 : goal.returns-then-sq-eq0
 returns-then-sq-eq0 c =

@@ -4,7 +4,7 @@ use Rattle.plane.proofs.Same.{plane_equal}
 use Rattle.squares.specs.Book.{joined_squares}
 use Rattle.squares.proofs.Centres.{shows_as}
 use Rattle.std.proofs.Common.{refl, subst}
-use Rattle.hashlife_step.proofs.leaf_squares.leaf_middle.Goals as goal
+use Rattle.squares.proofs.leaves.leaf_centre.Goals as goal
 
 pub returns-clause-ok : goal.returns-clause-ok
 returns-clause-ok g c =

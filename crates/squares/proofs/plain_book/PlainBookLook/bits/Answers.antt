@@ -2,7 +2,7 @@ use Rattle.std.proofs.Common.{◌∙◌, ap, Some, arith, ◌≡◌}
 use Rattle.squares.specs.Nodes.{nodes_of, level_of}
 use Rattle.squares.specs.declared.node.Node.TheVariants.{Inner}
 use Rattle.squares.proofs.NodeLists.{level_at}
-use Rattle.squares.proofs.plain_book.PlainBookReadSquares.bits.Goals as goal
+use Rattle.squares.proofs.plain_book.PlainBookLook.bits.Goals as goal
 
 pub unreachable-requires : goal.unreachable-requires
 unreachable-requires c =

@@ -1,6 +1,6 @@
 use Rattle.std.proofs.lemmas.Result.{IfOk-weaker}
 use Rattle.squares.proofs.NineSquares.{make_middle, middle_is_centre}
-use Rattle.squares.proofs.subsquares.centre.Goals as goal
+use Rattle.squares.proofs.subsquares.centre_of_parts.Goals as goal
 
 pub returns-clause-ok : goal.returns-clause-ok
 returns-clause-ok g c =

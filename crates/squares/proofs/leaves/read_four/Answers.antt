@@ -1,6 +1,6 @@
 use Rattle.std.proofs.Common.{◌≡◌, length, rules}
-use Rattle.hashlife_step.proofs.LeafSquares.{four_read}
-use Rattle.hashlife_step.proofs.leaf_squares.read_four.Goals as goal
+use Rattle.squares.proofs.FourLeaves.{four_read}
+use Rattle.squares.proofs.leaves.read_four.Goals as goal
 
 pub returns-clause-value : goal.returns-clause-value
 returns-clause-value g c =
