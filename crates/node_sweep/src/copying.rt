@@ -1,3 +1,5 @@
+//! Leaves and pairs, copied after their parts, each once.
+
 ghost use Rattle.std.specs.Prelude.{◌≡◌, ◌≢◌, ◌<◌, ◌+◌, ◌^◌, length, IfOk, IfErr, slice_index};
 ghost use Rattle.table_core.specs.declared.shape.Kind.TheVariants.{Pair};
 ghost use Rattle.table_core.specs.Good.{KeepsWords};

@@ -1,3 +1,5 @@
+//! Fresh words, filled with what one number reaches or with everything.
+
 ghost use Rattle.std.specs.Prelude.{◌≡◌, ◌<◌, ◌⊎◌, IfOk, IfErr, IsOkUnless, length, replicate};
 ghost use Rattle.table_core.specs.Blocks.{IsBlock};
 ghost use Rattle.table_core.specs.Layout.{size};

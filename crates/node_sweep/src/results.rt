@@ -1,3 +1,5 @@
+//! Results, copied after the pairs beside which they stand.
+
 ghost use Rattle.std.specs.Prelude.{◌≡◌, ◌+◌, ◌^◌, length};
 ghost use Rattle.table_core.specs.declared.shape.Kind.TheVariants.{Pair};
 ghost use Rattle.table_core.specs.Layout.{IsSlot, start};

@@ -1,3 +1,5 @@
+//! The three copies of a table's words: a sweep, an enlargement and a collection.
+
 ghost use Rattle.std.specs.Prelude.{◌≡◌, ◌⊎◌, IfOk, IfErr, IsOkUnless};
 ghost use Rattle.squares.specs.Book.{IsKnown};
 ghost use Rattle.table_core.specs.Sizes.{IsPairCount};

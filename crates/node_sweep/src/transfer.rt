@@ -1,3 +1,5 @@
+//! What is copied from old words into fresh ones.
+
 ghost use Rattle.std.specs.Prelude.{◌≡◌};
 ghost use Rattle.table_core.specs.Good.{AreGoodWords};
 ghost use Rattle.node_table.specs.GoodWords.{good_prop};

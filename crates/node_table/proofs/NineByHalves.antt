@@ -9,7 +9,7 @@ use Rattle.squares.proofs.NineSquares.{quarters_kept}
 use Rattle.table_core.proofs.Knowing.{grows_refl}
 use Rattle.node_table.specs.declared.desk.Desk.{Desk}
 use Rattle.node_table.specs.declared.halves.Half.{Half}
-use Rattle.node_table.specs.declared.ninths.HalvesOfQuarters.{HalvesOfQuarters}
+use Rattle.node_table.specs.declared.subsquares.HalvesOfQuarters.{HalvesOfQuarters}
 use Rattle.node_table.specs.declared.table.NodeTable.{NodeTable}
 use Rattle.node_table.specs.Desks.{IsDeskOf, book_at}
 use Rattle.node_table.specs.Halves.{AreBeside, AreHalves, AreHalvesOfQuarters, KnowsHalf, LearnsBlocks, MakeSquare, squares_of}

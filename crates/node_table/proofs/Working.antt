@@ -3,7 +3,7 @@ use Rattle.std.proofs.Common.{ℕ, ◌+◌, ◌-◌, ◌*◌, All, List, [], ◌
 use Rattle.std.specs.List.{AllByRecursion}
 use Rattle.plane.specs.Plane.{Plane}
 use Rattle.squares.specs.declared.sq.Sq.{Sq}
-use Rattle.squares.specs.Book.{Keeps, Shows, IsKnown, Learns, AddsResult, AreNinths, AreQuarters, nth}
+use Rattle.squares.specs.Book.{Keeps, Shows, IsKnown, Learns, AddsResult, AreSubsquares, AreQuarters, nth}
 use Rattle.squares.specs.Overlaps.{AreOverlaps}
 use Rattle.table_core.specs.Knowledge.{Grows}
 use Rattle.node_table.specs.declared.desk.Desk.{Desk}
@@ -39,8 +39,8 @@ quarters_working expansions table desk level plane quarters h = record {
   se = shows_working expansions table desk (level - 1) _ (nth quarters 3) h.se;
 }
 
-pub ninths_working : (expansions : ℕ) (table : NodeTable) (desk : Desk) (level : ℕ) (plane : Plane) (squares : List Sq) → AreNinths (book_at table desk) level plane squares → AreNinths (work_at expansions table desk) level plane squares
-ninths_working expansions table desk level plane squares h =
+pub subsquares_working : (expansions : ℕ) (table : NodeTable) (desk : Desk) (level : ℕ) (plane : Plane) (squares : List Sq) → AreSubsquares (book_at table desk) level plane squares → AreSubsquares (work_at expansions table desk) level plane squares
+subsquares_working expansions table desk level plane squares h =
     record { shown = λ row column above left. shows_working expansions table desk (level - 1) _ (nth squares (3 * row + column)) (h.shown row column above left) }
 
 pub overlaps_working : (expansions : ℕ) (table : NodeTable) (desk : Desk) (level : ℕ) (nine four : List Sq) → AreOverlaps (book_at table desk) level nine four → AreOverlaps (work_at expansions table desk) level nine four

@@ -6,7 +6,7 @@ use Rattle.squares.specs.Book.{Book, AreQuarters, IsKnown, nth}
 use Rattle.table_core.specs.Knowledge.{Grows}
 use Rattle.node_table.specs.declared.desk.Desk.{Desk}
 use Rattle.node_table.specs.declared.halves.Half.{Half}
-use Rattle.node_table.specs.declared.ninths.HalvesOfQuarters.{HalvesOfQuarters}
+use Rattle.node_table.specs.declared.subsquares.HalvesOfQuarters.{HalvesOfQuarters}
 use Rattle.node_table.specs.declared.overlaps.HalvesOfRows.{HalvesOfRows}
 use Rattle.node_table.specs.declared.table.NodeTable.{NodeTable}
 use Rattle.node_table.specs.Desks.{IsDeskOf, book_at}

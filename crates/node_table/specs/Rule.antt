@@ -49,17 +49,17 @@ pub record Met {S : Type 0} (key : Key) (event : Event) (before : Me S View) (wo
 abbrev pub HasMet : Event → {S : Type 0} → Me S View → ℕ → Me S View → Type 0
 HasMet event before found after = (key : Key) → before.0.key ≡ Some key → Met key event before (word_after event found) after
 
-abbrev pub LooksThere : {S : Type 0} → Step S → Me S View → ℕ → Me S View → Type 0
-LooksThere step = HasMet (Look 0 step.word)
+abbrev pub LoadsNode : {S : Type 0} → Step S → Me S View → ℕ → Me S View → Type 0
+LoadsNode step = HasMet (Look 0 step.word)
 
-abbrev pub ClaimsThere : {S : Type 0} → Step S → Me S View → ℕ → Me S View → Type 0
-ClaimsThere step = HasMet (Claim 0 step.word step.second)
+abbrev pub PlacesNode : {S : Type 0} → Step S → Me S View → ℕ → Me S View → Type 0
+PlacesNode step = HasMet (Claim 0 step.word step.second)
 
-abbrev pub AsksThere : {S : Type 0} → Step S → Me S View → ℕ → Me S View → Type 0
-AsksThere step = HasMet (Ask 0 step.word)
+abbrev pub LoadsResult : {S : Type 0} → Step S → Me S View → ℕ → Me S View → Type 0
+LoadsResult step = HasMet (Ask 0 step.word)
 
-abbrev pub TellsThere : {S : Type 0} → Step S → Me S View → ℕ → Me S View → Type 0
-TellsThere step = HasMet (Tell 0 step.word (second_part step.second))
+abbrev pub PlacesResult : {S : Type 0} → Step S → Me S View → ℕ → Me S View → Type 0
+PlacesResult step = HasMet (Tell 0 step.word (second_part step.second))
 
 -- one desk knows what either knew, and the other nothing more
 abbrev pub merged : View → View → View

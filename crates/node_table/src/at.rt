@@ -1,3 +1,4 @@
+//! A desk at work at its table: the book of squares that the recursion reads and writes.
 ghost use Rattle.std.specs.Prelude.{◌≡◌, ◌<◌, ◌+◌, IfOk, IfErr, OnErr, OnOk, IsOk};
 ghost use Rattle.std.specs.List.{AllByRecursion};
 ghost use Rattle.plane.specs.Square.{bits_plane};
@@ -107,6 +108,8 @@ impl Squares for At<'_> {
         ensures results { KeepsResults (book_here self.old) (book_here self.new) }
     {
         let [nw, ne, sw, se] = quarters;
+        self.table.prefetch_half(nw, ne);
+        self.table.prefetch_half(sw, se);
         let upper = self.desk.half(self.table, nw, ne)?;
         let lower = self.desk.half(self.table, sw, se)?;
         self.desk.whole(self.table, upper, lower)

@@ -1,9 +1,11 @@
+//! A thread's handle at the table, and the four steps that it takes on a word: a load and a
+//! compare-exchange of the word of a block, and the same of the word of a result.
 ghost use Rattle.std.specs.Prelude.{◌≡◌, ◌<◌, ◌==◌, if◌then◌else◌, ◌+◌, ◌^◌, [], min};
 ghost use Rattle.table_core.specs.declared.machine.Event.TheVariants.{Look, Claim, Ask, Tell};
 ghost use Rattle.table_core.specs.Lawful.{IsLawful};
 ghost use Rattle.node_table.specs.Books.{IsSound};
 
-use crate::rules::{Asks, Claims, Looks, Tells};
+use crate::rules::{LoadNode, LoadResult, PlaceNode, PlaceResult};
 use crate::table::NodeTable;
 use crate::view::View;
 use atomic_table::Seat;
@@ -48,7 +50,7 @@ impl Desk {
         table
             .table
             .shared
-            .load::<Looks>(&mut self.seat, index as usize)
+            .load::<LoadNode>(&mut self.seat, index as usize)
     }
 
     // Places the word of a leaf or a pair where 0 stands, and answers the word that stood there.
@@ -62,7 +64,7 @@ impl Desk {
         table
             .table
             .shared
-            .compare_exchange::<Claims>(&mut self.seat, index as usize, 0, word)
+            .compare_exchange::<PlaceNode>(&mut self.seat, index as usize, 0, word)
     }
 
     // Loads the word of a result.
@@ -76,7 +78,7 @@ impl Desk {
         table
             .table
             .shared
-            .load::<Asks>(&mut self.seat, index as usize)
+            .load::<LoadResult>(&mut self.seat, index as usize)
     }
 
     // Places the word of a result where 0 stands, and answers the word that stood there.
@@ -91,6 +93,6 @@ impl Desk {
         table
             .table
             .shared
-            .compare_exchange::<Tells>(&mut self.seat, index as usize, 0, word)
+            .compare_exchange::<PlaceResult>(&mut self.seat, index as usize, 0, word)
     }
 }

@@ -2,6 +2,12 @@
 //!
 //! A desk has a seat at a table of `atomic_table`, and at the seat a view of what it has seen. Each step on a word is a play
 //! that the rule of the table allows it, and teaches it something.
+//!
+//! - [`Desk`]: a thread's handle at the shared hash-consing table.
+//! - [`Still`]: the table's words when no thread uses it.
+//! - `keep` and `recall` of [`At`]: the memo of results.
+//! - A probe sequence is called a way.
+//! - A probe group, the 256 slots that a way visits, is called a shard.
 #![tactic(auto)]
 
 mod at;
@@ -9,7 +15,6 @@ mod desk;
 mod halves;
 mod held;
 mod look;
-mod ninths;
 mod overlaps;
 mod pairs;
 mod prefetching;
@@ -17,13 +22,16 @@ mod rules;
 mod search;
 mod shared;
 mod still;
+mod subsquares;
 mod table;
 mod view;
 
 pub use at::At;
 pub use desk::Desk;
 pub use held::Held;
-pub use rules::{Asks, Claims, Looks, Tells, Twins, Union, Words};
+pub use rules::{
+    JoinedView, LoadNode, LoadResult, PlaceNode, PlaceResult, SplitView, TableInvariant,
+};
 pub use shared::SharedStill;
 pub use still::Still;
 pub use table::NodeTable;

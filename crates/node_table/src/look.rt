@@ -1,3 +1,4 @@
+//! Words that nobody changes, as a book that is only read.
 ghost use Rattle.node_table.specs.Numbers.{KnowsSomePair, KnowsPairOf};
 ghost use Rattle.node_table.specs.Rule.{everything};
 ghost use Rattle.node_table.specs.Shared.{book_shown, shown};
@@ -6,7 +7,7 @@ ghost use Rattle.node_table.specs.Stills.{book_in};
 use crate::at::square;
 use crate::shared::SharedStill;
 use crate::still::Still;
-use squares::{ReadSquares, Sq};
+use squares::{Look, Sq};
 use table_core::parts;
 
 impl Still {
@@ -22,7 +23,7 @@ impl Still {
     }
 }
 
-impl ReadSquares for Still {
+impl Look for Still {
     ghost book = { book_in };
 
     fn bits(&self, sq: Sq) -> u64 {
@@ -61,7 +62,7 @@ impl SharedStill {
     }
 }
 
-impl ReadSquares for SharedStill {
+impl Look for SharedStill {
     ghost book = { book_shown };
 
     fn bits(&self, sq: Sq) -> u64 {

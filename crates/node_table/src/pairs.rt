@@ -1,3 +1,4 @@
+//! Two blocks and the number of both together: found or made, and read again.
 ghost use Rattle.std.specs.Prelude.{◌≡◌, IfOk, IfErr, OnErr};
 ghost use Rattle.squares.specs.Book.{MayRefuse};
 ghost use Rattle.table_core.specs.declared.shape.Kind.TheVariants.{Pair};

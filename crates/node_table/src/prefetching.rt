@@ -14,6 +14,11 @@ impl NodeTable {
     // The slot where the search for the square of two halves begins.
     pub(crate) fn prefetch_whole(&self, upper: Half, lower: Half) {
         self.prefetch(upper.number, lower.number);
+        let word = pair_word(upper.number, lower.number);
+        let index = self.key.shape.way_index(Kind::Pair, word, 0);
+        self.table
+            .shared
+            .peek(self.key.shape.result_index(index) as usize);
     }
 
     fn prefetch(&self, first: u32, second: u32) {

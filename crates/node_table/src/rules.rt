@@ -1,59 +1,61 @@
-ghost use Rattle.node_table.specs.Rule.{Holds, opened, LooksThere, ClaimsThere, AsksThere, TellsThere, merged, spent};
+//! The names of what threads may do with the shared words, for the contracts of `atomic_table`: the
+//! invariant of the words, the loads and compare-exchanges, and how views split and join.
+ghost use Rattle.node_table.specs.Rule.{Holds, opened, LoadsNode, PlacesNode, LoadsResult, PlacesResult, merged, spent};
 
 use crate::still::Still;
 use crate::view::View;
 use atomic_table::{Join, Play, Split, TableRule};
 
 /// The rule of the words, between any two steps: they are good, and what each desk knows is true.
-pub struct Words;
+pub struct TableInvariant;
 
-impl TableRule<(), View, Still> for Words {
+impl TableRule<(), View, Still> for TableInvariant {
     ghost holds = { Holds };
 
     ghost first = { opened };
 }
 
 /// A load of the word of a leaf or a pair.
-pub struct Looks;
+pub struct LoadNode;
 
-impl Play<(), View> for Looks {
-    ghost then = { LooksThere };
+impl Play<(), View> for LoadNode {
+    ghost then = { LoadsNode };
 }
 
 /// A compare-exchange of the word of a leaf or a pair from 0.
-pub struct Claims;
+pub struct PlaceNode;
 
-impl Play<(), View> for Claims {
-    ghost then = { ClaimsThere };
+impl Play<(), View> for PlaceNode {
+    ghost then = { PlacesNode };
 }
 
 /// A load of the word of a result.
-pub struct Asks;
+pub struct LoadResult;
 
-impl Play<(), View> for Asks {
-    ghost then = { AsksThere };
+impl Play<(), View> for LoadResult {
+    ghost then = { LoadsResult };
 }
 
 /// A compare-exchange of the word of a result from 0.
-pub struct Tells;
+pub struct PlaceResult;
 
-impl Play<(), View> for Tells {
-    ghost then = { TellsThere };
+impl Play<(), View> for PlaceResult {
+    ghost then = { PlacesResult };
 }
 
 /// Both desks know what the one knew.
-pub struct Twins;
+pub struct SplitView;
 
-impl Split<View> for Twins {
+impl Split<View> for SplitView {
     ghost left = { λ view. view };
 
     ghost right = { λ view. view };
 }
 
 /// The one desk knows what either knew.
-pub struct Union;
+pub struct JoinedView;
 
-impl Join<View> for Union {
+impl Join<View> for JoinedView {
     ghost both = { merged };
 
     ghost spent = { spent };

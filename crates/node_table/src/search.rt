@@ -1,3 +1,4 @@
+//! The search for a word along its probe sequence: for an equal word, or the first empty slot.
 ghost use Rattle.std.specs.Prelude.{◌≢◌, IfSome, IfNone};
 ghost use Rattle.table_core.specs.Knowledge.{Grows};
 ghost use Rattle.table_core.specs.Lawful.{KnowsPartsFor};

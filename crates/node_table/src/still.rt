@@ -1,3 +1,4 @@
+//! The words of a table that no thread uses.
 ghost use Rattle.std.specs.Prelude.{◌≡◌, ◌≢◌, ◌<◌, ◌↔◌, [], IsTrue, IfOk, IsOkUnless};
 ghost use Rattle.table_core.specs.Good.{AreGoodWords};
 ghost use Rattle.table_core.specs.Sizes.{IsPairCount};

@@ -1,10 +1,11 @@
+//! A running table: opened over words, closed to words, and its desks, split and joined.
 ghost use Rattle.std.specs.Prelude.{◌≡◌, ◌+◌, min, IfOk, IfErr, IfSome};
 ghost use Rattle.table_core.specs.Layout.{size};
 
 use crate::at::At;
 use crate::desk::Desk;
 use crate::held::Held;
-use crate::rules::{Looks, Twins, Union, Words};
+use crate::rules::{JoinedView, LoadNode, SplitView, TableInvariant};
 use crate::still::Still;
 use crate::view::View;
 use atomic_table::Table;
@@ -17,7 +18,7 @@ use table_core::Key;
 /// A running table: words that threads share. Each thread has a desk of its own at it.
 #[derive(Drop)]
 pub struct NodeTable {
-    pub(crate) table: Table<(), View, Still, Words, Global>,
+    pub(crate) table: Table<(), View, Still, TableInvariant, Global>,
     pub(crate) key: Key,
     ghost same_key: { table.shared.key.key ≡ key },
     ghost long: { table.shared.table_id.words ≡ size key.shape.bits },
@@ -136,7 +137,7 @@ impl NodeTable {
             mut seat,
             expansions,
         } = desk;
-        let other = self.table.shared.split_seat::<Twins>(&mut seat);
+        let other = self.table.shared.split_seat::<SplitView>(&mut seat);
         (
             Desk { seat, expansions },
             Desk {
@@ -164,9 +165,9 @@ impl NodeTable {
             seat: other,
             expansions: others,
         } = second;
-        self.table.shared.join_seat::<Union>(&mut seat, other);
+        self.table.shared.join_seat::<JoinedView>(&mut seat, other);
         // A step, at which the rule of the words holds, tells that what the joined view says is true.
-        self.table.shared.load::<Looks>(&mut seat, 0);
+        self.table.shared.load::<LoadNode>(&mut seat, 0);
         Desk {
             seat,
             expansions: expansions.saturating_add(others),

@@ -1,3 +1,4 @@
+//! What a desk has seen of the table, for contracts alone.
 use table_core::{Key, Knowledge};
 
 /// What a desk has seen: the table's key, and what the desk knows of the words. That of a desk that

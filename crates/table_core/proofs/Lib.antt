@@ -9,12 +9,14 @@ pub mod FullWays
 pub mod Knowing
 pub mod Learned
 pub mod Lists
+pub mod Pigeons
 pub mod Powers
 pub mod Quads
 pub mod Reopenings
 pub mod Results
 pub mod Running
 pub mod Showing
+pub mod Slots
 pub mod Stepping
 pub mod Teaching
 pub mod Ways

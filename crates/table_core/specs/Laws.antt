@@ -1,5 +1,5 @@
 -- Laws of all tables beside that of all runs.
-use Rattle.std.specs.Prelude.{◌≡◌, ◌≢◌, ℕ, ◌≤◌, ◌<◌, ◌↔◌, IsTrue, Contains}
+use Rattle.std.specs.Prelude.{◌≡◌, ◌≢◌, ℕ, ◌^◌, ◌≤◌, ◌<◌, ◌↔◌, IsTrue, Contains, length}
 use Rattle.table_core.specs.declared.key.Key.{Key}
 use Rattle.table_core.specs.declared.knowledge.Knowledge.{Knowledge}
 use Rattle.table_core.specs.declared.knowledge.KnownResult.{KnownResult}
@@ -42,6 +42,10 @@ pub record KnowsAll (bits : ℕ) (words : Words) (known : Knowledge) : Type 0 wh
 
 abbrev pub GoodWordsCanBeKnown : Type 0
 GoodWordsCanBeKnown = (key : Key) (words : Words) → IsGood key words → (known : Knowledge) × KnowsAll key.shape.bits words known
+
+-- each result that a desk truly knows has a pair slot of its own, so they are no more than the table's pair slots
+abbrev pub EveryResultHasItsSlot : Type 0
+EveryResultHasItsSlot = (bits : ℕ) (words : Words) (known : Knowledge) → IsTrueOf bits words known → length known.results ≤ 2 ^ bits
 
 abbrev pub FullShardIsSeen : Type 0
 FullShardIsSeen = (bits : ℕ) (known : Knowledge) → 10 ≤ bits → IsTrue (knows_full_shard bits known) ↔ KnowsFullShard bits known

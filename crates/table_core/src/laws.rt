@@ -1,7 +1,7 @@
 //! What holds of all tables, as calls that do nothing and say it in their clause.
 
 ghost use Rattle.table_core.specs.FullWays.{EveryFullWayStays};
-ghost use Rattle.table_core.specs.Laws.{EveryWay, EveryEventTeaches, EveryTruthIsConsistent, FullShardIsSeen, GoodWordsCanBeKnown};
+ghost use Rattle.table_core.specs.Laws.{EveryWay, EveryEventTeaches, EveryResultHasItsSlot, EveryTruthIsConsistent, FullShardIsSeen, GoodWordsCanBeKnown};
 ghost use Rattle.table_core.specs.Opening.{EveryFreshTable, EveryReopening};
 ghost use Rattle.table_core.specs.Runs.{EveryRun};
 
@@ -37,6 +37,12 @@ pub fn every_event_teaches()
 /// What is true of good words agrees with itself: a number shows one block, a block has one number.
 pub fn every_truth_is_consistent()
     ensures { EveryTruthIsConsistent }
+{}
+
+/// What a desk truly knows of a table's words has no more results than the table has pair slots: each result
+/// stands beside a slot of its own.
+pub fn every_result_has_its_slot()
+    ensures { EveryResultHasItsSlot }
 {}
 
 /// Of all good words a desk may know everything: each word, each block and each result.

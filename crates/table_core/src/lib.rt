@@ -19,8 +19,9 @@ mod word;
 pub use key::Key;
 pub use knowledge::{Knowledge, KnownBlock, KnownResult};
 pub use laws::{
-    every_event_teaches, every_fresh_table, every_full_way_stays, every_reopening, every_run,
-    every_truth_is_consistent, every_way, full_shard_is_seen, good_words_can_be_known,
+    every_event_teaches, every_fresh_table, every_full_way_stays, every_reopening,
+    every_result_has_its_slot, every_run, every_truth_is_consistent, every_way, full_shard_is_seen,
+    good_words_can_be_known,
 };
 pub use machine::{Event, step};
 pub use shape::{Kind, LARGEST_PAIR_COUNT, SHARD_LEN, SMALLEST_PAIR_COUNT, Shape};

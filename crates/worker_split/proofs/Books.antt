@@ -7,7 +7,7 @@ use Rattle.squares.proofs.Results.{future_kept}
 use Rattle.node_table.specs.declared.desk.Desk.{Desk}
 use Rattle.node_table.specs.declared.table.NodeTable.{NodeTable}
 use Rattle.node_table.specs.Desks.{IsDeskOf, store_of, book_at, expansions_of}
-use Rattle.worker_split.specs.Jobs.{IsJob, HasFuture, new_results}
+use Rattle.worker_split.specs.Jobs.{ComesBack, IsJob, HasFuture}
 use Rattle.worker_split.specs.Rounds.{Works, Continues}
 use Rattle.worker_split.proofs.Counting.{has, contains, fewer}
 
@@ -29,7 +29,7 @@ result_kept old new sq keeps h = ⊎_elim (λ e. inl e) (λ t. inr (keeps.result
 pub has_future_kept : (old new : Book) (sq future : Sq) → Keeps old new → IsJob old sq → HasFuture old sq future → HasFuture new sq future
 has_future_kept old new sq future keeps job h = record { is = future_kept old new sq future keeps job.known h.is; known = result_kept old new sq keeps h.known }
 
-times_more : (u a b : ℕ) → a ≤ b → u * a ≤ u * b
+pub times_more : (u a b : ℕ) → a ≤ b → u * a ≤ u * b
 times_more zero a b h = omega arith
 times_more (suc u) a b h = let t = times_more u a b h in let e : suc u * a ≡ a + u * a = omega arith in let f : suc u * b ≡ b + u * b = omega arith in omega (arith, t, e, f, h)
 
@@ -96,10 +96,16 @@ bound w a b x y le h =
     omega (arith, h, f)
 
 -- a bound by the results that are new
-pub works_bound : (table : NodeTable) (times : ℕ) (old new : Desk) → IsDeskOf table old → Continues table times old new → expansions_of new ≤ expansions_of old + times * new_results (book_at table old) (book_at table new)
-works_bound table times old new d h =
-    bound times (length (book_at table old).results) (length (book_at table new).results) (expansions_of old) (expansions_of new)
-    (more_results (book_at table old) (book_at table new) (desk_book table old d) h.keeps) h.count
+pub comes_back : (table : NodeTable) (workers : ℕ) (old new : Desk) → IsDeskOf table old → expansions_of old < 2 ^ 64 → Continues table workers old new → ComesBack table workers old new
+comes_back table workers old new d fits h =
+    let least = h.rises in
+    record {
+      of_table = h.of_table;
+      keeps = h.keeps;
+      rises = omega (arith, least, fits);
+      expansions = bound workers (length (book_at table old).results) (length (book_at table new).results) (expansions_of old) (expansions_of new)
+          (more_results (book_at table old) (book_at table new) (desk_book table old d) h.keeps) h.count;
+    }
 
 -- the same since a desk that knew the same, and had counted as much
 pub works_from : (table : NodeTable) (times : ℕ) (first old new : Desk) → book_at table old ≡ book_at table first → expansions_of old ≡ expansions_of first → Continues table times old new → Continues table times first new
@@ -118,15 +124,16 @@ pub known_job : (book : Book) (level : ℕ) (sq : Sq) → 3 < level → IsKnown 
 known_job book level sq low h = record { known = own_known book level sq h; above = subst (λ l. 3 < l) (sym h.at_level) low }
 
 -- the bound says how many were counted
-pub bound_works : (table : NodeTable) (times : ℕ) (old new : Desk) → IsDeskOf table old → IsDeskOf table new → Keeps (book_at table old) (book_at table new) →
-    expansions_of old ≤ expansions_of new → expansions_of new ≤ expansions_of old + times * new_results (book_at table old) (book_at table new) → Continues table times old new
-bound_works table times old new d e keeps least h =
+pub back_works : (table : NodeTable) (workers : ℕ) (old new : Desk) → IsDeskOf table old → ComesBack table workers old new → Continues table workers old new
+back_works table workers old new d h =
     let a = length (book_at table old).results in
     let b = length (book_at table new).results in
-    let le : a ≤ b = more_results (book_at table old) (book_at table new) (desk_book table old d) keeps in
+    let le : a ≤ b = more_results (book_at table old) (book_at table new) (desk_book table old d) h.keeps in
     let whole : b ≡ (b - a) + a = omega (arith, le) in
-    let f : times * b ≡ times * (b - a) + times * a = ap (λ n. times * n) whole ∙ factor_times times (b - a) a in
-    record { of_table = e; keeps = keeps; rises = omega (arith, least); count = omega (arith, h, f) }
+    let f : workers * b ≡ workers * (b - a) + workers * a = ap (λ n. workers * n) whole ∙ factor_times workers (b - a) a in
+    let least = h.rises in
+    let most = h.expansions in
+    record { of_table = h.of_table; keeps = h.keeps; rises = omega (arith, least); count = omega (arith, most, f) }
 
 pub works_many : (table : NodeTable) (times : ℕ) (old new : Desk) → 1 ≤ times → IsDeskOf table old → Continues table 1 old new → Continues table times old new
 works_many table times old new some d h = works_more table 1 times (expansions_of old) (book_at table old) new some (desk_book table old d) h

@@ -1,7 +1,9 @@
 mod AtWork
 mod Books
 mod Counting
+mod Cutting
 mod Padded
 mod Pieces
 mod Places
+mod Slots
 mod Workers

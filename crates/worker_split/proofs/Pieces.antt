@@ -1,14 +1,16 @@
 -- Each move keeps the rule of a deque of jobs.
-use Rattle.std.proofs.Common.{◌≡◌, ◌≢◌, ◌<◌, ℕ, zero, suc, true, false, true≢false, All, List, [], ◌∷◌, ◌++◌, length, set, sym, refl, ap, ◌∙◌, subst, ⊎_elim, append_assoc, arith, Option, Some, None, IfSome, MatchOption, ◌≤◌}
+use Rattle.std.proofs.Common.{◌≡◌, ◌≢◌, ◌<◌, ◌+◌, ℕ, zero, suc, true, false, true≢false, All, List, [], ◌∷◌, ◌++◌, length, set, sym, refl, ap, ◌∙◌, subst, ⊎_elim, append_assoc, arith, Option, Some, None, IfSome, MatchOption, ◌≤◌}
 use mathlib.Core.Option.{some, some-ne-none}
 use lib.ListN.{get_elem?}
 use lib.Seq.{take-append_seam, drop-append_seam}
 use Rattle.std.proofs.lemmas.List.{length-set}
-use Rattle.std.proofs.lemmas.List.Elements.{All-take, All-drop, All-append}
+use Rattle.std.proofs.lemmas.List.Elements.{All-take, All-drop}
 use Rattle.crossbeam_deque.specs.Tasks.{Pushes, Takes, Forks}
 use Rattle.crossbeam_deque.proofs.Lists.{at_set, at_snoc}
 use Rattle.worker_split.specs.declared.queues.Seen.{Seen}
 use Rattle.worker_split.specs.Queues.{seen, IsPiece, Knows, HoldsEnd}
+use Rattle.worker_split.specs.Shares.{jobs_between}
+use Rattle.worker_split.proofs.Cutting.{one_more_job}
 
 only_one : (views : List Seen) (i j : ℕ) (a b : Seen) → length views ≡ 1 → get_elem? views i ≡ some a → get_elem? views j ≡ some b → i ≡ j
 only_one [] i j a b one at other = absurd (some-ne-none a (sym at))
@@ -76,16 +78,13 @@ of_piece P xs all piece each =
 sole : (P : ℕ → Type 0) (x : ℕ) → All P (x ∷ []) → P x
 sole P x each = each 0 0 (omega arith)
 
-single : (P : ℕ → Type 0) (x : ℕ) → P x → All P (x ∷ [])
-single P x h zero d l = h
-single P x h (suc k) d l = absurd (omega (arith, l))
-
 pub taken_below : (found : Option ℕ) (v w : Seen) (n : ℕ) (none : Type 0) → All (λ x. x < n) v.pushed → MatchOption found none (λ x. (w ≡ v) × IsPiece (x ∷ []) v.pushed) → IfSome found (λ x. x < n)
 taken_below None v w n none each h = tt
 taken_below (Some x) v w n none each h = sole (λ y. y < n) x (of_piece (λ y. y < n) (x ∷ []) v.pushed h.1 each)
 
-pub one_more : (v w : Seen) (x n : ℕ) → w ≡ seen true (v.pushed ++ x ∷ []) → All (λ y. y < n) v.pushed → x < n → (w.alone ≡ true) × All (λ y. y < n) w.pushed
-one_more v w x n is each less = (ap (λ (s : Seen). s.alone) is, subst (λ (s : Seen). All (λ y. y < n) s.pushed) (sym is) (All-append (λ y. y < n) v.pushed (x ∷ []) each (single (λ y. y < n) x less)))
-
-pub raised : (low n : ℕ) (xs : List ℕ) → low ≤ n → All (λ x. x < low) xs → All (λ x. x < n) xs
-raised low n xs le each k d l = let h = each k d l in omega (arith, h, le)
+-- one job more was pushed
+pub next_push : (low job : ℕ) (v w : Seen) → low ≤ job → v.pushed ≡ jobs_between low job → w ≡ seen true (v.pushed ++ job ∷ []) → (w.alone ≡ true) × (w.pushed ≡ jobs_between low (job + 1))
+next_push low job v w le was is = (
+  ap (λ (s : Seen). s.alone) is,
+  ap (λ (s : Seen). s.pushed) is ∙ (ap (λ xs. xs ++ job ∷ []) was ∙ sym (one_more_job low job le)),
+)

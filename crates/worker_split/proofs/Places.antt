@@ -24,6 +24,10 @@ settled_kept jobs old new place (Err r) keeps s = record { within = s.within; ok
 pub answers_kept : (jobs : List Sq) (old new : Book) (answers : List Answer) → Keeps old new → AreSettled jobs old answers → AreSettled jobs new answers
 answers_kept jobs old new answers keeps are = record { each = λ k d l. settled_kept jobs old new _ _ keeps (are.each k d l) }
 
+-- settled answers name places of the round
+pub places_within : (jobs : List Sq) (book : Book) (answers : List Answer) (count : ℕ) → count ≡ length jobs → AreSettled jobs book answers → All (λ (a : Answer). a.place < count) answers
+places_within jobs book answers count e are k d less = let h = (are.each k d less).within in omega (arith, h, e)
+
 pub places_kept : (jobs : List Sq) (old new : Book) (places : List (Option (Result Sq Refusal))) → Keeps old new → PlacesFit jobs old places → PlacesFit jobs new places
 places_kept jobs old new places keeps fit place future e = settled_kept jobs old new place future keeps (fit place future e)
 

@@ -1,9 +1,12 @@
 -- What a job is, what came of it, and what is counted.
-use Rattle.std.specs.Prelude.{◌≡◌, ◌-◌, ◌<◌, ◌⊎◌, ℕ, IsTrue, length}
+use Rattle.std.specs.Prelude.{◌≡◌, ◌+◌, ◌-◌, ◌*◌, ◌<◌, ◌≤◌, ◌⊎◌, ℕ, IsTrue, length}
 use Rattle.plane.specs.declared.refusal.Refusal.{Refusal}
 use Rattle.plane.specs.declared.refusal.Refusal.TheVariants.{NoMemory, NodesFull}
 use Rattle.squares.specs.declared.sq.Sq.{Sq}
-use Rattle.squares.specs.Book.{Book, IsKnown, IsFuture, HasResult}
+use Rattle.squares.specs.Book.{Book, IsKnown, IsFuture, HasResult, Keeps}
+use Rattle.node_table.specs.declared.desk.Desk.{Desk}
+use Rattle.node_table.specs.declared.table.NodeTable.{NodeTable}
+use Rattle.node_table.specs.Desks.{IsDeskOf, book_at, expansions_of}
 
 -- a known square that has a future
 pub record IsJob (book : Book) (sq : Sq) : Type 0 where
@@ -18,6 +21,14 @@ pub record HasFuture (book : Book) (sq future : Sq) : Type 0 where
 -- how many results are new
 abbrev pub new_results : Book → Book → ℕ
 new_results old new = length new.results - length old.results
+
+-- the desk that comes back from so many workers is one of the table and knows all that the other knew; its number of expansions only
+-- rises, and no worker counts a square twice, nor one whose result was known
+pub record ComesBack (table : NodeTable) (workers : ℕ) (old new : Desk) : Type 0 where
+  pub of_table : IsDeskOf table new
+  pub keeps : Keeps (book_at table old) (book_at table new)
+  pub rises : expansions_of old ≤ expansions_of new
+  pub expansions : expansions_of new ≤ expansions_of old + workers * new_results (book_at table old) (book_at table new)
 
 -- memory ran out, or the book is full
 abbrev pub Refuses : Book → Refusal → Type 0

@@ -11,7 +11,9 @@ use Rattle.node_table.specs.Desks.{IsDeskOf, book_at, expansions_of}
 use Rattle.worker_split.specs.Jobs.{HasFuture, IsJob}
 use Rattle.worker_split.specs.declared.members.Answer.{Answer}
 use Rattle.worker_split.specs.declared.members.Member.{Member}
+use Rattle.worker_split.specs.declared.members.Solver.{Solver}
 use Rattle.worker_split.specs.declared.recruiting.Room.{Room}
+use Rattle.worker_split.specs.Shares.{AreShares, shares_of}
 
 -- the desk is one of the table, knows all that this book knew, and since then so many times the number of new results were counted, or less
 pub record Works (table : NodeTable) (times before : ℕ) (base : Book) (desk : Desk) : Type 0 where
@@ -45,13 +47,14 @@ pub record AreSettled (jobs : List Sq) (book : Book) (answers : List Answer) : T
 pub record IsIdle (count : ℕ) (member : Member) : Type 0 where
   pub own : member.own.count ≡ count
   pub others : All (λ r. r.count ≡ count) member.others.items
-  pub desk : member.desk ≡ None
-  pub answers : member.answers.items ≡ []
+  pub desk : member.solver.desk ≡ None
+  pub answers : member.solver.answers.items ≡ []
 
--- so many idle workers, an empty place for each job, and room for a future of each
+-- so many idle workers that share all jobs, an empty place for each job, and room for a future of each
 pub record HasRoom (count workers : ℕ) (room : Room) : Type 0 where
   pub len : length room.members.items ≡ workers
   pub idle : All (IsIdle count) room.members.items
+  pub shares : 0 < workers → AreShares count (shares_of room.members.items)
   pub places : room.places.items ≡ replicate count None
   pub futures : room.futures.items ≡ []
   pub reserved : count ≤ vec_capacity room.futures
@@ -60,19 +63,23 @@ pub record HasRoom (count workers : ℕ) (room : Room) : Type 0 where
 pub record IsMember (table : NodeTable) (base : Book) (jobs : List Sq) (member : Member) : Type 0 where
   pub own : member.own.count ≡ length jobs
   pub others : All (λ r. r.count ≡ length jobs) member.others.items
-  pub desk : IfSome member.desk (Works table 1 0 base)
-  pub answers : IfSome member.desk (λ desk. AreSettled jobs (book_at table desk) member.answers.items)
+  pub desk : IfSome member.solver.desk (Works table 1 0 base)
+  pub answers : IfSome member.solver.desk (λ desk. AreSettled jobs (book_at table desk) member.solver.answers.items)
 
--- a worker whose desk knows the jobs, and the futures that were found
+-- a desk that knows the jobs, and the answers that were found
+pub record CanSolve (table : NodeTable) (jobs : List Sq) (solver : Solver) : Type 0 where
+  pub desk : IfSome solver.desk (IsDeskOf table)
+  pub known : IfSome solver.desk (λ desk. All (IsJob (book_at table desk)) jobs)
+  pub answers : IfSome solver.desk (λ desk. AreSettled jobs (book_at table desk) solver.answers.items)
+
+-- a worker that can solve the jobs of a round
 pub record IsReady (table : NodeTable) (jobs : List Sq) (member : Member) : Type 0 where
   pub own : member.own.count ≡ length jobs
   pub others : All (λ r. r.count ≡ length jobs) member.others.items
-  pub desk : IfSome member.desk (IsDeskOf table)
-  pub known : IfSome member.desk (λ desk. All (IsJob (book_at table desk)) jobs)
-  pub answers : IfSome member.desk (λ desk. AreSettled jobs (book_at table desk) member.answers.items)
+  pub solver : CanSolve table jobs member.solver
 
--- the worker's desk, if there is one, is the same one, later
-pub record IsLater (table : NodeTable) (old new : Member) : Type 0 where
+-- the desk, if there is one, is the same one, later
+pub record IsLater (table : NodeTable) (old new : Solver) : Type 0 where
   pub desk : IfSome new.desk (λ desk. (first : Desk) × (old.desk ≡ Some first) × Continues table 1 first desk)
 
 -- each place that is not empty has the future of its job, or its refusal

@@ -1,15 +1,14 @@
 //! The future of one square, by whole batches of the squares that it takes.
-ghost use Rattle.std.specs.Prelude.{◌+◌, ◌*◌, ◌<◌, ◌≤◌, IfOk, IfErr};
-ghost use Rattle.squares.specs.Book.{Keeps};
-ghost use Rattle.node_table.specs.Desks.{IsDeskOf, book_at, expansions_of};
+ghost use Rattle.std.specs.Prelude.{◌<◌, ◌≤◌, IfOk, IfErr};
+ghost use Rattle.node_table.specs.Desks.{IsDeskOf, book_at};
 ghost use Rattle.worker_split.specs.Batches.{AreKnown};
-ghost use Rattle.worker_split.specs.Jobs.{HasFuture, IsJob, Refuses, new_results};
+ghost use Rattle.worker_split.specs.Jobs.{ComesBack, HasFuture, IsJob, Refuses};
 ghost use Rattle.worker_split.specs.Rounds.{Continues};
 
 use crate::gate::Gate;
 use crate::jobs::future_at;
 use crate::rounds::round;
-use crate::stages::{exponent_at, finds_result, ninths_at, overlaps_at, unknown_of};
+use crate::stages::{exponent_at, finds_result, overlaps_at, subsquares_at, unknown_of};
 use crate::team::Team;
 use node_table::{Desk, NodeTable};
 use plane::Refusal;
@@ -63,8 +62,8 @@ fn expand<R: Threads + Wait + Sync, G: Gate>(
     ensures refusal { IfErr result.1 (Refuses (book_at table.now result.0)) }
 {
     let level = sq.level - 1;
-    let (desk, ninths) = ninths_at(table, desk, sq);
-    let nine = match ninths {
+    let (desk, subsquares) = subsquares_at(table, desk, sq);
+    let nine = match subsquares {
         Ok(nine) => nine,
         Err(refusal) => return (desk, Err(refusal)),
     };
@@ -122,11 +121,9 @@ pub fn batch_future<R: Threads + Wait + Sync, G: Gate>(
     ensures ok { IfOk result.1 (HasFuture (book_at table.now result.0) sq) }
     // Memory ran out, or the desk that comes back knows a full shard.
     ensures refusal { IfErr result.1 (Refuses (book_at table.now result.0)) }
-    ensures desk { IsDeskOf table.now result.0 }
-    ensures keeps { Keeps (book_at table.now desk) (book_at table.now result.0) }
-    // The number of expansions only rises. No worker counts a square twice, nor one whose result was known.
-    ensures rises { expansions_of desk ≤ expansions_of result.0 }
-    ensures expansions { expansions_of result.0 ≤ expansions_of desk + team.now.workers * new_results (book_at table.now desk) (book_at table.now result.0) }
+    // The desk that comes back knows all that it knew, and its number of expansions only rises. No worker counts a
+    // square twice, nor one whose result was known.
+    ensures desk { ComesBack table.now team.now.workers desk result.0 }
 {
     let (desk, done) = prepare(team, table, desk, sq);
     if let Err(refusal) = done {

@@ -1,3 +1,5 @@
+//! What a round calls before and after each job.
+
 /// What is called before and after each job, with the job's place in the list of its round.
 pub trait Gate: Sync {
     fn before(&self, job: usize);

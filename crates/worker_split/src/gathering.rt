@@ -1,31 +1,32 @@
 //! The desks of a round's workers: handed out before the work, and joined after it with what they found.
-ghost use Rattle.std.specs.Prelude.{◌≡◌, ◌+◌, All, length};
+ghost use Rattle.std.specs.Prelude.{◌≡◌, ◌+◌, ◌<◌, ℕ, All, List, length};
+ghost use Rattle.squares.specs.declared.sq.Sq.{Sq};
+ghost use Rattle.squares.specs.Book.{Book};
 ghost use Rattle.node_table.specs.Desks.{IsDeskOf, book_at, expansions_of};
 ghost use Rattle.worker_split.specs.Rounds.{AreSettled, IsIdle, IsMember, PlacesFit, Works};
 
+use crate::jobs::Shared;
 use crate::members::{Answer, Member};
-use node_table::{Desk, NodeTable};
+use node_table::Desk;
 use plane::Refusal;
 use squares::Sq;
 
 /// Gives each worker a desk that knows what this one knows, and which counts its own expansions.
-pub(crate) fn hand_out(
-    table: &NodeTable,
-    jobs: &[Sq],
+pub(crate) fn hand_out<R, G>(
+    shared: &Shared<'_, R, G>,
     mut desk: Desk,
     members: &mut [Member],
 ) -> Desk
-    requires desk { IsDeskOf table.now desk }
-    requires idle { All (IsIdle (length jobs.now)) members.old }
-    ensures desk { IsDeskOf table.now result }
-    ensures book { book_at table.now result ≡ book_at table.now desk }
+    requires desk { IsDeskOf shared.now.table.now desk }
+    requires idle { All (IsIdle (length shared.now.jobs.now)) members.old }
+    ensures desk { IsDeskOf shared.now.table.now result }
+    ensures book { book_at shared.now.table.now result ≡ book_at shared.now.table.now desk }
     ensures expansions { expansions_of result ≡ expansions_of desk }
     ensures len { length members.new ≡ length members.old }
-    ensures members { All (IsMember table.now (book_at table.now desk) jobs.now) members.new }
+    ensures members { All (IsMember shared.now.table.now (book_at shared.now.table.now desk) shared.now.jobs.now) members.new }
 {
-    let _ = jobs;
     for k in 0..members.len() {
-        let (mine, theirs) = table.split(desk);
+        let (mine, theirs) = shared.table.split(desk);
         desk = mine;
         members[k].receive(theirs);
     }
@@ -33,18 +34,10 @@ pub(crate) fn hand_out(
 }
 
 // Puts answers at the places that they name.
-fn place_all(
-    table: &NodeTable,
-    jobs: &[Sq],
-    desk: &Desk,
-    answers: &[Answer],
-    places: &mut [Option<Result<Sq, Refusal>>],
-)
-    requires len { length places.old ≡ length jobs.now }
-    requires answers { AreSettled jobs.now (book_at table.now desk.now) answers.now }
-    requires places { PlacesFit jobs.now (book_at table.now desk.now) places.old }
-    ensures len { length places.new ≡ length jobs.now }
-    ensures places { PlacesFit jobs.now (book_at table.now desk.now) places.new }
+fn place_all(answers: &[Answer], places: &mut [Option<Result<Sq, Refusal>>])
+    requires { All (λ (a : Answer). a.place < length places.old) answers.now }
+    ensures len { length places.new ≡ length places.old }
+    ensures places { (jobs : List Sq) (book : Book) → AreSettled jobs book answers.now → PlacesFit jobs book places.old → PlacesFit jobs book places.new }
 {
     for k in 0..answers.len() {
         let answer = answers[k];
@@ -52,54 +45,53 @@ fn place_all(
     }
 }
 
-// Joins a worker's desk, and puts its answers at their places. `joined` were joined before.
-fn gather_one(
-    table: &NodeTable,
-    jobs: &[Sq],
+// Joins a worker's desk, and puts its answers at their places.
+fn gather_one<R, G>(
+    shared: &Shared<'_, R, G>,
     desk: Desk,
-    joined: usize,
     member: &mut Member,
     places: &mut [Option<Result<Sq, Refusal>>],
 ) -> Desk
     ghost start: { Desk }
-    requires start { IsDeskOf table.now start }
-    requires desk { Works table.now joined (expansions_of start) (book_at table.now start) desk }
-    requires member { IsMember table.now (book_at table.now start) jobs.now member.old }
-    requires len { length places.old ≡ length jobs.now }
-    requires places { PlacesFit jobs.now (book_at table.now desk) places.old }
-    ensures desk { Works table.now (joined + 1) (expansions_of start) (book_at table.now start) result }
-    ensures member { IsMember table.now (book_at table.now start) jobs.now member.new }
-    ensures len { length places.new ≡ length jobs.now }
-    ensures places { PlacesFit jobs.now (book_at table.now result) places.new }
+    requires start { IsDeskOf shared.now.table.now start }
+    requires desk { IsDeskOf shared.now.table.now desk }
+    requires member { IsMember shared.now.table.now (book_at shared.now.table.now start) shared.now.jobs.now member.old }
+    requires len { length places.old ≡ length shared.now.jobs.now }
+    requires places { PlacesFit shared.now.jobs.now (book_at shared.now.table.now desk) places.old }
+    // As many desks as were joined before, and one more.
+    ensures desk { (joined : ℕ) → Works shared.now.table.now joined (expansions_of start) (book_at shared.now.table.now start) desk
+        → Works shared.now.table.now (joined + 1) (expansions_of start) (book_at shared.now.table.now start) result }
+    ensures member { IsMember shared.now.table.now (book_at shared.now.table.now start) shared.now.jobs.now member.new }
+    ensures len { length places.new ≡ length shared.now.jobs.now }
+    ensures places { PlacesFit shared.now.jobs.now (book_at shared.now.table.now result) places.new }
 {
-    let Some(theirs) = member.desk.take() else {
+    let Some(theirs) = member.solver.desk.take() else {
         return desk;
     };
-    let desk = table.join(desk, theirs);
-    place_all(table, jobs, &desk, member.answers.as_slice(), places);
+    let desk = shared.table.join(desk, theirs);
+    place_all(member.solver.answers.as_slice(), places);
     desk
 }
 
 /// Joins all workers' desks, and puts their answers at their places.
-pub(crate) fn gather(
-    table: &NodeTable,
-    jobs: &[Sq],
+pub(crate) fn gather<R, G>(
+    shared: &Shared<'_, R, G>,
     mut desk: Desk,
     members: &mut [Member],
     places: &mut [Option<Result<Sq, Refusal>>],
 ) -> Desk
     ghost start: { Desk }
-    requires start { IsDeskOf table.now start }
-    requires desk { Works table.now 0 (expansions_of start) (book_at table.now start) desk }
-    requires members { All (IsMember table.now (book_at table.now start) jobs.now) members.old }
-    requires len { length places.old ≡ length jobs.now }
-    requires places { PlacesFit jobs.now (book_at table.now desk) places.old }
-    ensures desk { Works table.now (length members.old) (expansions_of start) (book_at table.now start) result }
-    ensures len { length places.new ≡ length jobs.now }
-    ensures places { PlacesFit jobs.now (book_at table.now result) places.new }
+    requires start { IsDeskOf shared.now.table.now start }
+    requires desk { Works shared.now.table.now 0 (expansions_of start) (book_at shared.now.table.now start) desk }
+    requires members { All (IsMember shared.now.table.now (book_at shared.now.table.now start) shared.now.jobs.now) members.old }
+    requires len { length places.old ≡ length shared.now.jobs.now }
+    requires places { PlacesFit shared.now.jobs.now (book_at shared.now.table.now desk) places.old }
+    ensures desk { Works shared.now.table.now (length members.old) (expansions_of start) (book_at shared.now.table.now start) result }
+    ensures len { length places.new ≡ length shared.now.jobs.now }
+    ensures places { PlacesFit shared.now.jobs.now (book_at shared.now.table.now result) places.new }
 {
     for k in 0..members.len() {
-        desk = gather_one(table, jobs, desk, k, &mut members[k], places);
+        desk = gather_one(shared, desk, &mut members[k], places);
     }
     desk
 }

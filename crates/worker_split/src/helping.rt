@@ -45,11 +45,12 @@ fn help(table: &NodeTable, jobs: &[Sq], start: usize, order: u8, mut desk: Desk)
 pub(crate) fn help_others<R, G>(shared: &Shared<'_, R, G>, member: &mut Member)
     requires { IsReady shared.now.table.now shared.now.jobs.now member.old }
     ensures ready { IsReady shared.now.table.now shared.now.jobs.now member.new }
-    ensures later { IsLater shared.now.table.now member.old member.new }
+    ensures later { IsLater shared.now.table.now member.old.solver member.new.solver }
 {
-    let Some(desk) = member.desk.take() else {
+    let Some(desk) = member.solver.desk.take() else {
         return;
     };
-    let desk = help(shared.table, shared.jobs, member.start, member.order, desk);
-    member.desk = Some(desk);
+    let order = member.solver.order;
+    let desk = help(shared.table, shared.jobs, member.start, order, desk);
+    member.solver.desk = Some(desk);
 }

@@ -3,10 +3,10 @@ ghost use Rattle.std.specs.Prelude.{◌≡◌, ◌<◌, All, IfOk, IfErr, IsTrue
 ghost use Rattle.plane.specs.declared.refusal.Refusal.TheVariants.{NodesFull};
 ghost use Rattle.node_table.specs.Desks.{IsDeskOf, book_at};
 ghost use Rattle.worker_split.specs.Jobs.{HasFuture, IsJob};
-ghost use Rattle.worker_split.specs.Rounds.{AreSettled, Continues, IsSettled};
+ghost use Rattle.worker_split.specs.Rounds.{CanSolve, Continues, IsLater, IsSettled};
 
 use crate::gate::Gate;
-use crate::members::Answer;
+use crate::members::{Answer, Solver};
 use hashlife_step::{Tally, future_in_order};
 use node_table::{Desk, NodeTable};
 use plane::Refusal;
@@ -61,22 +61,19 @@ pub(crate) fn settle<R, G: Gate>(
     (desk, future)
 }
 
-/// Settles one job, and notes the answer. One that finds no room is left out.
-pub(crate) fn handle<R, G: Gate>(
-    shared: &Shared<'_, R, G>,
-    desk: Desk,
-    job: usize,
-    order: u8,
-    answers: &mut Vec<Answer>,
-) -> Desk
-    requires desk { IsDeskOf shared.now.table.now desk }
-    requires jobs { All (IsJob (book_at shared.now.table.now desk)) shared.now.jobs.now }
-    requires job { job < length shared.now.jobs.now }
-    requires answers { AreSettled shared.now.jobs.now (book_at shared.now.table.now desk) answers.old.items }
-    ensures desk { Continues shared.now.table.now 1 desk result }
-    ensures answers { AreSettled shared.now.jobs.now (book_at shared.now.table.now result) answers.new.items }
-{
-    let (desk, future) = settle(shared, desk, job, order);
-    let _ = answers.push(Answer { place: job, future });
-    desk
+impl Solver {
+    /// Settles one job, and notes the answer. One that finds no room is left out.
+    pub(crate) fn solve<R, G: Gate>(&mut self, shared: &Shared<'_, R, G>, job: usize)
+        requires solver { CanSolve shared.now.table.now shared.now.jobs.now self.old }
+        requires job { job < length shared.now.jobs.now }
+        ensures solver { CanSolve shared.now.table.now shared.now.jobs.now self.new }
+        ensures later { IsLater shared.now.table.now self.old self.new }
+    {
+        let Some(desk) = self.desk.take() else {
+            return;
+        };
+        let (desk, future) = settle(shared, desk, job, self.order);
+        let _ = self.answers.push(Answer { place: job, future });
+        self.desk = Some(desk);
+    }
 }

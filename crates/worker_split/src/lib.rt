@@ -8,6 +8,7 @@ mod gate;
 mod gathering;
 mod helping;
 mod jobs;
+mod laws;
 mod members;
 mod queues;
 mod recruiting;
@@ -19,6 +20,7 @@ mod team;
 
 pub use batches::batch_future;
 pub use gate::{Gate, OpenGate};
+pub use laws::every_expansion_has_its_slot;
 pub use rounds::round;
 pub use steps::step;
 pub use team::{MOST_WORKERS, Team};

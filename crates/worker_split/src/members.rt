@@ -1,6 +1,7 @@
 //! A worker of a round, as a state.
-ghost use Rattle.std.specs.Prelude.{◌≡◌, IfOk, Some};
+ghost use Rattle.std.specs.Prelude.{◌≡◌, ℕ, IfOk, Some};
 ghost use Rattle.worker_split.specs.Rounds.{IsIdle};
+ghost use Rattle.worker_split.specs.Shares.{share_in};
 
 use crate::queues::{JobQueue, JobStealer};
 use node_table::Desk;
@@ -15,37 +16,40 @@ pub(crate) struct Answer {
     pub(crate) future: Result<Sq, Refusal>,
 }
 
-/// A worker: its own queue and its ends of the others', its desk while no function has it in hand, and
-/// the answers that it found.
+/// What a worker solves jobs with: its desk while no function has it in hand, the order in which it asks for
+/// the futures of smaller squares, and the answers that it found.
+#[derive(Drop)]
+pub(crate) struct Solver {
+    pub(crate) desk: Option<Desk>,
+    pub(crate) order: u8,
+    pub(crate) answers: Vec<Answer>,
+}
+
+/// A worker: its own queue and its ends of the others', and what it solves jobs with.
 #[derive(Drop)]
 pub(crate) struct Member {
     pub(crate) own: JobQueue,
     pub(crate) others: Vec<JobStealer>,
-    // The order in which it asks for the futures of smaller squares, and the job at which it begins to help.
-    pub(crate) order: u8,
+    // The job at which it begins to help.
     pub(crate) start: usize,
-    pub(crate) desk: Option<Desk>,
-    pub(crate) answers: Vec<Answer>,
+    pub(crate) solver: Solver,
 }
 
 impl Member {
-    /// Another worker's end of this worker's queue, in a round of `count` jobs.
-    pub(crate) fn stealer(&mut self, count: usize) -> Result<JobStealer, AllocError>
-        requires { IsIdle count self.old }
-        ensures idle { IsIdle count self.new }
-        ensures stealer { IfOk result (λ stealer. stealer.count ≡ count) }
+    /// Another worker's end of this worker's queue.
+    pub(crate) fn stealer(&mut self) -> Result<JobStealer, AllocError>
+        ensures idle { (count : ℕ) → IsIdle count self.old → IsIdle count self.new }
+        ensures share { share_in self.new.own ≡ share_in self.old.own }
+        ensures stealer { IfOk result (λ stealer. stealer.count ≡ self.old.own.count) }
     {
-        let _ = count;
         self.own.stealer()
     }
 
     /// The worker can steal there.
-    pub(crate) fn add(&mut self, count: usize, stealer: JobStealer) -> Result<(), AllocError>
-        requires idle { IsIdle count self.old }
-        requires stealer { stealer.count ≡ count }
-        ensures { IsIdle count self.new }
+    pub(crate) fn add(&mut self, stealer: JobStealer) -> Result<(), AllocError>
+        ensures idle { (count : ℕ) → stealer.count ≡ count → IsIdle count self.old → IsIdle count self.new }
+        ensures own { self.new.own ≡ self.old.own }
     {
-        let _ = count;
         self.others.push(stealer)?;
         Ok(())
     }
@@ -54,9 +58,9 @@ impl Member {
     pub(crate) fn receive(&mut self, desk: Desk)
         ensures own { self.new.own ≡ self.old.own }
         ensures others { self.new.others ≡ self.old.others }
-        ensures desk { self.new.desk ≡ Some desk }
-        ensures answers { self.new.answers ≡ self.old.answers }
+        ensures desk { self.new.solver.desk ≡ Some desk }
+        ensures answers { self.new.solver.answers ≡ self.old.solver.answers }
     {
-        self.desk = Some(desk);
+        self.solver.desk = Some(desk);
     }
 }

@@ -49,9 +49,9 @@ impl Outcome<usize, Seen> for Takes {
 }
 
 /// Another pass knows the same.
-pub(crate) struct Twins;
+pub(crate) struct SplitPass;
 
-impl Split<Seen> for Twins {
+impl Split<Seen> for SplitPass {
     ghost use Rattle.std.specs.Prelude.{false};
     ghost use Rattle.worker_split.specs.Queues.{seen};
 
@@ -80,7 +80,9 @@ pub(crate) struct JobStealer {
 }
 
 impl JobQueue {
-    /// A queue of the jobs from `low` to `high`, first in, first out, for which there is room.
+    ghost use Rattle.worker_split.specs.Shares.{jobs_between, share_in};
+
+    /// A queue of the jobs from `low` to before `high` in order, first in, first out.
     pub(crate) fn with_share(
         alloc: Global,
         low: usize,
@@ -88,13 +90,15 @@ impl JobQueue {
         count: usize,
     ) -> Result<JobQueue, AllocError>
         requires { (low ≤ high) × (high ≤ count) }
-        ensures { IfOk result (λ queue. queue.count ≡ count) }
+        ensures count { IfOk result (λ queue. queue.count ≡ count) }
+        ensures share { IfOk result (λ queue. share_in queue ≡ jobs_between low high) }
     {
         let mut deque = Worker::<usize, Global, Seen, InOrder>::fifo_as(alloc, high - low)?;
         for job in low..high {
-            if deque.push_as::<Pushes>(job).is_err() {
-                break;
-            }
+            // There is a slot for each of them.
+            let Ok(()) = deque.push_as::<Pushes>(job) else {
+                unreachable!()
+            };
         }
         Ok(JobQueue { deque, count })
     }
@@ -110,10 +114,11 @@ impl JobQueue {
     /// Another worker's end of this queue.
     pub(crate) fn stealer(&mut self) -> Result<JobStealer, AllocError>
         ensures same { self.new.count ≡ self.old.count }
+        ensures share { share_in self.new ≡ share_in self.old }
         ensures stealer { IfOk result (λ stealer. stealer.count ≡ self.old.count) }
     {
         let thief = self.deque.stealer()?;
-        let pass = self.deque.another::<Twins>();
+        let pass = self.deque.another::<SplitPass>();
         Ok(JobStealer {
             thief,
             pass,

@@ -1,8 +1,9 @@
 //! What a round takes memory for: its workers, the places of their answers, and the list of futures.
-ghost use Rattle.std.specs.Prelude.{◌≡◌, ◌<◌, ◌≤◌, All, IfOk, length};
+ghost use Rattle.std.specs.Prelude.{◌≡◌, ℕ, ◌+◌, ◌-◌, ◌/◌, ◌<◌, ◌≤◌, All, IfOk, length};
 ghost use Rattle.worker_split.specs.Rounds.{HasRoom, IsIdle};
+ghost use Rattle.worker_split.specs.Shares.{AreShares, jobs_between, share_in, shares_of};
 
-use crate::members::Member;
+use crate::members::{Member, Solver};
 use crate::queues::JobQueue;
 use plane::Refusal;
 use squares::Sq;
@@ -16,7 +17,7 @@ pub(crate) struct Room {
     pub(crate) futures: Vec<Sq>,
 }
 
-// A worker with the jobs from `low` to `high` of `count`.
+// A worker with the jobs from `low` to before `high` of `count`.
 fn member(
     alloc: Global,
     low: usize,
@@ -25,33 +26,38 @@ fn member(
     order: u8,
 ) -> Result<Member, AllocError>
     requires { (low ≤ high) × (high ≤ count) }
-    ensures { IfOk result (IsIdle count) }
+    ensures idle { IfOk result (IsIdle count) }
+    ensures share { IfOk result (λ member. share_in member.own ≡ jobs_between low high) }
 {
     let own = JobQueue::with_share(alloc, low, high, count)?;
     let answers = Vec::with_capacity(alloc, count)?;
     Ok(Member {
         own,
         others: Vec::new(alloc),
-        order,
         start: high,
-        desk: None,
-        answers,
+        solver: Solver {
+            desk: None,
+            order,
+            answers,
+        },
     })
 }
 
-// Where the next of `rest` shares ends: their lengths differ by at most one.
+// Where the next of `rest` shares of the jobs from `low` on ends.
 fn share_end(low: usize, count: usize, rest: usize) -> usize
     requires { (low ≤ count) × (0 < rest) }
-    ensures { (low ≤ result) × (result ≤ count) }
+    ensures range { (low ≤ result) × (result ≤ count) }
+    ensures share { result ≡ low + (count - low) / rest }
 {
     low + (count - low) / rest
 }
 
-// The workers, each with a contiguous share of the jobs.
+// The workers, each with a contiguous share of the jobs. The lengths of the shares differ by at most one.
 fn members(alloc: Global, count: usize, workers: usize) -> Result<Vec<Member>, AllocError>
     requires { workers ≤ 64 }
     ensures len { IfOk result (λ members. length members.items ≡ workers) }
     ensures idle { IfOk result (λ members. All (IsIdle count) members.items) }
+    ensures shares { IfOk result (λ members. 0 < workers → AreShares count (shares_of members.items)) }
 {
     let mut all = Vec::new(alloc);
     let mut low = 0;
@@ -64,29 +70,29 @@ fn members(alloc: Global, count: usize, workers: usize) -> Result<Vec<Member>, A
 }
 
 // Worker i can steal from worker j.
-fn link(members: &mut [Member], count: usize, i: usize, j: usize) -> Result<(), AllocError>
-    requires places { (i < length members.old) × (j < length members.old) }
-    requires idle { All (IsIdle count) members.old }
-    ensures idle { All (IsIdle count) members.new }
+fn link(members: &mut [Member], i: usize, j: usize) -> Result<(), AllocError>
+    requires { (i < length members.old) × (j < length members.old) }
+    ensures idle { (count : ℕ) → All (IsIdle count) members.old → All (IsIdle count) members.new }
+    ensures shares { shares_of members.new ≡ shares_of members.old }
     ensures len { length members.new ≡ length members.old }
 {
-    let stealer = members[j].stealer(count)?;
-    members[i].add(count, stealer)
+    let stealer = members[j].stealer()?;
+    members[i].add(stealer)
 }
 
 // Each worker can steal from each other one, and begins with the next one.
-fn link_all(members: &mut [Member], count: usize) -> Result<(), AllocError>
-    requires { All (IsIdle count) members.old }
-    ensures idle { All (IsIdle count) members.new }
+fn link_all(members: &mut [Member]) -> Result<(), AllocError>
+    ensures idle { (count : ℕ) → All (IsIdle count) members.old → All (IsIdle count) members.new }
+    ensures shares { shares_of members.new ≡ shares_of members.old }
     ensures len { length members.new ≡ length members.old }
 {
     let workers = members.len();
     for i in 0..workers {
         for j in i + 1..workers {
-            link(members, count, i, j)?;
+            link(members, i, j)?;
         }
         for j in 0..i {
-            link(members, count, i, j)?;
+            link(members, i, j)?;
         }
     }
     Ok(())
@@ -98,7 +104,7 @@ pub(crate) fn room_for(alloc: Global, count: usize, workers: usize) -> Result<Ro
     ensures { IfOk result (HasRoom count workers) }
 {
     let mut members = members(alloc, count, workers)?;
-    link_all(members.as_mut_slice(), count)?;
+    link_all(members.as_mut_slice())?;
     let places = Vec::from_elem(alloc, None::<Result<Sq, Refusal>>, count)?;
     let futures = Vec::with_capacity(alloc, count)?;
     Ok(Room {

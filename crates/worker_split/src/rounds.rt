@@ -1,10 +1,10 @@
 //! A round: all jobs, by a team.
-ghost use Rattle.std.specs.Prelude.{◌≡◌, ◌+◌, ◌*◌, ◌<◌, ◌≤◌, ◌⊎◌, All, IfOk, IfErr, IsTrue, [], length, vec_capacity};
+ghost use Rattle.std.specs.Prelude.{◌≡◌, ◌<◌, ◌≤◌, ◌⊎◌, All, IfOk, IfErr, IsTrue, [], length, vec_capacity};
 ghost use Rattle.std.specs.List.{AllZip};
 ghost use Rattle.plane.specs.declared.refusal.Refusal.TheVariants.{NoMemory, NodesFull};
-ghost use Rattle.squares.specs.Book.{Keeps};
-ghost use Rattle.node_table.specs.Desks.{IsDeskOf, book_at, expansions_of};
-ghost use Rattle.worker_split.specs.Jobs.{HasFuture, IsJob, new_results};
+ghost use Rattle.squares.specs.Book.{Book};
+ghost use Rattle.node_table.specs.Desks.{IsDeskOf, book_at};
+ghost use Rattle.worker_split.specs.Jobs.{ComesBack, HasFuture, IsJob};
 ghost use Rattle.worker_split.specs.Rounds.{Continues, IsIdle, IsLater, IsMember, IsReady, PlacesFit};
 
 use crate::filling::fill;
@@ -27,26 +27,20 @@ use std::thread::Threads;
 fn run<R: Wait, G: Gate>(shared: &Shared<'_, R, G>, member: &mut Member)
     requires { IsReady shared.now.table.now shared.now.jobs.now member.old }
     ensures ready { IsReady shared.now.table.now shared.now.jobs.now member.new }
-    ensures later { IsLater shared.now.table.now member.old member.new }
+    ensures later { IsLater shared.now.table.now member.old.solver member.new.solver }
 {
     serve(shared, member);
     help_others(shared, member);
 }
 
-// Runs all workers, who began with what the desk at home knows.
-fn run_all<R: Threads + Wait + Sync, G: Gate>(
-    shared: &Shared<'_, R, G>,
-    home: &Desk,
-    members: &mut [Member],
-)
+// Runs all workers. They stay workers of a round that began with the same book.
+fn run_all<R: Threads + Wait + Sync, G: Gate>(shared: &Shared<'_, R, G>, members: &mut [Member])
     requires some { 0 < length members.old }
-    requires home { IsDeskOf shared.now.table.now home.now }
-    requires jobs { All (IsJob (book_at shared.now.table.now home.now)) shared.now.jobs.now }
-    requires members { All (IsMember shared.now.table.now (book_at shared.now.table.now home.now) shared.now.jobs.now) members.old }
-    ensures members { All (IsMember shared.now.table.now (book_at shared.now.table.now home.now) shared.now.jobs.now) members.new }
+    requires ready { All (IsReady shared.now.table.now shared.now.jobs.now) members.old }
+    ensures members { (base : Book) → All (IsMember shared.now.table.now base shared.now.jobs.now) members.old
+        → All (IsMember shared.now.table.now base shared.now.jobs.now) members.new }
     ensures len { length members.new ≡ length members.old }
 {
-    let _ = home;
     let workers = members.len();
     thread::for_each_mut(
         shared.runtime,
@@ -54,7 +48,7 @@ fn run_all<R: Threads + Wait + Sync, G: Gate>(
         workers,
         &|_, member: &mut Member|
             requires { IsReady shared.now.table.now shared.now.jobs.now member.now }
-            ensures { IsReady shared.entry.now.table.now shared.entry.now.jobs.now member.exit.now × IsLater shared.entry.now.table.now member.entry.now member.exit.now }
+            ensures { IsReady shared.entry.now.table.now shared.entry.now.jobs.now member.exit.now × IsLater shared.entry.now.table.now member.entry.now.solver member.exit.now.solver }
         { run(shared, member) },
     );
 }
@@ -79,9 +73,9 @@ fn carry_out<R: Threads + Wait + Sync, G: Gate>(
     ensures ok { IfOk result.1 (λ futures. AllZip (HasFuture (book_at shared.now.table.now result.0)) shared.now.jobs.now futures.items) }
     ensures refusal { IfErr result.1 (λ refusal. (refusal ≡ NodesFull) × IsTrue (book_at shared.now.table.now result.0).is_full) }
 {
-    let home = hand_out(shared.table, shared.jobs, desk, members);
-    run_all(shared, &home, members);
-    let desk = gather(shared.table, shared.jobs, home, members, places);
+    let home = hand_out(shared, desk, members);
+    run_all(shared, members);
+    let desk = gather(shared, home, members, places);
     fill(shared, desk, places, futures)
 }
 
@@ -102,11 +96,9 @@ pub fn round<R: Threads + Wait + Sync, G: Gate>(
     // Memory ran out, and the desk comes back as it was; or the desk that comes back knows a full shard.
     ensures refusal { IfErr result.1 (λ refusal. ((refusal ≡ NoMemory) × (result.0 ≡ desk))
         ⊎ ((refusal ≡ NodesFull) × IsTrue (book_at table.now result.0).is_full)) }
-    ensures desk { IsDeskOf table.now result.0 }
-    ensures keeps { Keeps (book_at table.now desk) (book_at table.now result.0) }
-    // The number of expansions only rises. No worker counts a square twice, nor one whose result was known.
-    ensures rises { expansions_of desk ≤ expansions_of result.0 }
-    ensures expansions { expansions_of result.0 ≤ expansions_of desk + team.now.workers * new_results (book_at table.now desk) (book_at table.now result.0) }
+    // The desk that comes back knows all that it knew, and its number of expansions only rises. No worker counts a
+    // square twice, nor one whose result was known.
+    ensures desk { ComesBack table.now team.now.workers desk result.0 }
 {
     let Ok(room) = room_for(team.alloc, jobs.len(), team.workers) else {
         return (desk, Err(Refusal::NoMemory));

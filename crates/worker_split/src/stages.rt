@@ -37,7 +37,11 @@ pub(crate) fn exponent_at(table: &NodeTable, desk: Desk) -> (Desk, u8)
 }
 
 /// The nine overlapping squares of a square.
-pub(crate) fn ninths_at(table: &NodeTable, desk: Desk, sq: Sq) -> (Desk, Result<[Sq; 9], Refusal>)
+pub(crate) fn subsquares_at(
+    table: &NodeTable,
+    desk: Desk,
+    sq: Sq,
+) -> (Desk, Result<[Sq; 9], Refusal>)
     requires desk { IsDeskOf table.now desk }
     requires known { IsKnown (book_at table.now desk) sq.level sq }
     requires low { 4 < sq.level }

@@ -1,11 +1,11 @@
 //! One step of a run, by a team.
-ghost use Rattle.std.specs.Prelude.{◌+◌, ◌*◌, ◌^◌, ◌<◌, ◌≤◌, max, IfOk, IfErr};
+ghost use Rattle.std.specs.Prelude.{◌+◌, ◌^◌, ◌<◌, ◌≤◌, max, IfOk, IfErr};
 ghost use Rattle.plane.specs.Centred.{centred};
 ghost use Rattle.plane.specs.Plane.{after};
-ghost use Rattle.squares.specs.Book.{IsKnown, Keeps};
+ghost use Rattle.squares.specs.Book.{IsKnown};
 ghost use Rattle.squares.specs.Rounds.{IsRound};
-ghost use Rattle.node_table.specs.Desks.{IsDeskOf, book_at, expansions_of};
-ghost use Rattle.worker_split.specs.Jobs.{HasFuture, IsJob, Refuses, new_results};
+ghost use Rattle.node_table.specs.Desks.{IsDeskOf, book_at};
+ghost use Rattle.worker_split.specs.Jobs.{ComesBack, HasFuture, IsJob, Refuses};
 ghost use Rattle.worker_split.specs.Rounds.{Continues};
 ghost use Rattle.worker_split.specs.Steps.{IsPadded};
 
@@ -86,11 +86,9 @@ pub fn step<R: Threads + Wait + Sync, G: Gate>(
         (after (book_at table.now desk).rule (centred root.level ((book_at table.now desk).cells root)) (2 ^ (book_at table.now desk).exponent))) }
     // Memory ran out, or the desk that comes back knows a full shard.
     ensures refusal { IfErr result.1 (Refuses (book_at table.now result.0)) }
-    ensures desk { IsDeskOf table.now result.0 }
-    ensures keeps { Keeps (book_at table.now desk) (book_at table.now result.0) }
-    // The number of expansions only rises. No worker counts a square twice, nor one whose result was known.
-    ensures rises { expansions_of desk ≤ expansions_of result.0 }
-    ensures expansions { expansions_of result.0 ≤ expansions_of desk + team.now.workers * new_results (book_at table.now desk) (book_at table.now result.0) }
+    // The desk that comes back knows all that it knew, and its number of expansions only rises. No worker counts a
+    // square twice, nor one whose result was known.
+    ensures desk { ComesBack table.now team.now.workers desk result.0 }
 {
     let (desk, padded) = padded_at(table, desk, root);
     let padded = match padded {

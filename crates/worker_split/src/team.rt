@@ -1,3 +1,4 @@
+//! The workers of a round, and what they work with.
 ghost use Rattle.std.specs.Prelude.{◌≡◌, ◌≤◌, min};
 
 use std::alloc::Global;

@@ -8,5 +8,5 @@ ghost-gather_one g a = g.start
 
 abbrev pub invariant-loop-k : goal.invariant-loop-k
 invariant-loop-k g l =
-    (length l.members ≡ length l.initial.members) × All (IsMember l.table (book_at l.table g.start) l.jobs) l.members
-    × Works l.table l.k (expansions_of g.start) (book_at l.table g.start) l.desk × (length l.places ≡ length l.jobs) × PlacesFit l.jobs (book_at l.table l.desk) l.places
+    (length l.members ≡ length l.initial.members) × All (IsMember l.shared.table.now (book_at l.shared.table.now g.start) l.shared.jobs.now) l.members
+    × Works l.shared.table.now l.k (expansions_of g.start) (book_at l.shared.table.now g.start) l.desk × (length l.places ≡ length l.shared.jobs.now) × PlacesFit l.shared.jobs.now (book_at l.shared.table.now l.desk) l.places

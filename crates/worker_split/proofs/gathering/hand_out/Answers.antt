@@ -6,12 +6,12 @@ use Rattle.worker_split.proofs.Workers.{IsNew, idle_new, received, works_begun}
 use Rattle.worker_split.proofs.gathering.hand_out.Goals as goal
 
 pub loop-k-init : goal.loop-k-init
-loop-k-init c =
-    (c.requires.desk, refl, refl, refl, λ k d less. idle_new c.args.table.now (book_at c.args.table.now c.args.desk) c.args.jobs.now (length c.args.jobs.now) _ refl (c.requires.idle k d less))
+loop-k-init g c =
+    (c.requires.desk, refl, refl, refl, λ k d less. idle_new c.args.shared.now.table.now (book_at c.args.shared.now.table.now c.args.desk) c.args.shared.now.jobs.now (length c.args.shared.now.jobs.now) _ refl (c.requires.idle k d less))
 
 pub loop-k-preserved : goal.loop-k-preserved
-loop-k-preserved c =
-    let table = c.args.table.now in
+loop-k-preserved g c =
+    let table = c.args.shared.now.table.now in
     let base = book_at table c.args.desk in
     let was = c.loop-k.invariant in
     let split = c.split-mine.ensures in
@@ -23,10 +23,10 @@ loop-k-preserved c =
       split.books.0 ∙ was.1,
       split.expansions.0 ∙ was.2,
       length-set _ _ _ ∙ was.3,
-      All-set (IsNew table base c.args.jobs.now) c.loop-k.members c.loop-k.k c.receive.new.self
-          (received table base c.args.jobs.now _ c.receive.new.self c.split-mine.result.1 (was.4 c.loop-k.k _ within) works c.receive.ensures.own c.receive.ensures.others c.receive.ensures.desk c.receive.ensures.answers)
+      All-set (IsNew table base c.args.shared.now.jobs.now) c.loop-k.members c.loop-k.k c.receive.new.self
+          (received table base c.args.shared.now.jobs.now _ c.receive.new.self c.split-mine.result.1 (was.4 c.loop-k.k _ within) works c.receive.ensures.own c.receive.ensures.others c.receive.ensures.desk c.receive.ensures.answers)
           was.4,
     )
 
 pub returns-clause-members : goal.returns-clause-members
-returns-clause-members c k d less = (c.loop-k.invariant.4 k d less).0
+returns-clause-members g c k d less = (c.loop-k.invariant.4 k d less).0

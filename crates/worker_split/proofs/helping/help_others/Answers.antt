@@ -16,12 +16,14 @@ returns-clause-ready g c =
     let first = c.in-Some.desk in
     let new = c.help-desk.result in
     let was = sym c.take.ensures.value ∙ c.in-Some.is in
-    let known : All (IsJob (book_at table first)) jobs = subst (λ o. IfSome o (λ desk. All (IsJob (book_at table desk)) jobs)) was c.requires.known in
-    let answers : AreSettled jobs (book_at table first) c.args.member.now.answers.items = subst (λ o. IfSome o (λ desk. AreSettled jobs (book_at table desk) c.args.member.now.answers.items)) was c.requires.answers in
+    let known : All (IsJob (book_at table first)) jobs = subst (λ o. IfSome o (λ desk. All (IsJob (book_at table desk)) jobs)) was c.requires.solver.known in
+    let answers : AreSettled jobs (book_at table first) c.args.member.now.solver.answers.items = subst (λ o. IfSome o (λ desk. AreSettled jobs (book_at table desk) c.args.member.now.solver.answers.items)) was c.requires.solver.answers in
     record {
       own = c.requires.own;
       others = c.requires.others;
-      desk = c.help-desk.ensures.of_table;
-      known = jobs_kept (book_at table first) (book_at table new) jobs c.help-desk.ensures.keeps known;
-      answers = answers_kept jobs (book_at table first) (book_at table new) c.args.member.now.answers.items c.help-desk.ensures.keeps answers;
+      solver = record {
+        desk = c.help-desk.ensures.of_table;
+        known = jobs_kept (book_at table first) (book_at table new) jobs c.help-desk.ensures.keeps known;
+        answers = answers_kept jobs (book_at table first) (book_at table new) c.args.member.now.solver.answers.items c.help-desk.ensures.keeps answers;
+      };
     }

@@ -4,23 +4,22 @@ use Rattle.node_table.specs.Desks.{book_at, expansions_of}
 use Rattle.worker_split.specs.Jobs.{IsJob}
 use Rattle.worker_split.specs.Rounds.{IsMember, PlacesFit}
 use Rattle.worker_split.proofs.Books.{jobs_kept, works_from, works_none, works_trans}
+use Rattle.worker_split.proofs.Workers.{all_ready}
 use Rattle.worker_split.proofs.rounds.carry_out.Goals as goal
 
-pub run_all-requires-clause-jobs : goal.run_all-requires-clause-jobs
-run_all-requires-clause-jobs g c κs within = subst (λ (b : Book). All (IsJob b) c.args.shared.now.jobs.now) (sym c.hand_out-home.ensures.book) c.requires.jobs
-
-pub run_all-requires-clause-members : goal.run_all-requires-clause-members
-run_all-requires-clause-members g c κs within =
-    subst (λ (b : Book). All (IsMember c.args.shared.now.table.now b c.args.shared.now.jobs.now) c.hand_out-home.new.members) (sym c.hand_out-home.ensures.book) c.hand_out-home.ensures.members
+pub run_all-requires-clause-ready : goal.run_all-requires-clause-ready
+run_all-requires-clause-ready g c κs within =
+    all_ready c.args.shared.now.table.now (book_at c.args.shared.now.table.now c.args.desk) c.args.shared.now.jobs.now c.hand_out-home.new.members c.requires.jobs c.hand_out-home.ensures.members
 
 pub gather-desk-requires : goal.gather-desk-requires
-gather-desk-requires g c =
+gather-desk-requires g c κs within =
     let table = c.args.shared.now.table.now in
     let jobs = c.args.shared.now.jobs.now in
     let home = c.hand_out-home.result in
     let works = works_none table home 0 c.hand_out-home.ensures.desk in
     let fit = subst (λ (b : Book). PlacesFit jobs b c.args.places.now) (sym c.hand_out-home.ensures.book) c.requires.places in
-    (c.hand_out-home.ensures.desk, (works, (c.run_all.ensures.members, (c.requires.len, fit))))
+    let begun = subst (λ (b : Book). All (IsMember table b jobs) c.hand_out-home.new.members) (sym c.hand_out-home.ensures.book) c.hand_out-home.ensures.members in
+    (search rules, (search rules, (c.hand_out-home.ensures.desk, (works, (c.run_all.ensures.members (book_at table home) begun, (c.requires.len, fit))))))
 
 pub fill-requires-clause-jobs : goal.fill-requires-clause-jobs
 fill-requires-clause-jobs g c κs within =

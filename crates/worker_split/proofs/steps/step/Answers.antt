@@ -1,12 +1,11 @@
-use Rattle.std.proofs.Common.{subst}
+use Rattle.std.proofs.Common.{subst, rules}
 use Rattle.std.proofs.lemmas.Result.{IfOk-weaker}
 use Rattle.std.specs.Prelude.{IfOk}
 use Rattle.plane.specs.Centred.{centred}
-use Rattle.squares.proofs.Kept.{keeps_trans}
 use Rattle.node_table.specs.Desks.{book_at}
 use Rattle.worker_split.specs.Jobs.{HasFuture}
 use Rattle.worker_split.specs.Steps.{IsPadded}
-use Rattle.worker_split.proofs.Books.{works_bound, works_many, works_one, works_then}
+use Rattle.worker_split.proofs.Books.{comes_back, works_many, works_one, works_then}
 use Rattle.worker_split.proofs.Padded.{padded_job, stepped}
 use Rattle.worker_split.proofs.steps.step.Goals as goal
 
@@ -24,21 +23,20 @@ returns-in-Ok-next-clause-ok g c =
     let has = subst (λ r. IfOk r (HasFuture made c.in-Ok.padded)) c.in-Ok-next.is c.team_future-desk.ensures.ok in
     IfOk-weaker c.trimmed_at.result.1 _ _ (λ small round. stepped before made last plane c.in-Ok.padded c.in-Ok-next.next small is c.team_future-desk.ensures.desk.keeps has round) c.trimmed_at.ensures.ok
 
-pub returns-in-Ok-next-clause-keeps : goal.returns-in-Ok-next-clause-keeps
-returns-in-Ok-next-clause-keeps g c = keeps_trans (keeps_trans c.padded_at-desk.ensures.desk.keeps c.team_future-desk.ensures.desk.keeps) c.trimmed_at.ensures.desk.keeps
-
-pub returns-in-Ok-next-clause-expansions : goal.returns-in-Ok-next-clause-expansions
-returns-in-Ok-next-clause-expansions g c =
+pub returns-in-Ok-next-clause-desk : goal.returns-in-Ok-next-clause-desk
+returns-in-Ok-next-clause-desk g c =
     let first = works_then c.args.table.now c.args.team.now.workers c.args.desk c.padded_at-desk.result.0 c.team_future-desk.result.0
     (works_many c.args.table.now c.args.team.now.workers c.args.desk c.padded_at-desk.result.0 c.args.team.now.some c.requires.desk c.padded_at-desk.ensures.desk) c.team_future-desk.ensures.desk in
-    works_bound c.args.table.now c.args.team.now.workers c.args.desk c.trimmed_at.result.0 c.requires.desk
+    comes_back c.args.table.now c.args.team.now.workers c.args.desk c.trimmed_at.result.0 c.requires.desk (search rules)
     (works_one c.args.table.now c.args.team.now.workers c.args.desk c.team_future-desk.result.0 c.trimmed_at.result.0 c.args.team.now.some first c.trimmed_at.ensures.desk)
 
-pub returns-in-Err-next-clause-keeps : goal.returns-in-Err-next-clause-keeps
-returns-in-Err-next-clause-keeps g c = keeps_trans c.padded_at-desk.ensures.desk.keeps c.team_future-desk.ensures.desk.keeps
-
-pub returns-in-Err-next-clause-expansions : goal.returns-in-Err-next-clause-expansions
-returns-in-Err-next-clause-expansions g c =
+pub returns-in-Err-next-clause-desk : goal.returns-in-Err-next-clause-desk
+returns-in-Err-next-clause-desk g c =
     let first = works_then c.args.table.now c.args.team.now.workers c.args.desk c.padded_at-desk.result.0 c.team_future-desk.result.0
     (works_many c.args.table.now c.args.team.now.workers c.args.desk c.padded_at-desk.result.0 c.args.team.now.some c.requires.desk c.padded_at-desk.ensures.desk) c.team_future-desk.ensures.desk in
-    works_bound c.args.table.now c.args.team.now.workers c.args.desk c.team_future-desk.result.0 c.requires.desk first
+    comes_back c.args.table.now c.args.team.now.workers c.args.desk c.team_future-desk.result.0 c.requires.desk (search rules) first
+
+pub returns-in-Err-clause-desk : goal.returns-in-Err-clause-desk
+returns-in-Err-clause-desk g c =
+    comes_back c.args.table.now c.args.team.now.workers c.args.desk c.padded_at-desk.result.0 c.requires.desk (search rules)
+    (works_many c.args.table.now c.args.team.now.workers c.args.desk c.padded_at-desk.result.0 c.args.team.now.some c.requires.desk c.padded_at-desk.ensures.desk)

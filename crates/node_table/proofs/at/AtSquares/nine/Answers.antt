@@ -1,5 +1,5 @@
 use Rattle.std.proofs.lemmas.Result.{IfOk-weaker}
-use Rattle.node_table.proofs.Working.{keeps_working, known_at, ninths_working}
+use Rattle.node_table.proofs.Working.{keeps_working, known_at, subsquares_working}
 use Rattle.node_table.proofs.at.AtSquares.nine.Goals as goal
 
 pub nine-requires-clause-known : goal.nine-requires-clause-known
@@ -8,7 +8,7 @@ nine-requires-clause-known c = known_at c.args.self.now.expansions c.args.self.n
 pub returns-clause-ok : goal.returns-clause-ok
 returns-clause-ok c =
     let at = c.args.self.now in
-    IfOk-weaker c.nine.result _ _ (λ squares are. ninths_working at.expansions at.table.now c.nine.new.self c.args.sq.level _ squares are) c.nine.ensures.ok
+    IfOk-weaker c.nine.result _ _ (λ squares are. subsquares_working at.expansions at.table.now c.nine.new.self c.args.sq.level _ squares are) c.nine.ensures.ok
 
 pub returns-clause-keeps : goal.returns-clause-keeps
 returns-clause-keeps c =

@@ -5,7 +5,7 @@ use Rattle.node_table.specs.Shared.{shown}
 use Rattle.node_table.proofs.Entries.{block_of}
 use Rattle.node_table.proofs.Everything.{all_coherent}
 use Rattle.node_table.proofs.TwoBlocks.{some_halves, upper_half, lower_half, quarters_shown, same_quarters}
-use Rattle.node_table.proofs.look.SharedStillReadSquares.parts.Goals as goal
+use Rattle.node_table.proofs.look.SharedStillLook.parts.Goals as goal
 
 pub pair-upper-requires : goal.pair-upper-requires
 pair-upper-requires c = some_halves (shown c.args.self.now) c.args.sq c.requires.level c.requires.known.known

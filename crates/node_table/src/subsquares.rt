@@ -1,5 +1,6 @@
+//! The nine overlapping squares of a square.
 ghost use Rattle.std.specs.Prelude.{◌<◌, IfOk, IfErr};
-ghost use Rattle.squares.specs.Book.{AreNinths, IsKnown, MayRefuse};
+ghost use Rattle.squares.specs.Book.{AreSubsquares, IsKnown, MayRefuse};
 ghost use Rattle.node_table.specs.Desks.{IsDeskOf, book_at};
 ghost use Rattle.node_table.specs.Halves.{AreHalvesOfQuarters, LearnsBlocks};
 
@@ -49,7 +50,7 @@ impl Desk {
         requires known { IsKnown (book_at table.now self.old) sq.level sq }
         requires level { 4 < sq.level }
         ensures desk { LearnsBlocks table.now self.old self.new }
-        ensures ok { IfOk result (AreNinths (book_at table.now self.new) sq.level ((book_at table.now self.old).cells sq)) }
+        ensures ok { IfOk result (AreSubsquares (book_at table.now self.new) sq.level ((book_at table.now self.old).cells sq)) }
         ensures refusal { IfErr result (MayRefuse (book_at table.now self.new)) }
     {
         let parts = self.read_halves_of_quarters(table, sq);

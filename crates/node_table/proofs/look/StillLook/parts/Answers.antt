@@ -5,7 +5,7 @@ use Rattle.node_table.specs.Rule.{everything}
 use Rattle.node_table.proofs.Entries.{block_of}
 use Rattle.node_table.proofs.Everything.{all_coherent}
 use Rattle.node_table.proofs.TwoBlocks.{some_halves, upper_half, lower_half, quarters_shown, same_quarters}
-use Rattle.node_table.proofs.look.StillReadSquares.parts.Goals as goal
+use Rattle.node_table.proofs.look.StillLook.parts.Goals as goal
 
 pub pair-upper-requires : goal.pair-upper-requires
 pair-upper-requires c = some_halves (everything c.args.self.now) c.args.sq c.requires.level c.requires.known.known

@@ -7,7 +7,7 @@ use Rattle.node_table.specs.GoodWords.{all_known}
 use Rattle.node_table.specs.Shared.{shown}
 use Rattle.node_table.proofs.Desks.{known_block}
 use Rattle.node_table.proofs.Everything.{number_in, leaf_is}
-use Rattle.node_table.proofs.look.SharedStillReadSquares.bits.Goals as goal
+use Rattle.node_table.proofs.look.SharedStillLook.bits.Goals as goal
 
 pub index-requires : goal.index-requires
 index-requires c =

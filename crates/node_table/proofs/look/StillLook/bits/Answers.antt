@@ -6,7 +6,7 @@ use Rattle.node_table.specs.GoodWords.{all_known}
 use Rattle.node_table.specs.Rule.{everything}
 use Rattle.node_table.proofs.Desks.{known_block}
 use Rattle.node_table.proofs.Everything.{number_in, leaf_is}
-use Rattle.node_table.proofs.look.StillReadSquares.bits.Goals as goal
+use Rattle.node_table.proofs.look.StillLook.bits.Goals as goal
 
 pub word-requires : goal.word-requires
 word-requires c =
