@@ -5,9 +5,9 @@ use Rattle.plane.specs.declared.fault.Fault.{Fault}
 use Rattle.plane.specs.declared.refusal.Refusal.{Refusal}
 use Rattle.plane.specs.declared.refusal.Refusal.TheVariants.{NotAPattern}
 use Rattle.text_lines.specs.Bytes.{begins_with}
-use Rattle.text_lines.specs.Faults.{fault_at}
+use Rattle.text_lines.specs.Faults.{fault_at, unless}
 use Rattle.text_lines.specs.Lines.{Line, lines_from}
-use Rattle.macrocell_reader.specs.Meaning.{Meaning, judged, first_fault, is_node_line, line_fault, node_line_fault, levels_after, body_of, meaning_with, unless}
+use Rattle.macrocell_reader.specs.Meaning.{Meaning, judged, first_fault, is_node_line, line_fault, node_line_fault, levels_after, body_of, meaning_with}
 use Rattle.macrocell_reader.specs.Nodes.{level_of}
 use Rattle.macrocell_reader.proofs.NodeLemmas.{node_of-other}
 use Rattle.macrocell_reader.specs.Settings.{Said, nothing_said, said_fault, after_lines}

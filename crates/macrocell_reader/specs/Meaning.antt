@@ -6,7 +6,7 @@ use Rattle.plane.specs.declared.refusal.Refusal.{Refusal}
 use Rattle.plane.specs.declared.refusal.Refusal.TheVariants.{NotAPattern}
 use Rattle.text_lines.specs.Bytes.{begins_with}
 use Rattle.text_lines.specs.Comments.{is_blank_line, is_comment, comments_of}
-use Rattle.text_lines.specs.Faults.{fault_at}
+use Rattle.text_lines.specs.Faults.{fault_at, unless}
 use Rattle.text_lines.specs.Lines.{Line, lines}
 use Rattle.macrocell_reader.specs.Nodes.{WrittenNode, node_of, nodes_of, level_of}
 use Rattle.macrocell_reader.specs.NodeFaults.{node_fault}
@@ -56,11 +56,6 @@ meaning_with said body = record {
 -- the lines after the first
 abbrev pub body_of : List ℕ → List Line
 body_of text = drop 1 (lines 0 text)
-
--- the value, unless there is a fault
-abbrev pub unless : {A : Type 0} → Option Fault → A → Result A Fault
-unless None value = Ok value
-unless (Some fault) value = Err fault
 
 -- what a text means, or its first fault
 unfoldable pub judged : List ℕ → Result Meaning Fault

@@ -1,7 +1,7 @@
 //! Lines of inner nodes: five numbers with blanks between them.
 
 ghost use Rattle.std.specs.Prelude.{◌≡◌, ◌∷◌, ℕ, min, false, MatchOption};
-ghost use Rattle.std.specs.List.{position, position_or_len};
+ghost use Rattle.std.specs.List.{position_or_len};
 ghost use Rattle.std.specs.Option.{option_map};
 ghost use Rattle.text_lines.specs.Bytes.{is_blank};
 ghost use Rattle.text_lines.specs.Numbers.{capped};
@@ -9,7 +9,7 @@ ghost use Rattle.macrocell_reader.specs.Inner.{numbers, inner_of, begins_with_nu
 ghost use Rattle.macrocell_reader.specs.Nodes.{kept};
 
 use crate::node::Node;
-use text_lines::{is_blank, number, trimmed_start};
+use text_lines::{first_blank, number, trimmed_start};
 
 /// The inner node of a line: its level, and the numbers of its quadrants north west, north east, south
 /// west and south east. A number that is too large for its type stays at the largest. None where the
@@ -55,11 +55,4 @@ fn word_length(text: &[u8]) -> usize
     ensures { result ≡ position_or_len is_blank text.now }
 {
     first_blank(text).unwrap_or(text.len())
-}
-
-/// The place of the first blank.
-fn first_blank(text: &[u8]) -> Option<usize>
-    ensures { result ≡ position is_blank text.now }
-{
-    text.iter().position(|byte| is_blank(*byte))
 }

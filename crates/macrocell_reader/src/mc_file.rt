@@ -133,16 +133,12 @@ fn add_level(levels: &mut Vec<u8>, line: Line<'_>) -> Result<(), Fault>
         × (node_line_fault levels.old.items line.entry.text.now ≡ Some refusal) × (fault ≡ fault_at refusal line.entry.place))
         ⊎ (fault ≡ out_of_memory)) }
 {
-    if !is_node_line(line.text) {
-        return Ok(());
+    if is_node_line(line.text) {
+        let found = level_of_line(levels, line.text);
+        let level = found.map_err(|refusal| fault_at(refusal, line.place))?;
+        levels.push(level).map_err(|error| Refusal::from(error))?;
     }
-    match level_of_line(levels, line.text) {
-        Ok(level) => match levels.push(level) {
-            Ok(()) => Ok(()),
-            Err(_) => Err(Fault::from(Refusal::NoMemory)),
-        },
-        Err(refusal) => Err(fault_at(refusal, line.place)),
-    }
+    Ok(())
 }
 
 /// Whether the line is neither blank nor a comment.

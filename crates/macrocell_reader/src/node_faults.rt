@@ -65,10 +65,7 @@ fn level_among(levels: &[u8], node: Option<Node>) -> Result<u8, Refusal>
 fn is_above(node: &Option<Node>) -> bool
     ensures { result ≡ is_above node.now }
 {
-    match node {
-        Some(Node::Inner { level, .. }) => *level > LARGEST_LEVEL,
-        _ => false,
-    }
+    matches!(node, Some(Node::Inner { level, .. }) if *level > LARGEST_LEVEL)
 }
 
 /// Whether the number is 0, or that of an earlier node one level lower.
@@ -76,11 +73,8 @@ fn is_child(levels: &[u8], level: u8, number: u32) -> bool
     requires { LEAST_INNER_LEVEL ≤ level }
     ensures { result ≡ is_child levels.now level number }
 {
-    if number == 0 {
-        return true;
-    }
-    match levels.get(number as usize - 1) {
-        Some(lower) => *lower == level - 1,
-        None => false,
-    }
+    number == 0
+        || levels
+            .get(number as usize - 1)
+            .is_some_and(|lower| *lower == level - 1)
 }

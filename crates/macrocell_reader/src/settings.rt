@@ -50,10 +50,7 @@ impl<'a> Settings<'a> {
             self.rule_place = line.place;
         }
         if let Some(text) = line.text.strip_prefix(b"#G") {
-            match generation_of(text) {
-                Some(generation) => self.generation = generation,
-                None => return Err(fault_at(Refusal::BadGen, line.place)),
-            }
+            self.generation = generation_of(text).ok_or(fault_at(Refusal::BadGen, line.place))?;
         }
         Ok(())
     }
@@ -65,8 +62,5 @@ impl<'a> Settings<'a> {
 fn generation_of(text: &[u8]) -> Option<u64>
     ensures { result ≡ generation_of text.now }
 {
-    match number(trimmed(text)) {
-        Some(generation) if generation <= GENERATION_LIMIT => Some(generation),
-        _ => None,
-    }
+    number(trimmed(text)).filter(|generation| *generation <= GENERATION_LIMIT)
 }

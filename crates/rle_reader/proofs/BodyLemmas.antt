@@ -9,24 +9,25 @@ use Rattle.std.proofs.lemmas.Slice.Eq.{bytes_eq-Decides}
 use Rattle.text_lines.specs.Bytes.{ends_with}
 use Rattle.text_lines.specs.Lines.{is_line_feed, lines, without_return}
 use Rattle.text_lines.specs.Comments.{is_comment}
-use Rattle.rle_reader.specs.Body.{Spot, spots, counting, is_skipped, struck, struck_line, struck_inside, struck_from}
+use Rattle.rle_reader.specs.Body.{located_bytes, significant, is_skipped, stripped, stripped_line, stripped_inside, stripped_from}
+use Rattle.rle_reader.specs.declared.body.LocatedByte.{LocatedByte}
 use Rattle.text_lines.proofs.LineLemmas.{lines-first, lines-nil}
 
-spots-cons : (place first : ℕ) (rest : List ℕ) → spots place (first ∷ rest) ≡ record { place = place; byte = first } ∷ spots (place + 1) rest
-unfolding spots
-spots-cons place first rest = refl
+located_bytes-cons : (place first : ℕ) (rest : List ℕ) → located_bytes place (first ∷ rest) ≡ record { place = place; byte = first } ∷ located_bytes (place + 1) rest
+unfolding located_bytes
+located_bytes-cons place first rest = refl
 
-spots-nil : (place : ℕ) → spots place [] ≡ []
-unfolding spots
-spots-nil place = refl
+located_bytes-nil : (place : ℕ) → located_bytes place [] ≡ []
+unfolding located_bytes
+located_bytes-nil place = refl
 
 -- a CR at the end does not count
-counting-return : (place : ℕ) (text : List ℕ) → counting (spots place (text ++ 13 ∷ [])) ≡ counting (spots place text)
-counting-return place [] = ap counting (spots-cons place 13 []) ∙ ap counting (spots-nil (place + 1)) ∙ ap counting (sym (spots-nil place))
-counting-return place (first ∷ rest) =
-    ap counting (spots-cons place first (rest ++ 13 ∷ []))
-    ∙ ap (λ more. cond (not (is_skipped first)) (record { place = place; byte = first } ∷ more) more) (counting-return (place + 1) rest)
-    ∙ ap counting (sym (spots-cons place first rest))
+significant-return : (place : ℕ) (text : List ℕ) → significant (located_bytes place (text ++ 13 ∷ [])) ≡ significant (located_bytes place text)
+significant-return place [] = ap significant (located_bytes-cons place 13 []) ∙ ap significant (located_bytes-nil (place + 1)) ∙ ap significant (sym (located_bytes-nil place))
+significant-return place (first ∷ rest) =
+    ap significant (located_bytes-cons place first (rest ++ 13 ∷ []))
+    ∙ ap (λ more. cond (not (is_skipped first)) (record { place = place; byte = first } ∷ more) more) (significant-return (place + 1) rest)
+    ∙ ap significant (sym (located_bytes-cons place first rest))
 
 split_end : (text : List ℕ) (n : ℕ) → bytes_eq (drop n text) (13 ∷ []) ≡ true → text ≡ take n text ++ 13 ∷ []
 split_end text n same =
@@ -40,12 +41,12 @@ without_return-or : (text : List ℕ) → (without_return text ≡ text) ⊎ (te
 unfolding without_return
 without_return-or text = ended (ends_with (codes "\r") text) text (length text - 1) (split_end text (length text - 1))
 
-pub counting-without_return : (place : ℕ) (text : List ℕ) → counting (spots place (without_return text)) ≡ counting (spots place text)
-counting-without_return place text = by_end (without_return-or text)
+pub significant-without_return : (place : ℕ) (text : List ℕ) → significant (located_bytes place (without_return text)) ≡ significant (located_bytes place text)
+significant-without_return place text = by_end (without_return-or text)
   where
-    by_end : (without_return text ≡ text) ⊎ (text ≡ without_return text ++ 13 ∷ []) → counting (spots place (without_return text)) ≡ counting (spots place text)
-    by_end (inl same) = ap (λ t. counting (spots place t)) same
-    by_end (inr longer) = sym (counting-return place (without_return text)) ∙ ap (λ t. counting (spots place t)) (sym longer)
+    by_end : (without_return text ≡ text) ⊎ (text ≡ without_return text ++ 13 ∷ []) → significant (located_bytes place (without_return text)) ≡ significant (located_bytes place text)
+    by_end (inl same) = ap (λ t. significant (located_bytes place t)) same
+    by_end (inr longer) = sym (significant-return place (without_return text)) ∙ ap (λ t. significant (located_bytes place t)) (sym longer)
 
 is_comment-return : (text : List ℕ) → is_comment (text ++ 13 ∷ []) ≡ is_comment text
 is_comment-return [] = refl
@@ -58,19 +59,19 @@ is_comment-without_return text = by_end (without_return-or text)
     by_end (inl same) = ap is_comment same
     by_end (inr longer) = sym (is_comment-return (without_return text)) ∙ ap is_comment (sym longer)
 
-struck-nil : (place : ℕ) → struck (lines place []) ≡ []
-struck-nil place = ap struck (lines-nil place)
+stripped-nil : (place : ℕ) → stripped (lines place []) ≡ []
+stripped-nil place = ap stripped (lines-nil place)
 
-struck-past : (place n : ℕ) (text : List ℕ) → length text ≤ n → struck (lines place (drop n text)) ≡ []
-struck-past place n text past = ap (λ rest. struck (lines place rest)) (drop_all n text past) ∙ struck-nil place
+stripped-past : (place n : ℕ) (text : List ℕ) → length text ≤ n → stripped (lines place (drop n text)) ≡ []
+stripped-past place n text past = ap (λ rest. stripped (lines place rest)) (drop_all n text past) ∙ stripped-nil place
 
-struck_line-comment : (place : ℕ) (text : List ℕ) → is_comment text ≡ true → struck_line (record { place = place; text = text }) ≡ []
-unfolding struck_line
-struck_line-comment place text comment = rw comment refl
+stripped_line-comment : (place : ℕ) (text : List ℕ) → is_comment text ≡ true → stripped_line (record { place = place; text = text }) ≡ []
+unfolding stripped_line
+stripped_line-comment place text comment = rw comment refl
 
-struck_line-other : (place : ℕ) (text : List ℕ) → is_comment text ≡ false → struck_line (record { place = place; text = text }) ≡ counting (spots place text)
-unfolding struck_line
-struck_line-other place text other = rw other refl
+stripped_line-other : (place : ℕ) (text : List ℕ) → is_comment text ≡ false → stripped_line (record { place = place; text = text }) ≡ significant (located_bytes place text)
+unfolding stripped_line
+stripped_line-other place text other = rw other refl
 
 position_step : (b : Bool) (n : ℕ) → b ≡ false → cond (not b) (1 + n) 0 ≡ suc n
 position_step true n other = cc
@@ -86,81 +87,81 @@ module _ (place first : ℕ) (rest : List ℕ) (n step : ℕ) (is : n ≡ positi
   first_line = lines-first place (first ∷ rest) n step (omega arith) is within far
 
   -- a comment is passed over
-  pub struck-comment : (first == 35) ≡ true → struck (lines place (first ∷ rest)) ≡ struck (lines (place + step) (drop step (first ∷ rest)))
-  struck-comment hash =
+  pub stripped-comment : (first == 35) ≡ true → stripped (lines place (first ∷ rest)) ≡ stripped (lines (place + step) (drop step (first ∷ rest)))
+  stripped-comment hash =
       let other : is_line_feed first ≡ false = grind (arith, nat_tests) in
-      ap struck first_line
-      ∙ ap (λ found. found ++ struck (lines (place + step) (drop step (first ∷ rest))))
-      (struck_line-comment place (without_return (take n (first ∷ rest)))
+      ap stripped first_line
+      ∙ ap (λ found. found ++ stripped (lines (place + step) (drop step (first ∷ rest))))
+      (stripped_line-comment place (without_return (take n (first ∷ rest)))
       (ap (λ m. is_comment (without_return (take m (first ∷ rest)))) (is ∙ position_step (is_line_feed first) (position_or_len is_line_feed rest) other)
       ∙ is_comment-without_return (take (suc (position_or_len is_line_feed rest)) (first ∷ rest)) ∙ hash))
 
-  later_lines : (n < length (first ∷ rest)) ⊎ (length (first ∷ rest) ≤ n) → struck (lines (place + step) (drop step (first ∷ rest))) ≡ struck (lines (place + n + 1) (drop (n + 1) (first ∷ rest)))
+  later_lines : (n < length (first ∷ rest)) ⊎ (length (first ∷ rest) ≤ n) → stripped (lines (place + step) (drop step (first ∷ rest))) ≡ stripped (lines (place + n + 1) (drop (n + 1) (first ∷ rest)))
   later_lines (inl below) =
       let step_is : step ≡ n + 1 = omega arith in
       let place_is : place + step ≡ place + n + 1 = omega arith in
-      ap (λ at. struck (lines at (drop step (first ∷ rest)))) place_is
-      ∙ ap (λ m. struck (lines (place + n + 1) (drop m (first ∷ rest)))) step_is
+      ap (λ at. stripped (lines at (drop step (first ∷ rest)))) place_is
+      ∙ ap (λ m. stripped (lines (place + n + 1) (drop m (first ∷ rest)))) step_is
   later_lines (inr past) =
-      struck-past (place + step) step (first ∷ rest) (omega arith) ∙ sym (struck-past (place + n + 1) (n + 1) (first ∷ rest) (omega arith))
+      stripped-past (place + step) step (first ∷ rest) (omega arith) ∙ sym (stripped-past (place + n + 1) (n + 1) (first ∷ rest) (omega arith))
 
   -- any other line counts from its beginning on
-  pub struck-line : (first == 35) ≡ false → struck (lines place (first ∷ rest)) ≡ struck_inside place (first ∷ rest)
-  unfolding struck_inside
-  struck-line other =
-      ap struck first_line
-      ∙ ap (λ found. found ++ struck (lines (place + step) (drop step (first ∷ rest))))
-      (struck_line-other place (without_return (take n (first ∷ rest)))
+  pub stripped-line : (first == 35) ≡ false → stripped (lines place (first ∷ rest)) ≡ stripped_inside place (first ∷ rest)
+  unfolding stripped_inside
+  stripped-line other =
+      ap stripped first_line
+      ∙ ap (λ found. found ++ stripped (lines (place + step) (drop step (first ∷ rest))))
+      (stripped_line-other place (without_return (take n (first ∷ rest)))
       (is_comment-without_return (take n (first ∷ rest)) ∙ is_comment-take n first rest other)
-      ∙ counting-without_return place (take n (first ∷ rest)))
-      ∙ ap (λ more. counting (spots place (take n (first ∷ rest))) ++ more) (later_lines (cases_lt n (length (first ∷ rest))))
-      ∙ ap (λ m. counting (spots place (take m (first ∷ rest))) ++ struck (lines (place + m + 1) (drop (m + 1) (first ∷ rest)))) is
+      ∙ significant-without_return place (take n (first ∷ rest)))
+      ∙ ap (λ more. significant (located_bytes place (take n (first ∷ rest))) ++ more) (later_lines (cases_lt n (length (first ∷ rest))))
+      ∙ ap (λ m. significant (located_bytes place (take m (first ∷ rest))) ++ stripped (lines (place + m + 1) (drop (m + 1) (first ∷ rest)))) is
 
--- the spot, if its byte counts
-with_spot : Bool → Spot → List Spot → List Spot
-with_spot true spot more = more
-with_spot false spot more = spot ∷ more
+-- the byte before these, unless it is skipped
+with_byte : Bool → LocatedByte → List LocatedByte → List LocatedByte
+with_byte true located more = more
+with_byte false located more = located ∷ more
 
-counting-cons : (spot : Spot) (more : List Spot) → counting (spot ∷ more) ≡ with_spot (is_skipped spot.byte) spot (counting more)
-unfolding with_spot
-counting-cons spot more = elim (is_skipped spot.byte) as (λ b. cond (not b) (spot ∷ counting more) (counting more) ≡ with_spot b spot (counting more)) [ true ↦ refl | false ↦ refl ]
+significant-cons : (located : LocatedByte) (more : List LocatedByte) → significant (located ∷ more) ≡ with_byte (is_skipped located.byte) located (significant more)
+unfolding with_byte
+significant-cons located more = elim (is_skipped located.byte) as (λ b. cond (not b) (located ∷ significant more) (significant more) ≡ with_byte b located (significant more)) [ true ↦ refl | false ↦ refl ]
 
-with_spot-append : (b : Bool) (spot : Spot) (more rest : List Spot) → with_spot b spot more ++ rest ≡ with_spot b spot (more ++ rest)
-unfolding with_spot
-with_spot-append true spot more rest = refl
-with_spot-append false spot more rest = refl
+with_byte-append : (b : Bool) (located : LocatedByte) (more rest : List LocatedByte) → with_byte b located more ++ rest ≡ with_byte b located (more ++ rest)
+unfolding with_byte
+with_byte-append true located more rest = refl
+with_byte-append false located more rest = refl
 
 -- one byte of a line that has begun, which is no LF
-struck_inside-byte : (place first : ℕ) (rest : List ℕ) → is_line_feed first ≡ false → struck_inside place (first ∷ rest) ≡ with_spot (is_skipped first) (record { place = place; byte = first }) (struck_inside (place + 1) rest)
-unfolding struck_inside
-struck_inside-byte place first rest other =
+stripped_inside-byte : (place first : ℕ) (rest : List ℕ) → is_line_feed first ≡ false → stripped_inside place (first ∷ rest) ≡ with_byte (is_skipped first) (record { place = place; byte = first }) (stripped_inside (place + 1) rest)
+unfolding stripped_inside
+stripped_inside-byte place first rest other =
     let n = position_or_len is_line_feed rest in
-    let spot : Spot = record { place = place; byte = first } in
+    let located : LocatedByte = record { place = place; byte = first } in
     let place_is : place + suc n + 1 ≡ place + 1 + n + 1 = omega arith in
     let drop_is : suc n + 1 ≡ suc (n + 1) = omega arith in
-    ap (λ m. counting (spots place (take m (first ∷ rest))) ++ struck (lines (place + m + 1) (drop (m + 1) (first ∷ rest)))) (position_step (is_line_feed first) n other)
-    ∙ ap (λ m. counting (spots place (first ∷ take n rest)) ++ struck (lines (place + suc n + 1) (drop m (first ∷ rest)))) drop_is
-    ∙ ap (λ found. counting found ++ struck (lines (place + suc n + 1) (drop (n + 1) rest))) (spots-cons place first (take n rest))
-    ∙ ap (λ found. found ++ struck (lines (place + suc n + 1) (drop (n + 1) rest))) (counting-cons spot (spots (place + 1) (take n rest)))
-    ∙ with_spot-append (is_skipped first) spot (counting (spots (place + 1) (take n rest))) (struck (lines (place + suc n + 1) (drop (n + 1) rest)))
-    ∙ ap (λ at. with_spot (is_skipped first) spot (counting (spots (place + 1) (take n rest)) ++ struck (lines at (drop (n + 1) rest)))) place_is
+    ap (λ m. significant (located_bytes place (take m (first ∷ rest))) ++ stripped (lines (place + m + 1) (drop (m + 1) (first ∷ rest)))) (position_step (is_line_feed first) n other)
+    ∙ ap (λ m. significant (located_bytes place (first ∷ take n rest)) ++ stripped (lines (place + suc n + 1) (drop m (first ∷ rest)))) drop_is
+    ∙ ap (λ found. significant found ++ stripped (lines (place + suc n + 1) (drop (n + 1) rest))) (located_bytes-cons place first (take n rest))
+    ∙ ap (λ found. found ++ stripped (lines (place + suc n + 1) (drop (n + 1) rest))) (significant-cons located (located_bytes (place + 1) (take n rest)))
+    ∙ with_byte-append (is_skipped first) located (significant (located_bytes (place + 1) (take n rest))) (stripped (lines (place + suc n + 1) (drop (n + 1) rest)))
+    ∙ ap (λ at. with_byte (is_skipped first) located (significant (located_bytes (place + 1) (take n rest)) ++ stripped (lines at (drop (n + 1) rest)))) place_is
 
 end_step : (b : Bool) (n : ℕ) → b ≡ true → cond (not b) (1 + n) 0 ≡ 0
 end_step true n ends = refl
 end_step false n ends = cc
 
 -- the LF of a line that has begun
-struck_inside-end : (place first : ℕ) (rest : List ℕ) → is_line_feed first ≡ true → struck_inside place (first ∷ rest) ≡ struck (lines (place + 1) rest)
-unfolding struck_inside
-struck_inside-end place first rest ends =
+stripped_inside-end : (place first : ℕ) (rest : List ℕ) → is_line_feed first ≡ true → stripped_inside place (first ∷ rest) ≡ stripped (lines (place + 1) rest)
+unfolding stripped_inside
+stripped_inside-end place first rest ends =
     let place_is : place + 0 + 1 ≡ place + 1 = omega arith in
-    ap (λ m. counting (spots place (take m (first ∷ rest))) ++ struck (lines (place + m + 1) (drop (m + 1) (first ∷ rest)))) (end_step (is_line_feed first) (position_or_len is_line_feed rest) ends)
-    ∙ ap (λ found. counting found ++ struck (lines (place + 0 + 1) (drop (0 + 1) (first ∷ rest)))) (spots-nil place)
-    ∙ ap (λ at. struck (lines at rest)) place_is
+    ap (λ m. significant (located_bytes place (take m (first ∷ rest))) ++ stripped (lines (place + m + 1) (drop (m + 1) (first ∷ rest)))) (end_step (is_line_feed first) (position_or_len is_line_feed rest) ends)
+    ∙ ap (λ found. significant found ++ stripped (lines (place + 0 + 1) (drop (0 + 1) (first ∷ rest)))) (located_bytes-nil place)
+    ∙ ap (λ at. stripped (lines at rest)) place_is
 
-struck_inside-nil : (place : ℕ) → struck_inside place [] ≡ []
-unfolding struck_inside
-struck_inside-nil place = ap (λ found. counting found ++ struck (lines (place + 0 + 1) [])) (spots-nil place) ∙ struck-nil (place + 0 + 1)
+stripped_inside-nil : (place : ℕ) → stripped_inside place [] ≡ []
+unfolding stripped_inside
+stripped_inside-nil place = ap (λ found. significant found ++ stripped (lines (place + 0 + 1) [])) (located_bytes-nil place) ∙ stripped-nil (place + 0 + 1)
 
 within_step : (b : Bool) (n m : ℕ) → n ≤ m → cond b (1 + n) 0 ≤ suc m
 within_step true n m h = omega arith
@@ -173,55 +174,55 @@ position_or_len-le test (first ∷ rest) = within_step (not (test first)) (posit
 -- ---- of a source
 
 module _ (source : List ℕ) (at : ℕ) where
-  pub struck_from-end : (begins : Bool) → length source ≤ at → struck_from source at begins ≡ []
-  unfolding struck_from
-  struck_from-end true past = struck-past at at source past
-  struck_from-end false past = ap (struck_inside at) (drop_all at source past) ∙ struck_inside-nil at
+  pub stripped_from-end : (begins : Bool) → length source ≤ at → stripped_from source at begins ≡ []
+  unfolding stripped_from
+  stripped_from-end true past = stripped-past at at source past
+  stripped_from-end false past = ap (stripped_inside at) (drop_all at source past) ∙ stripped_inside-nil at
 
   module _ (within : at < length source) where
     left : drop at source ≡ get_or source at 0 ∷ drop (at + 1) source
     left = drop_more source at 0 within
 
-    inside : (begins : Bool) → (begins && get_or source at 0 == 35) ≡ false → struck_from source at begins ≡ struck_inside at (get_or source at 0 ∷ drop (at + 1) source)
-    unfolding struck_from
+    inside : (begins : Bool) → (begins && get_or source at 0 == 35) ≡ false → stripped_from source at begins ≡ stripped_inside at (get_or source at 0 ∷ drop (at + 1) source)
+    unfolding stripped_from
     inside true other =
-        ap (λ rest. struck (lines at rest)) left
-        ∙ struck-line at (get_or source at 0) (drop (at + 1) source) (position_or_len is_line_feed (get_or source at 0 ∷ drop (at + 1) source)) _ refl
+        ap (λ rest. stripped (lines at rest)) left
+        ∙ stripped-line at (get_or source at 0) (drop (at + 1) source) (position_or_len is_line_feed (get_or source at 0 ∷ drop (at + 1) source)) _ refl
         (position_or_len-le is_line_feed (get_or source at 0 ∷ drop (at + 1) source)) refl other
-    inside false other = ap (struck_inside at) left
+    inside false other = ap (stripped_inside at) left
 
     -- a byte that counts
-    pub struck_from-byte : (begins : Bool) → (begins && get_or source at 0 == 35) ≡ false → is_skipped (get_or source at 0) ≡ false →
-        struck_from source at begins ≡ record { place = at; byte = get_or source at 0 } ∷ struck_from source (at + 1) (get_or source at 0 == 10)
-    unfolding struck_from with_spot
-    struck_from-byte begins other counts =
-        let spot : Spot = record { place = at; byte = get_or source at 0 } in
+    pub stripped_from-byte : (begins : Bool) → (begins && get_or source at 0 == 35) ≡ false → is_skipped (get_or source at 0) ≡ false →
+        stripped_from source at begins ≡ record { place = at; byte = get_or source at 0 } ∷ stripped_from source (at + 1) (get_or source at 0 == 10)
+    unfolding stripped_from with_byte
+    stripped_from-byte begins other counts =
+        let located : LocatedByte = record { place = at; byte = get_or source at 0 } in
         let no_end : (get_or source at 0 == 10) ≡ false = grind (arith, nat_tests) in
         inside begins other
-        ∙ struck_inside-byte at (get_or source at 0) (drop (at + 1) source) no_end
-        ∙ ap (λ b. with_spot b spot (struck_inside (at + 1) (drop (at + 1) source))) counts
-        ∙ ap (λ b. spot ∷ struck_from source (at + 1) b) (sym no_end)
+        ∙ stripped_inside-byte at (get_or source at 0) (drop (at + 1) source) no_end
+        ∙ ap (λ b. with_byte b located (stripped_inside (at + 1) (drop (at + 1) source))) counts
+        ∙ ap (λ b. located ∷ stripped_from source (at + 1) b) (sym no_end)
 
-    skipped_end : (ends : Bool) → is_line_feed (get_or source at 0) ≡ ends → is_skipped (get_or source at 0) ≡ true → struck_inside at (get_or source at 0 ∷ drop (at + 1) source) ≡ struck_from source (at + 1) ends
-    unfolding struck_from with_spot
-    skipped_end true is skipped = struck_inside-end at (get_or source at 0) (drop (at + 1) source) is
+    skipped_end : (ends : Bool) → is_line_feed (get_or source at 0) ≡ ends → is_skipped (get_or source at 0) ≡ true → stripped_inside at (get_or source at 0 ∷ drop (at + 1) source) ≡ stripped_from source (at + 1) ends
+    unfolding stripped_from with_byte
+    skipped_end true is skipped = stripped_inside-end at (get_or source at 0) (drop (at + 1) source) is
     skipped_end false is skipped =
-        struck_inside-byte at (get_or source at 0) (drop (at + 1) source) is
-        ∙ ap (λ b. with_spot b (record { place = at; byte = get_or source at 0 }) (struck_inside (at + 1) (drop (at + 1) source))) skipped
+        stripped_inside-byte at (get_or source at 0) (drop (at + 1) source) is
+        ∙ ap (λ b. with_byte b (record { place = at; byte = get_or source at 0 }) (stripped_inside (at + 1) (drop (at + 1) source))) skipped
 
     -- a byte that does not
-    pub struck_from-skipped : (begins : Bool) → (begins && get_or source at 0 == 35) ≡ false → is_skipped (get_or source at 0) ≡ true →
-        struck_from source at begins ≡ struck_from source (at + 1) (get_or source at 0 == 10)
-    struck_from-skipped begins other skipped = inside begins other ∙ skipped_end (get_or source at 0 == 10) refl skipped
+    pub stripped_from-skipped : (begins : Bool) → (begins && get_or source at 0 == 35) ≡ false → is_skipped (get_or source at 0) ≡ true →
+        stripped_from source at begins ≡ stripped_from source (at + 1) (get_or source at 0 == 10)
+    stripped_from-skipped begins other skipped = inside begins other ∙ skipped_end (get_or source at 0 == 10) refl skipped
 
     -- a comment
-    pub struck_from-comment : (n step : ℕ) → get_or source at 0 ≡ 35 → n ≡ position_or_len is_line_feed (drop at source) → n ≤ length (drop at source) → step ≡ min (n + 1) (length (drop at source)) →
-        struck_from source at true ≡ struck_from source (at + step) true
-    unfolding struck_from
-    struck_from-comment n step hash is fits far =
+    pub stripped_from-comment : (n step : ℕ) → get_or source at 0 ≡ 35 → n ≡ position_or_len is_line_feed (drop at source) → n ≤ length (drop at source) → step ≡ min (n + 1) (length (drop at source)) →
+        stripped_from source at true ≡ stripped_from source (at + step) true
+    unfolding stripped_from
+    stripped_from-comment n step hash is fits far =
         let hash_is : (get_or source at 0 == 35) ≡ true = grind (arith, nat_tests) in
-        ap (λ rest. struck (lines at rest)) left
-        ∙ struck-comment at (get_or source at 0) (drop (at + 1) source) n step
+        ap (λ rest. stripped (lines at rest)) left
+        ∙ stripped-comment at (get_or source at 0) (drop (at + 1) source) n step
         (is ∙ ap (position_or_len is_line_feed) left) (subst (λ rest. n ≤ length rest) left fits) (far ∙ ap (λ rest. min (n + 1) (length rest)) left) hash_is
-        ∙ ap (λ rest. struck (lines (at + step) (drop step rest))) (sym left)
-        ∙ ap (λ rest. struck (lines (at + step) rest)) (drop-drop step at source)
+        ∙ ap (λ rest. stripped (lines (at + step) (drop step rest))) (sym left)
+        ∙ ap (λ rest. stripped (lines (at + step) rest)) (drop-drop step at source)

@@ -13,7 +13,7 @@ use Rattle.plane.specs.Listing.{IsListing, is_at, plane_of, reading_order}
 use Rattle.plane.specs.Plane.{Plane}
 use Rattle.plane.proofs.Listings.{is_at-own}
 use Rattle.plane.proofs.Turns.{AllByRecursion-weaker}
-use Rattle.rle_reader.specs.Items.{Drawn}
+use Rattle.rle_reader.specs.Items.{ItemSlice}
 use Rattle.rle_reader.specs.Meaning.{Meaning, covers, is_covered, is_live, judged, live_cells, live_plane}
 use Rattle.rle_reader.specs.State.{State, start_at, after_item}
 use Rattle.rle_reader.specs.declared.item.Tag.{Tag}
@@ -117,7 +117,7 @@ few_covered state Row count cells rising = omega (arith, passing-none cells)
 
 -- ---- the cells of all runs
 
-few_live : (left : ℤ) (state : State) (runs : List Drawn) (cells : List Cell) → IsStrictlySortedBy reading_order cells →
+few_live : (left : ℤ) (state : State) (runs : List ItemSlice) (cells : List Cell) → IsStrictlySortedBy reading_order cells →
     passing (λ c. is_covered left state runs c.x c.y) cells ≤ live_cells runs
 unfolding is_covered
 few_live left state [] cells rising = omega (arith, passing-none cells)
@@ -146,7 +146,7 @@ all_live (cell ∷ cells) = (
 listing-live : (cells : List Cell) (plane : Plane) → IsListing cells plane → AllByRecursion (λ c. plane c.x c.y ≡ true) cells
 listing-live cells plane listing = AllByRecursion-weaker _ _ (λ cell live. sym (listing.live cell.x cell.y) ∙ live) cells (all_live cells)
 
-listing-few : (left : ℤ) (state : State) (runs : List Drawn) (cells : List Cell) → IsListing cells (is_covered left state runs) → length cells ≤ live_cells runs
+listing-few : (left : ℤ) (state : State) (runs : List ItemSlice) (cells : List Cell) → IsListing cells (is_covered left state runs) → length cells ≤ live_cells runs
 listing-few left state runs cells listing =
     let all = passing-all (λ c. is_covered left state runs c.x c.y) cells (listing-live cells (is_covered left state runs) listing) in
     omega (arith, all, few_live left state runs cells listing.rising)

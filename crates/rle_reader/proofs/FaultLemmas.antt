@@ -6,9 +6,9 @@ use Rattle.std.proofs.lemmas.Int.{ints}
 use Rattle.plane.specs.declared.fault.Fault.{Fault}
 use Rattle.plane.specs.declared.refusal.Refusal.{Refusal}
 use Rattle.plane.specs.declared.refusal.Refusal.TheVariants.{BadCount, OutOfRange, TooManyCells}
-use Rattle.rle_reader.specs.Body.{Spot}
+use Rattle.rle_reader.specs.declared.body.LocatedByte.{LocatedByte}
 use Rattle.text_lines.specs.Faults.{fault_at}
-use Rattle.rle_reader.specs.Items.{Item, Drawn, place_of, count_of, tag_of, drawn_as, drawn_from, next_among}
+use Rattle.rle_reader.specs.Items.{Item, ItemSlice, place_of, count_of, tag_of, item_slice_between, item_slice_from, next_among}
 use Rattle.rle_reader.specs.Meaning.{item_fault, state_after, first_fault_from}
 use Rattle.text_lines.specs.Numbers.{capped}
 use Rattle.rle_reader.specs.Range.{IsWithinReach}
@@ -82,31 +82,31 @@ unfolding state_after
 state_after-is left state item tag is = rw is refl
 
 -- an item that was read has that tag and that count, and its count is not 0
-pub record IsReading (reading : Result Tag Refusal) (count place : ℕ) (run : Drawn) : Type 0 where
+pub record IsReading (reading : Result Tag Refusal) (count place : ℕ) (run : ItemSlice) : Type 0 where
   pub tag : reading ≡ Ok run.tag
   pub counted : (count == 0) ≡ false
   pub count_is : run.count ≡ capped count
   pub place_is : run.place ≡ place
 
-counted_reading : (b : Bool) (source : List ℕ) (place count end : ℕ) (tag : Tag) (run : Drawn) → (count == 0) ≡ b →
+counted_reading : (b : Bool) (source : List ℕ) (place count end : ℕ) (tag : Tag) (run : ItemSlice) → (count == 0) ≡ b →
     as_kept (seen_some (cond b (Err BadCount) (Ok (record { text = slice_range source place end; place = place; count = count; tag = tag }))) place) ≡ Ok (Some run) → IsReading (Ok tag) count place run
 unfolding as_kept seen_some
 counted_reading true source place count end tag run zero_is is = cc
 counted_reading false source place count end tag run some is =
     let same : record { text = slice_range source place end; place = place; count = capped count; tag = tag } ≡ run = cc in
     record {
-      tag = ap (λ (r : Drawn). Ok r.tag) same;
+      tag = ap (λ (r : ItemSlice). Ok r.tag) same;
       counted = some;
-      count_is = sym (ap (λ (r : Drawn). r.count) same);
-      place_is = sym (ap (λ (r : Drawn). r.place) same);
+      count_is = sym (ap (λ (r : ItemSlice). r.count) same);
+      place_is = sym (ap (λ (r : ItemSlice). r.place) same);
     }
 
-reading_of : (source : List ℕ) (place count end : ℕ) (reading : Result Tag Refusal) (run : Drawn) → as_kept (seen_some (drawn_as source place count end reading) place) ≡ Ok (Some run) → IsReading reading count place run
+reading_of : (source : List ℕ) (place count end : ℕ) (reading : Result Tag Refusal) (run : ItemSlice) → as_kept (seen_some (item_slice_between source place count end reading) place) ≡ Ok (Some run) → IsReading reading count place run
 unfolding as_kept seen_some
 reading_of source place count end (Err refusal) run is = cc
 reading_of source place count end (Ok tag) run is = counted_reading (count == 0) source place count end tag run refl is
 
-module _ (left : ℤ) (state : State) (reach : InReach state) (source : List ℕ) (run : Drawn) where
+module _ (left : ℤ) (state : State) (reach : InReach state) (source : List ℕ) (run : ItemSlice) where
   -- an item that was read has no other fault than where it leads
   reading_fault : (item : Item) → IsReading (tag_of item.tag.byte) (count_of item.digits) (place_of item.digits item.tag) run →
       item_fault state item ≡ option_map (λ refusal. fault_at refusal run.place) (motion_fault state run.tag run.count)
@@ -124,9 +124,9 @@ module _ (left : ℤ) (state : State) (reach : InReach state) (source : List ℕ
       state_after-is left state item run.tag read.tag ∙ ap (after_item left state run.tag) (sym fits ∙ sym read.count_is)
 
   -- the items after one without a fault have the first fault of all
-  pub first_fault-on : (items : List Item) (over : List Spot) → as_kept (next_among source items over) ≡ Ok (Some run) → motion_fault state run.tag run.count ≡ None →
+  pub first_fault-on : (items : List Item) (over : List LocatedByte) → as_kept (next_among source items over) ≡ Ok (Some run) → motion_fault state run.tag run.count ≡ None →
       first_fault_from left (after_item left state run.tag run.count) (drop 1 items) over ≡ first_fault_from left state items over
-  unfolding as_kept seen_some next_among drawn_from first_fault_from item_fault
+  unfolding as_kept seen_some next_among item_slice_from first_fault_from item_fault
   first_fault-on [] [] is none = cc
   first_fault-on [] (digit ∷ rest) is none = cc
   first_fault-on (item ∷ items) over is none =
@@ -136,9 +136,9 @@ module _ (left : ℤ) (state : State) (reach : InReach state) (source : List ℕ
       ∙ ap (λ s. first_fault_from left s items over) (reading_state item read none))
 
   -- an item with a fault is the first
-  pub first_fault-here : (items : List Item) (over : List Spot) (refusal : Refusal) → as_kept (next_among source items over) ≡ Ok (Some run) → motion_fault state run.tag run.count ≡ Some refusal →
+  pub first_fault-here : (items : List Item) (over : List LocatedByte) (refusal : Refusal) → as_kept (next_among source items over) ≡ Ok (Some run) → motion_fault state run.tag run.count ≡ Some refusal →
       first_fault_from left state items over ≡ Some (fault_at refusal run.place)
-  unfolding as_kept seen_some next_among drawn_from first_fault_from item_fault
+  unfolding as_kept seen_some next_among item_slice_from first_fault_from item_fault
   first_fault-here [] [] refusal is some = cc
   first_fault-here [] (digit ∷ rest) refusal is some = cc
   first_fault-here (item ∷ items) over refusal is some =
@@ -146,7 +146,7 @@ module _ (left : ℤ) (state : State) (reach : InReach state) (source : List ℕ
       ap (λ o. option_or o (first_fault_from left (state_after left state item) items over))
       (reading_fault item read ∙ ap (option_map (λ refusal. fault_at refusal run.place)) some)
 
-some_read : (found : Result Drawn Refusal) (place : ℕ) → as_kept (seen_some found place) ≡ Ok None → ⊥
+some_read : (found : Result ItemSlice Refusal) (place : ℕ) → as_kept (seen_some found place) ≡ Ok None → ⊥
 unfolding as_kept seen_some
 some_read (Ok run) place is = cc
 some_read (Err refusal) place is = cc
@@ -158,7 +158,7 @@ unfolding as_kept seen_some faults_of
 counted_refused true state source place count end tag fault zero_is is = rw zero_is (ap Some cc)
 counted_refused false state source place count end tag fault some is = cc
 
-refused_read : (state : State) (source : List ℕ) (place count end : ℕ) (reading : Result Tag Refusal) (fault : Fault) → as_kept (seen_some (drawn_as source place count end reading) place) ≡ Err fault →
+refused_read : (state : State) (source : List ℕ) (place count end : ℕ) (reading : Result Tag Refusal) (fault : Fault) → as_kept (seen_some (item_slice_between source place count end reading) place) ≡ Err fault →
     option_map (λ refusal. fault_at refusal place) (first_fault (faults_of state reading count)) ≡ Some fault
 unfolding as_kept seen_some faults_of
 refused_read state source place count end (Err refusal) fault is = ap Some cc
@@ -166,15 +166,15 @@ refused_read state source place count end (Ok tag) fault is = counted_refused (c
 
 module _ (left : ℤ) (state : State) (source : List ℕ) where
   -- no items, and no fault
-  pub first_fault-none : (items : List Item) (over : List Spot) → as_kept (next_among source items over) ≡ Ok None → first_fault_from left state items over ≡ None
-  unfolding as_kept seen_some next_among drawn_from first_fault_from item_fault
+  pub first_fault-none : (items : List Item) (over : List LocatedByte) → as_kept (next_among source items over) ≡ Ok None → first_fault_from left state items over ≡ None
+  unfolding as_kept seen_some next_among item_slice_from first_fault_from item_fault
   first_fault-none [] [] is = refl
   first_fault-none [] (digit ∷ rest) is = cc
-  first_fault-none (item ∷ items) over is = absurd (some_read (drawn_as source (place_of item.digits item.tag) (count_of item.digits) (item.tag.place + 1) (tag_of item.tag.byte)) (place_of item.digits item.tag) is)
+  first_fault-none (item ∷ items) over is = absurd (some_read (item_slice_between source (place_of item.digits item.tag) (count_of item.digits) (item.tag.place + 1) (tag_of item.tag.byte)) (place_of item.digits item.tag) is)
 
   -- an item that could not be read
-  pub first_fault-read : (items : List Item) (over : List Spot) (fault : Fault) → as_kept (next_among source items over) ≡ Err fault → first_fault_from left state items over ≡ Some fault
-  unfolding as_kept seen_some next_among drawn_from first_fault_from item_fault
+  pub first_fault-read : (items : List Item) (over : List LocatedByte) (fault : Fault) → as_kept (next_among source items over) ≡ Err fault → first_fault_from left state items over ≡ Some fault
+  unfolding as_kept seen_some next_among item_slice_from first_fault_from item_fault
   first_fault-read [] [] fault is = cc
   first_fault-read [] (digit ∷ rest) fault is = ap Some (cc)
   first_fault-read (item ∷ items) over fault is =

@@ -5,12 +5,13 @@ use Rattle.std.specs.Result.{ok_prefix}
 use Rattle.std.proofs.lemmas.Int.{ints}
 use Rattle.plane.specs.declared.refusal.Refusal.{Refusal}
 use Rattle.plane.specs.declared.refusal.Refusal.TheVariants.{BadCount, OutOfRange, TooManyCells}
-use Rattle.rle_reader.specs.Body.{Spot, struck, struck_from}
+use Rattle.rle_reader.specs.Body.{stripped, stripped_from}
+use Rattle.rle_reader.specs.declared.body.LocatedByte.{LocatedByte}
 use Rattle.text_lines.specs.Lines.{lines_from}
 use Rattle.rle_reader.specs.Opening.{Opening}
 use Rattle.rle_reader.specs.Seen.{opening_seen}
 use Rattle.rle_reader.specs.declared.preamble.Preamble.{Preamble}
-use Rattle.rle_reader.specs.Items.{Item, Drawn, place_of, count_of, tag_of, drawn_from, run_of, kept, items_of}
+use Rattle.rle_reader.specs.Items.{Item, ItemSlice, place_of, count_of, tag_of, item_slice_from, run_of, kept, items_of}
 use Rattle.rle_reader.specs.Meaning.{item_fault, state_after, first_fault_from, body_fault, meaning_of, runs_kept, StayInRange}
 use Rattle.rle_reader.specs.Range.{IsWithinReach}
 use Rattle.plane.specs.Range.{IsCoordinate, IsInRange}
@@ -71,17 +72,17 @@ good_state left state item good = rw good.is refl
 
 good_run : (source : List ℕ) (state : State) (item : Item) (good : IsGood state (tag_of item.tag.byte) (count_of item.digits)) →
     run_of source item ≡ Ok (record { text = slice_range source (place_of item.digits item.tag) (item.tag.place + 1); place = place_of item.digits item.tag; count = count_of item.digits; tag = good.tag })
-unfolding drawn_from
+unfolding item_slice_from
 good_run source state item good = rw (good.is, good.counted) refl
 
-kept_first : (found : Result Drawn Refusal) (run : Drawn) (rest : List (Result Drawn Refusal)) → found ≡ Ok run → kept run ≡ run → map kept (ok_prefix rest) ≡ ok_prefix rest → map kept (ok_prefix (found ∷ rest)) ≡ ok_prefix (found ∷ rest)
+kept_first : (found : Result ItemSlice Refusal) (run : ItemSlice) (rest : List (Result ItemSlice Refusal)) → found ≡ Ok run → kept run ≡ run → map kept (ok_prefix rest) ≡ ok_prefix rest → map kept (ok_prefix (found ∷ rest)) ≡ ok_prefix (found ∷ rest)
 kept_first (Ok other) run rest is fits more =
     let same : other ≡ run = cc in
     ap (λ r. kept r ∷ map kept (ok_prefix rest)) same ∙ ap (λ r. r ∷ map kept (ok_prefix rest)) (fits ∙ sym same) ∙ ap (λ l. other ∷ l) more
 kept_first (Err refusal) run rest is fits more = cc
 
 -- without a fault each run is kept as it is
-pub kept_runs-fit : (source : List ℕ) (left : ℤ) (state : State) (items : List Item) (over : List Spot) → IsWithinReach left → InReach state → first_fault_from left state items over ≡ None →
+pub kept_runs-fit : (source : List ℕ) (left : ℤ) (state : State) (items : List Item) (over : List LocatedByte) → IsWithinReach left → InReach state → first_fault_from left state items over ≡ None →
     map kept (ok_prefix (map (run_of source) items)) ≡ ok_prefix (map (run_of source) items)
 unfolding first_fault_from motion_fault
 kept_runs-fit source left state [] over left_reach reach none = refl
@@ -90,7 +91,7 @@ kept_runs-fit source left state (item ∷ items) over left_reach reach none =
     let good = good_item state item h.0 in
     let fits = fits-capped state good.tag (count_of item.digits) reach good.none in
     let stays = no_fault (leaves_range state good.tag (count_of item.digits)) (passes_cells state good.tag (count_of item.digits)) good.none in
-    let run : Drawn = record { text = slice_range source (place_of item.digits item.tag) (item.tag.place + 1); place = place_of item.digits item.tag; count = count_of item.digits; tag = good.tag } in
+    let run : ItemSlice = record { text = slice_range source (place_of item.digits item.tag) (item.tag.place + 1); place = place_of item.digits item.tag; count = count_of item.digits; tag = good.tag } in
     kept_first (run_of source item) run (map (run_of source) items) (good_run source state item good)
     (ap (λ (n : ℕ). record run { count = n }) fits)
     (kept_runs-fit source left (after_item left state good.tag (count_of item.digits)) items over left_reach
@@ -101,26 +102,26 @@ pub within : (number : ℤ) → IsCoordinate number → IsWithinReach number
 within number is = record { low = is.low; high = omega (arith, ints, is.high) }
 
 -- the runs of an accepted body are those of its meaning
-pub runs_kept-accepted : (source : List ℕ) (preamble : Preamble) → IsInRange preamble.settings.pos → body_fault preamble.settings.pos (items_of (struck_from source preamble.body true)) ≡ None →
-    runs_kept source (struck_from source preamble.body true) ≡ (meaning_of source (opening_seen source preamble)).runs
-unfolding runs_kept body_fault meaning_of struck_from
+pub runs_kept-accepted : (source : List ℕ) (preamble : Preamble) → IsInRange preamble.settings.pos → body_fault preamble.settings.pos (items_of (stripped_from source preamble.body true)) ≡ None →
+    runs_kept source (stripped_from source preamble.body true) ≡ (meaning_of source (opening_seen source preamble)).runs
+unfolding runs_kept body_fault meaning_of stripped_from
 runs_kept-accepted source preamble range none =
     let corner = preamble.settings.pos in
-    let found = items_of (struck (lines_from source preamble.body)) in
+    let found = items_of (stripped (lines_from source preamble.body)) in
     let x = within corner.x range.x in
     let y = within corner.y range.y in
     kept_runs-fit source corner.x (start_at corner) found.items found.left_over x (record { column = x; row = y }) none
 
-stay_first : (left : ℤ) (state : State) (found : Result Drawn Refusal) (run : Drawn) (rest : List (Result Drawn Refusal)) → found ≡ Ok run →
+stay_first : (left : ℤ) (state : State) (found : Result ItemSlice Refusal) (run : ItemSlice) (rest : List (Result ItemSlice Refusal)) → found ≡ Ok run →
     leaves_range state run.tag run.count ≡ false → passes_cells state run.tag run.count ≡ false → StayInRange left (after_item left state run.tag run.count) (ok_prefix rest) →
     StayInRange left state (ok_prefix (found ∷ rest))
 stay_first left state (Ok other) run rest is stays few more =
     let same : run ≡ other = cc in
-    subst (λ (r : Drawn). StayInRange left state (r ∷ ok_prefix rest)) same (stays, few, more)
+    subst (λ (r : ItemSlice). StayInRange left state (r ∷ ok_prefix rest)) same (stays, few, more)
 stay_first left state (Err refusal) run rest is stays few more = cc
 
 -- without a fault the runs stay in the range, and their live cells are not too many
-pub stay-without_fault : (source : List ℕ) (left : ℤ) (state : State) (items : List Item) (over : List Spot) → first_fault_from left state items over ≡ None →
+pub stay-without_fault : (source : List ℕ) (left : ℤ) (state : State) (items : List Item) (over : List LocatedByte) → first_fault_from left state items over ≡ None →
     StayInRange left state (ok_prefix (map (run_of source) items))
 unfolding first_fault_from motion_fault
 stay-without_fault source left state [] over none = tt
@@ -130,22 +131,22 @@ stay-without_fault source left state (item ∷ items) over none =
     let count = count_of item.digits in
     let stays = no_fault (leaves_range state good.tag count) (passes_cells state good.tag count) good.none in
     let few = no_second_fault (leaves_range state good.tag count) (passes_cells state good.tag count) good.none in
-    let run : Drawn = record { text = slice_range source (place_of item.digits item.tag) (item.tag.place + 1); place = place_of item.digits item.tag; count = count; tag = good.tag } in
+    let run : ItemSlice = record { text = slice_range source (place_of item.digits item.tag) (item.tag.place + 1); place = place_of item.digits item.tag; count = count; tag = good.tag } in
     stay_first left state (run_of source item) run (map (run_of source) items) (good_run source state item good) stays few
     (stay-without_fault source left (after_item left state good.tag count) items over
     (ap (λ s. first_fault_from left s items over) (sym (good_state left state item good)) ∙ h.1))
 
 -- the runs of an accepted text stay in the range
-pub stay-opening : (text : List ℕ) (opening : Opening) → body_fault opening.settings.pos (items_of (struck opening.body)) ≡ None →
+pub stay-opening : (text : List ℕ) (opening : Opening) → body_fault opening.settings.pos (items_of (stripped opening.body)) ≡ None →
     let meaning = meaning_of text opening in StayInRange meaning.pos.x (start_at meaning.pos) meaning.runs
 unfolding body_fault meaning_of
 stay-opening text opening none =
     let corner = opening.settings.pos in
-    let found = items_of (struck opening.body) in
+    let found = items_of (stripped opening.body) in
     stay-without_fault text corner.x (start_at corner) found.items found.left_over none
 
 -- the same, where the opening is what was read
-pub stay-accepted : (source : List ℕ) (preamble : Preamble) → body_fault preamble.settings.pos (items_of (struck_from source preamble.body true)) ≡ None →
+pub stay-accepted : (source : List ℕ) (preamble : Preamble) → body_fault preamble.settings.pos (items_of (stripped_from source preamble.body true)) ≡ None →
     let meaning = meaning_of source (opening_seen source preamble) in StayInRange meaning.pos.x (start_at meaning.pos) meaning.runs
-unfolding struck_from
+unfolding stripped_from
 stay-accepted source preamble none = stay-opening source (opening_seen source preamble) none

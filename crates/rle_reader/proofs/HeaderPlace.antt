@@ -14,31 +14,31 @@ use Rattle.rle_reader.specs.declared.settings.Settings.{Settings}
 module _ (opening : Opening) (comments : List (List ℕ)) where
   place_is : (settings : Settings) (header : Line) (body : List Line) (found : Result (Option (List ℕ)) Fault) →
       Ok opening ≡ (found >>= λ rule. Ok (record { settings = settings; comments = comments; header = header.place; rule = rule; body = body })) →
-      header.place ≡ opening.header
-  place_is settings header body (Ok rule) is = cc
+      (header.place ≡ opening.header) × (body ≡ opening.body)
+  place_is settings header body (Ok rule) is = (cc, cc)
   place_is settings header body (Err fault) is = cc
 
   header_is : (end : ℕ) (settings : Settings) (left : List Line) → Ok opening ≡ with_header end comments settings left →
-      (header : Line) × (body : List Line) × (left ≡ header ∷ body) × (header.place ≡ opening.header)
+      (header : Line) × (body : List Line) × (left ≡ header ∷ body) × (header.place ≡ opening.header) × (body ≡ opening.body)
   unfolding with_header
   header_is end settings [] is = cc
   header_is end settings (header ∷ body) is =
-      (header, body, refl, place_is settings header body (at_place header.place (header_rule header.text)) is)
+      let same = place_is settings header body (at_place header.place (header_rule header.text)) is in (header, body, refl, same.0, same.1)
 
   header_read : (end : ℕ) (left : List Line) (found : Result Settings Fault) → Ok opening ≡ (found >>= λ settings. with_header end comments settings left) →
-      (header : Line) × (body : List Line) × (left ≡ header ∷ body) × (header.place ≡ opening.header)
+      (header : Line) × (body : List Line) × (left ≡ header ∷ body) × (header.place ≡ opening.header) × (body ≡ opening.body)
   header_read end left (Ok settings) is = header_is end settings left is
   header_read end left (Err fault) is = cc
 
 module _ (source : List ℕ) (opening : Opening) (is : Ok opening ≡ opening_of (length source) (lines_from source 0)) where
-  header : (header : Line) × (body : List Line) × (from_header (lines_from source 0) ≡ header ∷ body) × (header.place ≡ opening.header)
+  pub header_and_body : (header : Line) × (body : List Line) × (from_header (lines_from source 0) ≡ header ∷ body) × (header.place ≡ opening.header) × (body ≡ opening.body)
   unfolding opening_of
-  header = header_read opening (comments_of (before_header (lines_from source 0))) (length source) (from_header (lines_from source 0)) (after_lines nothing_said (before_header (lines_from source 0))) is
+  header_and_body = header_read opening (comments_of (before_header (lines_from source 0))) (length source) (from_header (lines_from source 0)) (after_lines nothing_said (before_header (lines_from source 0))) is
 
   pub header_within : opening.header ≤ length source
-  header_within = subst (λ place. place ≤ length source) header.3 (line_begins_within source (prefix_len may_stand (lines_from source 0)) header.0 header.1 header.2)
+  header_within = subst (λ place. place ≤ length source) header_and_body.3 (line_begins_within source (prefix_len may_stand (lines_from source 0)) header_and_body.0 header_and_body.1 header_and_body.2)
 
   pub lines_before_header : lines_from (take opening.header source) 0 ≡ before_header (lines_from source 0)
   lines_before_header =
-      ap (λ place. lines_from (take place source) 0) (sym header.3)
-      ∙ lines_before source (prefix_len may_stand (lines_from source 0)) header.0 header.1 header.2
+      ap (λ place. lines_from (take place source) 0) (sym header_and_body.3)
+      ∙ lines_before source (prefix_len may_stand (lines_from source 0)) header_and_body.0 header_and_body.1 header_and_body.2

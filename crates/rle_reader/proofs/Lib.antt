@@ -16,3 +16,4 @@ mod PositionLemmas
 mod RangeLemmas
 mod CountLemmas
 mod RunLists
+mod SliceLemmas

@@ -1,24 +1,24 @@
 -- What a text means, from its opening and its items.
 use Rattle.std.proofs.Common.{◌≡◌, ℕ, true, List, length, None, Some, Result, Ok, Err, refl, ap, sym, ◌∙◌}
 use Rattle.plane.specs.declared.fault.Fault.{Fault}
-use Rattle.rle_reader.specs.Body.{struck, struck_from}
-use Rattle.text_lines.specs.Faults.{◌>>=◌}
+use Rattle.rle_reader.specs.Body.{stripped, stripped_from}
+use Rattle.text_lines.specs.Faults.{unless, ◌>>=◌}
 use Rattle.rle_reader.specs.Items.{items_of}
 use Rattle.text_lines.specs.Lines.{lines_from}
-use Rattle.rle_reader.specs.Meaning.{Meaning, judged, unless, body_fault, meaning_of}
+use Rattle.rle_reader.specs.Meaning.{Meaning, judged, body_fault, meaning_of}
 use Rattle.rle_reader.specs.Opening.{Opening, opening_of}
 use Rattle.rle_reader.specs.Seen.{opening_seen}
 use Rattle.rle_reader.specs.declared.preamble.Preamble.{Preamble}
 
 unfoldable pub judged_with : List ℕ → Result Opening Fault → Result Meaning Fault
-judged_with source found = found >>= λ opening. unless (body_fault opening.settings.pos (items_of (struck opening.body))) (meaning_of source opening)
+judged_with source found = found >>= λ opening. unless (body_fault opening.settings.pos (items_of (stripped opening.body))) (meaning_of source opening)
 
 pub judged-is : (source : List ℕ) → judged source ≡ judged_with source (opening_of (length source) (lines_from source 0))
 unfolding judged judged_with
 judged-is source = refl
 
-read-is : (source : List ℕ) (preamble : Preamble) → judged_with source (Ok (opening_seen source preamble)) ≡ unless (body_fault preamble.settings.pos (items_of (struck_from source preamble.body true))) (meaning_of source (opening_seen source preamble))
-unfolding judged_with struck_from
+read-is : (source : List ℕ) (preamble : Preamble) → judged_with source (Ok (opening_seen source preamble)) ≡ unless (body_fault preamble.settings.pos (items_of (stripped_from source preamble.body true))) (meaning_of source (opening_seen source preamble))
+unfolding judged_with stripped_from
 read-is source preamble = refl
 
 refused-is : (source : List ℕ) (fault : Fault) → judged_with source (Err fault) ≡ Err fault
@@ -31,13 +31,13 @@ module _ (source : List ℕ) where
   judged-opening_fault fault is = sym (refused-is source fault) ∙ ap (judged_with source) is ∙ sym (judged-is source)
 
   module _ (preamble : Preamble) (is : Ok (opening_seen source preamble) ≡ opening_of (length source) (lines_from source 0)) where
-    judged-body : unless (body_fault preamble.settings.pos (items_of (struck_from source preamble.body true))) (meaning_of source (opening_seen source preamble)) ≡ judged source
+    judged-body : unless (body_fault preamble.settings.pos (items_of (stripped_from source preamble.body true))) (meaning_of source (opening_seen source preamble)) ≡ judged source
     judged-body = sym (read-is source preamble) ∙ ap (judged_with source) is ∙ sym (judged-is source)
 
     -- a fault of the body
-    pub judged-body_fault : (fault : Fault) → body_fault preamble.settings.pos (items_of (struck_from source preamble.body true)) ≡ Some fault → Err fault ≡ judged source
+    pub judged-body_fault : (fault : Fault) → body_fault preamble.settings.pos (items_of (stripped_from source preamble.body true)) ≡ Some fault → Err fault ≡ judged source
     judged-body_fault fault found = sym (ap (λ o. unless o (meaning_of source (opening_seen source preamble))) found) ∙ judged-body
 
     -- no fault
-    pub judged-accepted : body_fault preamble.settings.pos (items_of (struck_from source preamble.body true)) ≡ None → Ok (meaning_of source (opening_seen source preamble)) ≡ judged source
+    pub judged-accepted : body_fault preamble.settings.pos (items_of (stripped_from source preamble.body true)) ≡ None → Ok (meaning_of source (opening_seen source preamble)) ≡ judged source
     judged-accepted none = sym (ap (λ o. unless o (meaning_of source (opening_seen source preamble))) none) ∙ judged-body

@@ -48,7 +48,7 @@ module _ (state : State) (count : ℕ) where
   pub live_few : state.live ≤ LIVE_CELL_LIMIT → count ≤ LIVE_CELL_LIMIT - state.live → passes_cells state Live count ≡ false
   live_few before few = grind (arith, nat_tests)
 
--- ---- where a pen is
+-- ---- where a cursor is
 
 -- a coordinate within reach, as a machine hands it on
 pub handed_on : (coordinate : ℤ) → IsWithinReach coordinate → to_z w64 (of_z w64 coordinate) ≡ coordinate

@@ -7,10 +7,11 @@ use Rattle.std.proofs.lemmas.List.Sums.{sum_by-cons}
 use Rattle.plane.specs.Range.{IsCoordinate, IsInRange}
 use Rattle.plane.specs.declared.fault.Fault.{Fault}
 use Rattle.plane.specs.declared.range.TheConstants.{COORDINATE_LIMIT, LIVE_CELL_LIMIT}
-use Rattle.rle_reader.specs.Body.{struck}
-use Rattle.rle_reader.specs.Items.{Drawn, items_of}
+use Rattle.rle_reader.specs.Body.{stripped}
+use Rattle.rle_reader.specs.Items.{ItemSlice, items_of}
+use Rattle.text_lines.specs.Faults.{unless}
 use Rattle.text_lines.specs.Lines.{lines_from}
-use Rattle.rle_reader.specs.Meaning.{Meaning, StayInRange, body_fault, covers, is_covered, is_live, judged, live_cells, live_plane, meaning_of, unless}
+use Rattle.rle_reader.specs.Meaning.{Meaning, StayInRange, body_fault, covers, is_covered, is_live, judged, live_cells, live_plane, meaning_of}
 use Rattle.rle_reader.specs.Opening.{Opening, opening_of}
 use Rattle.rle_reader.specs.Range.{IsWithinReach}
 use Rattle.rle_reader.specs.State.{State, start_at, after_item, leaves_range, passes_cells, passes_limit}
@@ -55,7 +56,7 @@ run-in_range state Live count x y reach stays covered =
       y = subst IsCoordinate (sym row) (record { low = grind (arith, ints, reach.row.low); high = grind (arith, ints, inside.1) });
     }
 
-covered-in_range : (left : ℤ) (state : State) (runs : List Drawn) (x y : ℤ) → IsWithinReach left → InReach state → StayInRange left state runs → is_covered left state runs x y ≡ true → IsInRange (record { y = y; x = x })
+covered-in_range : (left : ℤ) (state : State) (runs : List ItemSlice) (x y : ℤ) → IsWithinReach left → InReach state → StayInRange left state runs → is_covered left state runs x y ≡ true → IsInRange (record { y = y; x = x })
 unfolding is_covered
 covered-in_range left state [] x y left_reach reach stay covered = cc
 covered-in_range left state (run ∷ runs) x y left_reach reach stay covered =
@@ -71,9 +72,9 @@ live_count Live count = count
 live_count Dead count = 0
 live_count Row count = 0
 
-pub live_cells-tag : (tag : Tag) (run : Drawn) (runs : List Drawn) → run.tag ≡ tag → live_cells (run ∷ runs) ≡ live_count tag run.count + live_cells runs
+pub live_cells-tag : (tag : Tag) (run : ItemSlice) (runs : List ItemSlice) → run.tag ≡ tag → live_cells (run ∷ runs) ≡ live_count tag run.count + live_cells runs
 unfolding live_count
-live_cells-tag Live run runs is = rw is (sum_by-cons (λ (r : Drawn). r.count) run (filter (λ (r : Drawn). is_live r.tag) runs))
+live_cells-tag Live run runs is = rw is (sum_by-cons (λ (r : ItemSlice). r.count) run (filter (λ (r : ItemSlice). is_live r.tag) runs))
 live_cells-tag Dead run runs is = rw is (omega arith)
 live_cells-tag Row run runs is = rw is (omega arith)
 
@@ -88,7 +89,7 @@ few_after left state Live count few below = grind (arith, nat_tests, below)
 few_after left state Dead count few below = few
 few_after left state Row count few below = few
 
-live_cells-few : (left : ℤ) (state : State) (runs : List Drawn) → state.live ≤ LIVE_CELL_LIMIT → StayInRange left state runs → state.live + live_cells runs ≤ LIVE_CELL_LIMIT
+live_cells-few : (left : ℤ) (state : State) (runs : List ItemSlice) → state.live ≤ LIVE_CELL_LIMIT → StayInRange left state runs → state.live + live_cells runs ≤ LIVE_CELL_LIMIT
 live_cells-few left state [] few stay = omega (arith, few)
 live_cells-few left state (run ∷ runs) few stay =
     let later = live_cells-few left (after_item left state run.tag run.count) runs (few_after left state run.tag run.count few stay.1) stay.2 in
@@ -101,16 +102,16 @@ record IsAccepted (text : List ℕ) (meaning : Meaning) : Type 0 where
   opening : Opening
   is : meaning_of text opening ≡ meaning
   in_range : IsInRange opening.settings.pos
-  none : body_fault opening.settings.pos (items_of (struck opening.body)) ≡ None
+  none : body_fault opening.settings.pos (items_of (stripped opening.body)) ≡ None
 
-accepted_unless : (text : List ℕ) (opening : Opening) (meaning : Meaning) (fault : Option Fault) → body_fault opening.settings.pos (items_of (struck opening.body)) ≡ fault → IsInRange opening.settings.pos →
+accepted_unless : (text : List ℕ) (opening : Opening) (meaning : Meaning) (fault : Option Fault) → body_fault opening.settings.pos (items_of (stripped opening.body)) ≡ fault → IsInRange opening.settings.pos →
     unless fault (meaning_of text opening) ≡ Ok meaning → IsAccepted text meaning
 accepted_unless text opening meaning None none range is = record { opening = opening; is = cc; in_range = range; none = none }
 accepted_unless text opening meaning (Some fault) found range is = cc
 
 accepted_with : (text : List ℕ) (meaning : Meaning) (found : Result Opening Fault) → IfOk found (λ (o : Opening). IsInRange o.settings.pos) → judged_with text found ≡ Ok meaning → IsAccepted text meaning
 unfolding judged_with
-accepted_with text meaning (Ok opening) range is = accepted_unless text opening meaning (body_fault opening.settings.pos (items_of (struck opening.body))) refl range is
+accepted_with text meaning (Ok opening) range is = accepted_unless text opening meaning (body_fault opening.settings.pos (items_of (stripped opening.body))) refl range is
 accepted_with text meaning (Err fault) range is = cc
 
 accepted : (text : List ℕ) (meaning : Meaning) → judged text ≡ Ok meaning → IsAccepted text meaning

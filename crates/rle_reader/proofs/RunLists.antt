@@ -13,7 +13,7 @@ use Rattle.plane.specs.declared.refusal.Refusal.TheVariants.{BadCount}
 use Rattle.plane.specs.Runs.{AreRising, AreRuns, IsRun, Precedes, is_in_run, runs_plane}
 use Rattle.plane.specs.Square.{IsSame}
 use Rattle.plane.proofs.Turns.{AllByRecursion-append, AllByRecursion-weaker}
-use Rattle.rle_reader.specs.Items.{Drawn, Item, drawn_as, drawn_from, run_of, tag_of}
+use Rattle.rle_reader.specs.Items.{ItemSlice, Item, item_slice_between, item_slice_from, run_of, tag_of}
 use Rattle.rle_reader.specs.LiveRuns.{live_run}
 use Rattle.rle_reader.specs.Meaning.{Meaning, StayInRange, is_covered, live_plane}
 use Rattle.rle_reader.specs.Range.{IsWithinReach}
@@ -25,26 +25,26 @@ use Rattle.rle_reader.proofs.MotionLemmas.{stays-no_fault}
 
 -- ---- each item counts at least one
 
-counted_if : (b : Bool) (count : ℕ) (made run : Drawn) → (count == 0) ≡ b → made.count ≡ count → cond {A = Result Drawn Refusal} b (Err BadCount) (Ok made) ≡ Ok run → 0 < run.count
-counted_if true count made run zero_is is drawn = cc
-counted_if false count made run some is drawn = let same : made ≡ run = cc in subst (λ (r : Drawn). 0 < r.count) same (grind (arith, nat_tests))
+counted_if : (b : Bool) (count : ℕ) (made run : ItemSlice) → (count == 0) ≡ b → made.count ≡ count → cond {A = Result ItemSlice Refusal} b (Err BadCount) (Ok made) ≡ Ok run → 0 < run.count
+counted_if true count made run zero_is is slice = cc
+counted_if false count made run some is slice = let same : made ≡ run = cc in subst (λ (r : ItemSlice). 0 < r.count) same (grind (arith, nat_tests))
 
-counted_drawn : (source : List ℕ) (place count end : ℕ) (reading : Result Tag Refusal) (run : Drawn) → drawn_as source place count end reading ≡ Ok run → 0 < run.count
-counted_drawn source place count end (Err refusal) run drawn = cc
-counted_drawn source place count end (Ok tag) run drawn = counted_if (count == 0) count _ run refl refl drawn
+counted_slice : (source : List ℕ) (place count end : ℕ) (reading : Result Tag Refusal) (run : ItemSlice) → item_slice_between source place count end reading ≡ Ok run → 0 < run.count
+counted_slice source place count end (Err refusal) run slice = cc
+counted_slice source place count end (Ok tag) run slice = counted_if (count == 0) count _ run refl refl slice
 
-abbrev pub IsCounted : Drawn → Type 0
+abbrev pub IsCounted : ItemSlice → Type 0
 IsCounted run = 0 < run.count
 
-counted_first : (found : Result Drawn Refusal) (rest : List (Result Drawn Refusal)) → ((run : Drawn) → found ≡ Ok run → IsCounted run) → AllByRecursion IsCounted (ok_prefix rest) → AllByRecursion IsCounted (ok_prefix (found ∷ rest))
+counted_first : (found : Result ItemSlice Refusal) (rest : List (Result ItemSlice Refusal)) → ((run : ItemSlice) → found ≡ Ok run → IsCounted run) → AllByRecursion IsCounted (ok_prefix rest) → AllByRecursion IsCounted (ok_prefix (found ∷ rest))
 counted_first (Ok run) rest one all = (one run refl, all)
 counted_first (Err refusal) rest one all = tt
 
 pub runs_counted : (source : List ℕ) (items : List Item) → AllByRecursion IsCounted (ok_prefix (map (run_of source) items))
-unfolding drawn_from
+unfolding item_slice_from
 runs_counted source [] = tt
 runs_counted source (item ∷ items) =
-    counted_first (run_of source item) (map (run_of source) items) (λ run is. counted_drawn source _ _ _ (tag_of item.tag.byte) run is) (runs_counted source items)
+    counted_first (run_of source item) (map (run_of source) items) (λ run is. counted_slice source _ _ _ (tag_of item.tag.byte) run is) (runs_counted source items)
 
 -- ---- runs behind one another
 
@@ -66,7 +66,7 @@ ends_above column row left count run some before = inl (⊎_elim (λ above. omeg
 -- ---- the runs so far
 
 -- the live cells are those of the items that are left, of which the first begins here, and of these runs, which end before
-pub record IsListed (meaning : Meaning) (left column row : ℤ) (live : ℕ) (rest : List Drawn) (runs : List (Cell × ℕ)) : Type 0 where
+pub record IsListed (meaning : Meaning) (left column row : ℤ) (live : ℕ) (rest : List ItemSlice) (runs : List (Cell × ℕ)) : Type 0 where
   pub left_is : left ≡ meaning.pos.x
   pub stay : StayInRange left (state_at column row live) rest
   pub counted : AllByRecursion IsCounted rest
@@ -93,7 +93,7 @@ listed_none meaning stay counted = record {
 }
 
 -- before the first item there is no run
-pub listed_start : (meaning : Meaning) (left column row : ℤ) (live : ℕ) (items : List Drawn) (runs : List (Cell × ℕ)) → runs ≡ [] → items ≡ meaning.runs → left ≡ meaning.pos.x →
+pub listed_start : (meaning : Meaning) (left column row : ℤ) (live : ℕ) (items : List ItemSlice) (runs : List (Cell × ℕ)) → runs ≡ [] → items ≡ meaning.runs → left ≡ meaning.pos.x →
     state_at column row live ≡ start_at meaning.pos → StayInRange meaning.pos.x (start_at meaning.pos) meaning.runs → AllByRecursion IsCounted meaning.runs →
     IsListed meaning left column row live items runs
 listed_start meaning left column row live items runs none items_is left_is state stay counted =
@@ -131,7 +131,7 @@ unfolding runs_plane
 runs_more runs run x y = list_any-append (is_in_run x y) runs (run ∷ [])
 
 -- one item more
-listed_step : (meaning : Meaning) (left column row : ℤ) (live : ℕ) (text : List ℕ) (place count : ℕ) (tag : Tag) (rest : List Drawn) (runs : List (Cell × ℕ)) →
+listed_step : (meaning : Meaning) (left column row : ℤ) (live : ℕ) (text : List ℕ) (place count : ℕ) (tag : Tag) (rest : List ItemSlice) (runs : List (Cell × ℕ)) →
     IsWithinReach column → IsWithinReach row →
     IsListed meaning left column row live (record { text = text; place = place; count = count; tag = tag } ∷ rest) runs →
     let next = after_item left (state_at column row live) tag count in
@@ -171,8 +171,8 @@ listed_step meaning left column row live text place count Live rest runs across 
           ∙ ap (λ b. is_covered left (after_item left (state_at column row live) Live count) rest x y || b) (sym (runs_more runs run x y));
     }
 
--- the same for an item that a reader took, and a pen that passed it
-pub listed_more : (meaning : Meaning) (left column row left' column' row' : ℤ) (live live' : ℕ) (run : Drawn) (all rest : List Drawn) (runs more : List (Cell × ℕ)) → all ≡ run ∷ rest →
+-- the same for an item that a reader took, and a cursor that passed it
+pub listed_more : (meaning : Meaning) (left column row left' column' row' : ℤ) (live live' : ℕ) (run : ItemSlice) (all rest : List ItemSlice) (runs more : List (Cell × ℕ)) → all ≡ run ∷ rest →
     IsWithinReach column → IsWithinReach row → IsListed meaning left column row live all runs →
     state_at column' row' live' ≡ after_item left (state_at column row live) run.tag run.count → left' ≡ left →
     more ≡ runs ++ live_run (record { y = row; x = column }) run.tag run.count →
@@ -186,7 +186,7 @@ listed_more meaning left column row left' column' row' live live' run all rest r
 
 -- ---- no item of a checked file is refused
 
-pub passes_well : (meaning : Meaning) (left column row : ℤ) (live : ℕ) (run : Drawn) (all rest : List Drawn) (runs : List (Cell × ℕ)) → all ≡ run ∷ rest →
+pub passes_well : (meaning : Meaning) (left column row : ℤ) (live : ℕ) (run : ItemSlice) (all rest : List ItemSlice) (runs : List (Cell × ℕ)) → all ≡ run ∷ rest →
     IsListed meaning left column row live all runs → motion_fault (state_at column row live) run.tag run.count ≡ None
 passes_well meaning left column row live run all rest runs first before =
     let listed = subst (λ items. IsListed meaning left column row live items runs) first before in

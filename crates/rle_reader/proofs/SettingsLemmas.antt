@@ -22,24 +22,24 @@ use Rattle.rle_reader.specs.declared.settings.Word.{Word}
 
 -- the settings after these readings too, where this is the lowest refusal so far
 unfoldable pub reading_on : Settings → Option Refusal → List (Result Word Refusal) → Result Settings Refusal
-reading_on settings worst readings =
-    unless_refused (fold lower worst (filter_map result_err readings)) (fold after_word settings (filter_map result_ok readings))
+reading_on settings lowest_refusal readings =
+    unless_refused (fold lower lowest_refusal (filter_map result_err readings)) (fold after_word settings (filter_map result_ok readings))
 
 pub reading_on-start : (settings : Settings) (readings : List (Result Word Refusal)) → reading_on settings None readings ≡ after_readings settings readings
 unfolding reading_on after_readings
 reading_on-start settings readings = refl
 
-pub reading_on-ok : (settings : Settings) (worst : Option Refusal) (word : Word) (readings : List (Result Word Refusal)) → reading_on settings worst (Ok word ∷ readings) ≡ reading_on (after_word settings word) worst readings
+pub reading_on-ok : (settings : Settings) (lowest_refusal : Option Refusal) (word : Word) (readings : List (Result Word Refusal)) → reading_on settings lowest_refusal (Ok word ∷ readings) ≡ reading_on (after_word settings word) lowest_refusal readings
 unfolding reading_on
-reading_on-ok settings worst word readings = refl
+reading_on-ok settings lowest_refusal word readings = refl
 
-pub reading_on-err : (settings : Settings) (worst : Option Refusal) (refusal : Refusal) (readings : List (Result Word Refusal)) → reading_on settings worst (Err refusal ∷ readings) ≡ reading_on settings (lower worst refusal) readings
+pub reading_on-err : (settings : Settings) (lowest_refusal : Option Refusal) (refusal : Refusal) (readings : List (Result Word Refusal)) → reading_on settings lowest_refusal (Err refusal ∷ readings) ≡ reading_on settings (lower lowest_refusal refusal) readings
 unfolding reading_on
-reading_on-err settings worst refusal readings = refl
+reading_on-err settings lowest_refusal refusal readings = refl
 
-pub reading_on-end : (settings : Settings) (worst : Option Refusal) → reading_on settings worst [] ≡ unless_refused worst settings
+pub reading_on-end : (settings : Settings) (lowest_refusal : Option Refusal) → reading_on settings lowest_refusal [] ≡ unless_refused lowest_refusal settings
 unfolding reading_on
-reading_on-end settings worst = refl
+reading_on-end settings lowest_refusal = refl
 
 onto_only : (first : ℕ) (rest : List ℕ) (parts : List (List ℕ)) → parts ≡ rest ∷ [] → onto_first first parts ≡ (first ∷ rest) ∷ []
 onto_only first rest parts is = ap (onto_first first) is
@@ -142,16 +142,16 @@ position_of-none text none =
     ∙ ap (cell_at (integer_of (before_first (is_byte 44) text))) (sym (ap integer_of (after_first-none (is_byte 44) text none) ∙ integer_of-nil))
 
 -- a loop over words: one word more
-pub reading_on-word : (settings next : Settings) (worst : Option Refusal) (text word : List ℕ) (others : List (List ℕ)) (said : Word) → words text ≡ word ∷ others → Ok said ≡ word_of word → next ≡ after_word settings said → reading_on next worst (map word_of others) ≡ reading_on settings worst (map word_of (words text))
-reading_on-word settings next worst text word others said text_is word_is next_is =
-    ap (λ s. reading_on s worst (map word_of others)) next_is
-    ∙ sym (reading_on-ok settings worst said (map word_of others))
-    ∙ ap (λ r. reading_on settings worst (r ∷ map word_of others)) word_is
-    ∙ ap (λ ws. reading_on settings worst (map word_of ws)) (sym text_is)
+pub reading_on-word : (settings next : Settings) (lowest_refusal : Option Refusal) (text word : List ℕ) (others : List (List ℕ)) (said : Word) → words text ≡ word ∷ others → Ok said ≡ word_of word → next ≡ after_word settings said → reading_on next lowest_refusal (map word_of others) ≡ reading_on settings lowest_refusal (map word_of (words text))
+reading_on-word settings next lowest_refusal text word others said text_is word_is next_is =
+    ap (λ s. reading_on s lowest_refusal (map word_of others)) next_is
+    ∙ sym (reading_on-ok settings lowest_refusal said (map word_of others))
+    ∙ ap (λ r. reading_on settings lowest_refusal (r ∷ map word_of others)) word_is
+    ∙ ap (λ ws. reading_on settings lowest_refusal (map word_of ws)) (sym text_is)
 
-pub reading_on-refused : (settings : Settings) (worst next : Option Refusal) (text word : List ℕ) (others : List (List ℕ)) (refusal : Refusal) → words text ≡ word ∷ others → Err refusal ≡ word_of word → next ≡ lower worst refusal → reading_on settings next (map word_of others) ≡ reading_on settings worst (map word_of (words text))
-reading_on-refused settings worst next text word others refusal text_is word_is next_is =
+pub reading_on-refused : (settings : Settings) (lowest_refusal next : Option Refusal) (text word : List ℕ) (others : List (List ℕ)) (refusal : Refusal) → words text ≡ word ∷ others → Err refusal ≡ word_of word → next ≡ lower lowest_refusal refusal → reading_on settings next (map word_of others) ≡ reading_on settings lowest_refusal (map word_of (words text))
+reading_on-refused settings lowest_refusal next text word others refusal text_is word_is next_is =
     ap (λ s. reading_on settings s (map word_of others)) next_is
-    ∙ sym (reading_on-err settings worst refusal (map word_of others))
-    ∙ ap (λ r. reading_on settings worst (r ∷ map word_of others)) word_is
-    ∙ ap (λ ws. reading_on settings worst (map word_of ws)) (sym text_is)
+    ∙ sym (reading_on-err settings lowest_refusal refusal (map word_of others))
+    ∙ ap (λ r. reading_on settings lowest_refusal (r ∷ map word_of others)) word_is
+    ∙ ap (λ ws. reading_on settings lowest_refusal (map word_of ws)) (sym text_is)

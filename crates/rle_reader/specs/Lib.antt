@@ -7,6 +7,7 @@ pub mod Header
 pub mod Opening
 pub mod Body
 pub mod Items
+pub mod Slices
 pub mod State
 pub mod Meaning
 pub mod Seen

@@ -9,11 +9,12 @@ use Rattle.plane.specs.declared.fault.Fault.{Fault}
 use Rattle.plane.specs.declared.refusal.Refusal.{Refusal}
 use Rattle.plane.specs.declared.refusal.Refusal.TheVariants.{BadCount}
 use Rattle.plane.specs.Plane.{Plane}
-use Rattle.text_lines.specs.Faults.{fault_at, ◌>>=◌}
+use Rattle.text_lines.specs.Faults.{fault_at, unless, ◌>>=◌}
 use Rattle.text_lines.specs.Lines.{lines}
 use Rattle.rle_reader.specs.Opening.{Opening, opening_of}
-use Rattle.rle_reader.specs.Body.{Spot, struck}
-use Rattle.rle_reader.specs.Items.{Item, Items, Drawn, items_of, place_of, count_of, tag_of, run_of, kept}
+use Rattle.rle_reader.specs.Body.{stripped}
+use Rattle.rle_reader.specs.declared.body.LocatedByte.{LocatedByte}
+use Rattle.rle_reader.specs.Items.{Item, Items, ItemSlice, items_of, place_of, count_of, tag_of, run_of, kept}
 use Rattle.rle_reader.specs.State.{State, start_at, after_item, leaves_range, passes_cells, faults_of, first_fault}
 use Rattle.rle_reader.specs.declared.item.Tag.{Tag}
 use Rattle.rle_reader.specs.declared.item.Tag.TheVariants.{Dead, Live, Row}
@@ -33,7 +34,7 @@ state_after left state item = go (tag_of item.tag.byte)
     go (Ok tag) = after_item left state tag (count_of item.digits)
 
 -- the first fault of the items, and of the digits left over after them, from a state on
-unfoldable pub first_fault_from : ℤ → State → List Item → List Spot → Option Fault
+unfoldable pub first_fault_from : ℤ → State → List Item → List LocatedByte → Option Fault
 first_fault_from left state [] [] = None
 first_fault_from left state [] (first ∷ rest) = Some (fault_at BadCount first.place)
 first_fault_from left state (item ∷ items) left_over =
@@ -44,11 +45,11 @@ unfoldable pub body_fault : Cell → Items → Option Fault
 body_fault corner found = first_fault_from corner.x (start_at corner) found.items found.left_over
 
 -- the items of a body in their text, up to the first that has no tag or has the count 0
-abbrev pub runs_of : List ℕ → List Spot → List Drawn
+abbrev pub runs_of : List ℕ → List LocatedByte → List ItemSlice
 runs_of source body = ok_prefix (map (run_of source) (items_of body).items)
 
 -- the same as a machine keeps them
-unfoldable pub runs_kept : List ℕ → List Spot → List Drawn
+unfoldable pub runs_kept : List ℕ → List LocatedByte → List ItemSlice
 runs_kept source body = map kept (runs_of source body)
 
 -- what an accepted text means
@@ -58,7 +59,7 @@ pub record Meaning : Type 0 where
   pub rule : Option (List ℕ)
   pub rule_place : ℕ
   pub comments : List (List ℕ)
-  pub runs : List Drawn
+  pub runs : List ItemSlice
 
 -- what a text with this opening means
 unfoldable pub meaning_of : List ℕ → Opening → Meaning
@@ -68,19 +69,14 @@ meaning_of text opening = record {
   rule = opening.rule;
   rule_place = opening.header;
   comments = opening.comments;
-  runs = runs_of text (struck opening.body);
+  runs = runs_of text (stripped opening.body);
 }
-
--- the value, unless there is a fault
-abbrev pub unless : {A : Type 0} → Option Fault → A → Result A Fault
-unless None value = Ok value
-unless (Some fault) value = Err fault
 
 -- what a text means, or its first fault
 unfoldable pub judged : List ℕ → Result Meaning Fault
 judged text = do
   opening ← opening_of (length text) (lines 0 text)
-  unless (body_fault opening.settings.pos (items_of (struck opening.body))) (meaning_of text opening)
+  unless (body_fault opening.settings.pos (items_of (stripped opening.body))) (meaning_of text opening)
 
 -- ---- the cells that a meaning makes live
 
@@ -91,12 +87,12 @@ is_live Dead = false
 is_live Row = false
 
 -- the item makes the cell live
-abbrev pub covers : State → Drawn → ℤ → ℤ → Bool
+abbrev pub covers : State → ItemSlice → ℤ → ℤ → Bool
 covers state run x y = is_live run.tag && int_eq y state.row
     && int_le state.column x && int_lt x (state.column +ℤ pos run.count)
 
 -- one of the items, from a state on, makes the cell live
-unfoldable pub is_covered : ℤ → State → List Drawn → ℤ → ℤ → Bool
+unfoldable pub is_covered : ℤ → State → List ItemSlice → ℤ → ℤ → Bool
 is_covered left state [] x y = false
 is_covered left state (run ∷ runs) x y =
     covers state run x y || is_covered left (after_item left state run.tag run.count) runs x y
@@ -106,13 +102,13 @@ abbrev pub live_plane : Meaning → Plane
 live_plane meaning = is_covered meaning.pos.x (start_at meaning.pos) meaning.runs
 
 -- how many cells the items make live
-abbrev pub live_cells : List Drawn → ℕ
+abbrev pub live_cells : List ItemSlice → ℕ
 live_cells runs = sum_by (λ run. run.count) (filter (λ run. is_live run.tag) runs)
 
 -- ---- where the items lead
 
 -- the items stay within the range from a state on, and their live cells are not too many
-abbrev pub StayInRange : ℤ → State → List Drawn → Type 0
+abbrev pub StayInRange : ℤ → State → List ItemSlice → Type 0
 StayInRange left state [] = Unit {0}
 StayInRange left state (run ∷ runs) =
     (leaves_range state run.tag run.count ≡ false)

@@ -11,10 +11,9 @@ use Rattle.std.specs.Prelude.{◌≡◌, ◌↔◌, ◌<◌, true, false, [], �
 use Rattle.std.specs.Option.{option_map, option_to_list}
 use Rattle.std.specs.List.{AllByRecursion}
 use Rattle.std.specs.Char.{is_ascii_digit}
-use Rattle.rle_reader.specs.Body.{Spot}
-use Rattle.rle_reader.specs.Items.{Drawn, is_digit_spot, count_of}
+use Rattle.rle_reader.specs.declared.body.LocatedByte.{LocatedByte}
+use Rattle.rle_reader.specs.Items.{ItemSlice, is_digit, count_of}
 use Rattle.text_lines.specs.Numbers.{capped}
-use Rattle.rle_reader.specs.declared.body.Placed.{Placed}
 use Rattle.rle_reader.specs.declared.item.Count.{Count}
 use Rattle.rle_reader.specs.declared.item.Run.{Run}
 use Rattle.rle_reader.specs.declared.preamble.Preamble.{Preamble}
@@ -32,26 +31,22 @@ opening_seen source preamble = record {
 abbrev pub seen_opening : List ℕ → Result Preamble Fault → Result Opening Fault
 seen_opening source found = result_map_both (opening_seen source) (λ fault. fault) found
 
--- a byte with its place
-abbrev pub spot_seen : Placed → Spot
-spot_seen placed = record { place = placed.place; byte = placed.byte }
-
 -- an item with the bytes of its slice
-abbrev pub run_seen : Run → Drawn
+abbrev pub run_seen : Run → ItemSlice
 run_seen run = record { text = run.text.now; place = run.place; count = run.count; tag = run.tag }
 
-abbrev pub seen_run : Result Run Fault → Result Drawn Fault
+abbrev pub seen_run : Result Run Fault → Result ItemSlice Fault
 seen_run found = result_map_both run_seen (λ fault. fault) found
 
-abbrev pub seen_next : Result (Option Run) Fault → Result (Option Drawn) Fault
+abbrev pub seen_next : Result (Option Run) Fault → Result (Option ItemSlice) Fault
 seen_next found = result_map_both (option_map run_seen) (λ fault. fault) found
 
--- the count reads digits at the front of these spots, and the spot after them if there is one, and leaves these
-pub record IsCount (all : List Spot) (count : Count) (left : List Spot) : Type 0 where
-  pub digits : List Spot
-  pub each : AllByRecursion (λ spot. is_digit_spot spot ≡ true) digits
-  pub whole : all ≡ digits ++ (option_to_list (option_map spot_seen count.next) ++ left)
-  pub next : IfSome count.next (λ placed. is_ascii_digit placed.byte ≡ false)
+-- the count reads digits at the front of these bytes, and the byte after them if there is one, and leaves these
+pub record IsCount (all : List LocatedByte) (count : Count) (left : List LocatedByte) : Type 0 where
+  pub digits : List LocatedByte
+  pub each : AllByRecursion (λ located. is_digit located ≡ true) digits
+  pub whole : all ≡ digits ++ (option_to_list count.next ++ left)
+  pub next : IfSome count.next (λ located. is_ascii_digit located.byte ≡ false)
   pub end : IfNone count.next (left ≡ [])
   pub value : count.value ≡ capped (count_of digits)
   pub written : IsTrue count.is_written ↔ (0 < length digits)

@@ -1,15 +1,15 @@
 //! The bytes of a body that count: without blanks, line ends and comments.
 
 ghost use Rattle.std.specs.Prelude.{◌≡◌, ◌<◌, ◌≤◌, [], ◌∷◌, true, length, slice_index, MatchOption, IsTrue};
-ghost use Rattle.rle_reader.specs.Body.{is_skipped, struck_from};
+ghost use Rattle.rle_reader.specs.Body.{is_skipped, stripped_from};
 
 use text_lines::{is_blank, line_length};
 
 /// A byte and its place.
 #[derive(Clone, Copy)]
-pub(crate) struct Placed {
-    pub(crate) place: usize,
-    pub(crate) byte: u8,
+pub struct LocatedByte {
+    pub place: usize,
+    pub byte: u8,
 }
 
 /// What is left of a body.
@@ -47,21 +47,21 @@ impl<'a> Body<'a> {
     /// Drops what is left.
     pub(crate) fn close(&mut self)
         ensures source { self.new.source.now ≡ self.old.source.now }
-        ensures closed { struck_from self.new.source.now self.new.at self.new.line_begins ≡ [] }
+        ensures closed { stripped_from self.new.source.now self.new.at self.new.line_begins ≡ [] }
     {
         self.at = self.source.len();
     }
 
     /// Takes the next byte that is no blank, CR or LF and stands in no comment.
-    pub(crate) fn next_byte(&mut self) -> Option<Placed>
+    pub(crate) fn next_byte(&mut self) -> Option<LocatedByte>
         ensures source { self.new.source.now ≡ self.old.source.now }
         ensures place { MatchOption result (self.old.at ≤ self.new.at) (λ next. (self.old.at ≤ next.place) × (next.place < self.new.at)) }
         ensures within { self.new.at ≤ length self.new.source.now }
         ensures bytes { MatchOption result
-            ((struck_from self.old.source.now self.old.at self.old.line_begins ≡ [])
-            × (struck_from self.new.source.now self.new.at self.new.line_begins ≡ []))
-            (λ next. struck_from self.old.source.now self.old.at self.old.line_begins
-            ≡ record { place = next.place; byte = next.byte } ∷ struck_from self.new.source.now self.new.at self.new.line_begins) }
+            ((stripped_from self.old.source.now self.old.at self.old.line_begins ≡ [])
+            × (stripped_from self.new.source.now self.new.at self.new.line_begins ≡ []))
+            (λ next. stripped_from self.old.source.now self.old.at self.old.line_begins
+            ≡ record { place = next.place; byte = next.byte } ∷ stripped_from self.new.source.now self.new.at self.new.line_begins) }
     {
         while self.at < self.source.len() {
             let place = self.at;
@@ -73,7 +73,7 @@ impl<'a> Body<'a> {
             self.at = place + 1;
             self.line_begins = byte == b'\n';
             if !is_skipped(byte) {
-                return Some(Placed { place, byte });
+                return Some(LocatedByte { place, byte });
             }
         }
         None
@@ -87,7 +87,7 @@ impl<'a> Body<'a> {
         ensures source { self.new.source.now ≡ self.old.source.now }
         ensures place { self.old.at < self.new.at }
         ensures begins { self.new.line_begins ≡ true }
-        ensures bytes { struck_from self.new.source.now self.new.at true ≡ struck_from self.old.source.now self.old.at true }
+        ensures bytes { stripped_from self.new.source.now self.new.at true ≡ stripped_from self.old.source.now self.old.at true }
     {
         let rest = &self.source[self.at..];
         self.at += (line_length(rest) + 1).min(rest.len());

@@ -12,10 +12,8 @@ pub(crate) fn split_at_byte(text: &[u8], byte: u8) -> Option<(&[u8], &[u8])>
         × (parts.0.now ≡ before_first (is_byte byte) text.now)
         × (parts.1.now ≡ after_first (is_byte byte) text.now)) }
 {
-    match place_of_byte(text, byte) {
-        Some(at) => Some((&text[..at], &text[at + 1..])),
-        None => None,
-    }
+    let at = place_of_byte(text, byte)?;
+    Some((&text[..at], &text[at + 1..]))
 }
 
 /// The place of the first such byte.

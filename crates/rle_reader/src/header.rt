@@ -46,10 +46,9 @@ fn rule_behind(rest: &[u8]) -> Result<Option<&[u8]>, Refusal>
     let Some((_, part)) = split_at_byte(rest, b',') else {
         return Ok(None);
     };
-    match value_behind(part, b"rule") {
-        Some(rule) => Ok(Some(rule)),
-        None => Err(Refusal::BadHeader),
-    }
+    value_behind(part, b"rule")
+        .map(Some)
+        .ok_or(Refusal::BadHeader)
 }
 
 /// Whether the line's first byte after blanks is `x` or `X`.
@@ -57,10 +56,7 @@ fn rule_behind(rest: &[u8]) -> Result<Option<&[u8]>, Refusal>
 fn begins_as_header(line: &[u8]) -> bool
     ensures { result ≡ begins_as_header line.now }
 {
-    match trimmed_start(line).first() {
-        Some(first) => *first == b'x' || *first == b'X',
-        None => false,
-    }
+    matches!(trimmed_start(line).first(), Some(b'x' | b'X'))
 }
 
 /// Whether the part is the key, `=` and one or more digits.
@@ -68,10 +64,7 @@ fn begins_as_header(line: &[u8]) -> bool
 fn is_side(part: &[u8], key: &[u8]) -> bool
     ensures { result ≡ is_side key.now part.now }
 {
-    match value_behind(part, key) {
-        Some(value) => number(value).is_some(),
-        None => false,
-    }
+    value_behind(part, key).is_some_and(|value| number(value).is_some())
 }
 
 /// What stands behind `key =`, without the blanks at its ends. The key is in small letters; in the part
@@ -80,14 +73,8 @@ fn is_side(part: &[u8], key: &[u8]) -> bool
 fn value_behind<'a>(part: &'a [u8], key: &[u8]) -> Option<&'a [u8]>
     ensures { option_copied result ≡ value_behind key.now part.now }
 {
-    let Some((name, value)) = split_at_byte(part, b'=') else {
-        return None;
-    };
-    if is_key(trimmed(name), key) {
-        Some(trimmed(value))
-    } else {
-        None
-    }
+    let (name, value) = split_at_byte(part, b'=')?;
+    is_key(trimmed(name), key).then(|| trimmed(value))
 }
 
 /// Whether the name is the key, whichever its letters' case.

@@ -4,12 +4,12 @@ ghost use Rattle.std.specs.Prelude.{◌≡◌, ◌<◌, ◌≤◌, ◌∷◌, if
 ghost use Rattle.std.specs.Option.{option_map};
 ghost use Rattle.std.specs.Result.{result_map_both};
 ghost use Rattle.plane.specs.declared.refusal.Refusal.TheVariants.{BadCount};
-ghost use Rattle.rle_reader.specs.Body.{struck_from};
+ghost use Rattle.rle_reader.specs.Body.{stripped_from};
 ghost use Rattle.text_lines.specs.Faults.{fault_at};
-ghost use Rattle.rle_reader.specs.Items.{items_of, items_after, next_of, kept, drawn_from, tag_of};
-ghost use Rattle.rle_reader.specs.Seen.{seen_next, spot_seen, IsCount};
+ghost use Rattle.rle_reader.specs.Items.{items_of, items_after, next_of, kept, item_slice_from, tag_of};
+ghost use Rattle.rle_reader.specs.Seen.{seen_next, IsCount};
 
-use crate::body::{Body, Placed};
+use crate::body::{Body, LocatedByte};
 use plane::{Fault, Refusal};
 use text_lines::{fault_at, with_digit};
 
@@ -44,7 +44,7 @@ struct Count {
     /// Whether there is a digit.
     is_written: bool,
     /// The byte after them.
-    next: Option<Placed>,
+    next: Option<LocatedByte>,
 }
 
 /// Takes the next item. There is none where the body ends or has a `!`.
@@ -52,25 +52,23 @@ pub(crate) fn next_run<'a>(body: &mut Body<'a>) -> Result<Option<Run<'a>>, Fault
     ensures source { body.new.source.now ≡ body.old.source.now }
     ensures progress { IfOk result (λ next. IfSome next (λ run. body.old.at < body.new.at)) }
     ensures next { seen_next result ≡ result_map_both (option_map kept) (λ fault. fault)
-        (next_of body.old.source.now (items_of (struck_from body.old.source.now body.old.at body.old.line_begins))) }
-    ensures rest { IfOk result (λ next. OnSome next (items_of (struck_from body.new.source.now body.new.at body.new.line_begins)
-        ≡ items_after (items_of (struck_from body.old.source.now body.old.at body.old.line_begins)))) }
+        (next_of body.old.source.now (items_of (stripped_from body.old.source.now body.old.at body.old.line_begins))) }
+    ensures rest { IfOk result (λ next. OnSome next (items_of (stripped_from body.new.source.now body.new.at body.new.line_begins)
+        ≡ items_after (items_of (stripped_from body.old.source.now body.old.at body.old.line_begins)))) }
 {
-    match body.next_byte() {
-        Some(first) => {
-            let count = read_count(body, first);
-            match count.next {
-                Some(last) => {
-                    if last.byte == b'!' {
-                        untagged(first.place, count.is_written)
-                    } else {
-                        tagged_run(body.source(), first.place, count.value, last)
-                    }
-                }
-                None => untagged(first.place, count.is_written),
+    let Some(first) = body.next_byte() else {
+        return Ok(None);
+    };
+    let count = read_count(body, first);
+    match count.next {
+        Some(last) => {
+            if last.byte == b'!' {
+                untagged(first.place, count.is_written)
+            } else {
+                tagged_run(body.source(), first.place, count.value, last)
             }
         }
-        None => Ok(None),
+        None => untagged(first.place, count.is_written),
     }
 }
 
@@ -79,11 +77,11 @@ fn tagged_run<'a>(
     source: &'a [u8],
     place: usize,
     count: u64,
-    last: Placed,
+    last: LocatedByte,
 ) -> Result<Option<Run<'a>>, Fault>
     requires order { place ≤ last.place }
     requires within { last.place < length source.now }
-    ensures { seen_next result ≡ result_map_both (λ run. Some run) (λ refusal. fault_at refusal place) (drawn_from source.now place count (spot_seen last)) }
+    ensures { seen_next result ≡ result_map_both (λ run. Some run) (λ refusal. fault_at refusal place) (item_slice_from source.now place count last) }
 {
     let tag = match tag_of(last.byte) {
         Ok(tag) => tag,
@@ -112,14 +110,14 @@ fn untagged<'a>(place: usize, is_written: bool) -> Result<Option<Run<'a>>, Fault
 }
 
 /// Takes digits, of which `first` is the first if it is one, and the byte after them.
-fn read_count(body: &mut Body<'_>, first: Placed) -> Count
+fn read_count(body: &mut Body<'_>, first: LocatedByte) -> Count
     requires { first.place < body.old.at }
     ensures source { body.new.source.now ≡ body.old.source.now }
     ensures place { body.old.at ≤ body.new.at }
     ensures within { body.new.at ≤ length body.new.source.now }
     ensures next { IfSome result.next (λ last. (first.place ≤ last.place) × (last.place < body.new.at)) }
-    ensures count { IsCount (spot_seen first ∷ struck_from body.old.source.now body.old.at body.old.line_begins) result
-        (struck_from body.new.source.now body.new.at body.new.line_begins) }
+    ensures count { IsCount (first ∷ stripped_from body.old.source.now body.old.at body.old.line_begins) result
+        (stripped_from body.new.source.now body.new.at body.new.line_begins) }
 {
     if !first.byte.is_ascii_digit() {
         return Count {

@@ -5,15 +5,16 @@ ghost use Rattle.plane.specs.Listing.{IsListing};
 ghost use Rattle.plane.specs.Range.{IsInRange};
 ghost use Rattle.plane.specs.declared.cell.Cell.{Cell};
 ghost use Rattle.plane.specs.declared.range.TheConstants.{LIVE_CELL_LIMIT};
-ghost use Rattle.rle_reader.specs.Body.{Spot};
+ghost use Rattle.rle_reader.specs.declared.body.LocatedByte.{LocatedByte};
 ghost use Rattle.rle_reader.specs.Items.{Items, AreItemsOf, items_of};
 ghost use Rattle.rle_reader.specs.Meaning.{Meaning, StayInRange, judged, live_cells, live_plane};
+ghost use Rattle.rle_reader.specs.Slices.{AreSlices};
 ghost use Rattle.rle_reader.specs.State.{start_at};
 
 /// A body is cut into items, digits that are left over and an end in exactly one way.
 pub fn one_cut()
-    ensures cut { (body : List Spot) → AreItemsOf body (items_of body) }
-    ensures only { (body : List Spot) (found : Items) → AreItemsOf body found → found ≡ items_of body }
+    ensures cut { (body : List LocatedByte) → AreItemsOf body (items_of body) }
+    ensures only { (body : List LocatedByte) (found : Items) → AreItemsOf body found → found ≡ items_of body }
 {}
 
 /// The items of an accepted text stay in the range, their live cells are no more than a file may have, each
@@ -27,4 +28,10 @@ pub fn accepted_in_range()
         (x y : ℤ) → live_plane meaning x y ≡ true → IsInRange (record { y = y; x = x }) }
     ensures listing { (text : List ℕ) (meaning : Meaning) (cells : List Cell) → judged text ≡ Ok meaning →
         IsListing cells (live_plane meaning) → length cells ≤ LIVE_CELL_LIMIT }
+{}
+
+/// Each item of an accepted text is the slice of the text from its first digit, or from its tag if it has no
+/// count, to its tag. No slice begins before the one before it ends, so their places rise.
+pub fn items_are_slices()
+    ensures { (text : List ℕ) (meaning : Meaning) → judged text ≡ Ok meaning → AreSlices text 0 meaning.runs }
 {}

@@ -4,18 +4,19 @@
 
 mod body;
 mod bytes;
+mod cursor;
 mod header;
 mod item;
 mod laws;
 mod number;
-mod pen;
 mod preamble;
 mod rle_file;
 mod runs;
 mod settings;
 
+pub use body::LocatedByte;
 pub use item::{Run, Tag};
-pub use laws::{accepted_in_range, one_cut};
+pub use laws::{accepted_in_range, items_are_slices, one_cut};
 pub use rle_file::RleFile;
 pub use runs::Runs;
 pub use text_lines::Comments;

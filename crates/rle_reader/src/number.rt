@@ -20,19 +20,13 @@ pub(crate) fn integer(text: &[u8]) -> Option<i64>
 fn positive(size: Option<u64>) -> Option<i64>
     ensures { result ≡ option_map (λ size. pos (min size 9223372036854775807)) size }
 {
-    match size {
-        Some(size) => Some(as_signed(size)),
-        None => None,
-    }
+    size.map(as_signed)
 }
 
 fn negative(size: Option<u64>) -> Option<i64>
     ensures { result ≡ option_map (λ size. neg_ℤ (pos (min size 9223372036854775807))) size }
 {
-    match size {
-        Some(size) => Some(-as_signed(size)),
-        None => None,
-    }
+    size.map(|size| -as_signed(size))
 }
 
 /// The number, or the largest `i64` if it is larger.

@@ -47,15 +47,13 @@ impl<'a> Preamble<'a> {
             × (at_place line.entry.place (header_rule line.entry.text.now) ≡ Ok (option_copied read.rule))) }
         ensures err { IfErr result (λ fault. at_place line.entry.place (header_rule line.entry.text.now) ≡ Err fault) }
     {
-        match header_rule(line.text) {
-            Ok(rule) => Ok(Preamble {
-                settings,
-                rule,
-                header: line.place,
-                body,
-            }),
-            Err(refusal) => Err(fault_at(refusal, line.place)),
-        }
+        let rule = header_rule(line.text).map_err(|refusal| fault_at(refusal, line.place))?;
+        Ok(Preamble {
+            settings,
+            rule,
+            header: line.place,
+            body,
+        })
     }
 }
 

@@ -3,7 +3,7 @@
 ghost use Rattle.std.specs.Prelude.{◌≡◌, ◌<◌, ◌≤◌, ◌++◌, length, true, IfOk, IfErr, OnOk};
 ghost use Rattle.std.specs.List.{AllByRecursion};
 ghost use Rattle.std.specs.Option.{option_copied};
-ghost use Rattle.rle_reader.specs.Body.{struck_from};
+ghost use Rattle.rle_reader.specs.Body.{stripped_from};
 ghost use Rattle.rle_reader.specs.Items.{items_of};
 ghost use Rattle.rle_reader.specs.LiveRuns.{live_run};
 ghost use Rattle.rle_reader.specs.Meaning.{StayInRange, body_fault, judged, live_plane};
@@ -13,8 +13,8 @@ ghost use Rattle.plane.specs.Runs.{AreRuns, runs_plane};
 ghost use Rattle.plane.specs.Square.{IsSame};
 
 use crate::body::Body;
+use crate::cursor::Cursor;
 use crate::item::{Run, Tag, next_run};
-use crate::pen::Pen;
 use crate::preamble::Preamble;
 use crate::runs::Runs;
 use plane::{Cell, Fault};
@@ -32,7 +32,7 @@ pub struct RleFile<'a> {
 
 impl<'a> Model for RleFile<'a> {
     ghost use Rattle.std.specs.Prelude.{◌≡◌, ◌≤◌, None, Ok, true, length};
-    ghost use Rattle.rle_reader.specs.Body.{struck_from};
+    ghost use Rattle.rle_reader.specs.Body.{stripped_from};
     ghost use Rattle.rle_reader.specs.Items.{items_of};
     ghost use Rattle.rle_reader.specs.Meaning.{Meaning, meaning_of, body_fault};
     ghost use Rattle.rle_reader.specs.Opening.{opening_of};
@@ -46,7 +46,7 @@ impl<'a> Model for RleFile<'a> {
 
     ghost invariant = { λ file. (file.preamble.body ≤ length file.source.now)
         × IsInRange file.preamble.settings.pos
-        × (body_fault file.preamble.settings.pos (items_of (struck_from file.source.now file.preamble.body true)) ≡ None)
+        × (body_fault file.preamble.settings.pos (items_of (stripped_from file.source.now file.preamble.body true)) ≡ None)
         × (Ok (opening_seen file.source.now file.preamble) ≡ opening_of (length file.source.now) (lines_from file.source.now 0)) };
 }
 
@@ -132,10 +132,10 @@ impl<'a> RleFile<'a> {
         ensures cells { IfOk result (λ runs. IsSame (runs_plane runs.items) (live_plane self.now)) }
     {
         let mut live = Vec::new(alloc);
-        let mut pen = Pen::new(self.pos());
+        let mut cursor = Cursor::new(self.pos());
         for run in self.runs() {
-            push_live(&mut live, pen.cell(), &run)?;
-            if pen.pass(&run).is_err() {
+            push_live(&mut live, cursor.cell(), &run)?;
+            if cursor.advance(&run).is_err() {
                 unreachable!()
             }
         }
@@ -157,13 +157,13 @@ fn push_live(live: &mut Vec<(Cell, u64)>, first: Cell, run: &Run<'_>) -> Result<
 fn check_body(source: &[u8], preamble: &Preamble<'_>) -> Result<(), Fault>
     requires body { preamble.now.body ≤ length source.now }
     requires in_range { IsInRange preamble.now.settings.pos }
-    ensures ok { OnOk result (body_fault preamble.now.settings.pos (items_of (struck_from source.now preamble.now.body true)) ≡ None) }
-    ensures err { IfErr result (λ fault. body_fault preamble.now.settings.pos (items_of (struck_from source.now preamble.now.body true)) ≡ Some fault) }
+    ensures ok { OnOk result (body_fault preamble.now.settings.pos (items_of (stripped_from source.now preamble.now.body true)) ≡ None) }
+    ensures err { IfErr result (λ fault. body_fault preamble.now.settings.pos (items_of (stripped_from source.now preamble.now.body true)) ≡ Some fault) }
 {
     let mut body = Body::new(source, preamble.body);
-    let mut pen = Pen::new(preamble.settings.pos);
+    let mut cursor = Cursor::new(preamble.settings.pos);
     while let Some(run) = next_run(&mut body)? {
-        if let Err(refusal) = pen.pass(&run) {
+        if let Err(refusal) = cursor.advance(&run) {
             return Err(Fault {
                 refusal,
                 place: Some(run.place),

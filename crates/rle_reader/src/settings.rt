@@ -1,20 +1,18 @@
 //! The words of the `#CXRLE` lines.
 
 ghost use Rattle.std.specs.Prelude.{◌≡◌, ◌∷◌, ◌<◌, length, map, IfSome};
-ghost use Rattle.std.specs.List.{position};
 ghost use Rattle.std.specs.Option.{option_copied};
 ghost use Rattle.rle_reader.specs.Bytes.{words};
-ghost use Rattle.text_lines.specs.Bytes.{is_blank};
 ghost use Rattle.text_lines.specs.Faults.{at_place};
 ghost use Rattle.text_lines.specs.Numbers.{number_of};
-ghost use Rattle.rle_reader.specs.Words.{word_of, position_of, generation_at, cell_at, is_coordinate};
+ghost use Rattle.rle_reader.specs.Words.{word_of, position_of, generation_at, cell_at};
 ghost use Rattle.rle_reader.specs.Settings.{nothing_said, after_word, after_readings, after_line, lower, words_left};
 ghost use Rattle.text_lines.specs.Comments.{is_settings_line};
 
 use crate::bytes::split_at_byte;
 use crate::number::integer;
-use plane::{COORDINATE_LIMIT, Cell, Fault, GENERATION_LIMIT, Refusal};
-use text_lines::{Line, fault_at, is_blank, is_settings_line, number};
+use plane::{Cell, Fault, GENERATION_LIMIT, Refusal, is_coordinate};
+use text_lines::{Line, fault_at, first_blank, is_settings_line, number};
 
 /// What the `#CXRLE` lines say.
 #[derive(Clone, Copy, Debug)]
@@ -51,10 +49,8 @@ impl Settings {
         if !is_settings_line(line.text) {
             return Ok(self);
         }
-        match self.after_words(line.text) {
-            Ok(settings) => Ok(settings),
-            Err(refusal) => Err(fault_at(refusal, line.place)),
-        }
+        self.after_words(line.text)
+            .map_err(|refusal| fault_at(refusal, line.place))
     }
 
     /// These settings after the words of a line, or the lowest fault of a word.
@@ -62,17 +58,17 @@ impl Settings {
         ensures { result ≡ after_readings self (map word_of (words line.now)) }
     {
         let mut settings = self;
-        let mut worst = None;
+        let mut lowest_refusal = None;
         let mut rest = Some(line);
         while let Some(text) = rest {
             let (word, others) = first_word(text);
             match read_word(word) {
                 Ok(word) => settings = settings.after_word(word),
-                Err(refusal) => worst = lower(worst, refusal),
+                Err(refusal) => lowest_refusal = lower(lowest_refusal, refusal),
             }
             rest = others;
         }
-        match worst {
+        match lowest_refusal {
             Some(refusal) => Err(refusal),
             None => Ok(settings),
         }
@@ -107,18 +103,11 @@ fn first_word(text: &[u8]) -> (&[u8], Option<&[u8]>)
     }
 }
 
-/// The place of the first blank.
-fn first_blank(text: &[u8]) -> Option<usize>
-    ensures { result ≡ position is_blank text.now }
-{
-    text.iter().position(|byte| is_blank(*byte))
-}
-
 /// Of two refusals the one of the lower number.
-fn lower(worst: Option<Refusal>, refusal: Refusal) -> Option<Refusal>
-    ensures { result ≡ lower worst refusal }
+fn lower(lowest_refusal: Option<Refusal>, refusal: Refusal) -> Option<Refusal>
+    ensures { result ≡ lower lowest_refusal refusal }
 {
-    match worst {
+    match lowest_refusal {
         Some(other) if other.number() <= refusal.number() => Some(other),
         _ => Some(refusal),
     }
@@ -130,10 +119,10 @@ fn read_word(text: &[u8]) -> Result<Word, Refusal>
     ensures { result ≡ word_of text.now }
 {
     if let Some(value) = text.strip_prefix(b"Pos=") {
-        return Ok(Word::Pos(position(value)?));
+        return position(value).map(Word::Pos);
     }
     if let Some(value) = text.strip_prefix(b"Gen=") {
-        return Ok(Word::Gen(generation_of(value)?));
+        return generation_of(value).map(Word::Gen);
     }
     Ok(Word::Other)
 }
@@ -153,22 +142,14 @@ fn position(text: &[u8]) -> Result<Cell, Refusal>
 fn cell(x: Option<i64>, y: Option<i64>) -> Result<Cell, Refusal>
     ensures { result ≡ cell_at x y }
 {
-    match (x, y) {
-        (Some(x), Some(y)) => {
-            if is_coordinate(x) && is_coordinate(y) {
-                Ok(Cell { y, x })
-            } else {
-                Err(Refusal::OutOfRange)
-            }
-        }
-        _ => Err(Refusal::BadHeader),
+    let (Some(x), Some(y)) = (x, y) else {
+        return Err(Refusal::BadHeader);
+    };
+    if is_coordinate(x) && is_coordinate(y) {
+        Ok(Cell { y, x })
+    } else {
+        Err(Refusal::OutOfRange)
     }
-}
-
-fn is_coordinate(number: i64) -> bool
-    ensures { result ≡ is_coordinate number }
-{
-    -COORDINATE_LIMIT <= number && number < COORDINATE_LIMIT
 }
 
 /// The generation that a text of digits gives.
@@ -183,8 +164,7 @@ fn generation_of(text: &[u8]) -> Result<u64, Refusal>
 fn generation(number: Option<u64>) -> Result<u64, Refusal>
     ensures { result ≡ generation_at number }
 {
-    match number {
-        Some(generation) if generation <= GENERATION_LIMIT => Ok(generation),
-        _ => Err(Refusal::BadGen),
-    }
+    number
+        .filter(|generation| *generation <= GENERATION_LIMIT)
+        .ok_or(Refusal::BadGen)
 }

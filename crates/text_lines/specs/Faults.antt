@@ -1,5 +1,5 @@
 -- Faults at places, and steps that may fail.
-use Rattle.std.specs.Prelude.{ℕ, Some, Result, Ok, Err}
+use Rattle.std.specs.Prelude.{ℕ, Option, None, Some, Result, Ok, Err}
 use Rattle.std.specs.Result.{result_map_both}
 use Rattle.plane.specs.declared.fault.Fault.{Fault}
 use Rattle.plane.specs.declared.refusal.Refusal.{Refusal}
@@ -11,6 +11,11 @@ fault_at refusal place = record { refusal = refusal; place = Some place }
 -- what was found at a place
 abbrev pub at_place : {A : Type 0} → ℕ → Result A Refusal → Result A Fault
 at_place place found = result_map_both (λ value. value) (λ refusal. fault_at refusal place) found
+
+-- the value, unless there is a fault
+abbrev pub unless : {A : Type 0} → Option Fault → A → Result A Fault
+unless None value = Ok value
+unless (Some fault) value = Err fault
 
 infixl 10 ◌>>=◌
 -- the second step, at what the first one gave, unless that failed

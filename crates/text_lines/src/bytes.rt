@@ -1,6 +1,7 @@
 //! The beginning of a text, and a text without the blanks at its ends.
 
 ghost use Rattle.std.specs.Prelude.{◌≡◌};
+ghost use Rattle.std.specs.List.{position};
 ghost use Rattle.text_lines.specs.Bytes.{begins_with, is_blank, trimmed, trimmed_start, trimmed_end};
 
 /// Whether the text begins with these bytes.
@@ -15,6 +16,13 @@ pub fn is_blank(byte: u8) -> bool
     ensures { result ≡ is_blank byte }
 {
     byte == b' ' || byte == b'\t'
+}
+
+/// The place of the first blank.
+pub fn first_blank(text: &[u8]) -> Option<usize>
+    ensures { result ≡ position is_blank text.now }
+{
+    text.iter().position(|byte| is_blank(*byte))
 }
 
 /// The text from its first byte on that is no blank.

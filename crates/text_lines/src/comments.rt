@@ -20,10 +20,7 @@ pub fn is_blank_line(line: &[u8]) -> bool
 pub fn is_comment(line: &[u8]) -> bool
     ensures { result ≡ is_comment line.now }
 {
-    match line.first() {
-        Some(first) => *first == b'#',
-        None => false,
-    }
+    matches!(line.first(), Some(b'#'))
 }
 
 /// Whether the line begins with `#CXRLE`.

@@ -9,7 +9,7 @@ mod laws;
 mod lines;
 mod numbers;
 
-pub use bytes::{begins_with, is_blank, trimmed, trimmed_end, trimmed_start};
+pub use bytes::{begins_with, first_blank, is_blank, trimmed, trimmed_end, trimmed_start};
 pub use comments::{Comments, is_blank_line, is_comment, is_kept, is_settings_line};
 pub use faults::fault_at;
 pub use laws::lines_are_slices;

@@ -78,8 +78,5 @@ pub fn line_length(text: &[u8]) -> usize
 fn without_return(line: &[u8]) -> &[u8]
     ensures { result.now ≡ without_return line.now }
 {
-    match line.strip_suffix(b"\r") {
-        Some(front) => front,
-        None => line,
-    }
+    line.strip_suffix(b"\r").unwrap_or(line)
 }

@@ -1,5 +1,4 @@
 use Rattle.std.proofs.Common.{sym, ◌∙◌, arith, refl}
-use Rattle.rle_reader.specs.Seen.{spot_seen}
 use Rattle.rle_reader.proofs.ItemLemmas.{read-first, read-more, read-left, count-next, count-end}
 use Rattle.rle_reader.proofs.item.read_count.Goals as goal
 
@@ -7,7 +6,7 @@ pub loop-next-init : goal.loop-next-init
 loop-next-init c = (
   refl,
   omega arith,
-  read-first (spot_seen c.args.first) _ c.with_digit-value.result
+  read-first c.args.first _ c.with_digit-value.result
       (sym c.is_ascii_digit.ensures.value ∙ c.if-not-is_ascii_digit.false) c.with_digit-value.ensures,
 )
 
@@ -15,7 +14,7 @@ pub loop-next-preserved : goal.loop-next-preserved
 loop-next-preserved c = (
   c.in-Some.ensures.source ∙ c.loop-next.invariant.0,
   omega (arith, c.loop-next.invariant.1, c.in-Some.ensures.place),
-  read-more _ _ c.loop-next.value c.with_digit-value-in-Some.result (spot_seen c.in-Some.next)
+  read-more _ _ c.loop-next.value c.with_digit-value-in-Some.result c.in-Some.next
       (read-left _ _ _ c.loop-next.value c.loop-next.invariant.2 c.in-Some.ensures.bytes)
       (sym c.is_ascii_digit-in-Some.ensures.value ∙ c.if-not-is_ascii_digit-2.false) c.with_digit-value-in-Some.ensures,
 )

@@ -1,7 +1,7 @@
 use Rattle.std.proofs.Common.{◌≡◌, Ok, OnSome, true, ap, sym, subst, ◌∙◌}
 use Rattle.std.proofs.lemmas.Result.{err_from_is_err_and}
 use Rattle.std.specs.Option.{option_map}
-use Rattle.rle_reader.specs.Body.{struck_from}
+use Rattle.rle_reader.specs.Body.{stripped_from}
 use Rattle.rle_reader.specs.Items.{Items, items_of, items_after}
 use Rattle.rle_reader.specs.Meaning.{body_fault, first_fault_from}
 use Rattle.rle_reader.specs.Seen.{run_seen}
@@ -14,57 +14,57 @@ pub loop-run-init : goal.loop-run-init
 unfolding body_fault
 loop-run-init c =
     let body = c.new-body.result in
-    let pen = c.new-pen.result in
-    let found = items_of (struck_from c.args.source.now c.args.preamble.now.body true) in
-    let same : items_of (struck_from body.source.now body.at body.line_begins) ≡ found =
-    ap (λ s. items_of (struck_from s body.at body.line_begins)) c.new-body.ensures.source
-    ∙ ap (λ a. items_of (struck_from c.args.source.now a body.line_begins)) c.new-body.ensures.at
-    ∙ ap (λ b. items_of (struck_from c.args.source.now c.args.preamble.now.body b)) c.new-body.ensures.begins in (
+    let cursor = c.new-cursor.result in
+    let found = items_of (stripped_from c.args.source.now c.args.preamble.now.body true) in
+    let same : items_of (stripped_from body.source.now body.at body.line_begins) ≡ found =
+    ap (λ s. items_of (stripped_from s body.at body.line_begins)) c.new-body.ensures.source
+    ∙ ap (λ a. items_of (stripped_from c.args.source.now a body.line_begins)) c.new-body.ensures.at
+    ∙ ap (λ b. items_of (stripped_from c.args.source.now c.args.preamble.now.body b)) c.new-body.ensures.begins in (
       c.new-body.ensures.source,
-      ap (λ (f : Items). first_fault_from pen.left (state_at pen.column pen.row pen.live) f.items f.left_over) same
-          ∙ ap (λ left. first_fault_from left (state_at pen.column pen.row pen.live) found.items found.left_over) c.new-pen.ensures.left
-          ∙ ap (λ s. first_fault_from c.args.preamble.now.settings.pos.x s found.items found.left_over) c.new-pen.ensures.state,
+      ap (λ (f : Items). first_fault_from cursor.left (state_at cursor.column cursor.row cursor.live) f.items f.left_over) same
+          ∙ ap (λ left. first_fault_from left (state_at cursor.column cursor.row cursor.live) found.items found.left_over) c.new-cursor.ensures.left
+          ∙ ap (λ s. first_fault_from c.args.preamble.now.settings.pos.x s found.items found.left_over) c.new-cursor.ensures.state,
     )
 
 pub returns-in_err-run-clause-err : goal.returns-in_err-run-clause-err
 unfolding as_kept
 returns-in_err-run-clause-err c =
     let body = c.loop-run.body in
-    let pen = c.loop-run.pen in
-    let found = items_of (struck_from body.source.now body.at body.line_begins) in
+    let cursor = c.loop-run.cursor in
+    let found = items_of (stripped_from body.source.now body.at body.line_begins) in
     let p = err_from_is_err_and c.from_residual.result c.from_residual.ensures.1 in
     rw (p.1, p.2) (sym c.loop-run.invariant.1
-    ∙ first_fault-read pen.left (state_at pen.column pen.row pen.live) body.source.now found.items found.left_over c.in_err-run.field-0.0 (sym c.in_err-run.ensures.next))
+    ∙ first_fault-read cursor.left (state_at cursor.column cursor.row cursor.live) body.source.now found.items found.left_over c.in_err-run.field-0.0 (sym c.in_err-run.ensures.next))
 
 pub returns-in-Err-clause-err : goal.returns-in-Err-clause-err
 unfolding as_kept
 returns-in-Err-clause-err c =
     let body = c.loop-run.body in
-    let pen = c.loop-run.pen in
-    let found = items_of (struck_from body.source.now body.at body.line_begins) in
-    let reach : InReach (state_at pen.column pen.row pen.live) = record { column = pen.column_in_reach; row = pen.row_in_reach } in
+    let cursor = c.loop-run.cursor in
+    let found = items_of (stripped_from body.source.now body.at body.line_begins) in
+    let reach : InReach (state_at cursor.column cursor.row cursor.live) = record { column = cursor.column_in_reach; row = cursor.row_in_reach } in
     let run = run_seen c.in-Some.run' in
     sym c.loop-run.invariant.1
-    ∙ first_fault-here pen.left (state_at pen.column pen.row pen.live) reach body.source.now run found.items found.left_over c.in-Err.refusal
+    ∙ first_fault-here cursor.left (state_at cursor.column cursor.row cursor.live) reach body.source.now run found.items found.left_over c.in-Err.refusal
     (sym c.in_ok-run.ensures.next ∙ ap (λ o. Ok (option_map run_seen o)) c.in-Some.is) c.in-Err.ensures.err
 
 pub loop-run-preserved : goal.loop-run-preserved
 unfolding as_kept
 loop-run-preserved c =
     let body = c.loop-run.body in
-    let pen = c.loop-run.pen in
-    let next = c.pass.new.self in
-    let found = items_of (struck_from body.source.now body.at body.line_begins) in
-    let reach : InReach (state_at pen.column pen.row pen.live) = record { column = pen.column_in_reach; row = pen.row_in_reach } in
+    let cursor = c.loop-run.cursor in
+    let next = c.advance.new.self in
+    let found = items_of (stripped_from body.source.now body.at body.line_begins) in
+    let reach : InReach (state_at cursor.column cursor.row cursor.live) = record { column = cursor.column_in_reach; row = cursor.row_in_reach } in
     let run = run_seen c.in-Some.run' in
-    let later = items_of (struck_from c.next_run.new.body.source.now c.next_run.new.body.at c.next_run.new.body.line_begins) in
+    let later = items_of (stripped_from c.next_run.new.body.source.now c.next_run.new.body.at c.next_run.new.body.line_begins) in
     let rest : later ≡ items_after found = subst (λ o. OnSome o (later ≡ items_after found)) c.in-Some.is c.in_ok-run.ensures.rest in (
       c.in_ok-run.ensures.source ∙ c.loop-run.invariant.0,
       ap (λ (f : Items). first_fault_from next.left (state_at next.column next.row next.live) f.items f.left_over) rest
-          ∙ ap (λ left. first_fault_from left (state_at next.column next.row next.live) (items_after found).items found.left_over) c.in_default-pass.ensures.ok.2
-          ∙ ap (λ s. first_fault_from pen.left s (items_after found).items found.left_over) c.in_default-pass.ensures.ok.1
-          ∙ first_fault-on pen.left (state_at pen.column pen.row pen.live) reach body.source.now run found.items found.left_over
-          (sym c.in_ok-run.ensures.next ∙ ap (λ o. Ok (option_map run_seen o)) c.in-Some.is) c.in_default-pass.ensures.ok.0
+          ∙ ap (λ left. first_fault_from left (state_at next.column next.row next.live) (items_after found).items found.left_over) c.in_default-advance.ensures.ok.2
+          ∙ ap (λ s. first_fault_from cursor.left s (items_after found).items found.left_over) c.in_default-advance.ensures.ok.1
+          ∙ first_fault-on cursor.left (state_at cursor.column cursor.row cursor.live) reach body.source.now run found.items found.left_over
+          (sym c.in_ok-run.ensures.next ∙ ap (λ o. Ok (option_map run_seen o)) c.in-Some.is) c.in_default-advance.ensures.ok.0
           ∙ c.loop-run.invariant.1,
     )
 
@@ -72,8 +72,8 @@ pub returns-clause-ok : goal.returns-clause-ok
 unfolding as_kept
 returns-clause-ok c =
     let body = c.loop-run.body in
-    let pen = c.loop-run.pen in
-    let found = items_of (struck_from body.source.now body.at body.line_begins) in
+    let cursor = c.loop-run.cursor in
+    let found = items_of (stripped_from body.source.now body.at body.line_begins) in
     sym c.loop-run.invariant.1
-    ∙ first_fault-none pen.left (state_at pen.column pen.row pen.live) body.source.now found.items found.left_over
+    ∙ first_fault-none cursor.left (state_at cursor.column cursor.row cursor.live) body.source.now found.items found.left_over
     (sym c.in_ok-run.ensures.next ∙ ap (λ o. Ok (option_map run_seen o)) c.in_default.is)

@@ -1,6 +1,6 @@
 use Rattle.std.proofs.Common.{ap, subst, ◌∙◌}
 use Rattle.std.specs.List.{AllByRecursion}
-use Rattle.rle_reader.specs.Body.{struck}
+use Rattle.rle_reader.specs.Body.{stripped}
 use Rattle.rle_reader.specs.Items.{items_of}
 use Rattle.rle_reader.specs.Meaning.{Meaning, StayInRange, meaning_of}
 use Rattle.text_lines.specs.Lines.{lines_from}
@@ -24,4 +24,4 @@ pub returns-clause-counted : goal.returns-clause-counted
 unfolding meaning_of
 returns-clause-counted c =
     subst (λ (m : Meaning). AllByRecursion IsCounted m.runs) c.self.view_is
-    (runs_counted c.self.inside.source.now (items_of (struck (lines_from c.self.inside.source.now c.self.inside.preamble.body))).items)
+    (runs_counted c.self.inside.source.now (items_of (stripped (lines_from c.self.inside.source.now c.self.inside.preamble.body))).items)

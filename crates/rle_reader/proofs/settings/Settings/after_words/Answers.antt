@@ -11,30 +11,30 @@ loop-rest-init c = reading_on-start c.args.self (map word_of (words c.args.line.
 
 pub loop-rest-preserved-in-Ok : goal.loop-rest-preserved-in-Ok
 loop-rest-preserved-in-Ok c =
-    reading_on-word c.loop-rest.settings c.after_word-settings.result c.loop-rest.worst c.in-Some.text.now
+    reading_on-word c.loop-rest.settings c.after_word-settings.result c.loop-rest.lowest_refusal c.in-Some.text.now
     c.first_word.result.0.now (words_left (option_copied c.first_word.result.1)) c.in-Ok.word
     c.first_word.ensures.words c.in-Ok.ensures c.after_word-settings.ensures
-    ∙ ap (λ rest. reading_on c.loop-rest.settings c.loop-rest.worst (map word_of (words_left (option_copied rest)))) (sym c.in-Some.is)
+    ∙ ap (λ rest. reading_on c.loop-rest.settings c.loop-rest.lowest_refusal (map word_of (words_left (option_copied rest)))) (sym c.in-Some.is)
     ∙ c.loop-rest.invariant
 
 pub loop-rest-preserved : goal.loop-rest-preserved
 loop-rest-preserved c =
-    reading_on-refused c.loop-rest.settings c.loop-rest.worst c.lower-worst.result c.in-Some.text.now
+    reading_on-refused c.loop-rest.settings c.loop-rest.lowest_refusal c.lower-lowest_refusal.result c.in-Some.text.now
     c.first_word.result.0.now (words_left (option_copied c.first_word.result.1)) c.in-Err.refusal
-    c.first_word.ensures.words c.in-Err.ensures c.lower-worst.ensures
-    ∙ ap (λ rest. reading_on c.loop-rest.settings c.loop-rest.worst (map word_of (words_left (option_copied rest)))) (sym c.in-Some.is)
+    c.first_word.ensures.words c.in-Err.ensures c.lower-lowest_refusal.ensures
+    ∙ ap (λ rest. reading_on c.loop-rest.settings c.loop-rest.lowest_refusal (map word_of (words_left (option_copied rest)))) (sym c.in-Some.is)
     ∙ c.loop-rest.invariant
 
-pub returns-in-Some-worst : goal.returns-in-Some-worst
-returns-in-Some-worst c =
-    ap (λ worst. unless_refused worst c.loop-rest.settings) (sym c.in-Some-worst.is)
-    ∙ sym (reading_on-end c.loop-rest.settings c.loop-rest.worst)
-    ∙ ap (λ rest. reading_on c.loop-rest.settings c.loop-rest.worst (map word_of (words_left (option_copied rest)))) (sym c.in_default.is)
+pub returns-in-Some-lowest_refusal : goal.returns-in-Some-lowest_refusal
+returns-in-Some-lowest_refusal c =
+    ap (λ lowest_refusal. unless_refused lowest_refusal c.loop-rest.settings) (sym c.in-Some-lowest_refusal.is)
+    ∙ sym (reading_on-end c.loop-rest.settings c.loop-rest.lowest_refusal)
+    ∙ ap (λ rest. reading_on c.loop-rest.settings c.loop-rest.lowest_refusal (map word_of (words_left (option_copied rest)))) (sym c.in_default.is)
     ∙ c.loop-rest.invariant
 
 pub returns-in-None : goal.returns-in-None
 returns-in-None c =
-    ap (λ worst. unless_refused worst c.loop-rest.settings) (sym c.in-None.is)
-    ∙ sym (reading_on-end c.loop-rest.settings c.loop-rest.worst)
-    ∙ ap (λ rest. reading_on c.loop-rest.settings c.loop-rest.worst (map word_of (words_left (option_copied rest)))) (sym c.in_default.is)
+    ap (λ lowest_refusal. unless_refused lowest_refusal c.loop-rest.settings) (sym c.in-None.is)
+    ∙ sym (reading_on-end c.loop-rest.settings c.loop-rest.lowest_refusal)
+    ∙ ap (λ rest. reading_on c.loop-rest.settings c.loop-rest.lowest_refusal (map word_of (words_left (option_copied rest)))) (sym c.in_default.is)
     ∙ c.loop-rest.invariant

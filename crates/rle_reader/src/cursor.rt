@@ -11,7 +11,7 @@ use plane::{COORDINATE_LIMIT, Cell, LIVE_CELL_LIMIT, Refusal};
 
 /// The column and the row of the next item, and the number of live cells before it.
 #[derive(Clone, Copy)]
-pub(crate) struct Pen {
+pub(crate) struct Cursor {
     left: i64,
     column: i64,
     row: i64,
@@ -22,14 +22,14 @@ pub(crate) struct Pen {
     ghost live_in_reach: { live ≤ LIVE_CELL_LIMIT },
 }
 
-impl Pen {
+impl Cursor {
     /// Before the first item of a pattern whose upper left corner is at `pos`.
     pub(crate) fn new(pos: Cell) -> Self
         requires { IsInRange pos }
         ensures left { result.left ≡ pos.x }
         ensures state { state_at result.column result.row result.live ≡ start_at pos }
     {
-        Pen {
+        Cursor {
             left: pos.x,
             column: pos.x,
             row: pos.y,
@@ -48,7 +48,7 @@ impl Pen {
     }
 
     /// Goes on past an item.
-    pub(crate) fn pass(&mut self, run: &Run<'_>) -> Result<(), Refusal>
+    pub(crate) fn advance(&mut self, run: &Run<'_>) -> Result<(), Refusal>
         ensures ok { OnOk result ((motion_fault (state_at self.old.column self.old.row self.old.live) run.now.tag run.now.count ≡ None)
             × (state_at self.new.column self.new.row self.new.live
             ≡ after_item self.old.left (state_at self.old.column self.old.row self.old.live) run.now.tag run.now.count)
@@ -56,13 +56,13 @@ impl Pen {
         ensures err { IfErr result (λ refusal. motion_fault (state_at self.old.column self.old.row self.old.live) run.now.tag run.now.count ≡ Some refusal) }
     {
         match run.tag {
-            Tag::Row => self.pass_rows(run.count),
-            Tag::Dead => self.pass_dead(run.count),
-            Tag::Live => self.pass_live(run.count),
+            Tag::Row => self.advance_rows(run.count),
+            Tag::Dead => self.advance_dead(run.count),
+            Tag::Live => self.advance_live(run.count),
         }
     }
 
-    fn pass_rows(&mut self, count: u64) -> Result<(), Refusal>
+    fn advance_rows(&mut self, count: u64) -> Result<(), Refusal>
         ensures ok { OnOk result ((motion_fault (state_at self.old.column self.old.row self.old.live) Tag.Row count ≡ None)
             × (state_at self.new.column self.new.row self.new.live
             ≡ after_item self.old.left (state_at self.old.column self.old.row self.old.live) Tag.Row count)
@@ -72,7 +72,7 @@ impl Pen {
         let Some(row) = moved(self.row, count) else {
             return Err(Refusal::OutOfRange);
         };
-        *self = Pen {
+        *self = Cursor {
             left: self.left,
             column: self.left,
             row,
@@ -81,7 +81,7 @@ impl Pen {
         Ok(())
     }
 
-    fn pass_dead(&mut self, count: u64) -> Result<(), Refusal>
+    fn advance_dead(&mut self, count: u64) -> Result<(), Refusal>
         ensures ok { OnOk result ((motion_fault (state_at self.old.column self.old.row self.old.live) Tag.Dead count ≡ None)
             × (state_at self.new.column self.new.row self.new.live
             ≡ after_item self.old.left (state_at self.old.column self.old.row self.old.live) Tag.Dead count)
@@ -91,7 +91,7 @@ impl Pen {
         let Some(column) = moved(self.column, count) else {
             return Err(Refusal::OutOfRange);
         };
-        *self = Pen {
+        *self = Cursor {
             left: self.left,
             column,
             row: self.row,
@@ -100,7 +100,7 @@ impl Pen {
         Ok(())
     }
 
-    fn pass_live(&mut self, count: u64) -> Result<(), Refusal>
+    fn advance_live(&mut self, count: u64) -> Result<(), Refusal>
         ensures ok { OnOk result ((motion_fault (state_at self.old.column self.old.row self.old.live) Tag.Live count ≡ None)
             × (state_at self.new.column self.new.row self.new.live
             ≡ after_item self.old.left (state_at self.old.column self.old.row self.old.live) Tag.Live count)
@@ -116,7 +116,7 @@ impl Pen {
         if count > LIVE_CELL_LIMIT - self.live {
             return Err(Refusal::TooManyCells);
         }
-        *self = Pen {
+        *self = Cursor {
             left: self.left,
             column,
             row: self.row,
