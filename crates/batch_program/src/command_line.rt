@@ -1,3 +1,5 @@
+//! The words of the command line.
+
 ghost use Rattle.std.specs.Prelude.{◌≡◌, ℕ, List, [], ◌∷◌, codes, map, string_bytes, Option, IfOk, IfErr};
 ghost use Rattle.std.specs.Option.{option_copied, option_map};
 ghost use Rattle.clap.specs.Words.{Text, app_of, found_of, one_text};
@@ -20,11 +22,10 @@ use std::alloc::{AllocError, Global};
 use std::{error, fmt};
 use table_core::Shape;
 
-const ABOUT: &str = "Runs a pattern of a two-state cellular automaton for a number of generations.
+const ABOUT: &str = "A command-line HashLife for Golly pattern files.
 
-Reads a pattern file, RLE or macrocell, reports on standard output how many cells are live in the first and the \
-last generation, and on the way if asked, draws a window of the last one and writes the pattern if it is asked \
-to.";
+It reads an RLE or macrocell file and runs it for N generations. It reports the population of the first and the \
+last generation, and of those between if asked. It can draw part of the last generation and write its pattern.";
 
 const EXAMPLES: &str = "Examples:
   lifebatch -m 1103 r-pentomino.rle
@@ -36,13 +37,13 @@ const EXAMPLES: &str = "Examples:
   lifebatch -m 100 -i 10 glider.rle
       run 100 generations and report every tenth
   lifebatch -r B36/S23 -m 50 r-pentomino.rle
-      run 50 generations by the rule B36/S23
+      run 50 generations with the rule B36/S23
   lifebatch -q -m 1103 -o later.rle r-pentomino.rle
       run 1103 generations, write the pattern and report nothing
   lifebatch -m 100 --window=-20,-15,40,30 r-pentomino.rle
       run 100 generations and draw 40 by 30 cells, of which (-20,-15) is the upper left one
   lifebatch -m 1073741824 --nodes 67108864 --workers 4 breeder.mc
-      run 2^30 generations with room for more squares, by four workers";
+      run 2^30 generations in larger node tables, with four workers";
 
 /// Why the words of a command line ask for no run.
 #[derive(Debug, Drop)]
@@ -218,7 +219,7 @@ fn rule_option<'a>(alloc: Global) -> Arg<'a>
         "rule",
         'r',
         "R",
-        "Run by rule R in place of the file's",
+        "Use rule R; the file's rule is ignored",
     )
 }
 
@@ -229,7 +230,7 @@ fn window_option<'a>(alloc: Global) -> Arg<'a>
         alloc,
         "window",
         "X,Y,W,H",
-        "Draw W by H cells from (X,Y) behind the report: * live, . dead",
+        "Draw W by H cells from (X,Y) after the report: * live, . dead",
     )
 }
 
@@ -240,7 +241,7 @@ fn node_option<'a>(alloc: Global) -> Arg<'a>
         alloc,
         "nodes",
         "N",
-        "Bound all tables of squares by N slots, a power of two from 1024 to 268435456",
+        "Limit the node tables to N slots in total (18 bytes each), a power of two from 1024 to 268435456",
     )
     .value_parser(ValueParser::Unsigned(1024, 268435456))
     .default_value("4194304")
@@ -249,7 +250,7 @@ fn node_option<'a>(alloc: Global) -> Arg<'a>
 fn worker_option<'a>(alloc: Global) -> Arg<'a>
     ensures { HasRule result worker_option }
 {
-    long_option(alloc, "workers", "N", "Run by N workers, from 1 to 64")
+    long_option(alloc, "workers", "N", "Run with N workers, from 1 to 64")
         .value_parser(ValueParser::Unsigned(1, 64))
         .default_value("1")
 }

@@ -1,3 +1,5 @@
+//! The output file, created at its first byte.
+
 ghost use Rattle.std.specs.Prelude.{◌≡◌, ◌<◌, None, length, IfOk};
 ghost use Rattle.std.specs.Io.{WritesAtMost};
 

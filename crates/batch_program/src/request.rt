@@ -1,3 +1,5 @@
+//! What the words of a command line ask for.
+
 use engine::Options;
 
 /// What the words of a command line ask for.

@@ -53,7 +53,7 @@ module _ (bytes : List ℕ) (options : Options) (meaning : Meaning) (text : judg
 
   module _ (rule : CountRule) (read : ReadsRule options.rule meaning (Ok rule)) where
     pub range_refused : (refusal : Refusal) → IsOutOfRoom refusal ⊎ ((refusal ≡ TooFar) × LeavesRange meaning options.gens) →
-        (refusal ≡ NodesFull → HasFullTable options.pairs) → IsRefused bytes options (placeless refusal)
+        (refusal ≡ NodesFull → HasFullTable rule options.pairs) → IsRefused bytes options (placeless refusal)
     unfolding IsRefused
     range_refused refusal (inl no_room) full = inr (stopped_by bytes options refusal [] no_room (reported_none bytes options meaning rule text read) (λ is. inl (refl, full is)))
     range_refused refusal (inr (far, leaves)) full = inl (inr (inr (record {

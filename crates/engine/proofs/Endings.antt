@@ -44,7 +44,7 @@ copied_or None other = refl
 copied_or (Some slice) other = refl
 
 -- a run that has said nothing yet
-pub reported_none : (bytes : List ℕ) (options : Options) (meaning : Meaning) (rule : CountRule) → judged bytes ≡ Ok meaning → ReadsRule options.rule meaning (Ok rule) →
+abbrev pub reported_none : (bytes : List ℕ) (options : Options) (meaning : Meaning) (rule : CountRule) → judged bytes ≡ Ok meaning → ReadsRule options.rule meaning (Ok rule) →
     HasReported bytes options []
 reported_none bytes options meaning rule text read = record {
   meaning = meaning;
@@ -61,7 +61,7 @@ begun_of reported = record { meaning = reported.meaning; rule = reported.rule; t
 
 -- a run whose text and rule are accepted was stopped
 pub stopped_by : (bytes : List ℕ) (options : Options) (refusal : Refusal) (said : List ℕ) → IsOutOfRoom refusal → (reported : HasReported bytes options said) →
-    (refusal ≡ NodesFull → ((said ≡ []) × HasFullTable options.pairs) ⊎ IsStuckWithin reported.rule reported.meaning.live options.pairs options.gens) →
+    (refusal ≡ NodesFull → ((said ≡ []) × HasFullTable reported.rule options.pairs) ⊎ IsStuckWithin reported.rule reported.meaning.live options.pairs options.gens) →
     IsStopped bytes options (placeless refusal) said
 stopped_by bytes options refusal said (inl memory) reported full = inl (ap placeless memory, inr (begun_of reported))
 stopped_by bytes options refusal said (inr is) reported full = inr (ap placeless is, record { reported = reported; full = full is })

@@ -88,11 +88,11 @@ pub record HasReported (bytes : List ℕ) (options : Options) (said : List ℕ) 
   pub accepted : IsSilentOrAccepted bytes options said
   pub report : IsBeginning meaning rule options said
 
--- so it is, and tables of as many pair slots as the options allow are too small: a full one has no room for the cells of the
--- file, and nothing is said, or cells on the way have none
+-- so it is, and there is a full table of as many pair slots as the options allow: nothing is said, and it was opened for the
+-- cells of the file; or it was opened for cells on the way, or has no room for what these need
 pub record IsOutOfTables (bytes : List ℕ) (options : Options) (said : List ℕ) : Type 0 where
   pub reported : HasReported bytes options said
-  pub full : ((said ≡ []) × HasFullTable options.pairs)
+  pub full : ((said ≡ []) × HasFullTable reported.rule options.pairs)
       ⊎ IsStuckWithin reported.rule reported.meaning.live options.pairs options.gens
 
 -- memory ran out, or the tables of squares are full

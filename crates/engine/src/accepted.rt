@@ -12,7 +12,7 @@ ghost use Rattle.universe.specs.Cells.{limit_of, live_cells, rule_of};
 ghost use Rattle.universe.specs.Tables.{HasFullTable};
 
 use crate::options::Options;
-use crate::running::rule_refusal;
+use crate::rule_faults::rule_refusal;
 use patterns::PatternFile;
 use plane::{Fault, Refusal, reach};
 use rule_text::Rule;
@@ -68,7 +68,7 @@ fn universe_of(
     ensures limit { IfOk result (λ universe. limit_of universe ≡ limit) }
     ensures refused { IfErr result (λ refusal. IsOutOfRoom refusal
         ⊎ ((refusal ≡ Refusal.TooFar) × LeavesRange (meaning_of text.now) generations)) }
-    ensures full { IfErr result (λ refusal. refusal ≡ Refusal.NodesFull → HasFullTable limit) }
+    ensures full { IfErr result (λ refusal. refusal ≡ Refusal.NodesFull → HasFullTable rule.now limit) }
 {
     let (universe, bounds) = Universe::of(alloc, rule, text, limit)?.bounds(alloc)?;
     reach(bounds, text.generation(), generations)?;

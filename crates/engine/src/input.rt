@@ -1,3 +1,5 @@
+//! The bytes of a source.
+
 ghost use Rattle.std.specs.Prelude.{◌≡◌, IfOk, IfSome, IfErr, OnOk};
 ghost use Rattle.engine.specs.Devices.{IsWholeInput, IsReadRefusal};
 
@@ -23,8 +25,6 @@ pub fn load<R: Source>(alloc: Global, source: &mut R) -> Result<Vec<u8>, Refusal
         if count == 0 {
             return Ok(bytes);
         }
-        if bytes.extend_from_slice(&chunk[..count]).is_err() {
-            return Err(Refusal::NoMemory);
-        }
+        bytes.extend_from_slice(&chunk[..count])?;
     }
 }

@@ -7,11 +7,13 @@ mod laws;
 mod options;
 mod report;
 mod reported;
+mod rule_faults;
 mod running;
 
 pub use input::load;
 pub use laws::{every_number_of_workers, one_ending, one_judgement};
 pub use options::Options;
 pub use patterns::Format;
-pub use running::{Summary, rule_refusal, run, run_gated};
+pub use rule_faults::rule_refusal;
+pub use running::{Summary, run, run_gated};
 pub use worker_split::{Gate, OpenGate};

@@ -1,3 +1,5 @@
+//! What a run is asked to do.
+
 use patterns::Format;
 use plane::Window;
 use rule_text::Rule;
@@ -12,7 +14,7 @@ pub struct Options {
     pub step: u64,
     /// The rule to run by in place of the file's, if one is given.
     pub rule: Option<Rule>,
-    /// The window of the last generation that is drawn behind the report, if one is.
+    /// The window of the last generation that is drawn after the report, if one is.
     pub window: Option<Window>,
     /// The format of the pattern that is written, if one is.
     pub format: Option<Format>,

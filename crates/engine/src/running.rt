@@ -1,10 +1,11 @@
+//! A run from end to end.
+
 ghost use Rattle.std.specs.Prelude.{◌≡◌, ◌⊎◌, None, IfOk, IfErr, IsOkUnless, OnOk};
 ghost use Rattle.plane.specs.Device.{HasFailed};
 ghost use Rattle.table_core.specs.Sizes.{IsPairCount};
 ghost use Rattle.plane.specs.Square.{IsSame};
 ghost use Rattle.universe.specs.Cells.{live_cells};
 ghost use Rattle.engine.specs.Accepted.{SumsUp};
-ghost use Rattle.engine.specs.Judgement.{rule_refusal};
 ghost use Rattle.patterns.specs.Pattern.{plane_of};
 ghost use Rattle.engine.specs.Workers.{IsWorkerCount};
 ghost use Rattle.engine.specs.Run.{CanBeWritten, HasFinished, HasStopped};
@@ -14,7 +15,6 @@ use crate::options::Options;
 use crate::reported::run_reported;
 use patterns::Pattern;
 use plane::{Bounds, Fault, Refusal, Sink};
-use rule_text::RuleFault;
 use std::alloc::Global;
 use std::sync::Wait;
 use std::thread::Threads;
@@ -66,7 +66,8 @@ pub fn run<R: Threads + Wait + Sync, W: Sink, V: Sink>(
     run_gated(rt, alloc, bytes, options, report, file, &OpenGate)
 }
 
-/// The same, with a gate, which is called before and after each job of several workers.
+/// The same, with a gate, which is called before and after each job of several workers. No clause can say that
+/// it is called. Tests show it: in a run by two workers each sees, before its first job, that the other has begun.
 pub fn run_gated<R: Threads + Wait + Sync, G: Gate, W: Sink, V: Sink>(
     rt: &R,
     alloc: Global,
@@ -127,14 +128,4 @@ fn ended(alloc: Global, universe: Universe, generation: u64) -> Result<(Pattern,
         bounds,
     };
     Ok((last, summary))
-}
-
-/// The refusal of a rule's fault: `BadRule` or `BirthOnZero`.
-pub fn rule_refusal(fault: RuleFault) -> Refusal
-    ensures { result ≡ rule_refusal fault }
-{
-    match fault {
-        RuleFault::BadRule => Refusal::BadRule,
-        RuleFault::BirthOnZero => Refusal::BirthOnZero,
-    }
 }

@@ -9,7 +9,8 @@ use Rattle.plane.proofs.Turns.{AllByRecursion-append, AllByRecursion-weaker}
 use Rattle.text_lines.specs.Bytes.{ended_parts}
 use Rattle.text_lines.specs.Comments.{is_comment}
 use Rattle.text_lines.specs.Lines.{is_line_feed, lines, placed_lines, raw_lines, without_return}
-use Rattle.rle_reader.specs.Body.{Spot, counting, is_skipped, spots, struck, struck_line}
+use Rattle.rle_reader.specs.Body.{significant, is_skipped, located_bytes, stripped, stripped_line}
+use Rattle.rle_reader.specs.declared.body.LocatedByte.{LocatedByte}
 use Rattle.rle_reader.specs.declared.item.Tag.{Tag}
 use Rattle.rle_reader.specs.declared.item.Tag.TheVariants.{Dead, Live, Row}
 use Rattle.pattern_writers.specs.Items.{item_text, tag_text}
@@ -19,25 +20,25 @@ use Rattle.pattern_writers.proofs.BodyReading.{HasShortCount, body_text-joined, 
 use Rattle.pattern_writers.proofs.TextLines.{IsPlain, plain_kept}
 use Rattle.pattern_writers.proofs.Decimals.{decimal_is}
 
--- ---- the bytes of spots
+-- ---- the bytes of bytes
 
-abbrev pub bytes_of : List Spot → List ℕ
-bytes_of spots = map (λ (spot : Spot). spot.byte) spots
+abbrev pub bytes_of : List LocatedByte → List ℕ
+bytes_of located_bytes = map (λ (located : LocatedByte). located.byte) located_bytes
 
 -- the bytes of a text that count
 abbrev wanted : List ℕ → List ℕ
 wanted text = filter (λ byte. not (is_skipped byte)) text
 
-one_more : (b : Bool) (spot : Spot) (more : List Spot) (bytes : List ℕ) → bytes_of more ≡ bytes →
-    bytes_of (cond b (spot ∷ more) more) ≡ cond b (spot.byte ∷ bytes) bytes
-one_more true spot more bytes is = ap (λ l. spot.byte ∷ l) is
-one_more false spot more bytes is = is
+one_more : (b : Bool) (located : LocatedByte) (more : List LocatedByte) (bytes : List ℕ) → bytes_of more ≡ bytes →
+    bytes_of (cond b (located ∷ more) more) ≡ cond b (located.byte ∷ bytes) bytes
+one_more true located more bytes is = ap (λ l. located.byte ∷ l) is
+one_more false located more bytes is = is
 
-counting_bytes : (place : ℕ) (text : List ℕ) → bytes_of (counting (spots place text)) ≡ wanted text
-unfolding spots
+counting_bytes : (place : ℕ) (text : List ℕ) → bytes_of (significant (located_bytes place text)) ≡ wanted text
+unfolding located_bytes
 counting_bytes place [] = refl
 counting_bytes place (first ∷ rest) =
-    one_more (not (is_skipped first)) (record { place = place; byte = first }) (counting (spots (place + 1) rest)) (wanted rest) (counting_bytes (place + 1) rest)
+    one_more (not (is_skipped first)) (record { place = place; byte = first }) (significant (located_bytes (place + 1) rest)) (wanted rest) (counting_bytes (place + 1) rest)
 
 -- a byte of an item: it counts, and begins no comment
 record IsItemByte (byte : ℕ) : Type 0 where
@@ -55,19 +56,19 @@ no_comment (first ∷ rest) all = all.0.begins
 kept_line : (text : List ℕ) → AreItemBytes text → without_return text ≡ text
 kept_line text all = plain_kept text (AllByRecursion-weaker IsItemByte IsPlain (λ byte one. one.plain) text all)
 
-line_bytes : (place : ℕ) (text : List ℕ) → AreItemBytes text → bytes_of (struck_line (record { place = place; text = without_return text })) ≡ wanted text
-unfolding struck_line
+line_bytes : (place : ℕ) (text : List ℕ) → AreItemBytes text → bytes_of (stripped_line (record { place = place; text = without_return text })) ≡ wanted text
+unfolding stripped_line
 line_bytes place text all =
-    ap (λ t. bytes_of (cond (is_comment t) [] (counting (spots place t)))) (kept_line text all)
-    ∙ ap (λ b. bytes_of (cond b [] (counting (spots place text)))) (no_comment text all) ∙ counting_bytes place text
+    ap (λ t. bytes_of (cond (is_comment t) [] (significant (located_bytes place t)))) (kept_line text all)
+    ∙ ap (λ b. bytes_of (cond b [] (significant (located_bytes place text)))) (no_comment text all) ∙ counting_bytes place text
 
-struck_bytes : (place : ℕ) (texts : List (List ℕ)) → AllByRecursion AreItemBytes texts → bytes_of (struck (placed_lines place texts)) ≡ flat_map wanted texts
+struck_bytes : (place : ℕ) (texts : List (List ℕ)) → AllByRecursion AreItemBytes texts → bytes_of (stripped (placed_lines place texts)) ≡ flat_map wanted texts
 unfolding placed_lines
 struck_bytes place [] all = refl
 struck_bytes place (text ∷ texts) all =
-    let line : List Spot = struck_line (record { place = place; text = without_return text }) in
-    let more : List Spot = struck (placed_lines (place + length text + 1) texts) in
-    map-append (λ (spot : Spot). spot.byte) line more
+    let line : List LocatedByte = stripped_line (record { place = place; text = without_return text }) in
+    let more : List LocatedByte = stripped (placed_lines (place + length text + 1) texts) in
+    map-append (λ (located : LocatedByte). located.byte) line more
     ∙ ap (λ l. l ++ bytes_of more) (line_bytes place text all.0)
     ∙ ap (λ l. wanted text ++ l) (struck_bytes (place + length text + 1) texts all.1)
 
@@ -165,7 +166,7 @@ laid_out_bytes line (piece ∷ pieces) one all =
     ]
 
 -- the bytes of a body that count are the texts of its items and the `!`
-pub body_bytes : (place : ℕ) (items : List Item) → AllByRecursion HasShortCount items → bytes_of (struck (lines place (body_text items))) ≡ items_text items
+pub body_bytes : (place : ℕ) (items : List Item) → AllByRecursion HasShortCount items → bytes_of (stripped (lines place (body_text items))) ≡ items_text items
 body_bytes place items small =
     let all : AllByRecursion IsBodyByte (body_text items) = laid_out_bytes [] (map item_text items ++ codes "!" ∷ []) tt (piece_bytes items small) in
     struck_bytes place (raw_lines (body_text items)) (cut_bytes (body_text items) all)

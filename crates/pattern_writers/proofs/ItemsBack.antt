@@ -13,8 +13,8 @@ use Rattle.plane.proofs.Cells.{at}
 use Rattle.plane.proofs.Cuts.{and_left, and_right}
 use Rattle.text_lines.specs.Faults.{fault_at}
 use Rattle.text_lines.specs.Numbers.{decimal_value}
-use Rattle.rle_reader.specs.Body.{Spot}
-use Rattle.rle_reader.specs.Items.{Items, count_of, drawn_as, drawn_from, is_digit_spot, is_end_spot, items_of, place_of, run_of, tag_of, with_digit, with_tag}
+use Rattle.rle_reader.specs.declared.body.LocatedByte.{LocatedByte}
+use Rattle.rle_reader.specs.Items.{Items, count_of, item_slice_between, item_slice_from, is_digit, is_end, items_of, place_of, run_of, tag_of, with_digit, with_tag}
 use Rattle.rle_reader.specs.Meaning.{covers, first_fault_from, is_covered, item_fault, state_after}
 use Rattle.rle_reader.specs.State.{State, after_item, faults_of, first_fault, leaves_range, passes_cells, when}
 use Rattle.rle_reader.specs.declared.item.Tag.{Tag}
@@ -27,21 +27,21 @@ use Rattle.pattern_writers.proofs.MaximalRuns.{in_span}
 use Rattle.pattern_writers.proofs.Decimals.{decimal_is}
 use Rattle.rle_reader.specs.Items as reader
 
--- ---- the first item of spots
+-- ---- the first item of bytes
 
-digit_first : (digit : Spot) (rest : List Spot) → is_digit_spot digit ≡ true → items_of (digit ∷ rest) ≡ with_digit digit (items_of rest)
+digit_first : (digit : LocatedByte) (rest : List LocatedByte) → is_digit digit ≡ true → items_of (digit ∷ rest) ≡ with_digit digit (items_of rest)
 unfolding items_of
 digit_first digit rest is = rw is refl
 
-end_first : (stop : Spot) (rest : List Spot) → is_digit_spot stop ≡ false → is_end_spot stop ≡ true → items_of (stop ∷ rest) ≡ record { items = []; left_over = [] }
+end_first : (stop : LocatedByte) (rest : List LocatedByte) → is_digit stop ≡ false → is_end stop ≡ true → items_of (stop ∷ rest) ≡ record { items = []; left_over = [] }
 unfolding items_of
 end_first stop rest no_digit ends = rw (no_digit, ends) refl
 
-tag_first : (tag : Spot) (rest : List Spot) → is_digit_spot tag ≡ false → is_end_spot tag ≡ false → items_of (tag ∷ rest) ≡ with_tag tag (items_of rest)
+tag_first : (tag : LocatedByte) (rest : List LocatedByte) → is_digit tag ≡ false → is_end tag ≡ false → items_of (tag ∷ rest) ≡ with_tag tag (items_of rest)
 unfolding items_of
 tag_first tag rest no_digit no_end = rw (no_digit, no_end) refl
 
-item_first : (digits : List Spot) (tag : Spot) (rest : List Spot) → list_all is_ascii_digit (bytes_of digits) ≡ true → is_digit_spot tag ≡ false → is_end_spot tag ≡ false →
+item_first : (digits : List LocatedByte) (tag : LocatedByte) (rest : List LocatedByte) → list_all is_ascii_digit (bytes_of digits) ≡ true → is_digit tag ≡ false → is_end tag ≡ false →
     items_of (digits ++ tag ∷ rest) ≡ record { items = record { digits = digits; tag = tag } ∷ (items_of rest).items; left_over = (items_of rest).left_over }
 unfolding with_digit
 item_first [] tag rest all no_digit no_end = tag_first tag rest no_digit no_end
@@ -49,41 +49,41 @@ item_first (digit ∷ digits) tag rest all no_digit no_end =
     digit_first digit (digits ++ tag ∷ rest) (and_left (is_ascii_digit digit.byte) (list_all is_ascii_digit (bytes_of digits)) all)
     ∙ ap (with_digit digit) (item_first digits tag rest (and_right (is_ascii_digit digit.byte) (list_all is_ascii_digit (bytes_of digits)) all) no_digit no_end)
 
--- ---- spots, cut where their bytes are
+-- ---- bytes, cut where their bytes are
 
--- the spots of one text and those of the text after it
-record IsCut (spots : List Spot) (front back : List ℕ) : Type 0 where
-  first : List Spot
-  rest : List Spot
-  whole : spots ≡ first ++ rest
+-- the bytes of one text and those of the text after it
+record IsCut (located_bytes : List LocatedByte) (front back : List ℕ) : Type 0 where
+  first : List LocatedByte
+  rest : List LocatedByte
+  whole : located_bytes ≡ first ++ rest
   first_is : bytes_of first ≡ front
   rest_is : bytes_of rest ≡ back
 
-cut_at : (spots : List Spot) (front back : List ℕ) → bytes_of spots ≡ front ++ back → IsCut spots front back
-cut_at spots [] back is = record { first = []; rest = spots; whole = refl; first_is = refl; rest_is = is }
+cut_at : (located_bytes : List LocatedByte) (front back : List ℕ) → bytes_of located_bytes ≡ front ++ back → IsCut located_bytes front back
+cut_at located_bytes [] back is = record { first = []; rest = located_bytes; whole = refl; first_is = refl; rest_is = is }
 cut_at [] (byte ∷ front) back is = absurd (cc)
-cut_at (spot ∷ spots) (byte ∷ front) back is =
-    let one : spot.byte ≡ byte = cc in
-    let more = cut_at spots front back (ap (drop 1) is) in
+cut_at (located ∷ located_bytes) (byte ∷ front) back is =
+    let one : located.byte ≡ byte = cc in
+    let more = cut_at located_bytes front back (ap (drop 1) is) in
     record {
-      first = spot ∷ more.first;
+      first = located ∷ more.first;
       rest = more.rest;
-      whole = ap (λ l. spot ∷ l) more.whole;
+      whole = ap (λ l. located ∷ l) more.whole;
       first_is = λ i. one i ∷ more.first_is i;
       rest_is = more.rest_is;
     }
 
--- the spot of one byte and those of the text after it
-record BeginsWith (spots : List Spot) (byte : ℕ) (back : List ℕ) : Type 0 where
-  spot : Spot
-  rest : List Spot
-  whole : spots ≡ spot ∷ rest
-  byte_is : spot.byte ≡ byte
+-- the byte of one byte and those of the text after it
+record BeginsWith (located_bytes : List LocatedByte) (byte : ℕ) (back : List ℕ) : Type 0 where
+  located : LocatedByte
+  rest : List LocatedByte
+  whole : located_bytes ≡ located ∷ rest
+  byte_is : located.byte ≡ byte
   rest_is : bytes_of rest ≡ back
 
-begins_with : (spots : List Spot) (byte : ℕ) (back : List ℕ) → bytes_of spots ≡ byte ∷ back → BeginsWith spots byte back
+begins_with : (located_bytes : List LocatedByte) (byte : ℕ) (back : List ℕ) → bytes_of located_bytes ≡ byte ∷ back → BeginsWith located_bytes byte back
 begins_with [] byte back is = absurd (cc)
-begins_with (spot ∷ spots) byte back is = record { spot = spot; rest = spots; whole = refl; byte_is = cc; rest_is = ap (drop 1) is }
+begins_with (located ∷ located_bytes) byte back is = record { located = located; rest = located_bytes; whole = refl; byte_is = cc; rest_is = ap (drop 1) is }
 
 -- ---- what an item says
 
@@ -107,7 +107,7 @@ count_digits : (count : ℕ) → count < 2 ^ 64 → list_all is_ascii_digit (cou
 count_digits count small =
     elim (count == 1) as (λ b. list_all is_ascii_digit (if b then [] else decimal count) ≡ true) [ true ↦ refl | false ↦ (decimal_is count small).digits_all ]
 
-count_by : (digits : List Spot) (count : ℕ) (b : Bool) → count < 2 ^ 64 → (count == 1) ≡ b → bytes_of digits ≡ (if b then [] else decimal count) → count_of digits ≡ count
+count_by : (digits : List LocatedByte) (count : ℕ) (b : Bool) → count < 2 ^ 64 → (count == 1) ≡ b → bytes_of digits ≡ (if b then [] else decimal count) → count_of digits ≡ count
 count_by [] count true small one is = grind (arith, nat_tests)
 count_by [] count false small other is = absurd (omega (arith, ap length is, (decimal_is count small).some))
 count_by (digit ∷ digits) count true small one is = absurd (cc)
@@ -131,17 +131,17 @@ pub record ReadsBack (found : Items) (items : List Item) : Type 0 where
   pub each : AreBack found.items items
   pub none : found.left_over ≡ []
 
-pub items_back : (spots : List Spot) (items : List Item) → AllByRecursion HasShortCount items → bytes_of spots ≡ items_text items → ReadsBack (items_of spots) items
-items_back spots [] small is =
-    let stop = begins_with spots 33 [] is in
-    subst (λ found. ReadsBack found []) (sym (ap items_of stop.whole ∙ end_first stop.spot stop.rest (ap is_ascii_digit stop.byte_is) (ap (λ b. b == 33) stop.byte_is)))
+pub items_back : (located_bytes : List LocatedByte) (items : List Item) → AllByRecursion HasShortCount items → bytes_of located_bytes ≡ items_text items → ReadsBack (items_of located_bytes) items
+items_back located_bytes [] small is =
+    let stop = begins_with located_bytes 33 [] is in
+    subst (λ found. ReadsBack found []) (sym (ap items_of stop.whole ∙ end_first stop.located stop.rest (ap is_ascii_digit stop.byte_is) (ap (λ b. b == 33) stop.byte_is)))
     (record { each = tt; none = refl })
-items_back spots (item ∷ items) small is =
-    let cut = cut_at spots (count_text item.count) (tag_byte item.tag ∷ items_text items) (is ∙ item_text-flat item (items_text items)) in
+items_back located_bytes (item ∷ items) small is =
+    let cut = cut_at located_bytes (count_text item.count) (tag_byte item.tag ∷ items_text items) (is ∙ item_text-flat item (items_text items)) in
     let tag = begins_with cut.rest (tag_byte item.tag) (items_text items) cut.rest_is in
     let more = items_back tag.rest items small.1 tag.rest_is in
     let digits : list_all is_ascii_digit (bytes_of cut.first) ≡ true = ap (list_all is_ascii_digit) cut.first_is ∙ count_digits item.count small.0 in
-    let first = item_first cut.first tag.spot tag.rest digits (ap is_ascii_digit tag.byte_is ∙ tag_no_digit item.tag) (ap (λ b. b == 33) tag.byte_is ∙ tag_no_end item.tag) in
+    let first = item_first cut.first tag.located tag.rest digits (ap is_ascii_digit tag.byte_is ∙ tag_no_digit item.tag) (ap (λ b. b == 33) tag.byte_is ∙ tag_no_end item.tag) in
     subst (λ found. ReadsBack found (item ∷ items)) (sym (ap items_of (cut.whole ∙ ap (λ l. cut.first ++ l) tag.whole) ∙ first)) (record {
       each = (
         record { tag = ap tag_of tag.byte_is ∙ tag_read item.tag; count = count_by cut.first item.count (item.count == 1) small.0 refl cut.first_is },
@@ -192,12 +192,12 @@ no_fault left state (found ∷ others) (item ∷ items) back all =
 
 drawn : (source : List ℕ) (found : reader.Item) (item : Item) → IsBack found item → (item.count == 0) ≡ false → run_of source found ≡
     Ok (record { text = slice_range source (place_of found.digits found.tag) (found.tag.place + 1); place = place_of found.digits found.tag; count = item.count; tag = item.tag })
-unfolding drawn_from
+unfolding item_slice_from
 drawn source found item back some =
     let place = place_of found.digits found.tag in
     let end = found.tag.place + 1 in
-    ap (drawn_as source place (count_of found.digits) end) back.tag
-    ∙ ap (λ n. drawn_as source place n end (Ok item.tag)) back.count
+    ap (item_slice_between source place (count_of found.digits) end) back.tag
+    ∙ ap (λ n. item_slice_between source place n end (Ok item.tag)) back.count
     ∙ ap (λ b. cond b (Err BadCount) (Ok (record { text = slice_range source place end; place = place; count = item.count; tag = item.tag }))) some
 
 four_tests : (a b c : Bool) → ((a && b) && c) ≡ (a && (b && c))

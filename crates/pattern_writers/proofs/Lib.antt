@@ -37,3 +37,5 @@ pub mod HeaderLines
 pub mod RleTextReading
 pub mod RowsBetween
 pub mod BandsDown
+pub mod WrittenReadBack
+pub mod LeafInMiddle

@@ -13,11 +13,11 @@ use Rattle.plane.specs.declared.cell.Cell.{Cell}
 use Rattle.plane.specs.declared.fault.Fault.{Fault}
 use Rattle.plane.proofs.Turns.{AllByRecursion-weaker}
 use Rattle.text_lines.specs.Comments.{comments_of, is_kept}
-use Rattle.text_lines.specs.Faults.{at_place, ◌>>=◌}
+use Rattle.text_lines.specs.Faults.{at_place, unless, ◌>>=◌}
 use Rattle.text_lines.specs.Lines.{Line, is_line_feed, lines, placed_lines, raw_lines, without_return}
-use Rattle.rle_reader.specs.Body.{struck}
+use Rattle.rle_reader.specs.Body.{stripped}
 use Rattle.rle_reader.specs.Header.{header_rule}
-use Rattle.rle_reader.specs.Meaning.{body_fault, first_fault_from, judged, live_plane, meaning_of, unless}
+use Rattle.rle_reader.specs.Meaning.{body_fault, first_fault_from, judged, live_plane, meaning_of}
 use Rattle.rle_reader.specs.Opening.{Opening, after_lines, before_header, from_header, may_stand, opening_of, stands_before_header, with_header}
 use Rattle.rle_reader.specs.Settings.{after_line, nothing_said}
 use Rattle.rle_reader.specs.State.{start_at}
@@ -172,11 +172,11 @@ text_cut first header body comments plain also are =
 
 -- ---- the whole
 
-judged_by : (text : List ℕ) (all : List Line) (opening : Opening) → lines 0 text ≡ all → opening_of (length text) all ≡ Ok opening → body_fault opening.settings.pos (reader.items_of (struck opening.body)) ≡ None →
+judged_by : (text : List ℕ) (all : List Line) (opening : Opening) → lines 0 text ≡ all → opening_of (length text) all ≡ Ok opening → body_fault opening.settings.pos (reader.items_of (stripped opening.body)) ≡ None →
     judged text ≡ Ok (meaning_of text opening)
 unfolding judged
 judged_by text all opening lines_is found none =
-    ap (λ (o : Result Opening Fault). o >>= λ opening. unless (body_fault opening.settings.pos (reader.items_of (struck opening.body))) (meaning_of text opening)) (ap (opening_of (length text)) lines_is ∙ found)
+    ap (λ (o : Result Opening Fault). o >>= λ opening. unless (body_fault opening.settings.pos (reader.items_of (stripped opening.body))) (meaning_of text opening)) (ap (opening_of (length text)) lines_is ∙ found)
     ∙ ap (λ fault. unless fault (meaning_of text opening)) none
 
 module _ (comments : List (List ℕ)) (rule : CountRule) (generation : ℕ) (plane : Plane) (cells : List Cell) (readable : IsReadable comments generation plane cells) where
@@ -235,13 +235,13 @@ module _ (comments : List (List ℕ)) (rule : CountRule) (generation : ℕ) (pla
   text_lines = ap (placed_lines 0) (text_cut first header (body_text items) comments first_is_plain header_is_plain readable.are_comments)
 
   abbrev found : reader.Items
-  found = reader.items_of (struck opening.body)
+  found = reader.items_of (stripped opening.body)
 
   read_back : ReadsBack found items
   read_back =
       let short = corner_short frame cells in_frame in
       let counts = counts_short corner cells short.0 short.1 readable.cells_in_range in
-      items_back (struck opening.body) items counts (body_bytes (header_place (length text) first header (canonical_text rule) settings comments body opening_is + length header + 1) items counts)
+      items_back (stripped opening.body) items counts (body_bytes (header_place (length text) first header (canonical_text rule) settings comments body opening_is + length header + 1) items counts)
 
   faultless : AreFaultless corner.x (start_at corner) items
   faultless =

@@ -13,4 +13,5 @@ pub mod RleText
 pub mod Roots
 pub mod RowRuns
 pub mod Subsquares
+pub mod Taken
 pub mod WrittenComments

@@ -29,3 +29,8 @@ pub record IsReadFromMc (comments : List (List ℕ)) (rule : CountRule) (generat
   pub same_rule : meaning.rule ≡ Some (canonical_text rule)
   pub same_comments : AllByRecursion HasNoReturn comments → meaning.comments ≡ comments
   pub same_cells : IsSame (live_plane meaning) plane
+
+-- if a macrocell file can hold the pattern, the text is read as the pattern
+abbrev pub IsReadBackFromMc : Plane → List (List ℕ) → CountRule → ℕ → List ℕ → Type 0
+IsReadBackFromMc plane comments rule generation text =
+    (level : ℕ) → FitsMc comments generation level plane → IsReadFromMc comments rule generation plane text

@@ -28,3 +28,8 @@ pub record IsReadFromRle (comments : List (List ℕ)) (rule : CountRule) (genera
   pub same_rule : meaning.rule ≡ Some (canonical_text rule)
   pub same_comments : AllByRecursion HasNoReturn comments → meaning.comments ≡ comments
   pub same_cells : IsSame (live_plane meaning) plane
+
+-- if the pattern can be read, the text is read as the pattern
+abbrev pub IsReadBackFromRle : Plane → List (List ℕ) → CountRule → ℕ → List ℕ → Type 0
+IsReadBackFromRle plane comments rule generation text =
+    (cells : List Cell) → IsReadable comments generation plane cells → IsReadFromRle comments rule generation plane text

@@ -4,28 +4,35 @@ ghost use Rattle.std.specs.Prelude.{◌≡◌, ◌⊎◌, ◌≤◌, OnOk, IfErr
 ghost use Rattle.plane.specs.Centred.{centred};
 ghost use Rattle.plane.specs.Device.{IsWriteRefusal};
 ghost use Rattle.squares.specs.Book.{IsKnown};
+ghost use Rattle.pattern_writers.specs.McReading.{IsReadBackFromMc};
 ghost use Rattle.pattern_writers.specs.McText.{WritesMc};
+ghost use Rattle.pattern_writers.specs.Taken.{IfTaken};
 
 mod leaf;
 mod listing;
 mod node;
 mod opening;
 mod root;
+mod whole;
 
 use crate::comments::begin;
 use arrayvec::ArrayVec;
-use listing::listed_nodes;
 use node::write_nodes;
 use opening::opening_lines;
 use plane::{Refusal, Sink, write_all};
 use rle_reader::Comments;
 use rule_text::Rule;
-use squares::{ReadSquares, Sq};
+use squares::{Look, Sq};
 use std::alloc::Global;
+use whole::pattern_nodes;
 
-/// Writes the cells of a square of a level from 4 to 63, whose centre corner is (0,0), with the comments, the rule
-/// and the generation. It refuses `NoMemory` before the first byte, and `WriteFailed` where the sink failed.
-pub fn write_mc<B: ReadSquares, V: Sink>(
+/// Writes the cells of a square of a level from 3 to 63, whose centre corner is (0,0), with the comments, the rule
+/// and the generation. The root in the file has the smallest level of at least 4 that covers the cells, whatever the
+/// square's level. It refuses `NoMemory` before the first byte, and `WriteFailed` where the sink failed.
+///
+/// What the sink took is read as the same cells, rule and generation, and as the same comments where none ends with a
+/// CR, if the generation is at most 2^63, there are fewer than 2^32 nodes and each comment is a line that is kept.
+pub fn write_mc<B: Look, V: Sink>(
     alloc: Global,
     book: &B,
     sq: Sq,
@@ -35,15 +42,16 @@ pub fn write_mc<B: ReadSquares, V: Sink>(
     file: &mut V,
 ) -> Result<(), Refusal>
     requires known { IsKnown (B.book book.now) sq.level sq }
-    requires low { 4 ≤ sq.level }
     requires high { sq.level ≤ 63 }
     ensures written { OnOk result (WritesMc (centred sq.level ((B.book book.now).cells sq)) comments.entry rule.now generation (V.taken file.old) (V.taken file.new)) }
+    ensures read_back { OnOk result (IfTaken (V.taken file.old) (V.taken file.new)
+        (IsReadBackFromMc (centred sq.level ((B.book book.now).cells sq)) comments.entry rule.now generation)) }
     ensures unfailed { OnOk result (V.failure_count file.new ≡ V.failure_count file.old) }
     ensures refused { IfErr result (λ refusal.
         (refusal ≡ Refusal.NoMemory × file.new ≡ file.old)
         ⊎ IsWriteRefusal (V.failure_count file.old) (V.failure_count file.new) refusal) }
 {
-    let nodes = listed_nodes(alloc, book, sq)?;
+    let nodes = pattern_nodes(alloc, book, sq, rule)?;
     let opening = opening_lines(rule.text().as_str(), generation);
     let mut block = ArrayVec::new();
     begin(file, &mut block, opening.as_str(), comments)?;

@@ -5,7 +5,9 @@ ghost use Rattle.plane.specs.Centred.{centred};
 ghost use Rattle.plane.specs.Device.{IsWriteRefusal};
 ghost use Rattle.squares.specs.Book.{IsKnown};
 ghost use Rattle.std.specs.Io.KnownBytes.{Appends};
+ghost use Rattle.pattern_writers.specs.RleReading.{IsReadBackFromRle};
 ghost use Rattle.pattern_writers.specs.RleText.{HasRleText, IsTooLarge, WritesRle, items_text};
+ghost use Rattle.pattern_writers.specs.Taken.{IfTaken};
 
 mod bands;
 mod frame;
@@ -26,7 +28,7 @@ use opening::{header_line, position_line};
 use plane::{Refusal, Sink, write_all};
 use rle_reader::Comments;
 use rule_text::Rule;
-use squares::{ReadSquares, Sq};
+use squares::{Look, Sq};
 use std::alloc::Global;
 use std::thread::Threads;
 
@@ -34,7 +36,10 @@ use std::thread::Threads;
 /// the generation. It refuses `NoMemory`, or `BoxTooLarge` where a side of the cells' box is 2^31 or more, both
 /// before the first byte, and `WriteFailed` where the sink failed and no side was too long. The runs of the rows are found
 /// in threads.
-pub fn write_rle<R: Threads + Sync, B: ReadSquares + Sync, V: Sink>(
+///
+/// What the sink took is read as the same cells, rule and generation, and as the same comments where none ends with a
+/// CR, if the generation is at most 2^63, there are at most 2^28 live cells and each comment is a line that is kept.
+pub fn write_rle<R: Threads + Sync, B: Look + Sync, V: Sink>(
     rt: &R,
     alloc: Global,
     book: &B,
@@ -47,6 +52,8 @@ pub fn write_rle<R: Threads + Sync, B: ReadSquares + Sync, V: Sink>(
     requires known { IsKnown (B.book book.now) sq.level sq }
     requires level { sq.level ≤ 63 }
     ensures written { OnOk result (WritesRle (centred sq.level ((B.book book.now).cells sq)) comments.entry rule.now generation (V.taken file.old) (V.taken file.new)) }
+    ensures read_back { OnOk result (IfTaken (V.taken file.old) (V.taken file.new)
+        (IsReadBackFromRle (centred sq.level ((B.book book.now).cells sq)) comments.entry rule.now generation)) }
     ensures unfailed { OnOk result (V.failure_count file.new ≡ V.failure_count file.old) }
     ensures refused { IfErr result (λ refusal.
         (refusal ≡ Refusal.BoxTooLarge × IsTooLarge (centred sq.level ((B.book book.now).cells sq)) × file.new ≡ file.old)

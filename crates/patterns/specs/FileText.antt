@@ -8,9 +8,12 @@ use Rattle.plane.specs.Listing.{plane_of}
 use Rattle.plane.specs.Plane.{Plane}
 use Rattle.plane.specs.declared.cell.Cell.{Cell}
 use Rattle.pattern_writers.specs.Frame.{FitsRle}
+use Rattle.pattern_writers.specs.McReading.{IsReadBackFromMc}
 use Rattle.pattern_writers.specs.McText.{WritesMc, mc_text}
+use Rattle.pattern_writers.specs.RleReading.{IsReadBackFromRle}
 use Rattle.pattern_writers.specs.RleText as writers
 use Rattle.pattern_writers.specs.RleText.{WritesRle, rle_text}
+use Rattle.pattern_writers.specs.Taken.{IfTaken}
 use Rattle.patterns.specs.declared.format.Format.{Format}
 use Rattle.patterns.specs.declared.format.Format.TheVariants.{Rle, Macrocell}
 
@@ -37,6 +40,12 @@ abbrev pub Writes : Option Format → Plane → List (List ℕ) → CountRule �
 Writes None plane comments rule generation before after = Appends before after []
 Writes (Some Rle) plane comments rule generation before after = WritesRle plane comments rule generation before after
 Writes (Some Macrocell) plane comments rule generation before after = WritesMc plane comments rule generation before after
+
+-- what was written between the two is read as the pattern, in the format, if its reader can read the pattern
+abbrev pub IsReadBack : Option Format → Plane → List (List ℕ) → CountRule → ℕ → Option (List ℕ) → Option (List ℕ) → Type 0
+IsReadBack None plane comments rule generation before after = ⊤
+IsReadBack (Some Rle) plane comments rule generation before after = IfTaken before after (IsReadBackFromRle plane comments rule generation)
+IsReadBack (Some Macrocell) plane comments rule generation before after = IfTaken before after (IsReadBackFromMc plane comments rule generation)
 
 -- the format can hold the plane's cells
 abbrev pub Fits : Option Format → Plane → Type 0

@@ -1,3 +1,5 @@
+//! The formats of pattern files.
+
 /// A format of pattern files.
 #[derive(Clone, Copy, Debug, PartialEq, Eq)]
 pub enum Format {

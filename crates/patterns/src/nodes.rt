@@ -55,9 +55,7 @@ fn squares_of<S: Squares>(
     let mut squares = Vec::new(alloc);
     'lines: for line in lines {
         let sq = node_square(book, squares.as_slice(), line.node)?;
-        if squares.push(sq).is_err() {
-            return Err(Refusal::NoMemory);
-        }
+        squares.push(sq)?;
     }
     Ok(squares)
 }

@@ -12,18 +12,18 @@ use rule_text::Rule;
 use std::alloc::Global;
 use std::thread::Threads;
 use text_lines::Comments;
-use universe::{Resting, Universe};
+use universe::{RootedStill, Universe};
 use viewport::picture;
 
 /// Live cells in the range, of which no more generations are asked for.
 #[derive(Drop)]
 pub struct Pattern {
-    cells: Resting,
+    cells: RootedStill,
 }
 
 impl Pattern {
     ghost use Rattle.plane.specs.Device.{IsWriteRefusal};
-    ghost use Rattle.patterns.specs.FileText.{Exceeds, Fits, Writes};
+    ghost use Rattle.patterns.specs.FileText.{Exceeds, Fits, IsReadBack, Writes};
     ghost use Rattle.patterns.specs.Pattern.{plane_of};
     ghost use Rattle.patterns.specs.Drawing.{picture_of};
     ghost use Rattle.std.specs.Io.KnownBytes.{Appends};
@@ -33,7 +33,7 @@ impl Pattern {
         ensures { IsSame (plane_of result) (live_cells universe) }
     {
         Pattern {
-            cells: universe.rest(),
+            cells: universe.into_still(),
         }
     }
 
@@ -60,6 +60,7 @@ impl Pattern {
     /// Writes the pattern in the format that is asked for, if one is, with the comments, the rule and the generation. It
     /// refuses `BoxTooLarge` where RLE is asked for and a side of its box is 2^31 or more, and `NoMemory`, both before
     /// the first byte, and `WriteFailed`, where the sink failed and the box fits. The runs of RLE's rows are found in threads.
+    /// What was written is read as the same cells, rule and generation, within the limits of the format's reader.
     pub fn write<R: Threads + Sync, V: Sink>(
         &self,
         rt: &R,
@@ -71,6 +72,7 @@ impl Pattern {
         file: &mut V,
     ) -> Result<(), Refusal>
         ensures written { OnOk result (Writes format (plane_of self.now) comments.entry rule.now generation (V.taken file.old) (V.taken file.new)) }
+        ensures read_back { OnOk result (IsReadBack format (plane_of self.now) comments.entry rule.now generation (V.taken file.old) (V.taken file.new)) }
         ensures no_format { format ≡ None → file.new ≡ file.old }
         ensures unfailed { OnOk result (V.failure_count file.new ≡ V.failure_count file.old) }
         ensures refused { IfErr result (λ refusal.
@@ -81,9 +83,7 @@ impl Pattern {
         let (book, root) = (self.cells.still(), self.cells.root());
         match format {
             Some(Format::Rle) => {
-                let Ok(shared) = book.shared(alloc) else {
-                    return Err(Refusal::NoMemory);
-                };
+                let shared = book.shared(alloc)?;
                 write_rle(rt, alloc, &shared, root, comments, rule, generation, file)
             }
             Some(Format::Macrocell) => write_mc(

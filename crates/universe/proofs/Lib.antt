@@ -1,8 +1,9 @@
-pub mod AtRest
+pub mod OpenedWords
+pub mod Filling
 pub mod Halves
 pub mod Held
 pub mod Later
-pub mod Letting
+pub mod Evicting
 pub mod Onward
-pub mod Renewing
+pub mod Copying
 pub mod Rounds

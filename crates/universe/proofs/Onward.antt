@@ -10,7 +10,7 @@ use Rattle.plane.proofs.Parts.{after_same}
 use Rattle.plane.proofs.Same.{same_refl, same_sym, same_trans}
 use Rattle.universe.specs.Cells.{exponent_of, live_cells, rule_of}
 use Rattle.universe.specs.Held.{StaysHeld}
-use Rattle.universe.specs.Runs.{IsAttempt, IsExhausted, IsLater, IsSameUniverse, IsStuck, IsTurn, IsTurned, MayStep}
+use Rattle.universe.specs.Runs.{IsAttempt, IsExhausted, IsLater, IsSameUniverse, IsStuck, ReachesExponent, IsAtExponent, MayStep}
 use Rattle.universe.specs.declared.attempts.Attempt.{Attempt}
 use Rattle.universe.specs.declared.attempts.Attempt.TheVariants.{Done, Full}
 use Rattle.universe.specs.declared.universe.Universe.{Universe}
@@ -58,14 +58,14 @@ two_steps {first} {second} {third} exponent some one two =
 
 -- ---- at the same table, or at another of its exponent
 
-pub stays_turned : (universe : Universe) → IsTurned (exponent_of universe) universe universe
-stays_turned universe = record { same = same_universe universe; exponent = refl }
+pub same_exponent : (universe : Universe) → IsAtExponent (exponent_of universe) universe universe
+same_exponent universe = record { same = same_universe universe; exponent = refl }
 
-pub turned_on : {first second third : Universe} {wanted : ℕ} → IsTurned wanted first second → IsTurned wanted second third → IsTurned wanted first third
-turned_on before now = record { same = still_same before.same now.same; exponent = now.exponent }
+pub exponent_on : {first second third : Universe} {wanted : ℕ} → IsAtExponent wanted first second → IsAtExponent wanted second third → IsAtExponent wanted first third
+exponent_on before now = record { same = still_same before.same now.same; exponent = now.exponent }
 
 -- so it stays, at the exponent that the table had
-pub stay_on : {first second third : Universe} → IsTurned (exponent_of first) first second → IsTurned (exponent_of second) second third → IsTurned (exponent_of first) first third
+pub stay_on : {first second third : Universe} → IsAtExponent (exponent_of first) first second → IsAtExponent (exponent_of second) second third → IsAtExponent (exponent_of first) first third
 stay_on before now = record { same = still_same before.same now.same; exponent = now.exponent ∙ before.exponent }
 
 pub held_again : (rule : CountRule) (plane other : Plane) (generations : ℕ) → IsSame other plane → Holds 63 (after rule plane generations) → Holds 63 (after rule other generations)
@@ -73,41 +73,41 @@ held_again rule plane other generations same held =
     held_same 63 (after rule plane generations) (after rule other generations) (same_sym (after_same rule other plane generations same)) held
 
 -- a step that may be taken may be begun again
-pub step_again : {first second : Universe} → MayStep first → IsTurned (exponent_of first) first second → MayStep second
-step_again {first} {second} may turned = record {
-  exponent = subst (λ (e : ℕ). e ≤ 62) (sym turned.exponent) may.exponent;
-  held = subst (λ (e : ℕ). Holds 63 (after (rule_of second) (live_cells second) (2 ^ e))) (sym turned.exponent)
-      (subst (λ (r : CountRule). Holds 63 (after r (live_cells second) (2 ^ exponent_of first))) (sym turned.same.rule)
-      (held_again (rule_of first) (live_cells first) (live_cells second) (2 ^ exponent_of first) turned.same.cells may.held));
+pub step_again : {first second : Universe} → MayStep first → IsAtExponent (exponent_of first) first second → MayStep second
+step_again {first} {second} may at_exponent = record {
+  exponent = subst (λ (e : ℕ). e ≤ 62) (sym at_exponent.exponent) may.exponent;
+  held = subst (λ (e : ℕ). Holds 63 (after (rule_of second) (live_cells second) (2 ^ e))) (sym at_exponent.exponent)
+      (subst (λ (r : CountRule). Holds 63 (after r (live_cells second) (2 ^ exponent_of first))) (sym at_exponent.same.rule)
+      (held_again (rule_of first) (live_cells first) (live_cells second) (2 ^ exponent_of first) at_exponent.same.cells may.held));
 }
 
 -- a step at the table of its exponent may be taken
-pub may_step : {first second : Universe} → (exponent : ℕ) → exponent ≤ 62 → StaysHeld (rule_of first) (live_cells first) (2 ^ exponent) → IsTurned exponent first second → MayStep second
-may_step {first} {second} exponent low held turned =
+pub may_step : {first second : Universe} → (exponent : ℕ) → exponent ≤ 62 → StaysHeld (rule_of first) (live_cells first) (2 ^ exponent) → IsAtExponent exponent first second → MayStep second
+may_step {first} {second} exponent low held at_exponent =
     let steps = 2 ^ exponent in
     let whole : 0 + steps ≤ steps = omega arith in
     let last : steps ≤ steps = omega arith in
     record {
-      exponent = subst (λ (e : ℕ). e ≤ 62) (sym turned.exponent) low;
-      held = subst (λ (e : ℕ). Holds 63 (after (rule_of second) (live_cells second) (2 ^ e))) (sym turned.exponent)
-          (held_on {first = first} {second = second} steps 0 steps held (none_later turned.same) whole steps last);
+      exponent = subst (λ (e : ℕ). e ≤ 62) (sym at_exponent.exponent) low;
+      held = subst (λ (e : ℕ). Holds 63 (after (rule_of second) (live_cells second) (2 ^ e))) (sym at_exponent.exponent)
+          (held_on {first = first} {second = second} steps 0 steps held (none_later at_exponent.same) whole steps last);
     }
 
 -- and is the step
-pub turned_step : {first second third : Universe} → (exponent : ℕ) → IsTurned exponent first second → IsLater second (2 ^ exponent_of second) third → IsLater first (2 ^ exponent) third
-turned_step {first} {second} {third} exponent turned later =
-    same_then (2 ^ exponent) turned.same (subst (λ (e : ℕ). IsLater second (2 ^ e) third) turned.exponent later)
+pub step_at_exponent : {first second third : Universe} → (exponent : ℕ) → IsAtExponent exponent first second → IsLater second (2 ^ exponent_of second) third → IsLater first (2 ^ exponent) third
+step_at_exponent {first} {second} {third} exponent at_exponent later =
+    same_then (2 ^ exponent) at_exponent.same (subst (λ (e : ℕ). IsLater second (2 ^ e) third) at_exponent.exponent later)
 
 -- what comes of a step that was begun again comes of the step
-pub attempt_again : {first second : Universe} → (attempt : Attempt) → IsTurned (exponent_of first) first second → IsAttempt second attempt → IsAttempt first attempt
-attempt_again {first} {second} (Done later) turned is =
-    same_then (2 ^ exponent_of first) turned.same (subst (λ (e : ℕ). IsLater second (2 ^ e) later) turned.exponent is)
-attempt_again {first} {second} (Full same) turned is = turned_on turned (subst (λ (e : ℕ). IsTurned e second same) turned.exponent is)
+pub attempt_again : {first second : Universe} → (attempt : Attempt) → IsAtExponent (exponent_of first) first second → IsAttempt second attempt → IsAttempt first attempt
+attempt_again {first} {second} (Done later) at_exponent is =
+    same_then (2 ^ exponent_of first) at_exponent.same (subst (λ (e : ℕ). IsLater second (2 ^ e) later) at_exponent.exponent is)
+attempt_again {first} {second} (Full same) at_exponent is = exponent_on at_exponent (subst (λ (e : ℕ). IsAtExponent e second same) at_exponent.exponent is)
 
--- what comes of a turn that is tried again comes of the turn
-pub turn_again : {first second : Universe} → (exponent wanted : ℕ) (attempt : Attempt) → IsSameUniverse first second → exponent ≡ wanted → IsTurn exponent second attempt → IsTurn wanted first attempt
-turn_again exponent wanted (Done turned) same is turn = record { same = still_same same turn.same; exponent = turn.exponent ∙ is }
-turn_again exponent wanted (Full still) same is turn = still_same same turn
+-- what comes of going to an exponent again comes of going there
+pub reaches_again : {first second : Universe} → (exponent wanted : ℕ) (attempt : Attempt) → IsSameUniverse first second → exponent ≡ wanted → ReachesExponent exponent second attempt → ReachesExponent wanted first attempt
+reaches_again exponent wanted (Done at_exponent) same is turn = record { same = still_same same turn.same; exponent = turn.exponent ∙ is }
+reaches_again exponent wanted (Full still) same is turn = still_same same turn
 
 -- who is stuck later is stuck
 pub stuck_on : {first second : Universe} → (generations done more : ℕ) → IsLater first done second → done + more ≤ generations → IsStuck second more → IsStuck first generations
@@ -130,6 +130,6 @@ stuck_at_once {first} {second} generations some same one exhausted = record {
   exhausted = exhausted;
 }
 
-pub turned_again : {first second : Universe} → (exponent wanted : ℕ) (r : Result Attempt Refusal) → IfOk r (IsTurn exponent second) → IsSameUniverse first second → exponent ≡ wanted → IfOk r (IsTurn wanted first)
-turned_again exponent wanted (Ok attempt) turn same is = turn_again exponent wanted attempt same is turn
-turned_again exponent wanted (Err refusal) turn same is = tt
+pub result_again : {first second : Universe} → (exponent wanted : ℕ) (r : Result Attempt Refusal) → IfOk r (ReachesExponent exponent second) → IsSameUniverse first second → exponent ≡ wanted → IfOk r (ReachesExponent wanted first)
+result_again exponent wanted (Ok attempt) turn same is = reaches_again exponent wanted attempt same is turn
+result_again exponent wanted (Err refusal) turn same is = tt

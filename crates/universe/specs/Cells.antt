@@ -7,8 +7,8 @@ use Rattle.node_table.specs.declared.still.Still.{Still}
 use Rattle.node_table.specs.Stills.{book_in}
 use Rattle.squares.specs.Book.{Book}
 use Rattle.squares.specs.declared.sq.Sq.{Sq}
-use Rattle.universe.specs.declared.resting.Resting.{Resting}
-use Rattle.universe.specs.declared.scenes.Scene.{Scene}
+use Rattle.universe.specs.declared.rooted_still.RootedStill.{RootedStill}
+use Rattle.universe.specs.declared.rooted_table.RootedTable.{RootedTable}
 use Rattle.universe.specs.declared.universe.Universe.{Universe}
 use Rattle.universe.specs.Sums.{pair_sum}
 use Rattle.universe.specs.Tables.{known_at, pairs_in}
@@ -17,25 +17,25 @@ use Rattle.universe.specs.Tables.{known_at, pairs_in}
 abbrev pub square_plane : Book → Sq → Plane
 square_plane book sq = centred sq.level (book.cells sq)
 
--- the words at rest, and the square in them
-abbrev pub still_of : Resting → Still
-still_of resting = resting.still
+-- the words, and the square in them
+abbrev pub still_of : RootedStill → Still
+still_of rooted = rooted.still
 
-abbrev pub root_of : Resting → Sq
-root_of resting = resting.root
+abbrev pub root_of : RootedStill → Sq
+root_of rooted = rooted.root
 
-abbrev pub resting_cells : Resting → Plane
-resting_cells resting = square_plane (book_in (still_of resting)) (root_of resting)
+abbrev pub still_cells : RootedStill → Plane
+still_cells rooted = square_plane (book_in (still_of rooted)) (root_of rooted)
 
-abbrev pub cells_of : Scene → Plane
-cells_of scene = square_plane (known_at scene.table) scene.root
+abbrev pub cells_of : RootedTable → Plane
+cells_of rooted = square_plane (known_at rooted.table) rooted.root
 
 abbrev pub live_cells : Universe → Plane
 live_cells universe = cells_of universe.here
 
 -- by which rule its generations follow one another
 abbrev pub rule_of : Universe → CountRule
-rule_of universe = universe.here.table.standing.key.rule
+rule_of universe = universe.here.table.state.key.rule
 
 -- how many pair slots its tables may have together
 abbrev pub limit_of : Universe → ℕ
@@ -47,4 +47,4 @@ pairs_of universe = pairs_in universe.here.table + pair_sum universe.others.item
 
 -- how many generations a step of the table with its square takes, as a power of two
 abbrev pub exponent_of : Universe → ℕ
-exponent_of universe = universe.here.table.standing.key.exponent
+exponent_of universe = universe.here.table.state.key.exponent

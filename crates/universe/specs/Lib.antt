@@ -1,6 +1,6 @@
 pub mod Cells
 pub mod Held
 pub mod Runs
-pub mod Scenes
+pub mod RootedTables
 pub mod Sums
 pub mod Tables

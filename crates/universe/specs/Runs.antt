@@ -2,13 +2,13 @@
 use Rattle.std.specs.Prelude.{◌≡◌, ℕ, ◌^◌, ◌<◌, ◌≤◌, ◌⊎◌, IsTrue}
 use Rattle.node_table.specs.declared.still.Still.{Still}
 use Rattle.node_table.specs.Stills.{book_in}
-use Rattle.node_sweep.specs.SweptStills.{HasNoRoomFor}
+use Rattle.node_sweep.specs.SweptStills.{HasNoRoomFor, IsSwept}
 use Rattle.plane.specs.Centred.{Holds}
 use Rattle.plane.specs.Plane.{after}
 use Rattle.plane.specs.Square.{IsSame}
 use Rattle.squares.specs.declared.sq.Sq.{Sq}
 use Rattle.universe.specs.Cells.{exponent_of, limit_of, live_cells, rule_of, square_plane}
-use Rattle.universe.specs.Tables.{known_at, pairs_in}
+use Rattle.universe.specs.Tables.{HasFilledUp, StaysOpen, known_at, pairs_in}
 use Rattle.universe.specs.declared.attempts.Attempt.{Attempt}
 use Rattle.universe.specs.declared.attempts.Attempt.TheVariants.{Done, Full}
 use Rattle.universe.specs.declared.universe.Universe.{Universe}
@@ -19,8 +19,8 @@ pub record IsSameUniverse (old new : Universe) : Type 0 where
   pub rule : rule_of new ≡ rule_of old
   pub limit : new.limit ≡ old.limit
 
--- so it is, and its table has this exponent
-pub record IsTurned (wanted : ℕ) (old new : Universe) : Type 0 where
+-- so it is, at a table of this exponent
+pub record IsAtExponent (wanted : ℕ) (old new : Universe) : Type 0 where
   pub same : IsSameUniverse old new
   pub exponent : exponent_of new ≡ wanted
 
@@ -38,29 +38,33 @@ pub record MayStep (universe : Universe) : Type 0 where
 -- the universe after one step of its table, or, where a table was full, before it
 abbrev pub IsAttempt : Universe → Attempt → Type 0
 IsAttempt start (Done later) = IsLater start (2 ^ exponent_of start) later
-IsAttempt start (Full same) = IsTurned (exponent_of start) start same
+IsAttempt start (Full same) = IsAtExponent (exponent_of start) start same
 
 -- the universe at a table of this exponent, or, where that was full, as it was
-abbrev pub IsTurn : ℕ → Universe → Attempt → Type 0
-IsTurn exponent start (Done turned) = IsTurned exponent start turned
-IsTurn exponent start (Full same) = IsSameUniverse start same
+abbrev pub ReachesExponent : ℕ → Universe → Attempt → Type 0
+ReachesExponent exponent start (Done at_exponent) = IsAtExponent exponent start at_exponent
+ReachesExponent exponent start (Full same) = IsSameUniverse start same
 
--- where the step was not taken, the table is full
+-- where the step was not taken, the table is the same, and full
 abbrev pub IsFullInPlace : Universe → Attempt → Type 0
 IsFullInPlace start (Done later) = Unit {0}
-IsFullInPlace start (Full same) = (pairs_in same.here.table ≡ pairs_in start.here.table) × IsTrue (known_at same.here.table).is_full
+IsFullInPlace start (Full same) = StaysOpen start.here.table same.here.table × IsTrue (known_at same.here.table).is_full
 
--- a table of the largest size has no room for the cells
-pub record HasNoRoomSwept (universe : Universe) : Type 0 where
+-- the table has the largest size, was opened from words with what the root reaches and nothing else, and is full now
+pub record IsFullFromAlone (still : Still) (root : Sq) (universe : Universe) : Type 0 where
+  pub alone : Still
+  pub copy : Sq
+  pub swept : IsSwept still root (limit_of universe) alone copy
+  pub size : pairs_in universe.here.table ≡ limit_of universe
+  pub filled : HasFilledUp alone (rule_of universe) (exponent_of universe) universe.here.table
+
+-- words show the cells; the table, which has the largest size and began with what these cells need and nothing else, is full,
+-- or that size has no room for what they need
+pub record IsExhausted (universe : Universe) : Type 0 where
   pub still : Still
   pub root : Sq
   pub cells : IsSame (square_plane (book_in still) root) (live_cells universe)
-  pub full : HasNoRoomFor still root (limit_of universe)
-
--- the table has the largest size and is full, or a table of this size has no room for the cells
-abbrev pub IsExhausted : Universe → Type 0
-IsExhausted universe =
-    ((pairs_in universe.here.table ≡ limit_of universe) × IsTrue (known_at universe.here.table).is_full) ⊎ HasNoRoomSwept universe
+  pub full : IsFullFromAlone still root universe ⊎ HasNoRoomFor still root (limit_of universe)
 
 -- where the step was not taken, there is no larger table to take it at
 abbrev pub IsFullAtLimit : Attempt → Type 0

@@ -1,12 +1,12 @@
-//! A step tried at one table after the other.
+//! A step that is tried at one table after the other, until one has room for it.
 
 ghost use Rattle.std.specs.Prelude.{◌≡◌, ◌≤◌, ◌+◌, ◌^◌, IfOk, IfSome, IsOkUnless};
 ghost use Rattle.node_table.specs.Stills.{key_of};
 ghost use Rattle.plane.specs.Square.{IsSame};
 ghost use Rattle.universe.specs.Sums.{pair_sum};
 
-use crate::resting::Kept;
-use crate::scenes::Stepped;
+use crate::rooted_still::Keep;
+use crate::rooted_table::Stepped;
 use crate::sizes::{larger, pair_count};
 use crate::tables::OpenTable;
 use crate::universe::Universe;
@@ -16,11 +16,11 @@ use std::thread::Threads;
 use table_core::Shape;
 use worker_split::{Gate, Team};
 
-// How often a table of the largest size is collected for one step: more often than any step brings on.
+// How often the largest table is collected for one step, at most. No step takes so many collections.
 const MOST_COLLECTIONS: u32 = 1 << 20;
 
-// What came of what a table may be too full for: the universe behind it, or, where the table was
-// full, the one before it.
+// The universe after a step, or after its cells came to another table; or, where a table was full, the
+// universe as it was before.
 #[derive(Drop)]
 pub(crate) enum Attempt {
     Done(Universe),
@@ -30,13 +30,13 @@ pub(crate) enum Attempt {
 impl Universe {
     ghost use Rattle.universe.specs.Cells.{limit_of};
     ghost use Rattle.universe.specs.Runs.{IsAttempt, IsFullAtLimit, IsFullInPlace, MayStep};
-    ghost use Rattle.universe.specs.declared.resting.Kept.TheVariants.{CellsAlone};
+    ghost use Rattle.universe.specs.declared.rooted_still.Keep.TheVariants.{CellsAlone};
 
-    // Takes one step of the table that is here. Where it is full the step is begun again: in one of its
-    // size with the cells alone, if earlier steps have filled it; in larger ones with all that is known
-    // here, until it is the largest; then with what is collected, while that brings the step on; and then in one
-    // with the cells alone.
-    pub(crate) fn attempt<R: Threads + Wait + Sync, G: Gate>(
+    // Takes one step of the cells at their table. Where the table is full, the step begins again at a new one:
+    // of the same size with the cells alone, if earlier steps have filled it; then of each larger size, with
+    // all squares and results; then of the largest size with what a collection keeps, while this helps; and at
+    // last of the largest size with the cells alone.
+    pub(crate) fn step_with_growth<R: Threads + Wait + Sync, G: Gate>(
         self,
         team: &Team<'_, R, G>,
     ) -> Result<Attempt, Refusal>
@@ -46,28 +46,28 @@ impl Universe {
         ensures memory { IsOkUnless result Refusal.NoMemory }
     {
         let most = self.limit;
-        let mut shape = self.here.table.standing.key.shape;
+        let mut shape = self.here.table.state.key.shape;
         let growth = self.here.table.growth();
-        let mut start = match self.tried_here(team)? {
+        let mut start = match self.step_here_or_swept(team)? {
             Attempt::Full(start) => start,
             done => return Ok(done),
         };
         'sizes: while let Some(next) = larger(shape, most, growth) {
-            start = match start.tried_in(team, next, Kept::Everything)? {
+            start = match start.step_in(team, next, Keep::Everything)? {
                 Attempt::Full(start) => start,
                 done => return Ok(done),
             };
             shape = next;
         }
-        match start.tried_collected(team)? {
-            Attempt::Full(start) => start.tried_in(team, most, Kept::CellsAlone),
+        match start.step_collected(team)? {
+            Attempt::Full(start) => start.step_in(team, most, Keep::CellsAlone),
             done => Ok(done),
         }
     }
 
-    // Takes one step in a table of the largest size with what was collected from the one before, again and
-    // again while that brings it on.
-    fn tried_collected<R: Threads + Wait + Sync, G: Gate>(
+    // Takes one step at a new table of the largest size, with what a collection keeps of the one before. Where
+    // that is full too it collects again, while this helps.
+    fn step_collected<R: Threads + Wait + Sync, G: Gate>(
         self,
         team: &Team<'_, R, G>,
     ) -> Result<Attempt, Refusal>
@@ -81,7 +81,7 @@ impl Universe {
             if !start.here.table.should_collect() {
                 break;
             }
-            start = match start.tried_in(team, most, Kept::Collected)? {
+            start = match start.step_in(team, most, Keep::Collected)? {
                 Attempt::Full(start) => start,
                 done => return Ok(done),
             };
@@ -89,9 +89,9 @@ impl Universe {
         Ok(Attempt::Full(start))
     }
 
-    // Takes one step of the table that is here, or, where earlier steps have filled it and it isn't the
-    // largest, in one of its size with the cells alone.
-    fn tried_here<R: Threads + Wait + Sync, G: Gate>(
+    // Takes one step at the table of the cells, or, where earlier steps have filled it and it isn't the
+    // largest, at a new one of its size with the cells alone.
+    fn step_here_or_swept<R: Threads + Wait + Sync, G: Gate>(
         self,
         team: &Team<'_, R, G>,
     ) -> Result<Attempt, Refusal>
@@ -99,19 +99,19 @@ impl Universe {
         ensures ok { IfOk result (IsAttempt self) }
         ensures memory { IsOkUnless result Refusal.NoMemory }
     {
-        let start = match self.tried(team)? {
+        let start = match self.step_here(team)? {
             Attempt::Full(start) => start,
             done => return Ok(done),
         };
-        let shape = start.here.table.standing.key.shape;
-        if shape.bits >= start.limit.bits || !start.here.table.is_worn() {
+        let shape = start.here.table.state.key.shape;
+        if shape.bits >= start.limit.bits || !start.here.table.should_sweep_first() {
             return Ok(Attempt::Full(start));
         }
-        start.tried_in(team, shape, Kept::CellsAlone)
+        start.step_in(team, shape, Keep::CellsAlone)
     }
 
-    // Takes one step of the table that is here.
-    fn tried<R: Threads + Wait + Sync, G: Gate>(
+    // Takes one step at the table of the cells.
+    fn step_here<R: Threads + Wait + Sync, G: Gate>(
         self,
         team: &Team<'_, R, G>,
     ) -> Result<Attempt, Refusal>
@@ -139,17 +139,17 @@ impl Universe {
         }
     }
 
-    // Takes one step in fresh words of this shape, if these have room for what is kept.
-    fn tried_in<R: Threads + Wait + Sync, G: Gate>(
+    // Takes one step at a new table of this shape, if it has room for what is kept.
+    fn step_in<R: Threads + Wait + Sync, G: Gate>(
         self,
         team: &Team<'_, R, G>,
         shape: Shape,
-        kept: Kept,
+        keep: Keep,
     ) -> Result<Attempt, Refusal>
         requires step { MayStep self }
         requires shape { 2 ^ shape.bits ≤ limit_of self }
         ensures ok { IfOk result (IsAttempt self) }
-        ensures full { kept ≡ CellsAlone → 2 ^ shape.bits ≡ limit_of self → IfOk result IsFullAtLimit }
+        ensures full { keep ≡ CellsAlone → 2 ^ shape.bits ≡ limit_of self → IfOk result IsFullAtLimit }
         ensures memory { IsOkUnless result Refusal.NoMemory }
     {
         let Universe {
@@ -157,21 +157,21 @@ impl Universe {
             others,
             limit,
         } = self.with_room(pair_count(shape));
-        let past = here.table.standing.past;
-        let start = here.rest();
-        match start.renewed(team.alloc, shape, kept, past)? {
-            Some((fresh, past)) => {
+        let history = here.table.state.history;
+        let start = here.into_still();
+        match start.copied(team.alloc, shape, keep, history)? {
+            Some((fresh, history)) => {
                 drop(start);
-                let here = fresh.resume(team.alloc, past)?;
+                let here = fresh.reopen(team.alloc, history)?;
                 Universe {
                     here,
                     others,
                     limit,
                 }
-                .tried(team)
+                .step_here(team)
             }
             None => {
-                let here = start.resume(team.alloc, past.at_unrenewed())?;
+                let here = start.reopen(team.alloc, history.without_collections())?;
                 Ok(Attempt::Full(Universe {
                     here,
                     others,

@@ -9,11 +9,11 @@ use plane::Refusal;
 use squares::{Sq, Squares};
 use std::alloc::Global;
 
-/// Live cells in the range, of which squares can be made in any book, more than once.
+/// A source of live cells in the range. It can make their square in any book, more than once.
 pub trait Build {
     // The live cells.
     ghost live: { Self → Plane };
-    // What is asked of what they are made of.
+    // What must hold of the source.
     ghost is_lawful: { Self → Type 0 };
 
     /// The square of the live cells round (0,0), at the smallest level of at least 4.

@@ -1,4 +1,4 @@
-//! Universes built of live cells, at the smallest size of the table that has room for them.
+//! Universes built of live cells, at the smallest table that has room for them.
 
 ghost use Rattle.std.specs.Prelude.{◌≡◌, ◌⊎◌, ◌^◌, IfErr, IfOk};
 ghost use Rattle.plane.specs.Square.{IsSame};
@@ -6,8 +6,8 @@ ghost use Rattle.table_core.specs.Sizes.{IsPairCount};
 ghost use Rattle.universe.specs.Tables.{HasFullTable};
 
 use crate::build::Build;
-use crate::past::Past;
-use crate::scenes::Scene;
+use crate::history::TableHistory;
+use crate::rooted_table::RootedTable;
 use crate::sizes::{Growth, larger, smallest};
 use crate::tables::OpenTable;
 use crate::universe::Universe;
@@ -19,8 +19,8 @@ use table_core::Shape;
 impl Universe {
     ghost use Rattle.universe.specs.Cells.{limit_of, live_cells, rule_of};
 
-    /// The live cells of the source, in tables of together at most so many pair slots. `NodesFull`
-    /// where the largest table is full before they are built, and `NoMemory`.
+    /// The live cells of the source, in tables of together at most so many pair slots. `NodesFull` where
+    /// the largest table fills up before their square is built; `NoMemory` where memory runs out.
     pub fn of<B: Build>(
         alloc: Global,
         rule: &Rule,
@@ -33,12 +33,12 @@ impl Universe {
         ensures rule { IfOk result (λ universe. rule_of universe ≡ rule.now) }
         ensures limit { IfOk result (λ universe. limit_of universe ≡ limit) }
         ensures refusal { IfErr result (λ refusal. (refusal ≡ Refusal.NoMemory) ⊎ (refusal ≡ Refusal.NodesFull)) }
-        ensures full { IfErr result (λ refusal. refusal ≡ Refusal.NodesFull → HasFullTable limit) }
+        ensures full { IfErr result (λ refusal. refusal ≡ Refusal.NodesFull → HasFullTable rule.now limit) }
     {
         let limit = Shape::new(limit);
         let mut shape = smallest(limit);
         'sizes: loop {
-            shape = match Scene::built(alloc, rule, source, shape) {
+            shape = match RootedTable::built(alloc, rule, source, shape) {
                 Ok(here) => {
                     return Ok(Universe {
                         here,
@@ -56,7 +56,7 @@ impl Universe {
     }
 }
 
-impl Scene {
+impl RootedTable {
     ghost use Rattle.universe.specs.Cells.{cells_of};
     ghost use Rattle.universe.specs.Tables.{IsTableUnder, pairs_in};
 
@@ -66,17 +66,17 @@ impl Scene {
         rule: &Rule,
         source: &B,
         shape: Shape,
-    ) -> Result<Scene, Refusal>
+    ) -> Result<RootedTable, Refusal>
         requires { B.is_lawful source.now }
-        ensures ok { IfOk result (λ scene. IsSame (cells_of scene) (B.live source.now)) }
-        ensures under { IfOk result (λ scene. IsTableUnder rule.now 0 scene.table) }
-        ensures pairs { IfOk result (λ scene. pairs_in scene.table ≡ 2 ^ shape.bits) }
+        ensures ok { IfOk result (λ rooted. IsSame (cells_of rooted) (B.live source.now)) }
+        ensures under { IfOk result (λ rooted. IsTableUnder rule.now 0 rooted.table) }
+        ensures pairs { IfOk result (λ rooted. pairs_in rooted.table ≡ 2 ^ shape.bits) }
         ensures refusal { IfErr result (λ refusal. (refusal ≡ Refusal.NoMemory) ⊎ (refusal ≡ Refusal.NodesFull)) }
-        ensures full { IfErr result (λ refusal. refusal ≡ Refusal.NodesFull → HasFullTable (2 ^ shape.bits)) }
+        ensures full { IfErr result (λ refusal. refusal ≡ Refusal.NodesFull → HasFullTable rule.now (2 ^ shape.bits)) }
     {
-        let fresh = OpenTable::fresh(alloc, shape, rule, 0, Past::none())?;
+        let fresh = OpenTable::fresh(alloc, shape, rule, 0, TableHistory::new())?;
         let (table, made) = fresh.build(alloc, source);
         let root = made?;
-        Ok(Scene { table, root })
+        Ok(RootedTable { table, root })
     }
 }

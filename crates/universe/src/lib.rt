@@ -1,20 +1,20 @@
-//! Live cells as a square at a table that stays open, and their steps.
+//! Live cells as a square at an open table, and their steps.
 #![tactic(auto)]
 
 mod attempts;
 mod build;
 mod building;
 mod digits;
-mod past;
-mod resting;
+mod exponents;
+mod history;
 mod room;
-mod scenes;
+mod rooted_still;
+mod rooted_table;
 mod sizes;
 mod steps;
 mod tables;
-mod turning;
 mod universe;
 
 pub use build::Build;
-pub use resting::Resting;
+pub use rooted_still::RootedStill;
 pub use universe::Universe;

@@ -1,4 +1,4 @@
-//! Room for a table: others that were used longer ago are let go.
+//! Room for a table: the others that were used longest ago are evicted.
 
 ghost use Rattle.std.specs.Prelude.{◌≡◌, ◌<◌, ◌≤◌, ◌-◌, ◌^◌};
 ghost use Rattle.universe.specs.Sums.{AreLast, pair_sum};
@@ -10,8 +10,7 @@ use crate::universe::Universe;
 impl Universe {
     ghost use Rattle.universe.specs.Cells.{limit_of};
 
-    // The universe without the tables that were used longest ago, so that besides so many pair slots
-    // the others have room.
+    // Evicts as many of the other tables as are needed to leave room for so many pair slots.
     pub(crate) fn with_room(self, pairs: u64) -> Universe
         requires { pairs ≤ limit_of self }
         ensures here { result.here ≡ self.here }
@@ -24,7 +23,7 @@ impl Universe {
             limit,
         } = self;
         let mut others = others;
-        let_go(&mut others, pair_count(limit) - pairs);
+        evict(&mut others, pair_count(limit) - pairs);
         Universe {
             here,
             others,
@@ -33,12 +32,12 @@ impl Universe {
     }
 }
 
-// Lets the first of the tables go, until the others have together at most so many pair slots.
-fn let_go(tables: &mut Vec<OpenTable>, room: u64)
+// Drops the first of the tables, until the others have together at most so many pair slots.
+fn evict(tables: &mut Vec<OpenTable>, room: u64)
     requires { pair_sum tables.old.items < 2 ^ 64 }
     ensures { AreLast tables.old.items tables.new.items room }
 {
-    'letting: while total(tables.as_slice()) > room {
+    'evicting: while total(tables.as_slice()) > room {
         tables.remove(0);
     }
 }

@@ -4,13 +4,13 @@ ghost use Rattle.std.specs.Prelude.{◌≡◌, ◌<◌, ◌≤◌, ◌+◌, ◌^
 
 use table_core::{Kind, Shape};
 
-/// With how many pair slots a table begins, as a power of two, where it may have so many.
+// How many pair slots a new table has, as a power of two, if it may have so many.
 const START_BITS: u8 = 12;
 
-// How many pair slots make a table large, as a power of two: more of it than a processor keeps near.
+// From how many pair slots on a table is large, as a power of two: it is larger than a processor's cache.
 pub(crate) const LARGE_BITS: u8 = 18;
 
-/// The shape with which a table begins: 4096 pair slots, or the largest.
+/// The shape of a new table: 4096 pair slots, or the largest.
 pub(crate) fn smallest(most: Shape) -> Shape
     ensures { result.bits ≡ min 12 most.bits }
 {
@@ -26,8 +26,9 @@ pub(crate) enum Growth {
     BySixteen,
 }
 
-/// The shape of the table that follows one that is full: with as many times the pair slots as the growth
-/// says, from a large one on with four times as many, or the largest. There is none above the largest.
+/// The shape of the table that replaces a full one. It has four or sixteen times as many pair slots, as the
+/// growth says, after a large one four times as many, and never more than the largest. `None` where the full
+/// one has the largest shape.
 pub(crate) fn larger(shape: Shape, most: Shape, growth: Growth) -> Option<Shape>
     ensures some { IfSome result (λ larger. (shape.bits < larger.bits) × (larger.bits ≤ most.bits)) }
     ensures none { IfNone result (most.bits ≤ shape.bits) }

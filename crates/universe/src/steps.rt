@@ -17,8 +17,8 @@ use worker_split::{Gate, Team};
 impl Universe {
     ghost use Rattle.universe.specs.Cells.{limit_of, live_cells, rule_of};
 
-    // The cells after 2^exponent generations. Where the largest table is full the step is taken in two
-    // halves; `NodesFull` where a single generation has no room, and `NoMemory`.
+    // The cells after 2^exponent generations. Where the largest table is too small for the step, it is taken in
+    // two halves. `NodesFull` where it is too small for a single generation, and `NoMemory`.
     fn step<R: Threads + Wait + Sync, G: Gate>(
         self,
         team: &Team<'_, R, G>,
@@ -30,7 +30,10 @@ impl Universe {
         ensures full { IfErr result (λ refusal. refusal ≡ Refusal.NodesFull → IsStuck self (2 ^ exponent)) }
         ensures refusal { IfErr result (λ refusal. (refusal ≡ Refusal.NoMemory) ⊎ (refusal ≡ Refusal.NodesFull)) }
     {
-        let start = match self.turned(team.alloc, exponent)?.attempt(team)? {
+        let start = match self
+            .at_exponent(team.alloc, exponent)?
+            .step_with_growth(team)?
+        {
             Attempt::Done(later) => return Ok(later),
             Attempt::Full(start) => start,
         };
@@ -41,8 +44,8 @@ impl Universe {
         middle.step(team, exponent - 1)
     }
 
-    // The cells after 2^exponent generations, by steps at the table of an exponent that is no larger.
-    fn stride<R: Threads + Wait + Sync, G: Gate>(
+    // The cells after 2^exponent generations, by steps at the table of this exponent, or of a lower one.
+    fn repeated_step<R: Threads + Wait + Sync, G: Gate>(
         self,
         team: &Team<'_, R, G>,
         exponent: u8,
@@ -57,13 +60,14 @@ impl Universe {
         if exponent <= table {
             return self.step(team, exponent);
         }
-        let middle = self.stride(team, exponent - 1, table)?;
-        middle.stride(team, exponent - 1, table)
+        let middle = self.repeated_step(team, exponent - 1, table)?;
+        middle.repeated_step(team, exponent - 1, table)
     }
 
-    /// The cells after so many generations: for each binary digit of their number some steps at the
-    /// table of its exponent or of a smaller one, taken by a team. The empty universe takes no step.
-    /// `NodesFull` where the largest table has no room for one generation, and `NoMemory`.
+    /// The cells after so many generations: for each binary digit of their number a team takes some steps, at
+    /// the table of its exponent or of a lower one. The empty universe takes no step. `NodesFull` where the
+    /// largest table, opened with the cells of a generation alone, fills up before the next one is made or has
+    /// no room for these cells; `NoMemory` where memory runs out.
     pub fn after<R: Threads + Wait + Sync, G: Gate>(
         self,
         team: &Team<'_, R, G>,
@@ -82,10 +86,10 @@ impl Universe {
             return Ok(self);
         }
         let mut universe = self;
-        let digits = digits_from(generations, universe.here.table.standing.key.exponent);
+        let digits = digits_from(generations, universe.here.table.state.key.exponent);
         'steps: for exponent in digits.as_slice() {
             let table = table_for(generations, *exponent);
-            universe = universe.stride(team, *exponent, table)?;
+            universe = universe.repeated_step(team, *exponent, table)?;
         }
         Ok(universe)
     }

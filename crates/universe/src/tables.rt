@@ -11,7 +11,7 @@ ghost use Rattle.squares.specs.Rounds.{IsRound};
 ghost use Rattle.viewport.specs.Population.{HasPopulation};
 
 use crate::build::Build;
-use crate::past::Past;
+use crate::history::TableHistory;
 use crate::sizes::{Growth, pair_count};
 use node_sweep::enlarge;
 use node_table::{Desk, NodeTable, Still};
@@ -22,36 +22,36 @@ use std::alloc::Global;
 use std::sync::Wait;
 use std::thread::Threads;
 use table_core::{Key, Kind, Shape};
-use viewport::population;
+use viewport::population_at;
 use worker_split::{Gate, Team, step};
 
-/// A table under a rule and an exponent, and what it has behind it.
+/// A table under a rule and an exponent, and its history.
 #[derive(Drop)]
-pub(crate) struct Standing {
+pub(crate) struct TableState {
     table: NodeTable,
     pub(crate) key: Key,
-    pub(crate) past: Past,
+    pub(crate) history: TableHistory,
     ghost same_key: { table.key ≡ key },
 }
 
 /// A table that stays open, with its one desk.
 #[derive(Drop)]
 pub(crate) struct OpenTable {
-    pub(crate) standing: Standing,
+    pub(crate) state: TableState,
     desk: Desk,
-    ghost of_table: { IsDeskOf standing.table desk },
+    ghost of_table: { IsDeskOf state.table desk },
 }
 
 impl OpenTable {
-    ghost use Rattle.universe.specs.Tables.{IsOpened, IsTableUnder, StaysOpen, known_at, pairs_in};
+    ghost use Rattle.universe.specs.Tables.{IsFreshTable, IsOpened, IsTableUnder, StaysOpen, known_at, pairs_in};
 
-    /// A table of these words, which knows what they show, with this past.
+    /// A table that is opened of these words, and knows what they show.
     pub(crate) fn of_words(
         alloc: Global,
         still: Still,
         rule: &Rule,
         exponent: u8,
-        past: Past,
+        history: TableHistory,
     ) -> Result<OpenTable, Refusal>
         ensures ok { IfOk result (IsOpened still rule.now exponent) }
         ensures memory { IsOkUnless result Refusal.NoMemory }
@@ -64,35 +64,40 @@ impl OpenTable {
         let Ok((table, desk)) = NodeTable::open(alloc, still, *rule, exponent) else {
             return Err(Refusal::NoMemory);
         };
-        let standing = Standing { table, key, past };
-        Ok(OpenTable { standing, desk })
+        let state = TableState {
+            table,
+            key,
+            history,
+        };
+        Ok(OpenTable { state, desk })
     }
 
-    /// A table of this shape without a square, with this past.
+    /// A table of this shape without a square.
     pub(crate) fn fresh(
         alloc: Global,
         shape: Shape,
         rule: &Rule,
         exponent: u8,
-        past: Past,
+        history: TableHistory,
     ) -> Result<OpenTable, Refusal>
         ensures under { IfOk result (IsTableUnder rule.now exponent) }
         ensures pairs { IfOk result (λ opened. pairs_in opened ≡ 2 ^ shape.bits) }
+        ensures fresh { IfOk result (IsFreshTable rule.now exponent (2 ^ shape.bits)) }
         ensures memory { IsOkUnless result Refusal.NoMemory }
     {
         let still = Still::empty(alloc, shape.slot_count(Kind::Pair))?;
-        OpenTable::of_words(alloc, still, rule, exponent, past)
+        OpenTable::of_words(alloc, still, rule, exponent, history)
     }
 
     /// A table of this shape with all squares and results of this one, if it has room for them.
     pub(crate) fn enlarged(self, alloc: Global, shape: Shape) -> Result<Option<OpenTable>, Refusal>
-        ensures under { IfOk result (λ made. IfSome made (IsTableUnder self.standing.key.rule self.standing.key.exponent)) }
+        ensures under { IfOk result (λ made. IfSome made (IsTableUnder self.state.key.rule self.state.key.exponent)) }
         ensures pairs { IfOk result (λ made. IfSome made (λ larger. pairs_in larger ≡ 2 ^ shape.bits)) }
         ensures memory { IsOkUnless result Refusal.NoMemory }
     {
         let rule = self.rule();
-        let exponent = self.standing.key.exponent;
-        let past = self.standing.past.at_fresh(shape.bits);
+        let exponent = self.state.key.exponent;
+        let history = self.state.history.for_new_table(shape.bits);
         let still = self.close();
         let none = Sq {
             level: 4,
@@ -101,7 +106,7 @@ impl OpenTable {
         match enlarge(alloc, &still, none, shape.slot_count(Kind::Pair)) {
             Ok((larger, _)) => {
                 drop(still);
-                let table = OpenTable::of_words(alloc, larger, &rule, exponent, past)?;
+                let table = OpenTable::of_words(alloc, larger, &rule, exponent, history)?;
                 Ok(Some(table))
             }
             Err(Refusal::NodesFull) => Ok(None),
@@ -113,24 +118,24 @@ impl OpenTable {
     pub(crate) fn pair_count(&self) -> u64
         ensures { result ≡ pairs_in self.now }
     {
-        pair_count(self.standing.key.shape)
+        pair_count(self.state.key.shape)
     }
 
     /// The rule.
     pub(crate) fn rule(&self) -> Rule
-        ensures { result ≡ self.now.standing.key.rule }
+        ensures { result ≡ self.now.state.key.rule }
     {
-        self.standing.key.rule
+        self.state.key.rule
     }
 
     /// Whether it is under this rule and exponent.
     pub(crate) fn is_under(&self, rule: &Rule, exponent: u8) -> bool
         ensures { IsTrue result ↔ IsTableUnder rule.now exponent self.now }
     {
-        if self.standing.key.exponent != exponent {
+        if self.state.key.exponent != exponent {
             return false;
         }
-        if self.standing.key.rule.code() != rule.code() {
+        if self.state.key.rule.code() != rule.code() {
             return false;
         }
         true
@@ -138,34 +143,36 @@ impl OpenTable {
 
     /// How it grows, as long as it isn't large.
     pub(crate) fn growth(&self) -> Growth {
-        self.standing.past.growth()
+        self.state.history.growth()
     }
 
-    /// Whether most of it is likely to be left over from earlier steps.
-    pub(crate) fn is_worn(&self) -> bool {
-        self.standing.past.is_worn(self.standing.key.shape.bits)
+    /// Whether it should be swept before it grows, since most of it is likely to be left over from earlier steps.
+    pub(crate) fn should_sweep_first(&self) -> bool {
+        self.state
+            .history
+            .should_sweep_first(self.state.key.shape.bits)
     }
 
-    /// Whether a collection may bring on the step for which it was full.
+    /// Whether a collection may help the step for which it was full.
     pub(crate) fn should_collect(&self) -> bool {
-        self.standing.past.should_collect(self.pair_count())
+        self.state.history.should_collect(self.pair_count())
     }
 
     /// The words, which say all that was known.
     pub(crate) fn close(self) -> Still
-        ensures key { key_of result ≡ self.standing.key }
+        ensures key { key_of result ≡ self.state.key }
         ensures says { SaysAll (known_at self) (book_in result) }
     {
-        let OpenTable { standing, desk } = self;
-        let Standing {
+        let OpenTable { state, desk } = self;
+        let TableState {
             table,
             key: _,
-            past: _,
-        } = standing;
+            history: _,
+        } = state;
         table.close(desk)
     }
 
-    /// One step of 2^exponent generations from a square, by a team. The table comes back, at a refusal too.
+    /// One step of 2^exponent generations from a square, by a team. The table comes back after a refusal too.
     pub(crate) fn step<R: Threads + Wait + Sync, G: Gate>(
         self,
         team: &Team<'_, R, G>,
@@ -173,21 +180,21 @@ impl OpenTable {
     ) -> (OpenTable, Result<Sq, Refusal>)
         requires known { IsKnown (known_at self) root.level root }
         requires level { (3 < root.level) × (root.level ≤ 63) }
-        requires exponent { self.standing.key.exponent ≤ 62 }
+        requires exponent { self.state.key.exponent ≤ 62 }
         ensures stays { StaysOpen self result.0 }
-        ensures ok { IfOk result.1 (IsRound (known_at result.0) (after self.standing.key.rule (centred root.level ((known_at self).cells root)) (2 ^ self.standing.key.exponent))) }
+        ensures ok { IfOk result.1 (IsRound (known_at result.0) (after self.state.key.rule (centred root.level ((known_at self).cells root)) (2 ^ self.state.key.exponent))) }
         ensures refusal { IfErr result.1 (λ refusal. (refusal ≡ Refusal.NoMemory) ⊎ ((refusal ≡ Refusal.NodesFull) × IsTrue (known_at result.0).is_full)) }
     {
-        let OpenTable { mut standing, desk } = self;
+        let OpenTable { mut state, desk } = self;
         let before = desk.expansions();
-        let team = team.at_most(standing.past.most_workers());
-        let (desk, made) = step(&team, &standing.table, desk, root);
+        let team = team.at_most(state.history.most_workers());
+        let (desk, made) = step(&team, &state.table, desk, root);
         let expansions = desk.expansions().saturating_sub(before);
-        standing.past = standing.past.and_step(made.is_ok(), expansions);
-        (OpenTable { standing, desk }, made)
+        state.history = state.history.after_try(made.is_ok(), expansions);
+        (OpenTable { state, desk }, made)
     }
 
-    /// The square of the live cells of the source. The table comes back, at a refusal too.
+    /// The square of the live cells of the source. The table comes back after a refusal too.
     pub(crate) fn build<B: Build>(
         self,
         alloc: Global,
@@ -200,14 +207,14 @@ impl OpenTable {
         ensures full { IfErr result.1 (λ refusal. refusal ≡ Refusal.NodesFull → IsTrue (known_at result.0).is_full) }
         ensures refusal { IfErr result.1 (λ refusal. (refusal ≡ Refusal.NoMemory) ⊎ (refusal ≡ Refusal.NodesFull)) }
     {
-        let OpenTable { standing, desk } = self;
-        let mut at = standing.table.at(desk);
+        let OpenTable { state, desk } = self;
+        let mut at = state.table.at(desk);
         let made = source.build(alloc, &mut at);
         let desk = at.leave();
-        (OpenTable { standing, desk }, made)
+        (OpenTable { state, desk }, made)
     }
 
-    /// How many live cells a square has. The table comes back, at a refusal too.
+    /// How many live cells a square has. The table comes back after a refusal too.
     pub(crate) fn population(self, alloc: Global, root: Sq) -> (OpenTable, Result<u128, Refusal>)
         requires known { IsKnown (known_at self) root.level root }
         requires level { root.level ≤ 63 }
@@ -215,14 +222,14 @@ impl OpenTable {
         ensures ok { IfOk result.1 (HasPopulation (centred root.level ((known_at self).cells root))) }
         ensures memory { IsOkUnless result.1 Refusal.NoMemory }
     {
-        let OpenTable { standing, desk } = self;
-        let mut at = standing.table.at(desk);
-        let found = population(alloc, &mut at, root);
+        let OpenTable { state, desk } = self;
+        let mut at = state.table.at(desk);
+        let found = population_at(alloc, &mut at, root);
         let desk = at.leave();
-        (OpenTable { standing, desk }, found)
+        (OpenTable { state, desk }, found)
     }
 
-    /// The square copied into another table. Both come back, at a refusal too.
+    /// The square copied into another table. Both tables come back after a refusal too.
     pub(crate) fn copy_across(
         self,
         alloc: Global,
@@ -235,19 +242,19 @@ impl OpenTable {
         ensures ok { IfOk result.2 (Shows (known_at result.1) root.level ((known_at self).cells root)) }
         ensures refusal { IfErr result.2 (λ refusal. (refusal ≡ Refusal.NoMemory) ⊎ (refusal ≡ Refusal.NodesFull)) }
     {
-        let OpenTable { standing, desk } = self;
+        let OpenTable { state, desk } = self;
         let OpenTable {
-            standing: other_standing,
+            state: other_state,
             desk: other_desk,
         } = other;
-        let mut at = standing.table.at(desk);
-        let mut other_at = other_standing.table.at(other_desk);
+        let mut at = state.table.at(desk);
+        let mut other_at = other_state.table.at(other_desk);
         let copied = copy_between(alloc, &mut at, root, &mut other_at);
         let desk = at.leave();
         let other_desk = other_at.leave();
-        let left = OpenTable { standing, desk };
+        let left = OpenTable { state, desk };
         let reached = OpenTable {
-            standing: other_standing,
+            state: other_state,
             desk: other_desk,
         };
         (left, reached, copied)

@@ -7,27 +7,27 @@ ghost use Rattle.viewport.specs.Population.{HasPopulation};
 ghost use Rattle.universe.specs.Sums.{pair_sum};
 ghost use Rattle.universe.specs.Tables.{pairs_in};
 
-use crate::resting::Resting;
 use crate::room::total;
-use crate::scenes::Scene;
+use crate::rooted_still::RootedStill;
+use crate::rooted_table::RootedTable;
 use crate::tables::OpenTable;
 use plane::{Bounds, Refusal};
 use std::alloc::Global;
 use table_core::Shape;
 
 /// Live cells in the range, as a square round (0,0) at an open table, with a rule, and a limit for the
-/// pair slots of all its tables. A table for each exponent that its steps asked for stays open: the one
-/// with the square is here, and the others stand, the least recently used first.
+/// pair slots of all its tables. A table for each exponent of its steps stays open: the one with the square
+/// is `here`, and the others are listed, the least recently used first.
 #[derive(Drop)]
 pub struct Universe {
-    pub(crate) here: Scene,
+    pub(crate) here: RootedTable,
     pub(crate) others: Vec<OpenTable>,
     pub(crate) limit: Shape,
     ghost within: { pairs_in here.table + pair_sum others.items ≤ 2 ^ limit.bits },
 }
 
 impl Universe {
-    ghost use Rattle.universe.specs.Cells.{limit_of, live_cells, pairs_of, resting_cells, rule_of};
+    ghost use Rattle.universe.specs.Cells.{limit_of, live_cells, pairs_of, still_cells, rule_of};
 
     /// Whether no cell is live.
     pub fn is_empty(&self) -> bool
@@ -93,15 +93,15 @@ impl Universe {
         self.here.table.pair_count() + total(self.others.as_slice())
     }
 
-    /// The live cells in words at rest. All other tables are let go.
-    pub fn rest(self) -> Resting
-        ensures { IsSame (resting_cells result) (live_cells self) }
+    /// The live cells in the words of their table, which is closed. All other tables are dropped.
+    pub fn into_still(self) -> RootedStill
+        ensures { IsSame (still_cells result) (live_cells self) }
     {
         let Universe {
             here,
             others: _,
             limit: _,
         } = self;
-        here.rest()
+        here.into_still()
     }
 }

@@ -1,3 +1,5 @@
+//! The text of a leaf, a square of 8 by 8 cells, in a macrocell file.
+
 ghost use Rattle.std.specs.Prelude.{◌≡◌, ◌≤◌, [], ◌∷◌, length};
 ghost use Rattle.plane.specs.Square.{bits_plane};
 ghost use Rattle.pattern_writers.specs.LeafText.{cell_byte, leaf_text};

@@ -1,3 +1,5 @@
+//! The list of the nodes that a macrocell file has, each square once, after its quarters.
+
 ghost use Rattle.std.specs.Prelude.{◌≡◌, ◌+◌, ◌≤◌, [], ◌∷◌, ◌++◌, length, IfOk, OnOk, IsOkUnless, Some};
 ghost use Rattle.std.specs.HashMap.{Updates};
 ghost use Rattle.plane.specs.Centred.{centred};
@@ -9,7 +11,7 @@ ghost use Rattle.pattern_writers.specs.Roots.{AreKnown};
 use super::node::Node;
 use super::root::Root;
 use plane::Refusal;
-use squares::{ReadSquares, Sq};
+use squares::{Look, Sq};
 use std::alloc::Global;
 use std::collections::HashMap;
 
@@ -38,24 +40,16 @@ impl NodeList {
         ensures noted { IfOk result (λ number. Updates is_same_key self.old.numbers self.new.numbers (sq.level, sq.num.0) (Some number)) }
         ensures memory { IsOkUnless result Refusal.NoMemory }
     {
-        if self.nodes.push(node).is_err() {
-            return Err(Refusal::NoMemory);
-        }
+        self.nodes.push(node)?;
         let number = self.nodes.len() as u64;
-        let Ok(_) = self.numbers.insert((sq.level, sq.num.0), number) else {
-            return Err(Refusal::NoMemory);
-        };
+        self.numbers.insert((sq.level, sq.num.0), number)?;
         Ok(number)
     }
 }
 
 // The nodes of the squares in a square of a level from 4 to 63, whose centre corner is (0,0), in the smallest square
 // that has its cells.
-pub(crate) fn listed_nodes<B: ReadSquares>(
-    alloc: Global,
-    book: &B,
-    sq: Sq,
-) -> Result<Vec<Node>, Refusal>
+pub(crate) fn listed_nodes<B: Look>(alloc: Global, book: &B, sq: Sq) -> Result<Vec<Node>, Refusal>
     requires known { IsKnown (B.book book.now) sq.level sq }
     requires low { 4 ≤ sq.level }
     ensures ok { IfOk result (λ nodes. AreNodes (centred sq.level ((B.book book.now).cells sq)) nodes.items) }
@@ -78,15 +72,13 @@ fn with_root(mut nodes: Vec<Node>, level: u8, quarters: [u64; 4]) -> Result<Vec<
     if quarters == [0; 4] {
         return Ok(nodes);
     }
-    if nodes.push(Node::Inner { level, quarters }).is_err() {
-        return Err(Refusal::NoMemory);
-    }
+    nodes.push(Node::Inner { level, quarters })?;
     Ok(nodes)
 }
 
 // The number of a square among the nodes. It adds the nodes of its squares that are not among them.
 #[cycle(number)]
-fn number<B: ReadSquares>(book: &B, sq: Sq, list: &mut NodeList) -> Result<u64, Refusal>
+fn number<B: Look>(book: &B, sq: Sq, list: &mut NodeList) -> Result<u64, Refusal>
     requires known { IsKnown (B.book book.now) sq.level sq }
     ensures ok { IfOk result (Lists (B.book book.now) sq list.old list.new) }
     ensures memory { IsOkUnless result Refusal.NoMemory }
@@ -109,11 +101,7 @@ fn number<B: ReadSquares>(book: &B, sq: Sq, list: &mut NodeList) -> Result<u64, 
 
 // The numbers of four squares of one level.
 #[cycle(number)]
-fn numbers<B: ReadSquares>(
-    book: &B,
-    squares: [Sq; 4],
-    list: &mut NodeList,
-) -> Result<[u64; 4], Refusal>
+fn numbers<B: Look>(book: &B, squares: [Sq; 4], list: &mut NodeList) -> Result<[u64; 4], Refusal>
     requires known { AreKnown (B.book book.now) (nth squares 0).level squares }
     ensures ok { IfOk result (ListsFour (B.book book.now) squares list.old list.new) }
     ensures memory { IsOkUnless result Refusal.NoMemory }

@@ -1,3 +1,5 @@
+//! The lines of a macrocell file before its comments.
+
 ghost use Rattle.std.specs.Prelude.{◌≡◌, ◌≤◌, length};
 ghost use Rattle.pattern_writers.specs.McText.{mc_opening};
 

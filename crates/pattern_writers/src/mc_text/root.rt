@@ -1,10 +1,12 @@
+//! The smallest square round (0,0) that holds the cells of a larger one.
+
 ghost use Rattle.std.specs.Prelude.{◌≡◌, ◌≤◌, ◌<◌, ◌-◌, ◌+◌, ◌↔◌, All, IsTrue, IfSome, IfNone};
 ghost use Rattle.plane.specs.Centred.{Holds, centred};
 ghost use Rattle.plane.specs.Plane.{Plane};
 ghost use Rattle.squares.specs.Book.{IsEmpty, IsKnown};
 ghost use Rattle.pattern_writers.specs.Roots.{AreKnown, HasRoot, IsRoot};
 
-use squares::{ReadSquares, Sq};
+use squares::{Look, Sq};
 
 // The quarters of a square whose centre corner is (0,0), which need not be a square that is known.
 #[derive(Clone, Copy)]
@@ -15,7 +17,7 @@ pub(crate) struct Root {
 
 impl Root {
     // The smallest square of a level of at least 4 that has the cells of a square, with the same centre corner.
-    pub(crate) fn of<B: ReadSquares>(book: &B, sq: Sq) -> Self
+    pub(crate) fn of<B: Look>(book: &B, sq: Sq) -> Self
         requires known { IsKnown (B.book book.now) sq.level sq }
         requires low { 4 ≤ sq.level }
         ensures { IsRoot (B.book book.now) (centred sq.level ((B.book book.now).cells sq)) result }
@@ -34,7 +36,7 @@ impl Root {
     }
 
     // The square of half the side round the same corner, if it has all the cells.
-    fn inner<B: ReadSquares>(self, book: &B) -> Option<Self>
+    fn inner<B: Look>(self, book: &B) -> Option<Self>
         requires level { 4 < self.level }
         requires known { AreKnown (B.book book.now) (self.level - 1) self.quarters }
         ensures level { IfSome result (λ inner. inner.level + 1 ≡ self.level) }

@@ -1,3 +1,5 @@
+//! The runs of live cells in all rows, found in bands of rows that threads share.
+
 ghost use Rattle.std.specs.Prelude.{◌≡◌, ◌≤◌, ◌<◌, ◌+◌, flat_map, IfOk};
 ghost use Rattle.plane.specs.Centred.{centred};
 ghost use Rattle.squares.specs.Book.{IsKnown};
@@ -8,13 +10,13 @@ ghost use Rattle.pattern_writers.specs.RowRuns.{rows_between};
 use super::frame::{BANDS, Frame};
 use super::row_run::{RowRun, runs_between};
 use rayon::prelude::*;
-use squares::{ReadSquares, Sq};
+use squares::{Look, Sq};
 use std::alloc::{AllocError, Global};
 use std::thread::Threads;
 
 // The longest runs of a square's cells, row by row and from left to right, in bands of the rows of their frame. The
 // bands are made in threads.
-pub(crate) fn banded_runs<R: Threads + Sync, B: ReadSquares + Sync>(
+pub(crate) fn banded_runs<R: Threads + Sync, B: Look + Sync>(
     rt: &R,
     alloc: Global,
     book: &B,

@@ -1,3 +1,5 @@
+//! Where a pattern lies, and whether RLE can hold it.
+
 ghost use Rattle.std.specs.Prelude.{◌≡◌, ◌+◌, ◌^◌, ◌<◌, ◌≤◌, ◌↔◌, IfOk, IsOk, IsOkUnless, SomeIff};
 ghost use Rattle.pattern_writers.specs.Frame.{FitsRle, HasRoom, band_row, frame_of, side};
 

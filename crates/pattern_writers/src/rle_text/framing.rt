@@ -1,3 +1,5 @@
+//! From the cells of a square to its frame and its items.
+
 ghost use Rattle.std.specs.Prelude.{◌≡◌, ◌⊎◌, ◌≤◌, IfOk, IfErr};
 ghost use Rattle.plane.specs.Centred.{centred};
 ghost use Rattle.squares.specs.Book.{IsKnown};
@@ -8,13 +10,13 @@ use super::bands::banded_runs;
 use super::frame::Frame;
 use super::items::{Item, items};
 use plane::Refusal;
-use squares::{ReadSquares, Sq};
+use squares::{Look, Sq};
 use std::alloc::Global;
 use std::thread::Threads;
 use viewport::bounds;
 
 // The frame of a square's cells, and their items in it.
-pub(crate) fn framed_items<R: Threads + Sync, B: ReadSquares + Sync>(
+pub(crate) fn framed_items<R: Threads + Sync, B: Look + Sync>(
     rt: &R,
     alloc: Global,
     book: &B,
@@ -28,17 +30,13 @@ pub(crate) fn framed_items<R: Threads + Sync, B: ReadSquares + Sync>(
         ⊎ refusal ≡ Refusal.NoMemory) }
 {
     let frame = cells_frame(alloc, book, sq)?;
-    let Ok(bands) = banded_runs(rt, alloc, book, sq, frame) else {
-        return Err(Refusal::NoMemory);
-    };
-    let Ok(items) = items(alloc, frame.corner, bands.as_slice()) else {
-        return Err(Refusal::NoMemory);
-    };
+    let bands = banded_runs(rt, alloc, book, sq, frame)?;
+    let items = items(alloc, frame.corner, bands.as_slice())?;
     Ok((frame, items))
 }
 
 // The frame of a square's cells.
-fn cells_frame<B: ReadSquares>(alloc: Global, book: &B, sq: Sq) -> Result<Frame, Refusal>
+fn cells_frame<B: Look>(alloc: Global, book: &B, sq: Sq) -> Result<Frame, Refusal>
     requires known { IsKnown (B.book book.now) sq.level sq }
     requires level { sq.level ≤ 63 }
     ensures frame { IfOk result (HasFrame (centred sq.level ((B.book book.now).cells sq))) }

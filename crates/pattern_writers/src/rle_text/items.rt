@@ -1,3 +1,5 @@
+//! The items of an RLE body: counts of dead cells, live cells and row ends.
+
 ghost use Rattle.std.specs.Prelude.{◌≡◌, ◌+◌, ◌≤◌, ◌++◌, flat_map, length, IfOk, OnOk};
 ghost use Rattle.pattern_writers.specs.Items.{cell_after, counted, item_text, items_of, run_items};
 

@@ -1,3 +1,5 @@
+//! An RLE body in lines of at most 70 bytes.
+
 ghost use Rattle.std.specs.Prelude.{◌≡◌, ℕ, ◌≤◌, List, [], ◌∷◌, ◌++◌, codes, length, OnOk, IfErr};
 ghost use Rattle.std.specs.Io.KnownBytes.{Appends, append_known};
 ghost use Rattle.arrayvec.specs.ArrayString.{array_string_len};

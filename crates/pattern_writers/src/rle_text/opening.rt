@@ -1,3 +1,5 @@
+//! The lines of an RLE file round its comments: position and generation, and the header.
+
 ghost use Rattle.std.specs.Prelude.{◌≡◌, ◌≤◌, length};
 ghost use Rattle.pattern_writers.specs.Opening.{header_line, position_line};
 

@@ -1,3 +1,5 @@
+//! The runs of live cells in some rows.
+
 ghost use Rattle.std.specs.Prelude.{◌≡◌, ◌≤◌, ◌+ℤ◌, pos, FitsSigned, IfOk, OnOk};
 ghost use Rattle.std.specs.Int.{w64};
 ghost use Rattle.plane.specs.Centred.{centred};
@@ -8,7 +10,7 @@ ghost use Rattle.pattern_writers.specs.RowRuns.{AddsRow, rows_between, run_in};
 ghost use Rattle.viewport.specs.Rows.{IsFirstRow};
 
 use plane::Cell;
-use squares::{ReadSquares, Sq};
+use squares::{Look, Sq};
 use std::alloc::{AllocError, Global};
 use viewport::first_row;
 
@@ -47,7 +49,7 @@ impl RowRun {
 }
 
 // The longest runs of a square's cells in the rows from one on and above another, row by row and from left to right.
-pub(crate) fn runs_between<B: ReadSquares>(
+pub(crate) fn runs_between<B: Look>(
     alloc: Global,
     book: &B,
     sq: Sq,
@@ -68,7 +70,7 @@ pub(crate) fn runs_between<B: ReadSquares>(
 }
 
 // The first row with a live cell, from one row on and above another.
-fn next_row<B: ReadSquares>(book: &B, sq: Sq, from: i64, end: i64) -> Option<i64>
+fn next_row<B: Look>(book: &B, sq: Sq, from: i64, end: i64) -> Option<i64>
     requires known { IsKnown (B.book book.now) sq.level sq }
     requires level { sq.level ≤ 63 }
     ensures { IsFirstRow (rows_between from end (centred sq.level ((B.book book.now).cells sq))) from result }
@@ -78,7 +80,7 @@ fn next_row<B: ReadSquares>(book: &B, sq: Sq, from: i64, end: i64) -> Option<i64
 }
 
 // Adds the runs of a row.
-fn add_row<B: ReadSquares>(
+fn add_row<B: Look>(
     alloc: Global,
     book: &B,
     sq: Sq,

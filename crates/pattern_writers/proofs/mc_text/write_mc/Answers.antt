@@ -6,6 +6,7 @@ use Rattle.rule_text.specs.RuleText.{canonical_text}
 use Rattle.pattern_writers.specs.McText.{mc_opening}
 use Rattle.pattern_writers.specs.RleText.{comment_lines}
 use Rattle.pattern_writers.proofs.BlocksOut.{block_begun, block_out}
+use Rattle.pattern_writers.proofs.WrittenReadBack.{mc_written_read}
 use Rattle.pattern_writers.proofs.mc_text.write_mc.Goals as goal
 
 pub returns-clause-written : goal.returns-clause-written
@@ -25,3 +26,6 @@ returns-clause-written g c =
           (block_begun _ _ c.new-block.result.items _ c.new-block.ensures (Appends-trans _ _ _ _ _ begun lines)) wrote);
     })
     (rw c.as_slice-2.ensures.value at c.write_all.ensures.written)
+
+pub returns-clause-read_back : goal.returns-clause-read_back
+returns-clause-read_back g c = on_ok_weaker c.write_all.result (λ writes. mc_written_read _ _ _ _ _ _ writes) (returns-clause-written g c)

@@ -2,6 +2,7 @@ use Rattle.std.proofs.Common.{inr, rules, subst}
 use Rattle.std.specs.Io.KnownBytes.{Appends}
 use Rattle.std.proofs.lemmas.Result.{IfErr-weaker, on_ok_weaker}
 use Rattle.pattern_writers.proofs.WholeText.{whole_text}
+use Rattle.pattern_writers.proofs.WrittenReadBack.{rle_written_read}
 use Rattle.pattern_writers.proofs.rle_text.write_rle.Goals as goal
 
 pub returns-clause-written : goal.returns-clause-written
@@ -15,6 +16,9 @@ returns-clause-written g c =
       appends = subst (Appends (g.V.Sink.taken c.args.file.now) (g.V.Sink.taken c.write_items.new.file)) (whole_text _ _ _ framed.cells _ _ framed.frame_is framed.items_is) wrote;
     })
     (rw c.as_slice.ensures.value at c.write_items.ensures.written)
+
+pub returns-clause-read_back : goal.returns-clause-read_back
+returns-clause-read_back g c = on_ok_weaker c.write_items.result (λ writes. rle_written_read _ _ _ _ _ _ writes) (returns-clause-written g c)
 
 pub returns-in_err-frame-clause-refused : goal.returns-in_err-frame-clause-refused
 returns-in_err-frame-clause-refused g c = search rules

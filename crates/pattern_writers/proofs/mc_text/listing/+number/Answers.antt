@@ -11,25 +11,25 @@ from_three (Err e) A B C P make a b c = tt
 
 pub number-returns-in-Some-clause-ok : goal.number-returns-in-Some-clause-ok
 number-returns-in-Some-clause-ok g t c =
-    number_lists (g.B.ReadSquares.book c.args.book.now) (g.met.B.ReadSquares.is_book c.args.book.now) c.args.list.now c.args.sq c.in-Some.number c.requires.known.known (sym c.in-Some.ensures)
+    number_lists (g.B.Look.book c.args.book.now) (g.met.B.Look.is_book c.args.book.now) c.args.list.now c.args.sq c.in-Some.number c.requires.known.known (sym c.in-Some.ensures)
 
 pub number-returns-then-sq-eq3-clause-ok : goal.number-returns-then-sq-eq3-clause-ok
 number-returns-then-sq-eq3-clause-ok g t c =
-    let book = g.B.ReadSquares.book c.args.book.now in
-    let new = no_number book (g.met.B.ReadSquares.is_book c.args.book.now) c.args.list.now c.args.sq (sym {b = number_of c.args.list.now c.args.sq} c.in_default.ensures) in
+    let book = g.B.Look.book c.args.book.now in
+    let new = no_number book (g.met.B.Look.is_book c.args.book.now) c.args.list.now c.args.sq (sym {b = number_of c.args.list.now c.args.sq} c.in_default.ensures) in
     from_three c.add.result _ _ _ _
     (λ number grown next up.
-    leaf_lists book (g.met.B.ReadSquares.is_book c.args.book.now) c.args.list.now c.add.new.self c.args.sq c.bits.result number c.requires.known new.0 c.if-sq-eq3.true
+    leaf_lists book (g.met.B.Look.is_book c.args.book.now) c.args.list.now c.add.new.self c.args.sq c.bits.result number c.requires.known new.0 c.if-sq-eq3.true
     new.1 c.bits.ensures next grown up)
     c.add.ensures.node c.add.ensures.number c.add.ensures.noted
 
 pub number-returns-clause-ok : goal.number-returns-clause-ok
 number-returns-clause-ok g t c =
-    let book = g.B.ReadSquares.book c.args.book.now in
-    let new = no_number book (g.met.B.ReadSquares.is_book c.args.book.now) c.args.list.now c.args.sq (sym {b = number_of c.args.list.now c.args.sq} c.in_default.ensures) in
+    let book = g.B.Look.book c.args.book.now in
+    let new = no_number book (g.met.B.Look.is_book c.args.book.now) c.args.list.now c.args.sq (sym {b = number_of c.args.list.now c.args.sq} c.in_default.ensures) in
     from_three c.add-2.result _ _ _ _
     (λ number grown next up.
-    inner_lists book (g.met.B.ReadSquares.is_book c.args.book.now) c.args.list.now c.numbers.new.list c.add-2.new.self c.args.sq c.parts.result c.in_ok-quarters.quarters number c.requires.known new.0 (omega arith)
+    inner_lists book (g.met.B.Look.is_book c.args.book.now) c.args.list.now c.numbers.new.list c.add-2.new.self c.args.sq c.parts.result c.in_ok-quarters.quarters number c.requires.known new.0 (omega arith)
     new.1 c.parts.ensures c.in_ok-quarters.ensures.ok next grown up)
     c.add-2.ensures.node c.add-2.ensures.number c.add-2.ensures.noted
 

@@ -20,7 +20,7 @@ collect-requires-clause-ready g c κs within =
 pub returns : goal.returns
 returns g c =
     let ends = c.into_par_iter.ensures in
-    let book = g.B.ReadSquares.book c.args.book.now in
+    let book = g.B.Look.book c.args.book.now in
     let plane = centred c.args.sq.level (book.cells c.args.sq) in
     let IsBand : ℕ → Vec RowRun Global → Type 0 = λ band runs. HasRuns (rows_between (band_row c.args.frame band) (band_row c.args.frame (band + 1)) plane) runs.items in
     let h = c.in_ok-collect.ensures in

@@ -8,9 +8,9 @@ use Rattle.pattern_writers.proofs.rle_text.framing.framed_items.Goals as goal
 
 pub returns-clause-ok : goal.returns-clause-ok
 returns-clause-ok g c =
-    let plane = centred c.args.sq.level ((g.B.ReadSquares.book c.args.book.now).cells c.args.sq) in
+    let plane = centred c.args.sq.level ((g.B.Look.book c.args.book.now).cells c.args.sq) in
     let framed = c.in_ok-frame.ensures.frame in
-    let ran = c.in-Ok.ensures in
+    let ran = c.in_ok-bands.ensures in
     let same = one_listing_lem plane ran.cells framed.cells ran.listing framed.listing in
     let frame = c.in_ok-frame.frame in
     record {
@@ -18,5 +18,5 @@ returns-clause-ok g c =
       listing = framed.listing;
       fits = framed.fits;
       frame_is = framed.frame_is;
-      items_is = c.in-Ok-items.ensures ∙ ap (items_of frame.corner.x frame.corner) (ap (flat_map (λ (band : Vec RowRun Global). band.items)) c.as_slice.ensures.value ∙ ran.runs_is ∙ ap runs_of same);
+      items_is = c.in_ok-items.ensures ∙ ap (items_of frame.corner.x frame.corner) (ap (flat_map (λ (band : Vec RowRun Global). band.items)) c.as_slice.ensures.value ∙ ran.runs_is ∙ ap runs_of same);
     }

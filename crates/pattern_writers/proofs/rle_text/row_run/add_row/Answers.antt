@@ -9,9 +9,9 @@ use Rattle.pattern_writers.proofs.rle_text.row_run.add_row.Goals as goal
 
 pub in_row-requires : goal.in_row-requires
 in_row-requires g c =
-    let book = g.B.ReadSquares.book c.args.book.now in
+    let book = g.B.Look.book c.args.book.now in
     let plane = centred c.args.sq.level (book.cells c.args.sq) in
-    let held = square_in_range book c.args.sq (g.met.B.ReadSquares.is_book c.args.book.now) c.requires.known c.requires.level in
+    let held = square_in_range book c.args.sq (g.met.B.Look.is_book c.args.book.now) c.requires.known c.requires.level in
     let row : SFits w64 c.args.row = c.ranges.row in
     let of_row : AreRowRuns plane c.args.row c.deref-run-items.result.now = subst (AreRowRuns plane c.args.row) (sym c.deref-run-items.ensures.value) (rw (to_z-of_z w64 c.args.row row) at c.in-Ok.ensures.ok) in
     let fits = runs_fit plane c.args.row c.deref-run-items.result.now c.found.run-index held of_row c.found-test.true in
@@ -19,9 +19,9 @@ in_row-requires g c =
 
 pub found-preserved : goal.found-preserved
 found-preserved g c =
-    let book = g.B.ReadSquares.book c.args.book.now in
+    let book = g.B.Look.book c.args.book.now in
     let plane = centred c.args.sq.level (book.cells c.args.sq) in
-    let held = square_in_range book c.args.sq (g.met.B.ReadSquares.is_book c.args.book.now) c.requires.known c.requires.level in
+    let held = square_in_range book c.args.sq (g.met.B.Look.is_book c.args.book.now) c.requires.known c.requires.level in
     let row : SFits w64 c.args.row = c.ranges.row in
     let here = to_z-of_z w64 c.args.row row in
     let runs = c.deref-run-items.result.now in
@@ -34,7 +34,7 @@ found-preserved g c =
 
 pub returns : goal.returns
 returns g c =
-    let book = g.B.ReadSquares.book c.args.book.now in
+    let book = g.B.Look.book c.args.book.now in
     let plane = centred c.args.sq.level (book.cells c.args.sq) in
     let row : SFits w64 c.args.row = c.ranges.row in
     let here = to_z-of_z w64 c.args.row row in

@@ -8,9 +8,9 @@ use Rattle.pattern_writers.proofs.rle_text.row_run.next_row.Goals as goal
 
 pub returns-then-row-end : goal.returns-then-row-end
 returns-then-row-end g c =
-    let book = g.B.ReadSquares.book c.args.book.now in
+    let book = g.B.Look.book c.args.book.now in
     let plane = centred c.args.sq.level (book.cells c.args.sq) in
-    let held = square_in_range book c.args.sq (g.met.B.ReadSquares.is_book c.args.book.now) c.requires.known c.requires.level in
+    let held = square_in_range book c.args.sq (g.met.B.Look.is_book c.args.book.now) c.requires.known c.requires.level in
     let start = to_z-of_z w64 c.args.from c.ranges.from in
     let stop = to_z-of_z w64 c.args.end c.ranges.end in
     let first : IsFirstRow plane c.args.from (Some c.in_ok-row.row) = rw start at c.in_ok-row.ensures in

@@ -9,7 +9,7 @@ use Rattle.pattern_writers.proofs.rle_text.row_run.runs_between.Goals as goal
 
 pub rows-init : goal.rows-init
 rows-init g c =
-    let book = g.B.ReadSquares.book c.args.book.now in
+    let book = g.B.Look.book c.args.book.now in
     let plane = centred c.args.sq.level (book.cells c.args.sq) in
     let band = rows_between c.args.from c.args.end plane in
     let start = to_z-of_z w64 c.args.from c.ranges.from in
@@ -19,12 +19,12 @@ rows-init g c =
 
 pub overflow_add-row : goal.overflow_add-row
 overflow_add-row g c =
-    let book = g.B.ReadSquares.book c.args.book.now in
+    let book = g.B.Look.book c.args.book.now in
     let plane = centred c.args.sq.level (book.cells c.args.sq) in
     let band = rows_between c.args.from c.args.end plane in
     let start = to_z-of_z w64 c.args.from c.ranges.from in
     let stop = to_z-of_z w64 c.args.end c.ranges.end in
-    let held = between_held c.args.from c.args.end plane (square_in_range book c.args.sq (g.met.B.ReadSquares.is_book c.args.book.now) c.requires.known c.requires.level) in
+    let held = between_held c.args.from c.args.end plane (square_in_range book c.args.sq (g.met.B.Look.is_book c.args.book.now) c.requires.known c.requires.level) in
     let far = subst (λ o. AreRunsSoFar band o c.rows.runs.items) c.in-Some.is (rw (start, stop) at c.rows.invariant) in
     let here = live_in_range band far.1.x c.in-Some.row held far.1.live in
     let fits_here : SFits w64 c.in-Some.row = coordinate_fits c.in-Some.row here.1 in
@@ -33,12 +33,12 @@ overflow_add-row g c =
 
 pub rows-preserved : goal.rows-preserved
 rows-preserved g c =
-    let book = g.B.ReadSquares.book c.args.book.now in
+    let book = g.B.Look.book c.args.book.now in
     let plane = centred c.args.sq.level (book.cells c.args.sq) in
     let band = rows_between c.args.from c.args.end plane in
     let start = to_z-of_z w64 c.args.from c.ranges.from in
     let stop = to_z-of_z w64 c.args.end c.ranges.end in
-    let held = between_held c.args.from c.args.end plane (square_in_range book c.args.sq (g.met.B.ReadSquares.is_book c.args.book.now) c.requires.known c.requires.level) in
+    let held = between_held c.args.from c.args.end plane (square_in_range book c.args.sq (g.met.B.Look.is_book c.args.book.now) c.requires.known c.requires.level) in
     let far = subst (λ o. AreRunsSoFar band o c.rows.runs.items) c.in-Some.is (rw (start, stop) at c.rows.invariant) in
     let here = live_in_range band far.1.x c.in-Some.row held far.1.live in
     let fits_here : SFits w64 c.in-Some.row = coordinate_fits c.in-Some.row here.1 in
@@ -54,12 +54,12 @@ rows-preserved g c =
 
 pub rows-smaller : goal.rows-smaller
 rows-smaller g c =
-    let book = g.B.ReadSquares.book c.args.book.now in
+    let book = g.B.Look.book c.args.book.now in
     let plane = centred c.args.sq.level (book.cells c.args.sq) in
     let band = rows_between c.args.from c.args.end plane in
     let start = to_z-of_z w64 c.args.from c.ranges.from in
     let stop = to_z-of_z w64 c.args.end c.ranges.end in
-    let held = between_held c.args.from c.args.end plane (square_in_range book c.args.sq (g.met.B.ReadSquares.is_book c.args.book.now) c.requires.known c.requires.level) in
+    let held = between_held c.args.from c.args.end plane (square_in_range book c.args.sq (g.met.B.Look.is_book c.args.book.now) c.requires.known c.requires.level) in
     let far = subst (λ o. AreRunsSoFar band o c.rows.runs.items) c.in-Some.is (rw (start, stop) at c.rows.invariant) in
     let here = live_in_range band far.1.x c.in-Some.row held far.1.live in
     let fits_here : SFits w64 c.in-Some.row = coordinate_fits c.in-Some.row here.1 in
@@ -73,7 +73,7 @@ rows-smaller g c =
 
 pub returns : goal.returns
 returns g c =
-    let book = g.B.ReadSquares.book c.args.book.now in
+    let book = g.B.Look.book c.args.book.now in
     let plane = centred c.args.sq.level (book.cells c.args.sq) in
     let band = rows_between c.args.from c.args.end plane in
     let start = to_z-of_z w64 c.args.from c.ranges.from in

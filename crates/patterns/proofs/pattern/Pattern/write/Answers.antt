@@ -3,24 +3,32 @@ use Rattle.std.specs.Prelude.{OnOk, IfErr}
 use Rattle.plane.specs.Device.{IsWriteRefusal}
 use Rattle.plane.specs.Plane.{Plane}
 use Rattle.plane.specs.declared.refusal.Refusal.TheVariants.{BoxTooLarge, NoMemory}
+use Rattle.pattern_writers.specs.RleReading.{IsReadBackFromRle}
 use Rattle.pattern_writers.specs.RleText.{HasRleText, IsTooLarge, WritesRle}
+use Rattle.pattern_writers.specs.Taken.{IfTaken}
 use Rattle.patterns.proofs.CellsAtRest.{shared_cells, shared_known}
 use Rattle.patterns.specs.declared.format.Format.TheVariants.{Rle}
 use Rattle.patterns.proofs.pattern.Pattern.write.Goals as goal
 
-pub returns-in-Ok-clause-written : goal.returns-in-Ok-clause-written
-returns-in-Ok-clause-written g c =
+pub returns-in_ok-shared-in-Some-Rle-clause-written : goal.returns-in_ok-shared-in-Some-Rle-clause-written
+returns-in_ok-shared-in-Some-Rle-clause-written g c =
     let asked : c.args.format ≡ Some Rle = search rules in
-    let same = shared_cells c.args.self.now.cells c.still-book.result.now c.in-Ok.shared c.root-root.result c.in-Ok.ensures.ok c.still-book.ensures c.root-root.ensures.root in
+    let same = shared_cells c.args.self.now.cells c.still-book.result.now c.in_ok-shared-in-Some-Rle.shared c.root-root.result c.in_ok-shared-in-Some-Rle.ensures.ok c.still-book.ensures c.root-root.ensures.root in
     rw asked (subst (λ (p : Plane). OnOk c.write_rle.result (WritesRle p c.args.comments c.args.rule.now c.args.generation (g.V.Sink.taken c.args.file.now) (g.V.Sink.taken c.write_rle.new.file))) same c.write_rle.ensures.written)
 
-pub returns-in-Ok-clause-unfailed : goal.returns-in-Ok-clause-unfailed
-returns-in-Ok-clause-unfailed g c = c.write_rle.ensures.unfailed
-
-pub returns-in-Ok-clause-refused : goal.returns-in-Ok-clause-refused
-returns-in-Ok-clause-refused g c =
+pub returns-in_ok-shared-in-Some-Rle-clause-read_back : goal.returns-in_ok-shared-in-Some-Rle-clause-read_back
+returns-in_ok-shared-in-Some-Rle-clause-read_back g c =
     let asked : c.args.format ≡ Some Rle = search rules in
-    let same = shared_cells c.args.self.now.cells c.still-book.result.now c.in-Ok.shared c.root-root.result c.in-Ok.ensures.ok c.still-book.ensures c.root-root.ensures.root in
+    let same = shared_cells c.args.self.now.cells c.still-book.result.now c.in_ok-shared-in-Some-Rle.shared c.root-root.result c.in_ok-shared-in-Some-Rle.ensures.ok c.still-book.ensures c.root-root.ensures.root in
+    rw asked (subst (λ (p : Plane). OnOk c.write_rle.result (IfTaken (g.V.Sink.taken c.args.file.now) (g.V.Sink.taken c.write_rle.new.file) (IsReadBackFromRle p c.args.comments c.args.rule.now c.args.generation))) same c.write_rle.ensures.read_back)
+
+pub returns-in_ok-shared-in-Some-Rle-clause-unfailed : goal.returns-in_ok-shared-in-Some-Rle-clause-unfailed
+returns-in_ok-shared-in-Some-Rle-clause-unfailed g c = c.write_rle.ensures.unfailed
+
+pub returns-in_ok-shared-in-Some-Rle-clause-refused : goal.returns-in_ok-shared-in-Some-Rle-clause-refused
+returns-in_ok-shared-in-Some-Rle-clause-refused g c =
+    let asked : c.args.format ≡ Some Rle = search rules in
+    let same = shared_cells c.args.self.now.cells c.still-book.result.now c.in_ok-shared-in-Some-Rle.shared c.root-root.result c.in_ok-shared-in-Some-Rle.ensures.ok c.still-book.ensures c.root-root.ensures.root in
     rw asked (subst (λ (p : Plane). IfErr c.write_rle.result (λ refusal.
     ((refusal ≡ BoxTooLarge) × IsTooLarge p × (c.write_rle.new.file ≡ c.args.file.now))
     ⊎ ((refusal ≡ NoMemory) × (c.write_rle.new.file ≡ c.args.file.now))
@@ -28,4 +36,4 @@ returns-in-Ok-clause-refused g c =
 
 pub write_rle-requires-clause-known : goal.write_rle-requires-clause-known
 write_rle-requires-clause-known g c =
-    λ _ _. shared_known c.args.self.now.cells c.still-book.result.now c.in-Ok.shared c.root-root.result c.in-Ok.ensures.ok c.still-book.ensures c.root-root.ensures.known
+    λ _ _. shared_known c.args.self.now.cells c.still-book.result.now c.in_ok-shared-in-Some-Rle.shared c.root-root.result c.in_ok-shared-in-Some-Rle.ensures.ok c.still-book.ensures c.root-root.ensures.known

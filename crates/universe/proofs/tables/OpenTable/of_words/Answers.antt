@@ -1,9 +1,10 @@
 use Rattle.std.proofs.Common.{refl}
-use Rattle.universe.proofs.AtRest.{opened_shows}
+use Rattle.universe.proofs.OpenedWords.{opened_shows}
 use Rattle.universe.proofs.tables.OpenTable.of_words.Goals as goal
 
 pub returns-clause-ok : goal.returns-clause-ok
 returns-clause-ok c = record {
   same_key = rw c.key.ensures refl;
+  opens = c.in-Ok.ensures.ok;
   shows = λ sq known. opened_shows c.args.still c.args.rule.now c.args.exponent c.in-Ok.table c.in-Ok.desk c.in-Ok.ensures.ok sq known;
 }

@@ -1,4 +1,4 @@
-use Rattle.std.proofs.Common.{◌^◌, subst}
+use Rattle.std.proofs.Common.{◌^◌, refl, subst}
 use Rattle.std.specs.Prelude.{IfOk}
 use Rattle.plane.specs.Centred.{centred}
 use Rattle.plane.specs.Plane.{after}
@@ -13,4 +13,7 @@ returns-clause-ok g c =
     let opened = c.args.self in
     let root = c.args.root in
     let was = known_at opened in
-    subst (λ (k : Key). IfOk c.step-desk.result.1 (IsRound (book_at opened.standing.table c.step-desk.result.0) (after k.rule (centred root.level (was.cells root)) (2 ^ k.exponent)))) opened.standing.same_key c.step-desk.ensures.ok
+    subst (λ (k : Key). IfOk c.step-desk.result.1 (IsRound (book_at opened.state.table c.step-desk.result.0) (after k.rule (centred root.level (was.cells root)) (2 ^ k.exponent)))) opened.state.same_key c.step-desk.ensures.ok
+
+pub returns-clause-stays : goal.returns-clause-stays
+returns-clause-stays g c = record { same_table = refl; same_key = refl; keeps = c.step-desk.ensures.desk.keeps }

@@ -20,8 +20,8 @@ returns-then-is_empty-clause-ok g c =
 pub steps-init : goal.steps-init
 steps-init g c = none_later (same_universe c.args.self)
 
-pub stride-requires-clause-exponent : goal.stride-requires-clause-exponent
-stride-requires-clause-exponent g c κs within =
+pub repeated_step-requires-clause-exponent : goal.repeated_step-requires-clause-exponent
+repeated_step-requires-clause-exponent g c κs within =
     let exponents = c.as_slice-exponent-items.result.now in
     let i = c.steps.exponent-index in
     let sum = ap (sum_by (λ exponent. 2 ^ exponent)) c.as_slice-exponent-items.ensures.value ∙ c.digits_from-digits.ensures in
@@ -29,8 +29,8 @@ stride-requires-clause-exponent g c κs within =
     low_exponent (get_or exponents i 0) (sum_by (λ exponent. 2 ^ exponent) (take i exponents)) c.args.generations
     (next_within exponents c.args.generations i sum c.steps-test.true) (c.requires.short some)
 
-pub stride-requires-clause-held : goal.stride-requires-clause-held
-stride-requires-clause-held g c κs within =
+pub repeated_step-requires-clause-held : goal.repeated_step-requires-clause-held
+repeated_step-requires-clause-held g c κs within =
     let exponents = c.as_slice-exponent-items.result.now in
     let i = c.steps.exponent-index in
     let sum = ap (sum_by (λ exponent. 2 ^ exponent)) c.as_slice-exponent-items.ensures.value ∙ c.digits_from-digits.ensures in

@@ -15,4 +15,4 @@ returns-in-None-clause-full g c =
     let most = c.sizes.invariant in
     let least = c.in-None.ensures.none in
     let bits : c.sizes.shape.bits ≡ c.new-limit.result.bits = omega (arith, most, least) in
-    λ refusal. subst HasFullTable (ap (λ n. 2 ^ n) bits ∙ c.new-limit.ensures) (c.in-Err-NodesFull.ensures.full c.in-Err-NodesFull.field-0-is)
+    λ refusal. subst (HasFullTable c.args.rule.now) (ap (λ n. 2 ^ n) bits ∙ c.new-limit.ensures) (c.in-Err-NodesFull.ensures.full c.in-Err-NodesFull.field-0-is)

@@ -6,8 +6,8 @@ use Rattle.pattern_writers.proofs.mc_text.root.Root.inner.Goals as goal
 
 pub returns-then-not-are_empty-clause-none : goal.returns-then-not-are_empty-clause-none
 returns-then-not-are_empty-clause-none g c =
-    let book = g.B.ReadSquares.book c.args.book.now in
-    let laws = g.met.B.ReadSquares.is_book c.args.book.now in
+    let book = g.B.Look.book c.args.book.now in
+    let laws = g.met.B.Look.is_book c.args.book.now in
     λ plane has held.
     let in_a = parts_of book laws _ _ (nth c.args.self.quarters 0) c.parts.result has.quarters.nw c.parts.ensures in
     let in_b = parts_of book laws _ _ (nth c.args.self.quarters 1) c.parts-2.result has.quarters.ne c.parts-2.ensures in
@@ -18,8 +18,8 @@ returns-then-not-are_empty-clause-none g c =
 
 pub returns-clause-inner : goal.returns-clause-inner
 returns-clause-inner g c =
-    let book = g.B.ReadSquares.book c.args.book.now in
-    let laws = g.met.B.ReadSquares.is_book c.args.book.now in
+    let book = g.B.Look.book c.args.book.now in
+    let laws = g.met.B.Look.is_book c.args.book.now in
     λ plane has.
     let in_a = parts_of book laws _ _ (nth c.args.self.quarters 0) c.parts.result has.quarters.nw c.parts.ensures in
     let in_b = parts_of book laws _ _ (nth c.args.self.quarters 1) c.parts-2.result has.quarters.ne c.parts-2.ensures in

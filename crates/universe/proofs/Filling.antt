@@ -1,0 +1,76 @@
+-- Tables that were opened and have become full.
+use Rattle.std.proofs.Common.{◌≡◌, ◌∙◌, ℕ, ◌^◌, inl, ap, sym, subst}
+use Rattle.std.specs.Prelude.{IsTrue, Result, Ok, Err, IfOk}
+use Rattle.rule_text.specs.CountRule.{CountRule}
+use Rattle.plane.specs.declared.refusal.Refusal.{Refusal}
+use Rattle.plane.specs.Square.{IsSame}
+use Rattle.plane.proofs.Same.{same_sym, same_trans}
+use Rattle.squares.specs.Book.{Keeps}
+use Rattle.squares.specs.declared.sq.Sq.{Sq}
+use Rattle.table_core.specs.declared.key.Key.{Key}
+use Rattle.table_core.specs.declared.shape.Shape.{Shape}
+use Rattle.node_table.specs.declared.still.Still.{Still}
+use Rattle.node_table.specs.declared.table.NodeTable.{NodeTable}
+use Rattle.node_table.specs.Desks.{book_at}
+use Rattle.node_table.specs.Openings.{Opens}
+use Rattle.node_table.specs.Stills.{IsVacant, book_in, key_of}
+use Rattle.node_sweep.specs.SweptStills.{IsSwept}
+use Rattle.universe.specs.Cells.{exponent_of, limit_of, live_cells, rule_of, square_plane}
+use Rattle.universe.specs.Runs.{IsAttempt, IsExhausted, IsFullAtLimit, IsFullFromAlone, IsFullInPlace, IsAtExponent}
+use Rattle.universe.specs.Tables.{HasFilledUp, IsFreshTable, IsOpened, StaysOpen, known_at, pairs_in}
+use Rattle.universe.specs.declared.attempts.Attempt.{Attempt}
+use Rattle.universe.specs.declared.attempts.Attempt.TheVariants.{Done, Full}
+use Rattle.universe.specs.declared.tables.OpenTable.{OpenTable}
+use Rattle.universe.specs.declared.universe.Universe.{Universe}
+
+-- words without a square, opened
+pub fresh_table : (still : Still) (rule : CountRule) (exponent slots pairs : ℕ) {opened : OpenTable} → slots ≡ pairs → IsVacant still slots → IsOpened still rule exponent opened → IsFreshTable rule exponent pairs opened
+fresh_table still rule exponent slots pairs same vacant is = record { still = still; vacant = subst (IsVacant still) same vacant; is = is }
+
+-- words opened under their own rule and exponent
+pub opened_under : (still : Still) {opened : OpenTable} → opened.state.key ≡ key_of still → IsOpened still (key_of still).rule (key_of still).exponent opened →
+    IsOpened still opened.state.key.rule opened.state.key.exponent opened
+opened_under still {opened} key is = subst (λ (k : Key). IsOpened still k.rule k.exponent opened) (sym key) is
+
+-- a table that was opened from the words, and later is full
+pub filled_up : (still : Still) (rule : CountRule) (exponent : ℕ) {opened now : OpenTable} → IsOpened still rule exponent opened → StaysOpen opened now → IsTrue (known_at now).is_full → HasFilledUp still rule exponent now
+filled_up still rule exponent {opened} {now} is stays full = record {
+  first = opened.desk;
+  opens = subst (λ (t : NodeTable). Opens still rule exponent t opened.desk) (sym stays.same_table) is.opens;
+  keeps = subst (λ (t : NodeTable). Keeps (book_at t opened.desk) (known_at now)) (sym stays.same_table) stays.keeps;
+  full = full;
+}
+
+-- the table has just been opened from words of the largest size with what the root reaches and nothing else
+pub record IsOpenedAlone (still : Still) (root : Sq) (universe : Universe) : Type 0 where
+  pub alone : Still
+  pub copy : Sq
+  pub swept : IsSwept still root (limit_of universe) alone copy
+  pub opened : IsOpened alone (rule_of universe) (exponent_of universe) universe.here.table
+
+-- where it is full later, it is full from the cells alone
+pub full_from_alone : (still : Still) (root : Sq) (start same : Universe) → IsOpenedAlone still root start → IsAtExponent (exponent_of start) start same → StaysOpen start.here.table same.here.table →
+    IsTrue (known_at same.here.table).is_full → IsFullFromAlone still root same
+full_from_alone still root start same alone at_exponent stays full =
+    let limit : limit_of same ≡ limit_of start = ap (λ (shape : Shape). 2 ^ shape.bits) at_exponent.same.limit in
+    record {
+      alone = alone.alone;
+      copy = alone.copy;
+      swept = subst (λ (pairs : ℕ). IsSwept still root pairs alone.alone alone.copy) (sym limit) alone.swept;
+      size = ap (λ (k : Key). 2 ^ k.shape.bits) (stays.same_key ∙ alone.opened.same_key) ∙ alone.swept.resized.pair_count ∙ sym limit;
+      filled = subst (λ (e : ℕ). HasFilledUp alone.alone (rule_of same) e same.here.table) (sym at_exponent.exponent)
+          (subst (λ (r : CountRule). HasFilledUp alone.alone r (exponent_of start) same.here.table) (sym at_exponent.same.rule)
+          (filled_up alone.alone (rule_of start) (exponent_of start) alone.opened stays full));
+    }
+
+-- where a step that begins with the cells alone meets a full table of the largest size, there is no larger one
+pub full_at_limit : (still : Still) (root : Sq) (start : Universe) (attempt : Result Attempt Refusal) → IsSame (square_plane (book_in still) root) (live_cells start) → IsOpenedAlone still root start →
+    IfOk attempt (IsAttempt start) → IfOk attempt (IsFullInPlace start) → IfOk attempt IsFullAtLimit
+full_at_limit still root start (Ok (Done later)) cells alone is full = tt
+full_at_limit still root start (Ok (Full same)) cells alone at_exponent full = record {
+  still = still;
+  root = root;
+  cells = same_trans cells (same_sym at_exponent.same.cells);
+  full = inl (full_from_alone still root start same alone at_exponent full.0 full.1);
+}
+full_at_limit still root start (Err refusal) cells alone is full = tt

@@ -1,9 +1,0 @@
-use Rattle.std.proofs.Common.{ℕ, subst}
-use Rattle.node_sweep.specs.EnlargedStills.{HasNoRoomForAll}
-use Rattle.universe.specs.Cells.{still_of}
-use Rattle.universe.proofs.Renewing.{no_room}
-use Rattle.universe.proofs.resting.Resting.enlarged.Goals as goal
-
-pub returns-in-Err-NodesFull-clause-full : goal.returns-in-Err-NodesFull-clause-full
-returns-in-Err-NodesFull-clause-full c =
-    subst (λ (n : ℕ). HasNoRoomForAll (still_of c.args.self.now) n) c.slot_count.ensures (no_room c.in-Err-NodesFull.field-0 c.in-Err-NodesFull.field-0-is c.in-Err-NodesFull.ensures.refusal)

@@ -1,0 +1,147 @@
+//! What a table remembers of earlier steps, and how that steers the next one.
+
+ghost use Rattle.std.specs.Prelude.{◌≤◌};
+
+use crate::sizes::{Growth, LARGE_BITS};
+use node_sweep::Finished;
+use worker_split::MOST_WORKERS;
+
+// After so many steps a large table that is full is swept before it grows.
+const STEPS_BEFORE_SWEEP: u32 = 4;
+
+// After so many steps a table of the size before the large ones is.
+const STEPS_BEFORE_SMALLER_SWEEP: u32 = 256;
+
+// A table that has taken more steps than these has nearly as many slots as a step needs.
+const STEPS_OF_GROWTH: u32 = 4;
+
+// A step that expanded fewer squares than one for so many pair slots had too little room.
+const SLOTS_AN_EXPANSION: u64 = 16;
+
+// A step of at most so many expansions is short: threads would take more time to start than they save.
+const FEW_EXPANSIONS: u64 = 16384;
+
+/// What was collected from full tables for the step that comes next.
+#[derive(Clone, Copy)]
+enum Collections {
+    /// Nothing yet.
+    None,
+    /// The squares worth keeping. So many were finished at the time.
+    Kept(Finished),
+    /// All that may help the step.
+    All,
+}
+
+/// The steps that a table has taken, and how far the last one came.
+#[derive(Clone, Copy)]
+pub(crate) struct TableHistory {
+    /// How many steps there were.
+    steps: u32,
+    /// How many squares the last step of the cells expanded, at this table or at the one before it.
+    expansions: Option<u64>,
+    /// How many squares the last try of a step expanded at this table, whether or not the table was full.
+    tried: u64,
+    /// What was collected for the next step.
+    collections: Collections,
+}
+
+impl TableHistory {
+    /// For a table whose cells have taken no step.
+    pub(crate) fn new() -> TableHistory {
+        TableHistory {
+            steps: 0,
+            expansions: None,
+            tried: 0,
+            collections: Collections::None,
+        }
+    }
+
+    /// For a new table of 2^bits pair slots that takes over the cells of this one. It has taken no step. A
+    /// table that isn't large also takes over how many squares the last step expanded; at a large one the next
+    /// step may be long.
+    pub(crate) fn for_new_table(self, bits: u8) -> TableHistory {
+        TableHistory {
+            steps: 0,
+            expansions: if bits < LARGE_BITS {
+                self.expansions
+            } else {
+                None
+            },
+            tried: 0,
+            collections: Collections::None,
+        }
+    }
+
+    /// For a new table of 2^bits pair slots that takes over what was collected from this one, when so much was
+    /// finished.
+    pub(crate) fn for_collected_table(self, bits: u8, finished: Finished) -> TableHistory {
+        let mut history = self.for_new_table(bits);
+        history.collections = Collections::Kept(finished);
+        history
+    }
+
+    /// For this table, from which nothing more is collected before the next step.
+    pub(crate) fn without_collections(self) -> TableHistory {
+        let mut history = self;
+        history.collections = Collections::All;
+        history
+    }
+
+    /// For this table, after a try of one more step. A try that met a full table is no step, and doesn't tell
+    /// whether the step is short.
+    pub(crate) fn after_try(self, is_taken: bool, expansions: u64) -> TableHistory {
+        let mut history = self;
+        history.tried = expansions;
+        if is_taken {
+            history.steps = history.steps.saturating_add(1);
+            history.expansions = Some(expansions);
+            history.collections = Collections::None;
+        }
+        history
+    }
+
+    /// Whether a collection may help the next step at a full table of so many pair slots: there was none for it
+    /// yet, or the last one left the step some room.
+    pub(crate) fn should_collect(self, pairs: u64) -> bool {
+        match self.collections {
+            Collections::None => true,
+            Collections::Kept(_) => self.tried >= pairs / SLOTS_AN_EXPANSION,
+            Collections::All => false,
+        }
+    }
+
+    /// Whether more is finished than at the last collection for the next step.
+    pub(crate) fn has_finished_more(self, finished: &Finished) -> bool {
+        match self.collections {
+            Collections::Kept(earlier) => finished.is_beyond(&earlier),
+            _ => true,
+        }
+    }
+
+    /// How many workers the next step may have: one, where the last one was short.
+    pub(crate) fn most_workers(self) -> usize
+        ensures { 1 ≤ result }
+    {
+        match self.expansions {
+            Some(expansions) if expansions <= FEW_EXPANSIONS => 1,
+            _ => MOST_WORKERS,
+        }
+    }
+
+    /// How the table grows, as long as it isn't large.
+    pub(crate) fn growth(self) -> Growth {
+        if self.steps > STEPS_OF_GROWTH {
+            return Growth::ByFour;
+        }
+        Growth::BySixteen
+    }
+
+    /// Whether a full table of 2^bits pair slots should be swept before it grows, since most of it is likely to
+    /// be left over from earlier steps: it is large and has taken some, or nearly large and has taken many.
+    pub(crate) fn should_sweep_first(self, bits: u8) -> bool {
+        if bits >= LARGE_BITS {
+            return self.steps >= STEPS_BEFORE_SWEEP;
+        }
+        self.steps >= STEPS_BEFORE_SMALLER_SWEEP && bits + 2 >= LARGE_BITS
+    }
+}
