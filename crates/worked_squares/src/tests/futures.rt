@@ -9,7 +9,7 @@ use crate::tests::rows::assert_no_row;
 use hashlife_step::{Tally, future, pad, plan, step, trim};
 use plane::{CellSet, Refusal, reach};
 use rule_text::Rule;
-use squares::{PlainBook, ReadSquares, Sq, Squares};
+use squares::{Look, PlainBook, Sq, Squares};
 use std::alloc::Global;
 
 // A number of generations, and the exponents of its steps.
@@ -120,7 +120,7 @@ const SURROUNDED: &[(u64, [u64; 4])] = &[
 ];
 
 // The leaves of a square of level 4.
-fn leaves_of<B: ReadSquares>(book: &B, sq: Sq) -> [u64; 4]
+fn leaves_of<B: Look>(book: &B, sq: Sq) -> [u64; 4]
     requires { IsKnown (B.book book.now) 4 sq }
 {
     let [nw, ne, sw, se] = book.parts(sq);

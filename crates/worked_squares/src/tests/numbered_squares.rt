@@ -190,3 +190,23 @@ fn the_empty_square_has_a_result(rt: HostRuntime) -> Result<(), Fail> {
     assert_eq!(rt; results_of_nothing(&mut book), (Some(empty), Some(empty)));
     Ok(())
 }
+
+// Three live cells in a row in the middle of a square of level 4, and the leaf at its centre.
+const BLINKER: [u64; 4] = [0x8000000000000000, 0x0300000000000000, 0, 0];
+
+const BLINKER_CENTRE: u64 = 0x38000000;
+
+// The blinker's centre, and the square that it has to be.
+fn centre_and_wanted(alloc: Global) -> Result<(Sq, Sq), Refusal> {
+    let mut book = life_book(alloc)?;
+    let blinker = square_of(&mut book, BLINKER)?;
+    let middle = centre(&mut book, blinker)?;
+    Ok((middle, book.leaf(BLINKER_CENTRE)?))
+}
+
+#[test]
+fn the_centre_of_level_four(rt: HostRuntime) -> Result<(), Fail> {
+    let (middle, wanted) = centre_and_wanted(rt.alloc())?;
+    assert_eq!(rt; middle, wanted);
+    Ok(())
+}

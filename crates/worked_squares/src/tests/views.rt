@@ -7,10 +7,10 @@ use crate::tests::books::{book_of, square_round};
 use crate::tests::places::{Place, cells_at};
 use crate::tests::rows::assert_no_row;
 use plane::{Bounds, FailAt, Memory, Refusal, Sink, Window};
-use squares::{PlainBook, ReadSquares, Sq, Squares};
+use squares::{Look, PlainBook, Sq, Squares};
 use std::alloc::Global;
 use std::test::Fail;
-use viewport::{bounds, first_row, picture, population, row_runs};
+use viewport::{bounds, first_row, picture, population, population_at, row_runs};
 
 // The square of this level that has the leaf everywhere.
 fn shared<S: Squares>(book: &mut S, word: u64, level: u8) -> Result<Sq, Refusal>
@@ -52,7 +52,14 @@ fn size_of(alloc: Global, word: u64, level: u8) -> Result<(u128, Option<[i64; 4]
         Some(bounds) => Some(sides_of(bounds)),
         None => None,
     };
-    Ok((population(alloc, &mut book, sq)?, sides))
+    Ok((population(alloc, &book, sq)?, sides))
+}
+
+// How many cells the square has, counted at the book that made it.
+fn count_at_book(alloc: Global, word: u64, level: u8) -> Result<u128, Refusal> {
+    let mut book = empty_book(alloc)?;
+    let sq = filled(&mut book, word, level)?;
+    population_at(alloc, &mut book, sq)
 }
 
 const FULL: u64 = u64::MAX;
@@ -94,6 +101,20 @@ fn first_wrong_size(alloc: Global, rows: &[Size]) -> Option<usize> {
 #[test]
 fn populations_and_boxes(rt: HostRuntime) {
     assert_no_row(&rt, first_wrong_size(rt.alloc(), SIZES));
+}
+
+fn first_wrong_count(alloc: Global, rows: &[Size]) -> Option<usize> {
+    for (row, (word, level, count, _)) in rows.iter().enumerate() {
+        if count_at_book(alloc, *word, *level) != Ok(*count) {
+            return Some(row);
+        }
+    }
+    None
+}
+
+#[test]
+fn populations_at_books(rt: HostRuntime) {
+    assert_no_row(&rt, first_wrong_count(rt.alloc(), SIZES));
 }
 
 // The runs of a row, and the first live row from it on.
@@ -167,7 +188,7 @@ fn window_of(sides: Sides) -> Result<Window, Refusal> {
 }
 
 // Draws the windows one after another.
-fn draw_windows<B: ReadSquares, W: Sink>(
+fn draw_windows<B: Look, W: Sink>(
     book: &B,
     sq: Sq,
     windows: &[Sides],

@@ -211,7 +211,7 @@ fn a_swept_square_has_its_cells(rt: HostRuntime) -> Result<(), Fail> {
         let mut plain = PlainBook::new(rt.alloc(), Rule::read(b"B3/S23")?, 0);
         let cells = copy_square(rt.alloc(), &swept, copy, &mut plain)?;
         assert!(rt; cells.level <= 63);
-        assert_eq!(rt; population(rt.alloc(), &mut plain, cells)?, 162);
+        assert_eq!(rt; population(rt.alloc(), &plain, cells)?, 162);
     }
     Ok(())
 }
@@ -241,7 +241,7 @@ fn expanded_at(rt: &(impl Abort + AllocGlobal), words: Still, root: Sq) -> Resul
     let mut plain = PlainBook::new(rt.alloc(), Rule::read(b"B3/S23")?, 0);
     let cells = copy_square(rt.alloc(), &words, root, &mut plain)?;
     assert!(rt; cells.level <= 63);
-    let count = population(rt.alloc(), &mut plain, cells)?;
+    let count = population(rt.alloc(), &plain, cells)?;
     let (table, desk) = open_table(rt.alloc(), words, Rule::read(b"B3/S23")?, 10)?;
     let mut at = table.at(desk);
     assert!(rt; at.exponent() <= 62);

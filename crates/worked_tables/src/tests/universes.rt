@@ -162,7 +162,7 @@ fn tables_are_let_go(rt: HostRuntime) -> Result<(), Fail> {
 fn words_at_rest(rt: HostRuntime) -> Result<(), Fail> {
     let universe = of_runs(&rt, b"B3/S23", &R_PENTOMINO, 4096)?;
     let (universe, bounds) = later(&rt, universe, 1103)?.bounds(rt.alloc())?;
-    assert_eq!(rt; universe.rest().bounds(rt.alloc())?, bounds);
+    assert_eq!(rt; universe.into_still().bounds(rt.alloc())?, bounds);
     Ok(())
 }
 

@@ -19,13 +19,27 @@ const NO_COMMENTS: &[u8] = b"x = 0, y = 0\n!";
 // The glider with its upper left corner at (1, 1), as the bits of a leaf.
 const GLIDER_BITS: u64 = 0xe08_0400;
 
-// Where a square of level 4 stands: by itself, or in one quarter of a square of level 5 or in two.
+// The four corners of a leaf.
+const CORNER_BITS: u64 = 0x8100_0000_0000_0081;
+
+// A square that is written.
 #[derive(Clone, Copy)]
-enum Place {
-    Alone,
-    UpperLeft,
-    UpperLeftAndLowerRight,
+enum Square {
+    // A leaf with these cells.
+    Leaf(u64),
+    // A square of level 4 with these leaves.
+    Alone([u64; 4]),
+    // Such a square in the upper left quarter of one of level 5.
+    UpperLeft([u64; 4]),
+    // Such a square in the upper left quarter and in the lower right one.
+    UpperLeftAndLowerRight([u64; 4]),
 }
+
+// The square of level 4 with no cells.
+const EMPTY: Sq = Sq {
+    level: 4,
+    num: Num(0),
+};
 
 // The square of level 4 with these leaves.
 fn square_of(book: &mut PlainBook, leaves: [u64; 4]) -> Result<Sq, Refusal>
@@ -45,86 +59,86 @@ fn larger_of(book: &mut PlainBook, nw: Sq, se: Sq) -> Result<Sq, Refusal>
     requires se { IsKnown (⟦<PlainBook as Squares>⟧.book book.old) 4 se }
     ensures { IfOk result (IsKnown (⟦<PlainBook as Squares>⟧.book book.new) 5) }
 {
-    let empty = Sq {
-        level: 4,
-        num: Num(0),
-    };
-    book.quad([nw, empty, empty, se])
+    book.quad([nw, EMPTY, EMPTY, se])
 }
 
-// The square of level 4 with these leaves, where it stands.
-fn placed(book: &mut PlainBook, leaves: [u64; 4], place: Place) -> Result<Sq, Refusal>
+// The square in a book.
+fn made(book: &mut PlainBook, square: Square) -> Result<Sq, Refusal>
     ensures known { IfOk result (λ sq. IsKnown (⟦<PlainBook as Squares>⟧.book book.new) sq.level sq) }
-    ensures level { IfOk result (λ sq. (4 ≤ sq.level) × (sq.level ≤ 63)) }
+    ensures level { IfOk result (λ sq. sq.level ≤ 63) }
 {
-    let sq = square_of(book, leaves)?;
-    let empty = Sq {
-        level: 4,
-        num: Num(0),
-    };
-    match place {
-        Place::Alone => Ok(sq),
-        Place::UpperLeft => larger_of(book, sq, empty),
-        Place::UpperLeftAndLowerRight => larger_of(book, sq, sq),
+    match square {
+        Square::Leaf(word) => book.leaf(word),
+        Square::Alone(leaves) => square_of(book, leaves),
+        Square::UpperLeft(leaves) => {
+            let sq = square_of(book, leaves)?;
+            larger_of(book, sq, EMPTY)
+        }
+        Square::UpperLeftAndLowerRight(leaves) => {
+            let sq = square_of(book, leaves)?;
+            larger_of(book, sq, sq)
+        }
     }
 }
 
 // What stands before the comments of each text.
 const OPENING: &[u8] = b"[M2] (lifebatch 1)\n#R B3/S23\n#G 4\n";
 
-// Whether this, behind the opening, is the macrocell text of a square of level 4 with these leaves, where it stands, with
-// the kept comments or with none.
-fn has_text(
-    alloc: Global,
-    leaves: [u64; 4],
-    place: Place,
-    commented: bool,
-    wanted: &str,
-) -> Option<bool> {
+// Whether this, behind the opening, is the macrocell text of a square, with the kept comments or with none.
+fn has_text(alloc: Global, square: Square, commented: bool, wanted: &str) -> Option<bool> {
     let rule = Rule::read(b"23/3").ok()?;
     let mut book = PlainBook::new(alloc, rule, 0);
-    let sq = placed(&mut book, leaves, place).ok()?;
+    let sq = made(&mut book, square).ok()?;
     let read = RleFile::open(if commented { COMMENTED } else { NO_COMMENTS }).ok()?;
     let mut file = Memory::with_room(alloc, 1000).ok()?;
     write_mc(alloc, &book, sq, read.comments(), &rule, 4, &mut file).ok()?;
     Some(file.bytes().strip_prefix(OPENING) == Some(wanted.as_bytes()))
 }
 
-// The leaves of a square of level 4, where it stands, whether there are comments, and the comments and nodes.
-type Text = ([u64; 4], Place, bool, &'static str);
+// A square, whether there are comments, and the comments and nodes.
+type Text = (Square, bool, &'static str);
 
 const TEXTS: &[Text] = &[
     (
-        [0, 0, 0, GLIDER_BITS],
-        Place::Alone,
+        Square::Alone([0, 0, 0, GLIDER_BITS]),
         true,
         "#N Glider\n$..*$...*$.***$\n4 0 0 0 1\n",
     ),
     // Equal squares stand once.
-    ([1; 4], Place::Alone, false, "*$\n4 1 1 1 1\n"),
-    ([1, 0, 0, 1], Place::Alone, false, "*$\n4 1 0 0 1\n"),
+    (Square::Alone([1; 4]), false, "*$\n4 1 1 1 1\n"),
+    (Square::Alone([1, 0, 0, 1]), false, "*$\n4 1 0 0 1\n"),
     (
-        [1 << 36, 0, 0, 0],
-        Place::Alone,
+        Square::Alone([1 << 36, 0, 0, 0]),
         false,
         "$$$$....*$\n4 1 0 0 0\n",
     ),
-    ([0; 4], Place::Alone, false, ""),
+    (Square::Alone([0; 4]), false, ""),
     // The root is the smallest square round (0,0).
-    ([0, 0, 0, 1], Place::UpperLeft, false, "*$\n4 1 0 0 0\n"),
-    ([0; 4], Place::UpperLeft, false, ""),
+    (Square::UpperLeft([0, 0, 0, 1]), false, "*$\n4 1 0 0 0\n"),
+    (Square::UpperLeft([0; 4]), false, ""),
     (
-        [1, 0, 0, 0],
-        Place::UpperLeftAndLowerRight,
+        Square::UpperLeftAndLowerRight([1, 0, 0, 0]),
         false,
         "*$\n4 1 0 0 0\n5 2 0 0 2\n",
     ),
+    // A leaf lies from (-4, -4) to (3, 3), in the middle of a root of level 4.
+    (
+        Square::Leaf(GLIDER_BITS),
+        true,
+        "#N Glider\n$$$$$......*$.......*$.....***$\n4 1 0 0 0\n",
+    ),
+    (
+        Square::Leaf(CORNER_BITS),
+        false,
+        "$$$$....*$\n$$$$...*$\n$$$....*$\n$$$...*$\n4 1 2 3 4\n",
+    ),
+    (Square::Leaf(0), false, ""),
 ];
 
 // The first text that a square does not have.
 fn first_missing(alloc: Global, rows: &[Text]) -> Option<&'static str> {
-    for (leaves, place, commented, wanted) in rows {
-        if has_text(alloc, *leaves, *place, *commented, wanted) != Some(true) {
+    for (square, commented, wanted) in rows {
+        if has_text(alloc, *square, *commented, wanted) != Some(true) {
             return Some(*wanted);
         }
     }
@@ -149,7 +163,7 @@ fn answers_of_writers<R: Threads + Sync>(
         return None;
     };
     let mut book = PlainBook::new(alloc, rule, 0);
-    let sq = placed(&mut book, [1; 4], Place::Alone).ok()?;
+    let sq = made(&mut book, Square::Alone([1; 4])).ok()?;
     let mut file = FailAt::new(memory, 1);
     let first = write_mc(alloc, &book, sq, read.comments(), &rule, 0, &mut file);
     let second = write_rle(rt, alloc, &book, sq, read.comments(), &rule, 0, &mut file);
