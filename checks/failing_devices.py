@@ -2,24 +2,33 @@
 """Runs lifebatch with files and devices that fail, and compares status, report, message and output file.
 
     checks/failing_devices.py
+    checks/failing_devices.py --only pipe    the rows with "pipe" in their names
 
-A full device, a closed pipe and a closed descriptor for what is written, and what can't be opened or read for what is read. As root, what
-hangs on permissions is run as the user `nobody`. The status is 1 where something else comes of a run than
-docs/formats.md and README.md say. Build the program first: `./lifebatch --help`.
+What is written meets a full device, a closed pipe or a closed descriptor; what is read can't be opened or read. docs/formats.md and README.md
+say what has to come of it. Under root the script runs the program as the user `nobody`, since nothing is locked for root.
 """
-import argparse
+import contextlib
 import os
 import pathlib
 import resource
 import shutil
 import subprocess
-import sys
 import tempfile
-from collections.abc import Callable
+from collections.abc import Callable, Iterator
 from dataclasses import dataclass
 
-ROOT = pathlib.Path(__file__).resolve().parent.parent
-LIFEBATCH = ROOT / "crates" / "lifebatch" / "out" / "lifebatch"
+from common.check import BUILT, Check, end, status_of
+from common.program import Ended, text_of
+
+CHECK = Check(
+    text=__doc__,
+    needs=(BUILT,),
+    takes="5 s",
+    replay="give the name of the row, or a part of it, to --only.",
+)
+
+# How many seconds a run may take.
+SECONDS = 60
 
 BLINKER = "x = 3, y = 1\n3o!"
 MACROCELL = "[M2]\n*$\n4 1 1 1 1\n"
@@ -31,32 +40,32 @@ UNSAID = (3, "", "lifebatch: refused 20: WriteFailed\n")
 UNWRITTEN = (3, REPORT, "lifebatch: refused 20: WriteFailed\n")
 
 
-def nothing(folder):
+def nothing(folder: pathlib.Path) -> None:
     pass
 
 
-def full_output(folder):
+def full_output(folder: pathlib.Path) -> None:
     (folder / "out.rle").symlink_to("/dev/full")
 
 
-def folder_output(folder):
+def folder_output(folder: pathlib.Path) -> None:
     (folder / "out.rle").mkdir()
 
 
-def locked_input(folder):
+def locked_input(folder: pathlib.Path) -> None:
     (folder / "in.rle").chmod(0)
 
 
-def locked_folder(folder):
+def locked_folder(folder: pathlib.Path) -> None:
     folder.chmod(0o555)
 
 
-def locked_output(folder):
+def locked_output(folder: pathlib.Path) -> None:
     (folder / "out.rle").write_text("as it was")
     (folder / "out.rle").chmod(0o444)
 
 
-def endless_link(folder):
+def endless_link(folder: pathlib.Path) -> None:
     (folder / "loop.rle").symlink_to("loop.rle")
 
 
@@ -67,7 +76,7 @@ class Row:
     name: str
     words: list[str]
     told: tuple[int, str, str]
-    prepare: Callable = nothing
+    prepare: Callable[[pathlib.Path], None] = nothing
     # What stands for standard output: a file, "closed pipe", or "closed"; None where it is read.
     out: str | None = None
     # What stands for standard input: a file, or "closed".
@@ -110,8 +119,7 @@ ROWS = [
     Row("an output file that is a folder", WRITE, UNWRITTEN, folder_output),
     Row("an output file that may not be written", WRITE, UNWRITTEN, locked_output, output="as it was"),
     Row("an output file in a folder that may not be written", WRITE, UNWRITTEN, locked_folder),
-    Row("a macrocell file, and its output in no folder", ["-o", "nowhere/out.mc", "in.mc"],
-        (3, "0: 4\n", UNWRITTEN[2])),
+    Row("a macrocell file, and its output in no folder", ["-o", "nowhere/out.mc", "in.mc"], (3, "0: 4\n", UNWRITTEN[2])),
     Row("a macrocell file, its report to a full device", ["-o", "out.mc", "in.mc"], UNSAID, out="/dev/full"),
     Row("standard error that is closed", WRITE, (0, REPORT, ""), output=UPRIGHT, is_error_closed=True),
     Row("standard error that is closed, and bad words", ["-m", "x"], (2, "", ""), is_error_closed=True),
@@ -120,14 +128,14 @@ ROWS = [
 ]
 
 
-def closed_pipe():
+def closed_pipe() -> int:
     """The end of a pipe that nobody reads."""
     read, write = os.pipe()
     os.close(read)
     return write
 
 
-def prepare_process(row):
+def prepare_process(row: Row) -> None:
     """Closes what a row has closed, and takes memory away, in the process of its run."""
     if row.memory:
         resource.setrlimit(resource.RLIMIT_AS, (row.memory << 20, row.memory << 20))
@@ -136,61 +144,83 @@ def prepare_process(row):
             os.close(number)
 
 
-def run(program, row, folder):
-    """Runs a row in a folder of its own, and answers what came of it."""
+def give_to_nobody(*paths: pathlib.Path) -> None:
+    """Makes the user `nobody` the owner of what is there, if this script runs under root."""
+    if os.geteuid() == 0:
+        for path in paths:
+            if path.exists() and not path.is_symlink():
+                shutil.chown(path, "nobody")
+
+
+def make_files(row: Row, folder: pathlib.Path) -> None:
     (folder / "in.rle").write_text(BLINKER)
     (folder / "in.mc").write_text(MACROCELL)
-    if os.geteuid() == 0:
-        for path in (folder, folder / "in.rle", folder / "in.mc"):
-            shutil.chown(path, "nobody")
+    give_to_nobody(folder, folder / "in.rle", folder / "in.mc")
     row.prepare(folder)
-    if os.geteuid() == 0 and (folder / "out.rle").exists() and not (folder / "out.rle").is_symlink():
-        shutil.chown(folder / "out.rle", "nobody")
-    source = subprocess.DEVNULL if row.read == "closed" else os.open(folder / row.read, os.O_RDONLY)
-    sinks = {None: lambda: subprocess.PIPE, "closed": lambda: subprocess.DEVNULL, "closed pipe": closed_pipe}
-    sink = sinks.get(row.out, lambda: os.open(row.out, os.O_WRONLY))()
-    return subprocess.run(
-        [program, *row.words],
-        cwd=folder,
-        stdin=source,
-        stdout=sink,
-        stderr=subprocess.PIPE,
-        timeout=60,
-        user="nobody" if os.geteuid() == 0 else None,
-        preexec_fn=lambda: prepare_process(row),
-    )
+    give_to_nobody(folder / "out.rle")
 
 
-def wrong(program, row, folder):
+@contextlib.contextmanager
+def streams(row: Row, folder: pathlib.Path) -> Iterator[dict[str, int]]:
+    """What stands for standard input and output. A stream that is to be closed is closed in the process of the run."""
+    opened = []
+    if row.read != "closed":
+        opened.append(os.open(folder / row.read, os.O_RDONLY))
+    source = opened[0] if opened else subprocess.DEVNULL
+    sink = {None: subprocess.PIPE, "closed": subprocess.DEVNULL}.get(row.out)
+    if sink is None:
+        sink = closed_pipe() if row.out == "closed pipe" else os.open(row.out, os.O_WRONLY)
+        opened.append(sink)
+    try:
+        yield {"stdin": source, "stdout": sink}
+    finally:
+        for it in opened:
+            os.close(it)
+
+
+def run_row(program: str, row: Row, folder: pathlib.Path) -> Ended:
+    """Runs a row in a folder of its own."""
+    make_files(row, folder)
+    user = "nobody" if os.geteuid() == 0 else None
+    with streams(row, folder) as how:
+        how = {**how, "stderr": subprocess.PIPE, "timeout": SECONDS, "user": user, "preexec_fn": lambda: prepare_process(row)}
+        try:
+            ran = subprocess.run([program, *row.words], cwd=folder, **how)
+        except subprocess.TimeoutExpired as late:
+            return Ended(None, text_of(late.stdout), text_of(late.stderr))
+    return Ended(ran.returncode, text_of(ran.stdout), text_of(ran.stderr))
+
+
+def difference(program: str, row: Row, folder: pathlib.Path) -> str | None:
     """What differs in a run of a row, if something does."""
-    found = run(program, row, folder)
-    told = (found.returncode, (found.stdout or b"").decode(), found.stderr.decode())
+    ended = run_row(program, row, folder)
+    told = (ended.status, ended.report, ended.message)
     output = folder / "out.rle"
-    holds = output.read_text() if output.is_file() else None
+    holds = output.read_text(errors="backslashreplace") if output.is_file() and not output.is_symlink() else None
     if told != row.told:
         return f"{told} in place of {row.told}"
-    return None if holds == row.output else f"the output file holds {holds!r}"
+    return None if holds == row.output else f"the output file has {holds!r} in place of {row.output!r}"
 
 
-def main():
-    parser = argparse.ArgumentParser(description=__doc__, formatter_class=argparse.RawDescriptionHelpFormatter)
-    parser.add_argument("--program", type=pathlib.Path, default=LIFEBATCH)
-    options = parser.parse_args()
-    count = 0
+def main() -> int:
+    parser = CHECK.parser()
+    parser.add_argument("--only", default="", help="only the rows with this text in their names")
+    options = CHECK.options(parser)
+    rows, count = [it for it in ROWS if options.only in it.name], 0
     with tempfile.TemporaryDirectory() as name:
         top = pathlib.Path(name)
         top.chmod(0o755)
         program = shutil.copy(options.program, top / "lifebatch")
-        for number, row in enumerate(ROWS):
+        for number, row in enumerate(rows):
             folder = top / str(number)
             folder.mkdir()
-            found = wrong(program, row, folder)
+            found = difference(program, row, folder)
             folder.chmod(0o755)
             count += found is not None
-            print(f"{row.name}: {found or 'as it is to be'}")
-    print(f"{len(ROWS)} rows, {count} otherwise")
-    sys.exit(1 if count else 0)
+            print(f"differs  {row.name}: {found}" if found else f"holds    {row.name}", flush=True)
+    print(f"{len(rows) - count} rows hold, {count} differ")
+    return status_of(len(rows), count)
 
 
 if __name__ == "__main__":
-    main()
+    end(main)

@@ -1,10 +1,13 @@
 #!/usr/bin/env python3
-"""Tries the launcher with a kit that proves nothing and takes a moment: the order of crates, for which processor the program is compiled,
-a build that is broken off, a crate that fails, files that are newer or change meanwhile, two calls at once, and a call where nothing is to be built.
+"""Tries the launcher ./lifebatch with a kit that proves nothing and takes a moment.
 
     checks/launcher_runs.py
+
+The script copies the launcher and the code of the crates, and puts its own rt, rattle and rattle-link on the path. It looks in which order the
+launcher has crates proved, for which processor it compiles the program, and what it does where nothing is to be built, where a crate fails,
+where files are newer or change meanwhile, where a build is broken off, and where there are two calls at once. It leaves the program of this
+repository alone.
 """
-import argparse
 import os
 import pathlib
 import pty
@@ -12,11 +15,22 @@ import select
 import shutil
 import signal
 import subprocess
-import sys
 import tempfile
 import time
+from collections.abc import Callable
 
-ROOT = pathlib.Path(__file__).resolve().parent.parent
+from common.check import PGREP, Check, end, status_of
+from common.program import ROOT
+
+CHECK = Check(
+    text=__doc__,
+    needs=(PGREP,),
+    takes="40 s",
+    replay="run it again; the rows build on those before them.",
+)
+
+# How many seconds a call may take.
+SECONDS = 120
 
 # It fails where a library below is missing, or where BAD names the crate.
 RATTLE = """#!/bin/sh
@@ -45,7 +59,7 @@ printf '#!/bin/sh\\necho "ran: $*"; cat\\n' >"$2" && chmod +x "$2"
 class Repository:
     """A copy of the launcher and of the crates' code, without anything built."""
 
-    def __init__(self, folder):
+    def __init__(self, folder: pathlib.Path):
         self.folder, self.log = folder, folder / "log"
         for name in ("lifebatch", "crates.txt"):
             shutil.copy(ROOT / name, folder)
@@ -57,25 +71,35 @@ class Repository:
             (folder / "bin" / name).write_text(text)
             (folder / "bin" / name).chmod(0o755)
 
-    def environment(self, **settings):
+    def environment(self, **settings: str) -> dict[str, str]:
         return {**os.environ, "PATH": f"{self.folder / 'bin'}:{os.environ['PATH']}", "LOG": str(self.log), **settings}
 
-    def start(self, *words, **settings):
-        how = {"stdin": subprocess.PIPE, "stdout": subprocess.PIPE, "stderr": subprocess.PIPE, "text": True}
+    def start(self, *words: str, **settings: str) -> subprocess.Popen:
+        how = {"stdin": subprocess.PIPE, "stdout": subprocess.PIPE, "stderr": subprocess.PIPE, "text": True, "start_new_session": True}
         return subprocess.Popen([self.folder / "lifebatch", *words], env=self.environment(**settings), **how)
 
-    def run(self, *words, **settings):
+    def run(self, *words: str, **settings: str) -> tuple[int, str, str]:
         ran = self.start(*words, **settings)
-        out, err = ran.communicate("input")
+        out, err = printed(ran, "input")
         return ran.returncode, out, err
 
-    def logged(self):
+    def logged(self) -> list[str]:
+        """What the kit was called for since the last look."""
         lines = self.log.read_text().split("\n")[:-1] if self.log.exists() else []
         self.log.unlink(missing_ok=True)
         return lines
 
 
-def whole(it):
+def printed(ran: subprocess.Popen, given: str = "") -> tuple[str, str]:
+    """What a call prints. One that takes too long is killed."""
+    try:
+        return ran.communicate(given, timeout=SECONDS)
+    except subprocess.TimeoutExpired:
+        os.killpg(ran.pid, signal.SIGKILL)
+        return ran.communicate()
+
+
+def whole(it: Repository) -> bool:
     status, out, err = it.run("-m", "a b")
     proved = it.logged()
     wide = [line for line in proved if line.endswith(" for x86-64-v3")]
@@ -87,32 +111,31 @@ def whole(it):
     )
 
 
-def has_wide_vectors():
+def has_wide_vectors() -> bool:
     """What the dynamic linker says of this machine."""
     said = subprocess.run(["/lib64/ld-linux-x86-64.so.2", "--help"], capture_output=True, text=True).stdout
     return "x86-64-v3 (supported" in said
 
 
-def second(it):
+def second(it: Repository) -> bool:
     began = time.monotonic()
     found = it.run("x")
     print(f"    a second call takes {1000 * (time.monotonic() - began):.0f} ms")
     return found == (0, "ran: x\ninput", "") and it.logged() == []
 
 
-def failed(it):
+def failed(it: Repository) -> bool:
     status, _, err = it.run(BAD="plane")
     return status == 2 and "error: plane is bad" in err and ": proved" not in err and bool(it.logged())
 
 
-def goes_on(it):
+def goes_on(it: Repository) -> bool:
     status, _, _ = it.run()
     lines = it.logged()
     return status == 0 and "proves plane" in lines and "proves rule_text" not in lines
 
 
-def newer(it):
-    """Where a file of a crate was changed, this crate and those above it are proved anew."""
+def newer(it: Repository) -> bool:
     file = next((it.folder / "crates" / "viewport" / "src").glob("*.rt"))
     file.write_text(file.read_text() + "\n")
     status, _, _ = it.run()
@@ -120,42 +143,41 @@ def newer(it):
     return status == 0 and {"viewport", "universe", "lifebatch"} <= proved and not proved & {"squares", "node_table"}
 
 
-def changed_meanwhile(it):
-    """Where a file changes while the build goes on, what was proved of it is not kept for the next build, whatever the file then has."""
+def changed_meanwhile(it: Repository) -> bool:
+    # What was proved of the other text is not kept, whatever the file then has.
     file = next((it.folder / "crates" / "viewport" / "src").glob("*.rt"))
     text = file.read_text()
     file.write_text(text + "// one\n")
     ran = it.start(SECONDS_EACH="1")
     time.sleep(0.5)
     file.write_text(text + "// another\n")
-    ran.communicate("")
+    printed(ran)
     file.write_text(text + "// one\n")
     it.logged()
     status, _, _ = it.run()
     return (ran.returncode, status) == (0, 0) and "proves viewport" in it.logged()
 
 
-def broken_off(it):
+def broken_off(it: Repository) -> bool:
     ran = it.start(SECONDS_EACH="0.5")
     time.sleep(2)
     build = subprocess.run(["pgrep", "-P", str(ran.pid)], capture_output=True, text=True).stdout.split()
     os.kill(int(build[0]), signal.SIGTERM)
-    _, err = ran.communicate()
+    _, err = printed(ran)
     left = subprocess.run(["pgrep", "-f", str(it.folder / "bin")], capture_output=True).stdout
     kept = (it.folder / "crates" / "rule_text" / "out" / "library" / "sum").exists()
     return ran.returncode == 143 and "broken off" in err and not left and kept
 
 
-def two(it):
+def two(it: Repository) -> bool:
     it.logged()
     first, other = it.start("one"), it.start("two")
-    outs = [ran.communicate("")[0] for ran in (first, other)]
+    outs = [printed(ran)[0] for ran in (first, other)]
     proved = it.logged()
     return outs == ["ran: one\n", "ran: two\n"] and len(proved) == len(set(proved)) > 0
 
 
-def terminal(it):
-    """On a terminal there is one line that moves."""
+def terminal(it: Repository) -> bool:
     shutil.rmtree(it.folder / "crates" / "lifebatch" / "out")
     ours, theirs = pty.openpty()
     how = {"stdin": subprocess.DEVNULL, "stdout": subprocess.DEVNULL, "stderr": theirs}
@@ -167,17 +189,38 @@ def terminal(it):
     return ran.returncode == 0 and "\r\x1b[K" in said and said.count("\n") == 3
 
 
-def main():
-    argparse.ArgumentParser(description=__doc__, formatter_class=argparse.RawDescriptionHelpFormatter).parse_args()
+# The rows of a group share a repository, and build on one another.
+GROUPS: list[list[tuple[str, Callable[[Repository], bool]]]] = [
+    [
+        ("the first call proves each crate once, builds the program for this processor and runs it", whole),
+        ("a second call builds nothing", second),
+        ("on a terminal there is one line that moves", terminal),
+    ],
+    [
+        ("a crate that fails is named, and ends the call with status 2", failed),
+        ("the next call goes on from the crates that are proved", goes_on),
+        ("a newer file has its crate and those above it proved anew", newer),
+        ("a file that changes during the build has its crate proved anew by the next call", changed_meanwhile),
+    ],
+    [
+        ("a build that is broken off leaves no process, and keeps what is proved", broken_off),
+        ("two calls at once prove each crate once", two),
+    ],
+]
+
+
+def main() -> int:
+    CHECK.options(CHECK.parser())
     held = []
-    for rows in ((whole, second, terminal), (failed, goes_on, newer, changed_meanwhile), (broken_off, two)):
+    for rows in GROUPS:
         with tempfile.TemporaryDirectory() as name:
             repository = Repository(pathlib.Path(name))
-            for row in rows:
-                held.append(row(repository))
-                print(f"{'holds' if held[-1] else 'FAILS'}  {row.__name__.replace('_', ' ')}", flush=True)
-    sys.exit(0 if all(held) else 1)
+            for says, holds in rows:
+                held.append(holds(repository))
+                print(f"{'holds  ' if held[-1] else 'differs'}  {says}", flush=True)
+    print(f"{sum(held)} rows hold, {len(held) - sum(held)} differ")
+    return status_of(len(held), len(held) - sum(held))
 
 
 if __name__ == "__main__":
-    main()
+    end(main)

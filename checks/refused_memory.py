@@ -2,14 +2,16 @@
 """Runs lifebatch with each growth of its memory refused in turn, and compares all that comes of each run.
 
     checks/refused_memory.py
+    checks/refused_memory.py --only help               the runs with "help" in their names
+    checks/refused_memory.py --only help --number 17   their 17th growth, or thread, alone
 
-A small library in C, which this compiles with `cc` and puts before the C library (LD_PRELOAD), refuses the Nth growth: alone, as where memory is
-short for a moment, and with all behind it, as where there is none left. N goes from 1 up to the first run that asks for fewer. Each run has to end as the one in
-which nothing is refused, or with status 1, `lifebatch: refused 18: NoMemory`, a beginning of the report that ends at a line's end and no output file.
-Threads are refused in the same way, which changes nothing. The status is 1 where something else comes of a run. Build the program first:
-`./lifebatch --help`.
+The script compiles a small library (common/refuse.c), which stands before the C library and refuses the Nth growth: alone, as where memory is
+short for a moment, and with all behind it, as where there is none left. N goes from 1 up to the first run that asks for fewer. Each run has to
+end as the one in which nothing is refused, or with status 1, "lifebatch: refused 18: NoMemory", a beginning of the report that ends at a line's
+end and no output file. Where words are bad, a shorter message may stand too. Threads are refused in the same way, which has to change nothing.
 """
 import argparse
+import itertools
 import os
 import pathlib
 import subprocess
@@ -17,84 +19,26 @@ import sys
 import tempfile
 import threading
 from collections import Counter
+from collections.abc import Iterator
 from dataclasses import dataclass
 
-ROOT = pathlib.Path(__file__).resolve().parent.parent
-LIFEBATCH = ROOT / "crates" / "lifebatch" / "out" / "lifebatch"
+from common.check import BUILT, C_COMPILER, CannotRun, Check, end, status_of
+from common.program import text_of
 
-# REFUSED says what is refused, "memory" or "thread", FIRST which one is the first, and LAST which one is the last.
-# A byte goes to descriptor TOLD when one is refused.
-LIBRARY = r"""
-#define _GNU_SOURCE
-#include <dlfcn.h>
-#include <errno.h>
-#include <pthread.h>
-#include <stdatomic.h>
-#include <stdlib.h>
-#include <string.h>
-#include <unistd.h>
+CHECK = Check(
+    text=__doc__,
+    needs=(BUILT, C_COMPILER),
+    takes="a minute",
+    quick=("--stride", "40"),
+    quickly="10 s",
+    replay="give the --only and the --number that are printed.",
+)
 
-extern void *__libc_malloc(size_t);
-extern void *__libc_calloc(size_t, size_t);
-extern void *__libc_realloc(void *, size_t);
-extern void *__libc_memalign(size_t, size_t);
-
-static atomic_long grown, started;
-static long first_growth, last_growth, first_thread, last_thread;
-static int told = -1;
-
-__attribute__((constructor)) static void prepare(void) {
-    const char *kind = getenv("REFUSED"), *first = getenv("FIRST"), *last = getenv("LAST"), *descriptor = getenv("TOLD");
-    if (!kind || !first || !last || !descriptor) return;
-    told = atoi(descriptor);
-    if (strcmp(kind, "thread") == 0) {
-        first_thread = atol(first);
-        last_thread = atol(last);
-    } else {
-        first_growth = atol(first);
-        last_growth = atol(last);
-    }
-    grown = started = 0;
-}
-
-static int is_refused(atomic_long *count, long first, long last) {
-    long number = atomic_fetch_add(count, 1) + 1;
-    if (!first || number < first || number > last) return 0;
-    if (write(told, "x", 1) < 0) abort();
-    errno = ENOMEM;
-    return 1;
-}
-
-void *malloc(size_t size) { return is_refused(&grown, first_growth, last_growth) ? NULL : __libc_malloc(size); }
-
-void *calloc(size_t count, size_t size) {
-    return is_refused(&grown, first_growth, last_growth) ? NULL : __libc_calloc(count, size);
-}
-
-void *realloc(void *old, size_t size) {
-    return is_refused(&grown, first_growth, last_growth) ? NULL : __libc_realloc(old, size);
-}
-
-void *memalign(size_t align, size_t size) {
-    return is_refused(&grown, first_growth, last_growth) ? NULL : __libc_memalign(align, size);
-}
-
-void *aligned_alloc(size_t align, size_t size) { return memalign(align, size); }
-
-int posix_memalign(void **made, size_t align, size_t size) {
-    void *found = memalign(align, size);
-    if (!found) return ENOMEM;
-    *made = found;
-    return 0;
-}
-
-typedef int (*Start)(pthread_t *, const pthread_attr_t *, void *(*)(void *), void *);
-
-int pthread_create(pthread_t *thread, const pthread_attr_t *how, void *(*body)(void *), void *with) {
-    if (is_refused(&started, first_thread, last_thread)) return EAGAIN;
-    return ((Start)dlsym(RTLD_NEXT, "pthread_create"))(thread, how, body, with);
-}
-"""
+# How many seconds a run may take.
+SECONDS = 60
+# After so many runs in a row in which nothing was refused, there is no more to refuse.
+MISSED = 3
+WRONG = "different"
 
 BLINKER = "x = 3, y = 1\n3o!"
 GLIDER = "x = 3, y = 3, rule = B3/S23\nbob$2bo$3o!"
@@ -106,13 +50,25 @@ COMMENTED = "#N Glider\n#r 23/3\nx = 3, y = 3\nbob$2bo$3o!"
 NO_MEMORY = "lifebatch: refused 18: NoMemory\n"
 
 
-@dataclass
+@dataclass(frozen=True)
 class Run:
-    """A file and the words of its run."""
+    """A file, the words of its run, and its status where nothing is refused."""
 
     name: str
     file: str
     words: list[str]
+    status: int = 0
+
+
+@dataclass(frozen=True)
+class Told:
+    """What comes of a run."""
+
+    status: int
+    report: str
+    message: str
+    # The output file, where there is one.
+    file: bytes | None
 
 
 RUNS = [
@@ -126,96 +82,129 @@ RUNS = [
     Run("the replicator by two workers", REPLICATOR, ["-m", "256", "--workers", "2", "-o", "out.rle", "in"]),
     Run("the R-pentomino by two workers", R_PENTOMINO, ["-m", "1103", "--workers", "2", "-o", "out.rle", "in"]),
     Run("the help", BLINKER, ["--help"]),
-    Run("words that are bad", BLINKER, ["-m", "x", "in"]),
+    Run("words that are bad", BLINKER, ["-m", "x", "in"], status=2),
 ]
 
 
 class Machine:
     """A folder with the library and a program."""
 
-    def __init__(self, program, folder):
+    def __init__(self, program: str, folder: pathlib.Path):
         self.program, self.folder, self.library = program, folder, folder / "refuse.so"
-        source = folder / "refuse.c"
-        source.write_text(LIBRARY)
-        subprocess.run(["cc", "-O2", "-shared", "-fPIC", "-o", self.library, source, "-ldl"], check=True)
+        source = pathlib.Path(__file__).resolve().parent / "common" / "refuse.c"
+        words = ["cc", "-O2", "-shared", "-fPIC", "-o", self.library, source, "-ldl"]
+        compiled = subprocess.run(words, capture_output=True)
+        if compiled.returncode:
+            raise CannotRun(f"cc doesn't compile common/refuse.c: {text_of(compiled.stderr)}")
 
-    def ended(self, run, kind="memory", first=0, last=0):
-        """How a run ended, and whether anything was refused in it: status, report, message and output file."""
+    def ended(self, run: Run, kind: str = "memory", first: int = 0, last: int = 0) -> tuple[Told, bool]:
+        """What comes of a run, and whether anything was refused in it."""
         (self.folder / "in").write_text(run.file)
         for old in self.folder.glob("out.*"):
             old.unlink()
         read, write = os.pipe()
-        told = {"REFUSED": kind, "FIRST": str(first), "LAST": str(last), "TOLD": str(write)}
-        process = subprocess.Popen(
-            [self.program, *run.words],
-            cwd=self.folder,
-            env={"LD_PRELOAD": str(self.library), **told},
-            stdout=subprocess.PIPE,
-            stderr=subprocess.PIPE,
-            pass_fds=[write],
-        )
-        os.close(write)
-        # A run that hangs is ended, and its status is then another one.
-        ending = threading.Timer(60, process.kill)
-        ending.start()
-        report, message = process.communicate()
-        ending.cancel()
+        settings = {"LD_PRELOAD": str(self.library), "REFUSED": kind, "FIRST": str(first), "LAST": str(last), "TOLD": str(write)}
+        how = {"stdout": subprocess.PIPE, "stderr": subprocess.PIPE, "pass_fds": [write]}
+        with subprocess.Popen([self.program, *run.words], cwd=self.folder, env=settings, **how) as process:
+            os.close(write)
+            # A run that hangs is killed, and its status says so.
+            late = threading.Timer(SECONDS, process.kill)
+            late.start()
+            report, message = process.communicate()
+            late.cancel()
         with os.fdopen(read, "rb") as pipe:
             is_refused = bool(pipe.read())
-        output = next((path.read_text() for path in self.folder.glob("out.*")), None)
-        return (process.returncode, report.decode(), message.decode(), output), is_refused
+        file = next((path.read_bytes() for path in self.folder.glob("out.*")), None)
+        return Told(process.returncode, text_of(report), text_of(message), file), is_refused
 
 
-def is_no_memory(told, plain):
+def is_plain(told: Told, run: Run) -> bool:
+    """Whether a run in which nothing is refused prints and writes what such a run does."""
+    is_well = run.status == 0
+    is_told = bool(told.report) == is_well and bool(told.message) != is_well
+    return told.status == run.status and is_told and (told.file is not None) == ("-o" in run.words)
+
+
+def is_no_memory(told: Told, plain: Told) -> bool:
     """Whether a run says that memory was wanting, with what may stand then."""
-    status, report, message, output = told
-    is_beginning = plain[1].startswith(report) and (not report or report.endswith("\n"))
-    return (status, message, output) == (1, NO_MEMORY, None) and is_beginning
+    is_beginning = plain.report.startswith(told.report) and (not told.report or told.report.endswith("\n"))
+    return (told.status, told.message, told.file) == (1, NO_MEMORY, None) and is_beginning
 
 
-def is_cut_message(told, plain):
+def is_cut_message(told: Told, plain: Told) -> bool:
     """Whether words are called bad in fewer words than there is memory for."""
-    return plain[0] == 2 and told[:2] == plain[:2] and told[2].startswith("lifebatch: bad words") and told[2].count("\n") == 1
+    is_one_line = told.message.startswith("lifebatch: bad words") and told.message.count("\n") == 1
+    return plain.status == told.status == 2 and told.report == plain.report and is_one_line
 
 
-def answers(machine, run, kind, plain, is_all, options):
-    """What came of refusing each one in turn, alone or with all behind it."""
-    counts, missed, number = Counter(), 0, 0
-    while missed < 3 and number < options.most:
-        number += options.stride
+def answer(told: Told, plain: Told, kind: str, is_refused: bool) -> str | None:
+    """What comes of a run, or None where it is something else than it may be."""
+    if told == plain:
+        return "as if nothing was refused"
+    if kind == "memory" and is_refused and is_no_memory(told, plain):
+        return "NoMemory"
+    if kind == "memory" and is_refused and is_cut_message(told, plain):
+        return "a shorter message"
+    return None
+
+
+def numbers(kind: str, options: argparse.Namespace) -> Iterator[int]:
+    """Which growths, or which threads, are refused."""
+    if options.number:
+        yield options.number
+    else:
+        yield from itertools.count(1, options.stride if kind == "memory" else 1)
+
+
+def refused_in_turn(machine: Machine, run: Run, plain: Told, kind: str, is_all: bool, options: argparse.Namespace) -> Counter:
+    """What comes of refusing each one in turn, alone or with all behind it, for those runs that ask for so many."""
+    counts, missed = Counter(), 0
+    for number in numbers(kind, options):
         told, is_refused = machine.ended(run, kind, number, sys.maxsize if is_all else number)
+        found = answer(told, plain, kind, is_refused)
+        if found is None:
+            counts[WRONG] += 1
+            print(f"differs: {run.name}, {kind} {number}{' and all behind' if is_all else ''}: {told}", flush=True)
+            print(f"    to replay: checks/refused_memory.py --only '{run.name}' --number {number}", flush=True)
+        elif is_refused:
+            counts[found] += 1
         missed = 0 if is_refused else missed + 1
-        if told == plain:
-            counts["as if nothing was refused"] += is_refused
-        elif is_no_memory(told, plain) and kind == "memory":
-            counts["NoMemory"] += 1
-        elif is_cut_message(told, plain) and kind == "memory":
-            counts["a shorter message"] += 1
-        else:
-            counts["WRONG"] += 1
-            print(f"{run.name}: {kind} {number}{' and all behind' if is_all else ''}: {told}", flush=True)
+        if missed == MISSED:
+            break
     return counts
 
 
-def main():
-    parser = argparse.ArgumentParser(description=__doc__, formatter_class=argparse.RawDescriptionHelpFormatter)
-    parser.add_argument("--program", type=pathlib.Path, default=LIFEBATCH)
-    parser.add_argument("--stride", type=int, default=1, help="refuse every Nth growth alone")
-    parser.add_argument("--most", type=int, default=100000, help="the last growth that is refused")
-    options = parser.parse_args()
-    wrong = 0
+def tried(machine: Machine, run: Run, options: argparse.Namespace) -> Counter:
+    """What comes of a run, whatever is refused in it."""
+    plain, _ = machine.ended(run)
+    if not is_plain(plain, run):
+        print(f"differs: {run.name}, nothing refused: {plain}", flush=True)
+        return Counter({WRONG: 1})
+    counts = Counter()
+    for kind, is_all in itertools.product(("memory", "thread"), (False, True)):
+        found = refused_in_turn(machine, run, plain, kind, is_all, options)
+        counts += found
+        said = ", ".join(f"{name} {count}" for name, count in sorted(found.items())) or "none asked for"
+        print(f"{run.name}, {kind} refused{', with all behind' if is_all else ''}: {said}", flush=True)
+    return counts
+
+
+def main() -> int:
+    parser = CHECK.parser()
+    parser.add_argument("--stride", type=int, default=1, help="refuse every Nth growth, from the first on (1)")
+    parser.add_argument("--number", type=int, help="refuse the growth, or the thread, of this number alone, from 1 on")
+    parser.add_argument("--only", default="", help="only the runs with this text in their names")
+    options = CHECK.options(parser)
+    counts = Counter()
     with tempfile.TemporaryDirectory() as name:
         machine = Machine(str(options.program.resolve()), pathlib.Path(name))
         for run in RUNS:
-            plain, _ = machine.ended(run)
-            for kind, is_all in (("memory", False), ("memory", True), ("thread", False), ("thread", True)):
-                counts = answers(machine, run, kind, plain, is_all, options)
-                wrong += counts["WRONG"]
-                found = ", ".join(f"{answer} {count}" for answer, count in sorted(counts.items())) or "none asked for"
-                print(f"{run.name}, {kind} refused{', with all behind' if is_all else ''}: {found}", flush=True)
-    print(f"{wrong} runs end otherwise than they may")
-    sys.exit(1 if wrong else 0)
+            if options.only in run.name:
+                counts += tried(machine, run, options)
+    held = counts.total() - counts[WRONG]
+    print(f"{held} runs in which something was refused end as they may, {counts[WRONG]} differ")
+    return status_of(held, counts[WRONG])
 
 
 if __name__ == "__main__":
-    main()
+    end(main)

@@ -1,12 +1,19 @@
 """Files that say the same in odd forms, and files with a fault, as docs/formats.md allows and refuses them."""
-import cells as plain
+from collections.abc import Sequence
+from random import Random
+
+from common import cells as plain
+
+# The number and the name of a refusal, and with a place where the fault lies.
+Refusal = tuple[int, str]
+Fault = tuple[int, str, int]
 
 # Comments that are kept, and lines that have no effect.
 KEPT = ["#C a kept comment", "#N a name", "#O somebody", "#D", "#Comments of any kind", "#C \u00e9\t!"]
 IGNORED = ["#r 23/3", "#P 1 1", "#", "#x = 1"]
 
 
-def broken(text, chance):
+def broken(text: str, chance: Random) -> str:
     """A text with breaks, blanks and comments strewn into it, also between the digits of a count."""
     pieces = []
     for letter in text:
@@ -16,14 +23,14 @@ def broken(text, chance):
     return "".join(pieces)
 
 
-def spelled_item(count, tag, chance):
+def spelled_item(count: int, tag: str, chance: Random) -> str:
     tag = chance.choice({"b": "b.", "o": "oA", "$": "$"}[tag])
     if count > 1 or chance.random() < 0.1:
         return "0" * chance.choice([0, 0, 0, 1, 25]) + str(count) + tag
     return tag
 
 
-def faulty_item(fault):
+def faulty_item(fault: str) -> tuple[str, Refusal]:
     """An item with a fault, its refusal and its name."""
     return {
         "tag": ("3z", (5, "BadTag")),
@@ -34,7 +41,9 @@ def faulty_item(fault):
     }[fault]
 
 
-def head_lines(rule, generation, corner, comments, chance):
+def head_lines(
+    rule: str, generation: int, corner: tuple[int, int], comments: Sequence[str], chance: Random
+) -> tuple[list[str], int]:
     """The lines before the body, in odd forms, and how many of them stand before the header."""
     settings = [f"Pos={corner[0]},{corner[1]}", f"Gen={generation}"]
     chance.shuffle(settings)
@@ -46,7 +55,9 @@ def head_lines(rule, generation, corner, comments, chance):
     return [*lines, header], len(lines)
 
 
-def rle_file(cells, rule, generation, comments, chance, fault=None):
+def rle_file(
+    cells: plain.Cells, rule: str, generation: int, comments: Sequence[str], chance: Random, fault: str | None = None
+) -> tuple[bytes, int, Fault | None]:
     """An RLE file in odd forms; the place of its header; its fault, with its place, if it has one."""
     corner = plain.box(cells)[:2] if cells else (0, 0)
     lines, before = head_lines(rule, generation, corner, comments, chance)
@@ -68,7 +79,7 @@ def rle_file(cells, rule, generation, comments, chance, fault=None):
     return (head + body).encode(), place, told
 
 
-def spelled_node(line, chance):
+def spelled_node(line: str, chance: Random) -> str:
     """A node line in an odd form."""
     if line[0].isdigit():
         blanks = chance.choice([" ", " ", "  ", "\t"])
@@ -78,7 +89,7 @@ def spelled_node(line, chance):
     return line + "$" * chance.randint(0, 8 - line.count("$"))
 
 
-def faulty_line(fault):
+def faulty_line(fault: str) -> tuple[str, Refusal]:
     """A line with a fault, its refusal and its name."""
     return {
         "tag": ("o$", (10, "BadNodeLine")),
@@ -90,7 +101,9 @@ def faulty_line(fault):
     }[fault]
 
 
-def macrocell_file(cells, rule, generation, comments, chance, fault=None):
+def macrocell_file(
+    cells: plain.Cells, rule: str, generation: int, comments: Sequence[str], chance: Random, fault: str | None = None
+) -> tuple[bytes, int, Fault | None]:
     """A macrocell file in odd forms; the place of its rule; its fault, with its place, if it has one."""
     level = chance.randint(plain.root_level(cells), 63)
     nodes = [spelled_node(line, chance) for line in plain.node_lines(cells, level, chance.random() < 0.5)]

@@ -1,25 +1,12 @@
-#!/usr/bin/env python3
-"""Shows what docs/from-bgolly.md says of lifebatch and bgolly side by side: for each line of it a run of both, and whether it holds.
-
-    checks/beside_bgolly.py
-    checks/beside_bgolly.py --only rule        the lines with "rule" in them
-
-The status is 1 if one doesn't hold. Build the program first: `./lifebatch --help`.
-"""
-import argparse
-import pathlib
+"""The lines of docs/from-bgolly.md: for each the words of both programs, and what has to hold of the two runs."""
 import re
-import shutil
-import subprocess
-import sys
-import tempfile
 from collections.abc import Callable
 from dataclasses import dataclass
 
-ROOT = pathlib.Path(__file__).resolve().parent.parent
-LIFEBATCH = ROOT / "crates" / "lifebatch" / "out" / "lifebatch"
-# Where a run goes on for ever, it is ended after this many seconds.
-SECONDS = 2
+from common.program import Ended
+
+# How long a run may take, and how long one is watched that goes on for ever.
+SECONDS, WATCHED = 60, 2
 
 FILES = {
     "pentomino.rle": "#C Five cells.\nx = 3, y = 3, rule = B3/S23\nb2o$2o$bo!\n",
@@ -34,35 +21,51 @@ FILES = {
 }
 
 
-@dataclass
+@dataclass(frozen=True)
 class Ran:
-    """What came of a run: its status (none if it went on for ever), what it printed, and the file that it wrote."""
+    """A run of a program: its words, how it ended, and what it wrote to its file."""
 
-    words: list
-    status: int | None
-    out: str
-    err: str
+    words: list[str]
+    ended: Ended
     file: str = ""
 
-    def report(self):
+    @property
+    def status(self) -> int | None:
+        return self.ended.status
+
+    @property
+    def out(self) -> str:
+        return self.ended.report
+
+    @property
+    def err(self) -> str:
+        return self.ended.message
+
+    def report(self) -> list[tuple[str, str]]:
         """The lines of the report, each as a generation and a population."""
         return [tuple(it.split(": ")) for it in self.out.splitlines() if re.fullmatch(r"[\d,]+: [\d,]+", it)]
 
-    def last(self):
-        return self.report()[-1]
+    def generations(self) -> list[str]:
+        return [generation for generation, _ in self.report()]
 
-    def refusal(self):
+    def last(self) -> tuple[str, str]:
+        """The last line of the report, or empty texts if there is none."""
+        return (self.report() or [("", "")])[-1]
+
+    def refusal(self) -> str:
         return self.err.strip().rpartition(": ")[2]
 
-    def shown(self):
+    def shown(self) -> str:
+        """The words, the status and the first lines of what came of it."""
         lines = [it for it in self.out.splitlines() if it != "- " + " ".join(self.words)]
         lines += self.err.splitlines() + self.file.splitlines()
         lines = [it if len(it) <= 60 else it[:57] + "..." for it in lines if it]
         lines = lines[:4] + ["..."] * (len(lines) > 4)
-        return f"{' '.join(self.words)}   [{'no end' if self.status is None else f'status {self.status}'}]\n" + "".join(f"      {it}\n" for it in lines)
+        status = "no end" if self.status is None else f"status {self.status}"
+        return f"{' '.join(self.words)}   [{status}]\n" + "".join(f"      {it}\n" for it in lines)
 
 
-@dataclass
+@dataclass(frozen=True)
 class Line:
     """A line of the page: the words of both programs, and what has to hold of the two runs."""
 
@@ -70,9 +73,11 @@ class Line:
     ours: str
     theirs: str
     holds: Callable[[Ran, Ran], bool]
+    # Whether bgolly goes on for ever.
+    is_endless: bool = False
 
 
-def not_here(text):
+def not_here(text: str) -> Line:
     """A line whose words bgolly takes, and lifebatch doesn't know."""
     return Line(
         f"{text.split()[0]} isn't there",
@@ -82,7 +87,7 @@ def not_here(text):
     )
 
 
-def refused(what, options, file, name, theirs):
+def refused(what: str, options: str, file: str, name: str, theirs: str) -> Line:
     """A file or a rule that bgolly takes, and lifebatch refuses by this name."""
     return Line(
         f"{what} is refused as {name}",
@@ -92,13 +97,14 @@ def refused(what, options, file, name, theirs):
     )
 
 
-def nodes(text):
+def nodes(text: str) -> list[str]:
+    """The node lines of a macrocell text."""
     return [it for it in text.splitlines() if it and it[0] not in "#["]
 
 
-def rows(text):
+def rows(text: str) -> str:
     """The items of an RLE text, without what stands before them."""
-    return "".join(it for it in text.splitlines() if it[0] not in "#x")
+    return "".join(it for it in text.splitlines() if it[:1] not in "#x")
 
 
 LINES = [
@@ -120,12 +126,13 @@ LINES = [
         "pentomino.rle",
         "pentomino.rle",
         lambda ours, theirs: ours.report() == [("0", "5")] and theirs.status is None,
+        is_endless=True,
     ),
     Line(
         "-i never overshoots; there a run ends at the first multiple from -m on",
         "-m 25 -i 10 pentomino.rle",
         "-h -m 25 -i 10 pentomino.rle",
-        lambda ours, theirs: ours.last()[0] == "25" and theirs.last()[0] == "30",
+        lambda ours, theirs: ours.generations() == ["0", "10", "20", "25"] and theirs.generations() == ["0", "10", "20", "30"],
     ),
     Line(
         "without -i the first and the last are reported; there some between them too",
@@ -143,7 +150,7 @@ LINES = [
         "-r takes the place of the file's rule in both",
         "-r B36/S23 -m 40 pentomino.rle",
         "-r B36/S23 -h -m 40 -i 40 pentomino.rle",
-        lambda ours, theirs: ours.report() == theirs.report(),
+        lambda ours, theirs: ours.report() == theirs.report() != [],
     ),
     Line(
         "the long names of -m, -i, -r, -q and -o are the same",
@@ -161,7 +168,7 @@ LINES = [
         "numbers have no commas",
         "-m 1103 pentomino.rle",
         "-h -m 1103 -i 1103 pentomino.rle",
-        lambda ours, theirs: ours.last()[0] == "1103" and theirs.last()[0] == "1,103",
+        lambda ours, theirs: ours.last() == ("1103", "116") and theirs.last() == ("1,103", "116"),
     ),
     Line(
         "the report is all of standard output; there the version and the command come first",
@@ -232,7 +239,7 @@ LINES = [
         "so a run that goes on with such a file counts from 0",
         "-m 1 theirs.rle",
         "-h -m 1 -i 1 theirs.rle",
-        lambda ours, theirs: ours.report()[0] == theirs.report()[0] == ("0", "64"),
+        lambda ours, theirs: ours.report()[:1] == theirs.report()[:1] == [("0", "64")],
     ),
     Line(
         "a macrocell file is written with the generation in both, with comments here alone",
@@ -276,10 +283,16 @@ LINES = [
     ),
     refused("birth on zero neighbours", "-r B0/S23", "pentomino.rle", "BirthOnZero", "-r B0/S23"),
     Line(
-        "rules of four and of six neighbours are the same",
+        "rules of four neighbours are the same",
+        "-r B13/S012V -m 4 pentomino.rle",
+        "-r B13/S012V -h -m 4 -i 4 pentomino.rle",
+        lambda ours, theirs: ours.report() == theirs.report() != [],
+    ),
+    Line(
+        "rules of six neighbours are the same",
         "-r B2/S34H -m 4 pentomino.rle",
         "-r B2/S34H -h -m 4 -i 4 pentomino.rle",
-        lambda ours, theirs: ours.report() == theirs.report(),
+        lambda ours, theirs: ours.report() == theirs.report() != [],
     ),
     Line(
         "M may stand behind a rule of eight; there it may not",
@@ -288,63 +301,3 @@ LINES = [
         lambda ours, theirs: ours.status == 0 and theirs.status == 10,
     ),
 ]
-
-
-class Programs:
-    def __init__(self, program, folder):
-        self.program, self.folder = program, folder
-        for name, text in FILES.items():
-            (folder / name).write_text(text)
-        subprocess.run(["gzip", "-k", "pentomino.rle"], cwd=folder, check=True)
-        self.keep("-h -m 100 -o out.mc later.rle", "theirs.mc")
-        self.keep("-h -m 150 -i 50 -o out.rle later.rle", "theirs.rle")
-        self.keep("-h -t -m 4 -i 1 -o out.mc glider.rle", "timeline.mc")
-
-    def run(self, name, words):
-        for it in self.folder.glob("out.*"):
-            it.unlink()
-        program = str(self.program.resolve()) if name == "lifebatch" else name
-        how = {"cwd": self.folder, "stdin": subprocess.DEVNULL, "stdout": subprocess.PIPE, "stderr": subprocess.PIPE, "text": True}
-        with subprocess.Popen([program, *words.split()], **how) as ran:
-            try:
-                out, err = ran.communicate(timeout=SECONDS)
-                status = ran.returncode
-            except subprocess.TimeoutExpired:
-                ran.kill()
-                out, err = ran.communicate()
-                status = None
-        written = [it.read_text() for it in self.folder.glob("out.*") if it.suffix != ".gz"]
-        return Ran([name, *words.split()], status, out, err, "".join(written))
-
-    def keep(self, words, to):
-        """Keeps a file that bgolly writes."""
-        (self.folder / to).write_text(self.run("bgolly", words).file)
-
-    def shows(self, line):
-        """Prints both runs, and answers whether the line holds."""
-        ours, theirs = self.run("lifebatch", line.ours), self.run("bgolly", line.theirs)
-        try:
-            holds = line.holds(ours, theirs)
-        except IndexError:
-            # There is no report.
-            holds = False
-        print(f"{'holds' if holds else 'FAILS'}  {line.says}\n    {ours.shown()}    {theirs.shown()}", flush=True)
-        return holds
-
-
-def main():
-    parser = argparse.ArgumentParser(description=__doc__, formatter_class=argparse.RawDescriptionHelpFormatter)
-    parser.add_argument("--only", default="", help="a word of the lines to show")
-    parser.add_argument("--program", type=pathlib.Path, default=LIFEBATCH)
-    options = parser.parse_args()
-    if not shutil.which("bgolly"):
-        sys.exit("bgolly is not installed: apt-get install golly")
-    with tempfile.TemporaryDirectory() as name:
-        programs = Programs(options.program, pathlib.Path(name))
-        held = [programs.shows(it) for it in LINES if options.only in it.says]
-    print(f"{sum(held)} of {len(held)} lines hold")
-    sys.exit(0 if all(held) else 1)
-
-
-if __name__ == "__main__":
-    main()

@@ -3,6 +3,12 @@
 Nothing here comes from the program or is read by it: it is what the program is compared with.
 """
 from collections import Counter
+from collections.abc import Collection, Iterable, Sequence
+
+Cell = tuple[int, int]
+Cells = Collection[Cell]
+# A count and a tag.
+Item = tuple[int, str]
 
 MOORE = [(-1, -1), (0, -1), (1, -1), (-1, 0), (1, 0), (-1, 1), (0, 1), (1, 1)]
 NEIGHBOURHOODS = {
@@ -22,28 +28,28 @@ TOO_WIDE = 2**31
 class Rule:
     """The numbers of live neighbours by which a cell is born and survives, in one of the neighbourhoods."""
 
-    def __init__(self, birth, survival, letter=""):
+    def __init__(self, birth: Iterable[int], survival: Iterable[int], letter: str = ""):
         self.birth, self.survival, self.letter = frozenset(birth), frozenset(survival), letter
         self.offsets = NEIGHBOURHOODS[letter]
 
-    def text(self):
+    def text(self) -> str:
         birth, survival = ("".join(map(str, sorted(digits))) for digits in (self.birth, self.survival))
         return f"B{birth}/S{survival}{self.letter}"
 
-    def next(self, cells):
+    def next(self, cells: Cells) -> set[Cell]:
         """The live cells one generation on."""
         counts = Counter((x - dx, y - dy) for x, y in cells for dx, dy in self.offsets)
         born = {cell for cell, count in counts.items() if count in self.birth and cell not in cells}
         return born | {cell for cell in cells if counts[cell] in self.survival}
 
 
-def box(cells):
+def box(cells: Cells) -> tuple[int, int, int, int]:
     """The left, top, right and bottom of some cells."""
     columns, rows = [x for x, _ in cells], [y for _, y in cells]
     return min(columns), min(rows), max(columns), max(rows)
 
 
-def is_too_far(cells, start, generations):
+def is_too_far(cells: Cells, start: int, generations: int) -> bool:
     """Whether a run leaves the range of generations or of cells."""
     if start + generations > LAST:
         return True
@@ -53,7 +59,7 @@ def is_too_far(cells, start, generations):
     return min(left, top) - generations < -END or max(right, bottom) + generations >= END
 
 
-def is_too_wide(cells):
+def is_too_wide(cells: Cells) -> bool:
     """Whether no RLE text can hold the box of some cells."""
     if not cells:
         return False
@@ -61,7 +67,7 @@ def is_too_wide(cells):
     return max(right - left, bottom - top) + 1 >= TOO_WIDE
 
 
-def row_items(row, left):
+def row_items(row: Sequence[int], left: int) -> list[Item]:
     """The runs of a row from its left end to its last live cell."""
     items, column = [], left
     for x in row:
@@ -75,7 +81,7 @@ def row_items(row, left):
     return items
 
 
-def rle_items(cells):
+def rle_items(cells: Cells) -> list[Item]:
     """The runs of some cells row by row, as counts and tags."""
     left, rows = min(x for x, _ in cells), {}
     for x, y in sorted(cells, key=lambda cell: (cell[1], cell[0])):
@@ -89,7 +95,7 @@ def rle_items(cells):
     return items
 
 
-def rle_head(cells, rule, generation, comments):
+def rle_head(cells: Cells, rule: str, generation: int, comments: Sequence[str]) -> list[str]:
     left, top, right, bottom = box(cells) if cells else (0, 0, -1, -1)
     return [
         f"#CXRLE Pos={left},{top} Gen={generation}",
@@ -98,7 +104,7 @@ def rle_head(cells, rule, generation, comments):
     ]
 
 
-def rle_text(cells, rule, generation, comments=()):
+def rle_text(cells: Cells, rule: str, generation: int, comments: Sequence[str] = ()) -> str:
     """The RLE text of some cells."""
     items = rle_items(cells) if cells else []
     lines, line = rle_head(cells, rule, generation, comments), ""
@@ -110,7 +116,7 @@ def rle_text(cells, rule, generation, comments=()):
     return "".join(line + "\n" for line in [*lines, line])
 
 
-def leaf_line(cells, left, top):
+def leaf_line(cells: Cells, left: int, top: int) -> str:
     """The line of a square of 8 by 8 cells."""
     rows = {}
     for x, y in cells:
@@ -125,17 +131,17 @@ def leaf_line(cells, left, top):
 class Nodes:
     """The node lines of a square, each behind those of its quadrants; equal lines are one where they are shared."""
 
-    def __init__(self, is_shared=True):
+    def __init__(self, is_shared: bool = True):
         self.lines, self.numbers, self.is_shared = [], {}, is_shared
 
-    def add(self, line):
+    def add(self, line: str) -> int:
         if line in self.numbers and self.is_shared:
             return self.numbers[line]
         self.lines.append(line)
         self.numbers[line] = len(self.lines)
         return len(self.lines)
 
-    def square(self, level, left, top, cells):
+    def square(self, level: int, left: int, top: int, cells: Cells) -> int:
         """The number of a square of side 2^level with these cells in it."""
         if not cells:
             return 0
@@ -151,7 +157,7 @@ class Nodes:
         return self.add(" ".join(map(str, [level, *kids])))
 
 
-def root_level(cells):
+def root_level(cells: Cells) -> int:
     """The smallest level of at least 4 whose square round (0,0) has all cells."""
     level = 4
     while any(not -(1 << (level - 1)) <= part < 1 << (level - 1) for cell in cells for part in cell):
@@ -159,19 +165,19 @@ def root_level(cells):
     return level
 
 
-def node_lines(cells, level, is_shared=True):
+def node_lines(cells: Cells, level: int, is_shared: bool = True) -> list[str]:
     nodes = Nodes(is_shared)
     nodes.square(level, -(1 << (level - 1)), -(1 << (level - 1)), list(cells))
     return nodes.lines
 
 
-def macrocell_text(cells, rule, generation, comments=()):
+def macrocell_text(cells: Cells, rule: str, generation: int, comments: Sequence[str] = ()) -> str:
     """The macrocell text of some cells."""
     head = ["[M2] (lifebatch 1)", f"#R {rule}", f"#G {generation}", *comments]
     return "".join(line + "\n" for line in head + node_lines(cells, root_level(cells)))
 
 
-def picture(cells, window):
+def picture(cells: Cells, window: tuple[int, int, int, int]) -> str:
     """The rows of a window, a line each."""
     x, y, width, height = window
     rows = ("".join("*" if (x + i, y + j) in cells else "." for i in range(width)) for j in range(height))

@@ -1,35 +1,46 @@
 #!/usr/bin/env python3
-"""Runs lifebatch on random patterns beside a program that goes cell by cell, and compares all that comes of it.
+"""Compares lifebatch with a program that goes cell by cell, on random patterns.
 
-    checks/against_cells.py --patterns 500 --seed 7
+    checks/random_patterns.py --count 500 --seed 7
+    checks/random_patterns.py --seed 7 --only 31    pattern 31 of seed 7 alone
 
 Each run has a random pattern, a rule in one of the three neighbourhoods, generations, a step, perhaps a window, a limit of
 slots, a number of workers, an output file in one of the two formats, and an input file in one of them, spelled in odd forms and
-sometimes with a fault. Report, picture, output file, message and exit status have to be the same to the byte. Under a small limit a run
-may be refused `NodesFull`; then its report has to be a beginning of the right one, up to the end of a line, and there is no file.
-Such a run counts as skipped. Build the program first: `./lifebatch --help`. The status is 1 where something differs.
+sometimes with a fault. Report, picture, output file, message and status have to be the same to the byte. Under a small limit lifebatch
+may refuse a run as NodesFull. Then its report has to be a beginning of the right one, up to the end of a line, and there is no file.
+The script counts such a run as skipped.
 """
 import argparse
 import pathlib
 import random
-import subprocess
-import sys
 import tempfile
 from collections import Counter
 
-import cells as plain
-import spellings
+from common import cells as plain
+from common import spellings
+from common.check import BUILT, Check, end, status_of
+from common.program import Ended, run
 
-ROOT = pathlib.Path(__file__).resolve().parent.parent
-LIFEBATCH = ROOT / "crates" / "lifebatch" / "out" / "lifebatch"
+CHECK = Check(
+    text=__doc__,
+    needs=(BUILT,),
+    takes="15 s for 200 patterns",
+    quick=("--count", "60"),
+    quickly="5 s",
+    replay="give the --seed and the --only that are printed, and the same --workers. The input file stays at the path that is printed.",
+)
 
 # A pattern that has grown to so many cells runs no further.
 MOST_CELLS = 4000
 
 FULL = (1, "lifebatch: refused 17: NodesFull\n")
 
+# What is told of a run.
+PARTS = ["the status", "the report or the picture", "the message", "the output file"]
+Told = tuple[int, str, str, str | None]
 
-def random_rule(chance):
+
+def random_rule(chance: random.Random) -> plain.Rule:
     letter = chance.choice(["", "V", "H"])
     if chance.random() < 0.4:
         return {"": plain.Rule({3}, {2, 3}), "V": plain.Rule({1}, {}, "V"), "H": plain.Rule({2}, {3, 4}, "H")}[letter]
@@ -39,7 +50,7 @@ def random_rule(chance):
     return plain.Rule(birth, survival, letter)
 
 
-def random_corner(chance):
+def random_corner(chance: random.Random) -> tuple[int, int]:
     """Where a pattern begins, mostly near (0,0)."""
     near = chance.randint(-60, 60), chance.randint(-60, 60)
     if chance.random() < 0.75:
@@ -48,7 +59,7 @@ def random_corner(chance):
     return chance.choice([(far, near[1]), (near[0], far), (far, far)])
 
 
-def soup(chance, corner):
+def soup(chance: random.Random, corner: tuple[int, int]) -> set[tuple[int, int]]:
     most, densities = chance.choice([(40, [0, 0.05, 0.2, 0.35, 0.5])] * 3 + [(130, [0.05, 0.1])])
     width, height = chance.randint(1, most), chance.randint(1, most)
     density = chance.choice(densities)
@@ -58,7 +69,7 @@ def soup(chance, corner):
     }
 
 
-def random_cells(chance):
+def random_cells(chance: random.Random) -> set[tuple[int, int]]:
     corner = random_corner(chance)
     found = soup(chance, corner)
     if chance.random() < 0.1:
@@ -69,7 +80,7 @@ def random_cells(chance):
 class Case:
     """A random run, and what has to come of it: status, report, message and output file."""
 
-    def __init__(self, chance, workers):
+    def __init__(self, chance: random.Random, workers: list[int]):
         self.rule, self.cells = random_rule(chance), random_cells(chance)
         self.start = chance.choice([0, 0, 7, plain.LAST - 20])
         self.generations = chance.choice([0, 1, 2, 3, 10, 33, 64, 100])
@@ -82,14 +93,14 @@ class Case:
         self.make_file(chance)
         self.told = self.refused_at_once() or self.ending()
 
-    def random_window(self, chance):
+    def random_window(self, chance: random.Random) -> tuple[int, ...] | None:
         if chance.random() < 0.4:
             return None
         left, top = plain.box(self.cells)[:2] if self.cells else (0, 0)
         corner = (max(-plain.END, min(plain.END, part + chance.randint(-40, 10))) for part in (left, top))
         return *corner, chance.randint(1, 70), chance.randint(1, 70)
 
-    def make_file(self, chance):
+    def make_file(self, chance: random.Random) -> None:
         """The input file, in one of the formats, with its comments and perhaps a fault or a rule that is none."""
         self.is_given = chance.random() < 0.2
         self.is_bad_rule = chance.random() < 0.1
@@ -101,7 +112,7 @@ class Case:
         spelled = chance.choice([spellings.rle_file, spellings.macrocell_file])
         self.file, self.rule_place, self.fault = spelled(self.cells, text, self.start, self.comments, chance, fault)
 
-    def refused_at_once(self):
+    def refused_at_once(self) -> Told | None:
         """What comes of a run that is refused before its first line, if it is."""
         if self.fault:
             number, name, place = self.fault
@@ -113,11 +124,11 @@ class Case:
             return 1, "", "lifebatch: refused 14: TooFar\n", None
         return None
 
-    def shows(self, done):
+    def shows(self, done: int) -> bool:
         is_end = done in (0, self.generations)
         return not self.is_quiet and (is_end or self.step > 0 and done % self.step == 0)
 
-    def ending(self):
+    def ending(self) -> Told:
         """What comes of a run that is accepted, cell by cell."""
         report, found = "", self.cells
         for done in range(self.generations + 1):
@@ -135,7 +146,7 @@ class Case:
         written = {".rle": plain.rle_text, ".mc": plain.macrocell_text, None: lambda *_: None}[self.output]
         return 0, report, "", written(found, self.rule.text(), self.start + self.generations, self.comments)
 
-    def words(self):
+    def words(self) -> list[str]:
         words = ["-m", str(self.generations), "-i", str(self.step), *(["-q"] if self.is_quiet else [])]
         words += ["-o", "out" + self.output] if self.output else []
         words += ["--window=" + ",".join(map(str, self.window))] if self.window else []
@@ -144,58 +155,75 @@ class Case:
         return words + (["-r", self.rule.text()] if self.is_given else [])
 
 
-def compare(program, case, folder, seconds):
-    """What came of a case: same, full, or what differs."""
-    output = folder / f"out{case.output}"
-    output.unlink(missing_ok=True)
+def is_full_table(case: Case, ended: Ended, is_written: bool) -> bool:
+    """Whether a run met a full table, and left what it may."""
+    report = ended.report
+    is_beginning = case.told[1].startswith(report) and (not report or report.endswith("\n"))
+    return case.nodes is not None and (ended.status, ended.message) == FULL and is_beginning and not is_written
+
+
+def compare(program: str, case: Case, folder: pathlib.Path, seconds: float) -> str:
+    """What comes of a case: "same", "full", or what differs."""
+    for old in folder.iterdir():
+        old.unlink()
     (folder / "in").write_bytes(case.file)
-    try:
-        words = [program, *case.words(), "in"]
-        found = subprocess.run(words, cwd=folder, capture_output=True, timeout=seconds)
-    except subprocess.TimeoutExpired:
-        return "it takes too long"
-    report, message = found.stdout.decode(), found.stderr.decode()
-    written = output.read_bytes().decode() if output.exists() else None
-    if case.nodes and (found.returncode, message) == FULL:
-        is_beginning = case.told[1].startswith(report) and (not report or report.endswith("\n"))
-        return "full" if is_beginning and written is None else "a full table leaves something wrong"
-    names = ["the status", "the report or the picture", "the message", "the output file"]
-    told = (found.returncode, report, message, written)
-    differing = [name for name, ours, wanted in zip(names, told, case.told) if ours != wanted]
-    return " and ".join(differing) + " differ" if differing else "same"
+    ended = run([program, *case.words(), "in"], folder, seconds)
+    if ended.status is None:
+        return f"lifebatch takes more than {seconds:g} s"
+    written = {it.name: it.read_bytes() for it in folder.iterdir() if it.name != "in"}
+    if is_full_table(case, ended, bool(written)):
+        return "full"
+    *printed, file = case.told
+    wanted = (*printed, {} if file is None else {f"out{case.output}": file.encode()})
+    found = (ended.status, ended.report, ended.message, written)
+    differing = [name for name, ours, theirs in zip(PARTS, found, wanted) if ours != theirs]
+    return f"{' and '.join(differing)} {'differs' if len(differing) == 1 else 'differ'}" if differing else "same"
 
 
-def told_of(counts):
-    differ = sum(count for answer, count in counts.items() if answer not in ("same", "refused", "full"))
-    compared = sum(counts.values()) - counts["full"]
-    print(
-        f"{compared} patterns compared, {counts['refused']} of them refused by name and place; "
-        f"{counts['full']} skipped, which met a full table and left what they may; {differ} differ"
-    )
-    return differ
+def show_difference(answer: str, case: Case, number: int, options: argparse.Namespace) -> None:
+    """Keeps the input file of a case, and prints how it is run again."""
+    file = pathlib.Path(tempfile.gettempdir()) / f"differs-{options.seed}-{number}"
+    file.write_bytes(case.file)
+    workers = " ".join(map(str, options.workers))
+    print(f"differs: {answer}: lifebatch {' '.join(case.words())} {file}", flush=True)
+    print(f"    to replay: checks/random_patterns.py --seed {options.seed} --only {number} --workers {workers}", flush=True)
 
 
-def main():
-    parser = argparse.ArgumentParser(description=__doc__, formatter_class=argparse.RawDescriptionHelpFormatter)
-    parser.add_argument("--patterns", type=int, default=200)
-    parser.add_argument("--seed", type=int, default=1)
-    parser.add_argument("--workers", type=int, nargs="+", default=[1, 2, 4, 64], help="numbers of workers to choose from")
-    parser.add_argument("--seconds", type=float, default=120, help="how long a run may take")
-    parser.add_argument("--program", type=pathlib.Path, default=LIFEBATCH)
-    options = parser.parse_args()
-    program, chance, counts = str(options.program.resolve()), random.Random(options.seed), Counter()
+def answers(options: argparse.Namespace) -> Counter:
+    """What comes of all patterns: how many are the same, refused, full or different."""
+    program, counts = str(options.program.resolve()), Counter()
+    numbers = range(options.count) if options.only is None else [options.only]
     with tempfile.TemporaryDirectory() as name:
-        folder = pathlib.Path(name)
-        for number in range(options.patterns):
-            case = Case(chance, options.workers)
-            answer = compare(program, case, folder, options.seconds)
-            if answer not in ("same", "full"):
-                failed = pathlib.Path(tempfile.gettempdir()) / f"failed-{options.seed}-{number}"
-                failed.write_bytes(case.file)
-                print(f"{answer}: pattern {number} of seed {options.seed}: {' '.join(case.words())} {failed}", flush=True)
-            counts["refused" if answer == "same" and case.told[0] else answer] += 1
-    sys.exit(1 if told_of(counts) else 0)
+        for number in numbers:
+            case = Case(random.Random(f"{options.seed} {number}"), options.workers)
+            answer = compare(program, case, pathlib.Path(name), options.seconds)
+            if answer in ("same", "full"):
+                counts["refused" if answer == "same" and case.told[0] else answer] += 1
+            else:
+                show_difference(answer, case, number, options)
+                counts["different"] += 1
+    return counts
+
+
+def parsed() -> argparse.Namespace:
+    parser = CHECK.parser()
+    parser.add_argument("--count", type=int, default=200, help="how many patterns (200)")
+    parser.add_argument("--seed", type=int, default=1, help="where the patterns come from (1)")
+    parser.add_argument("--only", type=int, metavar="NUMBER", help="the pattern of this number alone, from 0 on")
+    parser.add_argument("--workers", type=int, nargs="+", default=[1, 2, 4, 64], help="numbers of workers to choose from (1 2 4 64)")
+    parser.add_argument("--seconds", type=float, default=120, help="how long a run may take (120)")
+    return CHECK.options(parser)
+
+
+def main() -> int:
+    counts = answers(parsed())
+    compared = counts["same"] + counts["refused"]
+    print(
+        f"{compared} patterns are the same, {counts['refused']} of them refused by name and place, "
+        f"{counts['full']} skipped that met a full table, {counts['different']} differ"
+    )
+    return status_of(compared, counts["different"])
 
 
 if __name__ == "__main__":
-    main()
+    end(main)

@@ -1,0 +1,81 @@
+"""Runs of a program, with the time and the memory that they take."""
+import os
+import pathlib
+import subprocess
+import time
+from collections.abc import Sequence
+from dataclasses import dataclass, field
+
+# A run that takes longer is ended.
+SECONDS = 300
+
+
+@dataclass(frozen=True)
+class Command:
+    """The words of a run, and settings of the environment, of which the caller's own stand."""
+
+    words: list[str]
+    settings: dict[str, str] = field(default_factory=dict)
+
+
+@dataclass(frozen=True)
+class Run:
+    """The time and the peak memory of a run, and the last generation that it reported with its population."""
+
+    seconds: float
+    megabytes: float
+    last: str
+
+    def __str__(self) -> str:
+        return f"{self.seconds:.3f} s, {self.megabytes:.0f} MB"
+
+
+# A run, or why there is none.
+Found = Run | str
+
+
+def last_line(report: pathlib.Path) -> str:
+    """The last line of a report, without the commas that bgolly writes into numbers."""
+    lines = [line for line in report.read_text().splitlines() if line[:1].isdigit()]
+    return lines[-1].replace(",", "") if lines else ""
+
+
+def run_once(command: Command, folder: pathlib.Path) -> Found:
+    report = folder / "report"
+    begin = time.monotonic()
+    with report.open("wb") as out:
+        how = {"stdout": out, "stderr": subprocess.DEVNULL, "cwd": folder, "env": command.settings | os.environ}
+        process = subprocess.Popen(command.words, **how)
+    while True:
+        done, status, usage = os.wait4(process.pid, os.WNOHANG)
+        if done:
+            break
+        if time.monotonic() - begin > SECONDS:
+            process.kill()
+            os.wait4(process.pid, 0)
+            process.returncode = 0
+            return f"over {SECONDS} s"
+        time.sleep(0.0005)
+    seconds = time.monotonic() - begin
+    process.returncode = 0
+    if status:
+        return f"status {os.waitstatus_to_exitcode(status)}"
+    return Run(seconds, usage.ru_maxrss / 1024, last_line(report))
+
+
+def best_of_rounds(commands: Sequence[Command], rounds: int, folder: pathlib.Path) -> list[Found]:
+    """The quickest run of each command, or why there is none. In a round each command runs once, unless it failed before."""
+    found: list[list[Found]] = [[] for _ in commands]
+    for _ in range(rounds):
+        for runs, command in zip(found, commands):
+            if not runs or isinstance(runs[-1], Run):
+                runs.append(run_once(command, folder))
+    return [best(runs) for runs in found]
+
+
+def best(runs: Sequence[Found]) -> Found:
+    """The quickest of some runs, unless the last one failed or they report different populations."""
+    if isinstance(runs[-1], str):
+        return runs[-1]
+    lasts = sorted({it.last for it in runs})
+    return min(runs, key=lambda it: it.seconds) if len(lasts) == 1 else f"reports {' and '.join(lasts)}"

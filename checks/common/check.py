@@ -1,0 +1,121 @@
+"""What a check is: what it checks, what it needs, how long it takes, and how it ends."""
+import argparse
+import os
+import pathlib
+import shutil
+import sys
+import traceback
+from collections.abc import Callable
+from dataclasses import dataclass
+
+from common.program import PATTERNS, PROGRAM
+
+HOLDS, DIFFERS, NOT_RUN = 0, 1, 2
+
+STATUSES = """The status is
+  0  if everything holds,
+  1  if something differs,
+  2  if something could not run, or nothing was compared."""
+
+
+class CannotRun(Exception):
+    """Why a check can't run."""
+
+
+@dataclass(frozen=True)
+class Need:
+    """A thing that a check needs, what brings it, and whether it is there."""
+
+    name: str
+    brings: str
+    is_there: Callable[[argparse.Namespace], bool]
+
+
+def tool(name: str, package: str) -> Need:
+    """A command that has to be on the path."""
+    return Need(name, f"apt-get install {package} brings it", lambda _: shutil.which(name) is not None)
+
+
+def is_built(options: argparse.Namespace) -> bool:
+    return options.program.is_file() and os.access(options.program, os.X_OK)
+
+
+def has_patterns(options: argparse.Namespace) -> bool:
+    """Whether there is a folder of patterns: the one that is given, or Golly's."""
+    return getattr(options, "folder", PATTERNS).is_dir()
+
+
+BUILT = Need("the built program", "./lifebatch --help builds it", is_built)
+BGOLLY = tool("bgolly", "golly")
+GOLLY_PATTERNS = Need("the folder of Golly's patterns", "apt-get install golly brings it", has_patterns)
+C_COMPILER = tool("cc", "gcc libc6-dev")
+PGREP = tool("pgrep", "procps")
+
+
+def add_program(parser: argparse.ArgumentParser) -> None:
+    parser.add_argument("--program", type=pathlib.Path, default=PROGRAM, help="another build of lifebatch")
+
+
+@dataclass(frozen=True)
+class Check:
+    """A script of this folder. The first line of its text says what it checks."""
+
+    text: str
+    needs: tuple[Need, ...]
+    takes: str
+    # How one failure is run again.
+    replay: str
+    # The options of a quick run where it has some, and how long that takes.
+    quick: tuple[str, ...] = ()
+    quickly: str = ""
+
+    def summary(self) -> str:
+        return self.text.splitlines()[0]
+
+    def missing(self, options: argparse.Namespace) -> list[Need]:
+        return [it for it in self.needs if not it.is_there(options)]
+
+    def time(self) -> str:
+        quickly = f", and {self.quickly} with {' '.join(self.quick)}" if self.quick else ""
+        return f"It takes {self.takes}{quickly}."
+
+    def help_text(self) -> str:
+        needs = "".join(f"\n  {it.name}: {it.brings}" for it in self.needs) or " nothing."
+        return f"{self.text.strip()}\n\nIt needs{needs}\n\n{self.time()}\n\n{STATUSES}\n\nTo replay a failure, {self.replay}"
+
+    def parser(self) -> argparse.ArgumentParser:
+        parser = argparse.ArgumentParser(description=self.help_text(), formatter_class=argparse.RawDescriptionHelpFormatter)
+        if BUILT in self.needs:
+            add_program(parser)
+        return parser
+
+    def options(self, parser: argparse.ArgumentParser) -> argparse.Namespace:
+        """The options of this call. All that the check needs is there."""
+        options = parser.parse_args()
+        missing = [f"{it.name} is not there: {it.brings}" for it in self.missing(options)]
+        if missing:
+            raise CannotRun("; ".join(missing))
+        return options
+
+
+def status_of(compared: int, differing: int) -> int:
+    """The status after some comparisons."""
+    if differing:
+        return DIFFERS
+    if compared:
+        return HOLDS
+    raise CannotRun("nothing was compared")
+
+
+def end(main: Callable[[], int]) -> None:
+    """Calls a script's main function, and ends with its status. A script that fails itself has not run."""
+    try:
+        sys.exit(main())
+    except CannotRun as reason:
+        print(f"cannot run: {reason}", file=sys.stderr)
+    except BrokenPipeError:
+        # Nobody reads what it prints.
+        os.dup2(os.open(os.devnull, os.O_WRONLY), sys.stdout.fileno())
+    except Exception:
+        traceback.print_exc()
+    sys.exit(NOT_RUN)

@@ -1,0 +1,159 @@
+#!/usr/bin/env python3
+"""Runs the other checks with programs that are faulty or missing, and looks whether they say so.
+
+    checks/faulty_programs.py
+    checks/faulty_programs.py --only golly_patterns    the rows with this text in them
+
+A program that crashes, hangs, writes one cell less, prints another population or refuses with another status has to be a difference: status 1.
+So has a page whose link leads nowhere. Where the program or a tool is missing, or nothing is chosen or compared, the status has to be 2. With
+the right program and the same options it has to be 0.
+"""
+import os
+import pathlib
+import shlex
+import shutil
+import subprocess
+import sys
+import tempfile
+from dataclasses import dataclass
+
+from common.check import BGOLLY, BUILT, C_COMPILER, DIFFERS, GOLLY_PATTERNS, HOLDS, NOT_RUN, Check, end, status_of
+
+CHECK = Check(
+    text=__doc__,
+    needs=(BUILT, BGOLLY, GOLLY_PATTERNS, C_COMPILER),
+    takes="20 s",
+    replay="give the row, or a part of it, to --only.",
+)
+
+FOLDER = pathlib.Path(__file__).resolve().parent
+
+# The shell scripts that stand in for lifebatch. REAL is the path of lifebatch.
+PROGRAMS = {
+    "crashes": "kill -s SEGV $$",
+    "hangs": "exec sleep 1000",
+    "prints nothing": "exit 0",
+    "writes one cell less": 'REAL "$@" || exit; for it in o*.*; do [ -f "$it" ] && sed -i "/^[^#x]/s/o/b/;/^[^#x]/s/[*]/./" "$it"; done; exit 0',
+    "prints another population": 'REAL "$@" | sed "s/: [0-9]*$/: 1/"',
+    "refuses all": 'echo "lifebatch: refused 3 at 0: BadRule" >&2; exit 1',
+    "refuses with status 3": 'echo "lifebatch: refused 3 at 0: BadRule" >&2; exit 3',
+    "refuses, and leaves a file": 'touch ours.rle; echo "lifebatch: refused 3 at 0: BadRule" >&2; exit 1',
+}
+
+RIGHT = "is right"
+
+PAGES = {
+    "names no file": "[a page](nowhere.md)\n",
+    "names no heading": "# One\n\n[a heading](#two)\n",
+    "leaves the repository": "[a page](../nowhere.md)\n",
+    "names no script": "`checks/nowhere.py --all`\n",
+    "is in code alone": "`[a page](nowhere.md)`\n",
+}
+
+
+@dataclass(frozen=True)
+class Row:
+    """A check, its options, what is faulty, and the status that it has to end with."""
+
+    check: str
+    options: str
+    fault: str
+    status: int
+
+    def says(self) -> str:
+        where = f"the {'page' if self.check == 'page_links' else 'program'} {self.fault}" if self.fault else "there is no bgolly"
+        return f"{' '.join([self.check, *self.options.split()])}: status {self.status} where {where}"
+
+
+ONE = "--only Life/Oscillators/queen-bee-turn --seconds 2 --workers 1"
+ROWS = [
+    Row("golly_patterns", ONE, RIGHT, HOLDS),
+    Row("golly_patterns", ONE.replace("--seconds 2", "--seconds 0.2"), "hangs", DIFFERS),
+    *(Row("golly_patterns", ONE, it, DIFFERS) for it in PROGRAMS if it not in ("hangs", "refuses all")),
+    Row("golly_patterns", ONE, "refuses all", NOT_RUN),
+    Row("golly_patterns", ONE, "is missing", NOT_RUN),
+    Row("golly_patterns", ONE, "", NOT_RUN),
+    Row("golly_patterns", "--only no-such-name", RIGHT, NOT_RUN),
+    Row("golly_patterns", "--folder common", RIGHT, NOT_RUN),
+    Row("golly_patterns", "--folder nowhere", RIGHT, NOT_RUN),
+    Row("random_patterns", "--count 6 --seconds 20", RIGHT, HOLDS),
+    *(Row("random_patterns", "--count 6 --seconds 1", it, DIFFERS) for it in PROGRAMS if it != "refuses, and leaves a file"),
+    Row("random_patterns", "--count 2", "is missing", NOT_RUN),
+    Row("random_patterns", "--count 0", RIGHT, NOT_RUN),
+    Row("from_bgolly_page", "--only commas", RIGHT, HOLDS),
+    Row("from_bgolly_page", "--only commas", "crashes", DIFFERS),
+    Row("from_bgolly_page", "--only commas", "prints another population", DIFFERS),
+    Row("from_bgolly_page", "--only no-such-name", RIGHT, NOT_RUN),
+    Row("from_bgolly_page", "", "", NOT_RUN),
+    Row("failing_devices", "--only pipe", RIGHT, HOLDS),
+    Row("failing_devices", "--only pipe", "crashes", DIFFERS),
+    Row("failing_devices", "--only pipe", "is missing", NOT_RUN),
+    Row("failing_devices", "--only no-such-name", RIGHT, NOT_RUN),
+    Row("hostile_files", "--megabytes 1 --only NUL", RIGHT, HOLDS),
+    Row("hostile_files", "--megabytes 1 --only NUL", "crashes", DIFFERS),
+    Row("hostile_files", "--megabytes 1 --only header --seconds 1", "hangs", DIFFERS),
+    Row("hostile_files", "--megabytes 1 --only again", "prints another population", DIFFERS),
+    Row("hostile_files", "--only no-such-name", RIGHT, NOT_RUN),
+    Row("refused_memory", "--only help --number 1", RIGHT, HOLDS),
+    Row("refused_memory", "--only help --number 1", "crashes", DIFFERS),
+    Row("refused_memory", "--only help --number 1", "prints nothing", DIFFERS),
+    Row("refused_memory", "--only help --number 100000", RIGHT, NOT_RUN),
+    Row("refused_memory", "--only no-such-name", RIGHT, NOT_RUN),
+    *(Row("page_links", "", it, DIFFERS) for it in PAGES if it != "is in code alone"),
+    Row("page_links", "", "is in code alone", NOT_RUN),
+    Row("../bench/compare", "--rounds 1 --rows replicator", RIGHT, HOLDS),
+    *(Row("../bench/compare", "--rounds 1 --rows replicator", it, DIFFERS) for it in ("crashes", "prints another population")),
+    Row("../bench/compare", "--rounds 1 --rows replicator", "is missing", NOT_RUN),
+    Row("../bench/compare", "--rows no-such-name", RIGHT, NOT_RUN),
+    Row("run", "page_links failing_devices", RIGHT, HOLDS),
+    Row("run", "page_links failing_devices", "crashes", DIFFERS),
+    Row("run", "page_links failing_devices", "is missing", NOT_RUN),
+    Row("run", "no_such_name", RIGHT, NOT_RUN),
+    Row("run", "", RIGHT, NOT_RUN),
+]
+
+
+class Bench:
+    """A folder with the faulty programs and pages."""
+
+    def __init__(self, real: pathlib.Path, folder: pathlib.Path):
+        self.folder = folder
+        # The user `nobody` has to be able to go through it.
+        folder.chmod(0o755)
+        for name, text in PROGRAMS.items():
+            (folder / name).write_text(f"#!/bin/sh\n{text.replace('REAL', shlex.quote(str(real.resolve())))}\n")
+            (folder / name).chmod(0o755)
+        shutil.copy(real, folder / RIGHT)
+        for name, text in PAGES.items():
+            (folder / name).mkdir()
+            (folder / name / "README.md").write_text(text)
+
+    def run(self, row: Row) -> subprocess.CompletedProcess:
+        words = [sys.executable, str(FOLDER / f"{row.check}.py"), *row.options.split()]
+        words += ["--root" if row.check == "page_links" else "--program", str(self.folder / (row.fault or RIGHT))]
+        settings = os.environ | {"TMPDIR": str(self.folder)} | ({} if row.fault else {"PATH": "/nowhere"})
+        return subprocess.run(words, cwd=FOLDER, env=settings, stdin=subprocess.DEVNULL, capture_output=True, text=True)
+
+    def holds(self, row: Row) -> bool:
+        """Whether a check ends as it has to. One that fails itself leaves a traceback, and doesn't."""
+        ran = self.run(row)
+        holds = ran.returncode == row.status and "Traceback" not in ran.stderr
+        print(f"{'holds  ' if holds else 'differs'}  {row.says()}", flush=True)
+        if not holds:
+            print(f"    status {ran.returncode}: {ran.stdout}{ran.stderr}", flush=True)
+        return holds
+
+
+def main() -> int:
+    parser = CHECK.parser()
+    parser.add_argument("--only", default="", help="only the rows with this text in them")
+    options = CHECK.options(parser)
+    with tempfile.TemporaryDirectory() as name:
+        bench = Bench(options.program, pathlib.Path(name))
+        held = [bench.holds(row) for row in ROWS if options.only in row.says()]
+    print(f"{sum(held)} rows hold, {len(held) - sum(held)} differ")
+    return status_of(len(held), len(held) - sum(held))
+
+
+if __name__ == "__main__":
+    end(main)

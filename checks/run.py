@@ -1,0 +1,127 @@
+#!/usr/bin/env python3
+"""Runs the checks of this folder.
+
+    checks/run.py --list                         list the checks
+    checks/run.py --quick                        run all of them, each with a small load: two minutes
+    checks/run.py --all                          run all of them
+    checks/run.py random_patterns page_links     run those that are named
+    checks/run.py --quick hostile_files          run one of them with a small load
+
+Each check is a script of its own, with more options: checks/NAME.py --help shows them. A line says what comes of a check, how long it
+took, and how it sums up. What a check printed follows only where it doesn't hold, or with --show.
+"""
+import argparse
+import importlib
+import pathlib
+import subprocess
+import sys
+import time
+from collections.abc import Iterator
+from dataclasses import dataclass
+
+from common.check import BUILT, DIFFERS, HOLDS, NOT_RUN, STATUSES, Check, add_program, end
+
+FOLDER = pathlib.Path(__file__).resolve().parent
+NAMES = [
+    "page_links",
+    "faulty_programs",
+    "failing_devices",
+    "from_bgolly_page",
+    "random_patterns",
+    "golly_patterns",
+    "refused_memory",
+    "hostile_files",
+    "launcher_runs",
+]
+ANSWERS = {HOLDS: "holds", DIFFERS: "DIFFERS", NOT_RUN: "NOT RUN"}
+
+
+@dataclass(frozen=True)
+class Outcome:
+    """How a check ended, after how many seconds, and what it printed."""
+
+    name: str
+    status: int
+    seconds: float
+    printed: str
+
+    def last_line(self) -> str:
+        return (self.printed.strip().splitlines() or [""])[-1]
+
+
+def checks(names: list[str]) -> Iterator[tuple[str, Check]]:
+    for name in names:
+        yield name, importlib.import_module(name).CHECK
+
+
+def show_list(options: argparse.Namespace) -> None:
+    """Prints each check, what it needs and how long it takes."""
+    for name, check in checks(NAMES):
+        missing = check.missing(options)
+        needs = [f"{it.name} (NOT THERE: {it.brings})" if it in missing else it.name for it in check.needs]
+        print(f"{name}\n    {check.summary()}\n    It needs {', '.join(needs) or 'nothing'}.")
+        print(f"    {check.time()}\n")
+
+
+def run(name: str, check: Check, options: argparse.Namespace) -> Outcome:
+    """Runs a check as a program of its own."""
+    words = [sys.executable, str(FOLDER / f"{name}.py"), *(check.quick if options.quick else [])]
+    words += ["--program", str(options.program.resolve())] if BUILT in check.needs else []
+    if sys.stdout.isatty():
+        # The line that says what comes of it is written over this one.
+        print(f"runs     {name}", end="\r", flush=True)
+    began = time.monotonic()
+    ran = subprocess.run(words, stdin=subprocess.DEVNULL, stdout=subprocess.PIPE, stderr=subprocess.STDOUT)
+    # A check that is killed, or ends otherwise than a check may, has not run.
+    status = ran.returncode if ran.returncode in ANSWERS else NOT_RUN
+    return Outcome(name, status, time.monotonic() - began, ran.stdout.decode(errors="backslashreplace"))
+
+
+def show(it: Outcome, is_whole: bool) -> None:
+    print(f"{ANSWERS[it.status]:<8} {it.name:<17} {it.seconds:4.0f} s  {it.last_line()}", flush=True)
+    if is_whole or it.status != HOLDS:
+        print("".join(f"    | {line}\n" for line in it.printed.splitlines()), end="", flush=True)
+
+
+def worst(statuses: list[int]) -> int:
+    """The status of all: a difference counts more than a check that did not run."""
+    if DIFFERS in statuses:
+        return DIFFERS
+    return NOT_RUN if NOT_RUN in statuses else HOLDS
+
+
+def make_parser() -> argparse.ArgumentParser:
+    text = f"{__doc__.strip()}\n\n{STATUSES}\nWhere one check differs and another could not run, the status is 1."
+    parser = argparse.ArgumentParser(description=text, formatter_class=argparse.RawDescriptionHelpFormatter)
+    parser.add_argument("names", nargs="*", metavar="NAME", help=f"the checks to run: {', '.join(NAMES)}")
+    parser.add_argument("--list", action="store_true", help="list the checks, what each needs and how long it takes")
+    parser.add_argument("--all", action="store_true", help="run all checks")
+    parser.add_argument("--quick", action="store_true", help="give each check a small load; without names run all checks")
+    parser.add_argument("--show", action="store_true", help="show all that the checks print")
+    add_program(parser)
+    return parser
+
+
+def main() -> int:
+    parser = make_parser()
+    options = parser.parse_args()
+    unknown = [it for it in options.names if it not in NAMES]
+    if unknown:
+        parser.error(f"there is no check {', '.join(unknown)}: --list shows the checks")
+    if options.list:
+        show_list(options)
+        return HOLDS
+    names = options.names or (NAMES if options.all or options.quick else [])
+    if not names:
+        parser.error("name the checks to run, or give --quick, --all or --list")
+    statuses = []
+    for name, check in checks(names):
+        outcome = run(name, check, options)
+        show(outcome, options.show)
+        statuses.append(outcome.status)
+    print(f"{statuses.count(HOLDS)} checks hold, {statuses.count(DIFFERS)} differ, {statuses.count(NOT_RUN)} could not run")
+    return worst(statuses)
+
+
+if __name__ == "__main__":
+    end(main)
