@@ -13,7 +13,8 @@ use Rattle.plane.specs.Range.{IsCoordinate, IsInRange}
 use Rattle.plane.proofs.Cuts.{joined_within}
 use Rattle.macrocell_reader.specs.NodeFaults.{is_child, fault_among, StandInOrder}
 use Rattle.macrocell_reader.specs.Nodes.{level_of}
-use Rattle.macrocell_reader.specs.Planes.{plane_at, node_plane, planes_after, planes_of, centred, root_level, root_plane}
+use Rattle.macrocell_reader.specs.Planes.{plane_at, node_plane, planes_after, planes_of, root_level, root_plane}
+use Rattle.plane.specs.Centred.{centred}
 use Rattle.macrocell_reader.specs.declared.node.Node.{Node}
 use Rattle.macrocell_reader.specs.declared.node.Node.TheVariants.{Leaf, Inner}
 use Rattle.macrocell_reader.proofs.OrderLemmas.{IsInner, accepted_inner}

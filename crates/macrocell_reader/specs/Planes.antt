@@ -1,5 +1,6 @@
 -- The cells of the nodes of a file.
 use Rattle.std.specs.Prelude.{ℕ, zero, suc, ◌-◌, ◌^◌, pos, ◌+ℤ◌, List, [], ◌∷◌, ◌++◌, length, map, slice_index, slice_index_or}
+use Rattle.plane.specs.Centred.{centred}
 use Rattle.plane.specs.Plane.{Plane}
 use Rattle.plane.specs.Square.{empty, joined, bits_plane}
 use Rattle.macrocell_reader.specs.Meaning.{Meaning}
@@ -23,10 +24,6 @@ node_plane planes (Inner level kids) =
 abbrev pub planes_after : List Plane → List Node → List Plane
 planes_after planes [] = planes
 planes_after planes (node ∷ nodes) = planes_after (planes ++ node_plane planes node ∷ []) nodes
-
--- the plane whose corner between the four quadrants is moved to (0, 0)
-abbrev pub centred : ℕ → Plane → Plane
-centred level plane x y = plane (x +ℤ pos (2 ^ (level - 1))) (y +ℤ pos (2 ^ (level - 1)))
 
 -- the planes of these nodes, in order
 abbrev pub planes_of : List Node → List Plane

@@ -15,7 +15,7 @@ use crate::refusal::Refusal;
 use rule_text::{Neighbourhood, Offset, Rule};
 use std::alloc::Global;
 
-// The cell that lies this way from a cell of the range.
+// The cell at this offset from a cell of the range.
 fn neighbour(cell: Cell, offset: Offset) -> Cell
     requires cell { IsInRange cell }
     requires offset { IsStep offset }
@@ -27,7 +27,7 @@ fn neighbour(cell: Cell, offset: Offset) -> Cell
     }
 }
 
-// The cell from which a cell of the range lies this way.
+// The cell from which a cell of the range lies at this offset.
 fn neighboured(cell: Cell, offset: Offset) -> Cell
     requires cell { IsInRange cell }
     requires offset { IsStep offset }

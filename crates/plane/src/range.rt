@@ -23,7 +23,7 @@ pub fn is_coordinate(z: i64) -> bool
     -COORDINATE_LIMIT <= z && z < COORDINATE_LIMIT
 }
 
-// The coordinate that lies so far before this one, to the left or above.
+// The coordinate at this distance to the left or above, if it is in the range.
 fn before(z: i64, by: u64) -> Option<i64>
     ensures { SomeIff result (IsCoordinate (z -ℤ pos by)) (z -ℤ pos by) }
 {
@@ -35,7 +35,7 @@ fn before(z: i64, by: u64) -> Option<i64>
     }
 }
 
-// The coordinate that lies so far behind this one, to the right or below.
+// The coordinate at this distance to the right or below, if it is in the range.
 fn behind(z: i64, by: u64) -> Option<i64>
     ensures { SomeIff result (IsCoordinate (z +ℤ pos by)) (z +ℤ pos by) }
 {

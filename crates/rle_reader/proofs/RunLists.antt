@@ -1,5 +1,5 @@
 -- The live items of a file, listed as runs one after the other.
-use Rattle.std.proofs.Common.{◌≡◌, ℕ, ◌<◌, ◌==◌, Bool, true, false, cond, ◌||◌, List, [], ◌∷◌, ◌++◌, map, Option, None, Some, Result, Ok, Err, IfErr, OnOk, refl, sym, ◌∙◌, ap, subst, ℤ, pos, ◌+ℤ◌, int_le, arith, inl, inr, ⊎_elim}
+use Rattle.std.proofs.Common.{◌≡◌, ℕ, ◌<◌, ◌==◌, Bool, true, false, cond, ◌||◌, List, [], ◌∷◌, ◌++◌, map, Option, None, Some, Result, Ok, Err, IfErr, refl, sym, ◌∙◌, ap, subst, ℤ, pos, ◌+ℤ◌, int_le, arith, inl, inr, ⊎_elim}
 use Rattle.std.specs.List.{AllByRecursion}
 use Rattle.std.specs.Result.{is_err, ok_prefix}
 use Rattle.std.proofs.lemmas.Bool.Decides.{nat_tests}
@@ -192,10 +192,6 @@ passes_well meaning left column row live run all rest runs first before =
     let listed = subst (λ items. IsListed meaning left column row live items runs) first before in
     stays-no_fault (state_at column row live) run.tag run.count listed.stay.0 listed.stay.1
 
-pub no_refusal : (result : Result (Unit {0}) Refusal) (fault : Option Refusal) → fault ≡ None → IfErr result (λ refusal. fault ≡ Some refusal) → is_err result ≡ true → ⊥
+pub no_refusal : {A : Type 0} (result : Result A Refusal) (fault : Option Refusal) → fault ≡ None → IfErr result (λ refusal. fault ≡ Some refusal) → is_err result ≡ true → ⊥
 no_refusal (Ok done) fault none refused is = cc
 no_refusal (Err refusal) fault none refused is = cc
-
-pub on_ok : {P : Type 0} (result : Result (Unit {0}) Refusal) → is_err result ≡ false → OnOk result P → P
-on_ok (Ok done) is fact = fact
-on_ok (Err refusal) is fact = cc

@@ -1,6 +1,6 @@
 //! Where the next item begins, and how many cells are live so far.
 
-ghost use Rattle.std.specs.Prelude.{◌≡◌, true, false, pos, ◌+ℤ◌, ◌≤◌, int_le, MatchOption, OnOk, IfErr};
+ghost use Rattle.std.specs.Prelude.{◌≡◌, true, false, pos, ◌+◌, ◌+ℤ◌, ◌<◌, ◌≤◌, IfOk, IfErr};
 ghost use Rattle.rle_reader.specs.State.{state_at, start_at, after_item, motion_fault, passes_limit};
 ghost use Rattle.plane.specs.declared.range.TheConstants.{LIVE_CELL_LIMIT};
 ghost use Rattle.rle_reader.specs.Range.{IsWithinReach};
@@ -47,100 +47,56 @@ impl Cursor {
         }
     }
 
-    /// Goes on past an item.
-    pub(crate) fn advance(&mut self, run: &Run<'_>) -> Result<(), Refusal>
-        ensures ok { OnOk result ((motion_fault (state_at self.old.column self.old.row self.old.live) run.now.tag run.now.count ≡ None)
-            × (state_at self.new.column self.new.row self.new.live
-            ≡ after_item self.old.left (state_at self.old.column self.old.row self.old.live) run.now.tag run.now.count)
-            × (self.new.left ≡ self.old.left)) }
-        ensures err { IfErr result (λ refusal. motion_fault (state_at self.old.column self.old.row self.old.live) run.now.tag run.now.count ≡ Some refusal) }
+    /// The cursor past an item.
+    #[tactic(auto, unfolding(crate::specs::State::motion_fault))]
+    pub(crate) fn after(self, run: &Run<'_>) -> Result<Cursor, Refusal>
+        ensures ok { IfOk result (λ next. (motion_fault (state_at self.column self.row self.live) run.now.tag run.now.count ≡ None)
+            × (state_at next.column next.row next.live ≡ after_item self.left (state_at self.column self.row self.live) run.now.tag run.now.count)
+            × (next.left ≡ self.left)) }
+        ensures err { IfErr result (λ refusal. motion_fault (state_at self.column self.row self.live) run.now.tag run.now.count ≡ Some refusal) }
     {
-        match run.tag {
-            Tag::Row => self.advance_rows(run.count),
-            Tag::Dead => self.advance_dead(run.count),
-            Tag::Live => self.advance_live(run.count),
-        }
-    }
-
-    fn advance_rows(&mut self, count: u64) -> Result<(), Refusal>
-        ensures ok { OnOk result ((motion_fault (state_at self.old.column self.old.row self.old.live) Tag.Row count ≡ None)
-            × (state_at self.new.column self.new.row self.new.live
-            ≡ after_item self.old.left (state_at self.old.column self.old.row self.old.live) Tag.Row count)
-            × (self.new.left ≡ self.old.left)) }
-        ensures err { IfErr result (λ refusal. motion_fault (state_at self.old.column self.old.row self.old.live) Tag.Row count ≡ Some refusal) }
-    {
-        let Some(row) = moved(self.row, count) else {
-            return Err(Refusal::OutOfRange);
-        };
-        *self = Cursor {
-            left: self.left,
-            column: self.left,
+        let count = run.count;
+        let Cursor {
+            left,
+            column,
             row,
-            live: self.live,
+            live,
+        } = self;
+        let (column, row, live) = match run.tag {
+            Tag::Row => (left, moved(row, count)?, live),
+            Tag::Dead => (moved(column, count)?, row, live),
+            Tag::Live if row >= COORDINATE_LIMIT => return Err(Refusal::OutOfRange),
+            Tag::Live => (moved(column, count)?, row, more_live(live, count)?),
         };
-        Ok(())
-    }
-
-    fn advance_dead(&mut self, count: u64) -> Result<(), Refusal>
-        ensures ok { OnOk result ((motion_fault (state_at self.old.column self.old.row self.old.live) Tag.Dead count ≡ None)
-            × (state_at self.new.column self.new.row self.new.live
-            ≡ after_item self.old.left (state_at self.old.column self.old.row self.old.live) Tag.Dead count)
-            × (self.new.left ≡ self.old.left)) }
-        ensures err { IfErr result (λ refusal. motion_fault (state_at self.old.column self.old.row self.old.live) Tag.Dead count ≡ Some refusal) }
-    {
-        let Some(column) = moved(self.column, count) else {
-            return Err(Refusal::OutOfRange);
-        };
-        *self = Cursor {
-            left: self.left,
+        Ok(Cursor {
+            left,
             column,
-            row: self.row,
-            live: self.live,
-        };
-        Ok(())
-    }
-
-    fn advance_live(&mut self, count: u64) -> Result<(), Refusal>
-        ensures ok { OnOk result ((motion_fault (state_at self.old.column self.old.row self.old.live) Tag.Live count ≡ None)
-            × (state_at self.new.column self.new.row self.new.live
-            ≡ after_item self.old.left (state_at self.old.column self.old.row self.old.live) Tag.Live count)
-            × (self.new.left ≡ self.old.left)) }
-        ensures err { IfErr result (λ refusal. motion_fault (state_at self.old.column self.old.row self.old.live) Tag.Live count ≡ Some refusal) }
-    {
-        if is_at_limit(self.row) {
-            return Err(Refusal::OutOfRange);
-        }
-        let Some(column) = moved(self.column, count) else {
-            return Err(Refusal::OutOfRange);
-        };
-        if count > LIVE_CELL_LIMIT - self.live {
-            return Err(Refusal::TooManyCells);
-        }
-        *self = Cursor {
-            left: self.left,
-            column,
-            row: self.row,
-            live: self.live + count,
-        };
-        Ok(())
+            row,
+            live,
+        })
     }
 }
 
-/// Whether the row lies below all cells.
-fn is_at_limit(row: i64) -> bool
-    ensures { result ≡ int_le COORDINATE_LIMIT row }
-{
-    row >= COORDINATE_LIMIT
-}
-
-/// The coordinate moved on by a count, unless it is then above the limit.
-fn moved(coordinate: i64, count: u64) -> Option<i64>
+/// The coordinate moved on by a count. `OutOfRange` if it is then above the limit.
+fn moved(coordinate: i64, count: u64) -> Result<i64, Refusal>
     requires { IsWithinReach coordinate }
-    ensures { MatchOption result (passes_limit coordinate count ≡ true)
-        (λ next. (passes_limit coordinate count ≡ false) × (next ≡ coordinate +ℤ pos count) × IsWithinReach next) }
+    ensures ok { IfOk result (λ next. (passes_limit coordinate count ≡ false) × (next ≡ coordinate +ℤ pos count) × IsWithinReach next) }
+    ensures err { IfErr result (λ refusal. (passes_limit coordinate count ≡ true) × (refusal ≡ Refusal.OutOfRange)) }
 {
     if count > COORDINATE_LIMIT.abs_diff(coordinate) {
-        return None;
+        return Err(Refusal::OutOfRange);
     }
-    Some(coordinate.saturating_add_unsigned(count))
+    Ok(coordinate.saturating_add_unsigned(count))
+}
+
+/// So many live cells more. `TooManyCells` if they are then too many.
+fn more_live(live: u64, count: u64) -> Result<u64, Refusal>
+    requires { live ≤ LIVE_CELL_LIMIT }
+    ensures ok { IfOk result (λ more. (more ≡ live + count) × (more ≤ LIVE_CELL_LIMIT)) }
+    ensures err { IfErr result (λ refusal. (LIVE_CELL_LIMIT < live + count) × (refusal ≡ Refusal.TooManyCells)) }
+{
+    if count > LIVE_CELL_LIMIT - live {
+        return Err(Refusal::TooManyCells);
+    }
+    Ok(live + count)
 }

@@ -135,9 +135,10 @@ impl<'a> RleFile<'a> {
         let mut cursor = Cursor::new(self.pos());
         for run in self.runs() {
             push_live(&mut live, cursor.cell(), &run)?;
-            if cursor.advance(&run).is_err() {
+            let Ok(next) = cursor.after(&run) else {
                 unreachable!()
-            }
+            };
+            cursor = next;
         }
         Ok(live)
     }
@@ -163,12 +164,15 @@ fn check_body(source: &[u8], preamble: &Preamble<'_>) -> Result<(), Fault>
     let mut body = Body::new(source, preamble.body);
     let mut cursor = Cursor::new(preamble.settings.pos);
     while let Some(run) = next_run(&mut body)? {
-        if let Err(refusal) = cursor.advance(&run) {
-            return Err(Fault {
-                refusal,
-                place: Some(run.place),
-            });
-        }
+        cursor = match cursor.after(&run) {
+            Ok(next) => next,
+            Err(refusal) => {
+                return Err(Fault {
+                    refusal,
+                    place: Some(run.place),
+                });
+            }
+        };
     }
     Ok(())
 }

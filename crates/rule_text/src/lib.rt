@@ -1,6 +1,7 @@
 //! Rules of two-state cellular automata that count live neighbours, and their texts.
 #![tactic(auto)]
 
+mod blanks;
 mod digits;
 mod fault;
 mod laws;
@@ -8,6 +9,7 @@ mod neighbourhood;
 mod parts;
 mod rule;
 
+pub use blanks::is_blank;
 pub use fault::RuleFault;
 pub use laws::{canonical_text_read_back, one_reading, one_rule_a_code, one_rule_a_text};
 pub use neighbourhood::{Neighbourhood, Offset};

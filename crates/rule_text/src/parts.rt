@@ -7,6 +7,7 @@ ghost use Rattle.std.specs.Option.{option_copied};
 ghost use Rattle.rule_text.specs.RuleText.{is_blank, capitals};
 ghost use Rattle.rule_text.specs.RuleCut.{after_all, after_mark, runs_round_slash, runs_round_letter, both_runs, neighbourhood_cut, parts_of, seen_runs, seen_body, seen_parts};
 
+use crate::blanks::is_blank;
 use crate::neighbourhood::Neighbourhood;
 
 /// The neighbourhood and the digits of a rule's text, the digits as they stand in it.
@@ -166,11 +167,4 @@ fn after_blanks(text: &[u8]) -> &[u8]
         .position(|byte| !is_blank(*byte))
         .unwrap_or(text.len());
     text.split_at(end).1
-}
-
-/// Whether a byte is a space or a tab.
-fn is_blank(byte: u8) -> bool
-    ensures { result ≡ is_blank byte }
-{
-    byte == b' ' || byte == b'\t'
 }

@@ -1,7 +1,8 @@
 -- Bytes, and texts without what stands at their ends.
-use Rattle.std.specs.Prelude.{ℕ, Bool, ◌==◌, ◌||◌, if◌then◌else◌, List, [], ◌∷◌, reverse, take, drop, length, ◌-◌}
+use Rattle.std.specs.Prelude.{ℕ, Bool, ◌==◌, if◌then◌else◌, List, [], ◌∷◌, reverse, take, drop, length, ◌-◌}
 use Rattle.std.specs.List.{onto_first}
-use Rattle.std.specs.Str.{byte, bytes_eq}
+use Rattle.std.specs.Str.{bytes_eq}
+pub use Rattle.rule_text.specs.RuleText.{is_blank}
 
 -- the test that a byte is this one
 abbrev pub is_byte : ℕ → ℕ → Bool
@@ -14,10 +15,6 @@ begins_with front text = bytes_eq (take (length front) text) front
 -- the text ends with these bytes
 abbrev pub ends_with : List ℕ → List ℕ → Bool
 ends_with back text = bytes_eq (drop (length text - length back) text) back
-
--- a space or a tab
-abbrev pub is_blank : ℕ → Bool
-is_blank other = other == byte " " || other == byte "\t"
 
 -- the text from its first byte on that is no blank
 unfoldable pub trimmed_start : List ℕ → List ℕ

@@ -4,18 +4,13 @@ ghost use Rattle.std.specs.Prelude.{◌≡◌};
 ghost use Rattle.std.specs.List.{position};
 ghost use Rattle.text_lines.specs.Bytes.{begins_with, is_blank, trimmed, trimmed_start, trimmed_end};
 
+use rule_text::is_blank;
+
 /// Whether the text begins with these bytes.
 pub fn begins_with(text: &[u8], front: &[u8]) -> bool
     ensures { result ≡ begins_with front.now text.now }
 {
     text.strip_prefix(front).is_some()
-}
-
-/// Whether the byte is a space or a tab.
-pub fn is_blank(byte: u8) -> bool
-    ensures { result ≡ is_blank byte }
-{
-    byte == b' ' || byte == b'\t'
 }
 
 /// The place of the first blank.

@@ -5,8 +5,9 @@ ghost use Rattle.std.specs.Iterator.{YieldsFirstRef, item_count};
 ghost use Rattle.text_lines.specs.Comments.{comments_of, is_blank_line, is_comment, is_kept, is_settings_line};
 ghost use Rattle.text_lines.specs.Lines.{lines_from};
 
-use crate::bytes::{begins_with, is_blank};
+use crate::bytes::begins_with;
 use crate::lines::Lines;
+use rule_text::is_blank;
 use std::marker::Model;
 
 /// Whether the line is empty or has nothing but blanks.

@@ -53,7 +53,7 @@ unfolding as_kept
 loop-run-preserved c =
     let body = c.loop-run.body in
     let cursor = c.loop-run.cursor in
-    let next = c.advance.new.self in
+    let next = c.in-Ok.next in
     let found = items_of (stripped_from body.source.now body.at body.line_begins) in
     let reach : InReach (state_at cursor.column cursor.row cursor.live) = record { column = cursor.column_in_reach; row = cursor.row_in_reach } in
     let run = run_seen c.in-Some.run' in
@@ -61,10 +61,10 @@ loop-run-preserved c =
     let rest : later ≡ items_after found = subst (λ o. OnSome o (later ≡ items_after found)) c.in-Some.is c.in_ok-run.ensures.rest in (
       c.in_ok-run.ensures.source ∙ c.loop-run.invariant.0,
       ap (λ (f : Items). first_fault_from next.left (state_at next.column next.row next.live) f.items f.left_over) rest
-          ∙ ap (λ left. first_fault_from left (state_at next.column next.row next.live) (items_after found).items found.left_over) c.in_default-advance.ensures.ok.2
-          ∙ ap (λ s. first_fault_from cursor.left s (items_after found).items found.left_over) c.in_default-advance.ensures.ok.1
+          ∙ ap (λ left. first_fault_from left (state_at next.column next.row next.live) (items_after found).items found.left_over) c.in-Ok.ensures.ok.2
+          ∙ ap (λ s. first_fault_from cursor.left s (items_after found).items found.left_over) c.in-Ok.ensures.ok.1
           ∙ first_fault-on cursor.left (state_at cursor.column cursor.row cursor.live) reach body.source.now run found.items found.left_over
-          (sym c.in_ok-run.ensures.next ∙ ap (λ o. Ok (option_map run_seen o)) c.in-Some.is) c.in_default-advance.ensures.ok.0
+          (sym c.in_ok-run.ensures.next ∙ ap (λ o. Ok (option_map run_seen o)) c.in-Some.is) c.in-Ok.ensures.ok.0
           ∙ c.loop-run.invariant.1,
     )
 

@@ -1,6 +1,6 @@
 use Rattle.std.proofs.Common.{rules, subst}
 use Rattle.rle_reader.specs.Seen.{run_seen}
-use Rattle.rle_reader.proofs.RunLists.{IsListed, listed_start, listed_more, listed_all, no_refusal, on_ok, passes_well}
+use Rattle.rle_reader.proofs.RunLists.{IsListed, listed_start, listed_more, listed_all, no_refusal, passes_well}
 use Rattle.rle_reader.proofs.rle_file.RleFile.live_runs.Goals as goal
 
 pub loop-run-init : goal.loop-run-init
@@ -13,14 +13,14 @@ pub unreachable-requires : goal.unreachable-requires
 unreachable-requires c =
     let run = run_seen c.in-Some.run' in
     let cursor = c.loop-run.cursor in
-    no_refusal c.advance.result _
+    no_refusal c.after.result _
     (passes_well c.args.self.now cursor.left cursor.column cursor.row cursor.live run c.loop-run.run-iterator c.next.new.self c.loop-run.live.items (search rules) c.loop-run.invariant)
-    c.advance.ensures.err (search rules)
+    c.after.ensures.err (search rules)
 
 pub loop-run-preserved : goal.loop-run-preserved
 loop-run-preserved c =
     let cursor = c.loop-run.cursor in
-    let passed = on_ok c.advance.result (search rules) c.advance.ensures.ok in
+    let passed = c.in-Ok.ensures.ok in
     listed_more c.args.self.now cursor.left cursor.column cursor.row _ _ _ cursor.live _ (run_seen c.in-Some.run') c.loop-run.run-iterator c.next.new.self c.loop-run.live.items _
     (search rules) cursor.column_in_reach cursor.row_in_reach c.loop-run.invariant passed.1 passed.2 (search rules)
 
