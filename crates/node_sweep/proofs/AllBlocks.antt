@@ -7,17 +7,17 @@ use Rattle.table_core.specs.declared.shape.Kind.{Kind}
 use Rattle.table_core.specs.declared.shape.Kind.TheVariants.{Leaf, Pair}
 use Rattle.table_core.specs.Layout.{IsSlot, start, result_of}
 use Rattle.table_core.specs.Blocks.{Words, IsBlock, square_rank}
-use Rattle.table_core.specs.Good.{IsGood, HasFuture, IsFutureOf, KeepsWords}
+use Rattle.table_core.specs.Good.{IsGood, HasFuture, IsFutureOf}
 use Rattle.table_core.proofs.Ways.{not_head}
 use Rattle.table_core.proofs.Claims.{same_or_other}
 use Rattle.node_sweep.specs.Reaching.{IsWanted}
 use Rattle.node_sweep.specs.Copies.{IsCopy, IsCopyOf, IsLowBlock, IsWantedCopy}
-use Rattle.node_sweep.specs.Copying.{AreCopied, IsCopying}
+use Rattle.node_sweep.specs.Copying.{AreCopied}
 use Rattle.node_sweep.specs.Keeping.{IsCopiedResult, IsKeeping}
 use Rattle.node_sweep.specs.declared.transfer.Wish.{Wish}
 use Rattle.node_sweep.specs.declared.transfer.Wish.TheVariants.{Everything}
 use Rattle.node_sweep.specs.Enlarges.{Enlarges, HasOriginal, IsSameResult}
-use Rattle.node_sweep.proofs.SameBlocks.{block_some, copy_later, copy_none, same_original, same_copy}
+use Rattle.node_sweep.proofs.SameBlocks.{block_some, copy_none, same_copy}
 use Rattle.node_sweep.proofs.Futures.{copy_at}
 use Rattle.node_sweep.proofs.Swept.{kind_of_block}
 
@@ -39,32 +39,6 @@ all_wanted bits words wish n e = subst (λ r. IsWanted bits words r n) (sym e) t
 slot_below_end : (bits : ℕ) (kind : Kind) (n : ℕ) → IsSlot bits kind n → n < start bits Pair + 2 ^ bits
 slot_below_end bits Leaf n slot = let below = slot.below in omega arith
 slot_below_end bits Pair n slot = let below = slot.below in omega arith
-
-module _ (from to : Key) (old : Words) (wanted : ℕ → Type 0) (good : IsGood from old) where
-  -- what has a copy keeps one
-  pub still_noted : (new copies later noted : List ℕ) (n : ℕ) → IsCopying from to old wanted new copies → IsCopying from to old wanted later noted → KeepsWords (slice_index new) (slice_index later) →
-      slice_index copies n ≢ 0 → slice_index noted n ≢ 0
-  still_noted new copies later noted n h k keeps some =
-      let c : IsWantedCopy from.shape.bits to.shape.bits old (slice_index new) wanted n (slice_index copies n) = h.copied n some in
-      let kind = kind_of_block to.shape.bits (slice_index new) c.rank (slice_index copies n) some c.shown.now in
-      let there = block_some to.shape.bits (slice_index new) c.rank (slice_index copies n) some c.shown.now in
-      let m = k.each kind.0 (slice_index copies n) kind.1 (λ z. there (sym (keeps.kept (slice_index copies n) there) ∙ z)) in
-      let d : IsWantedCopy from.shape.bits to.shape.bits old (slice_index later) wanted m.0 (slice_index noted m.0) = k.copied m.0 (λ z. some (sym m.1 ∙ z)) in
-      let same : m.0 ≡ n = same_original from to old (slice_index later) good k.good.good d.rank c.rank m.0 n (slice_index copies n)
-      (subst (IsCopy from.shape.bits to.shape.bits old (slice_index later) d.rank m.0) m.1 d.shown)
-      (copy_later from.shape.bits to.shape.bits old (slice_index new) (slice_index later) c.rank n (slice_index copies n) keeps c.shown) some in
-      λ z. some (sym m.1 ∙ ap (slice_index noted) same ∙ z)
-
-  -- one more number has a copy
-  pub copied_on : (new copies later noted : List ℕ) (number index : ℕ) → IsCopying from to old wanted new copies → IsCopying from to old wanted later noted → KeepsWords (slice_index new) (slice_index later) →
-      AreCopied old copies number → number ≢ 0 → IsLowBlock from.shape.bits old 124 number → IsCopyOf from.shape.bits to.shape.bits old (slice_index later) number index →
-      slice_index noted number ≡ index → AreCopied old noted (number + 1)
-  copied_on new copies later noted number index h k keeps all some block made at = record {
-    copied = λ n nonzero below there. ⊎_elim
-        (λ e z. some (copy_none from to old (slice_index later) good k.good.good block.0 number index (made.at_rank block.0 block.2) (sym at ∙ ap (slice_index noted) (sym e) ∙ z)))
-        (λ apart. still_noted new copies later noted n h k keeps (all.copied n nonzero (omega arith) there))
-        (same_or_other n number);
-  }
 
 pub copied_start : (old : Words) (copies : List ℕ) → AreCopied old copies 1
 copied_start old copies = record { copied = λ n some below there. absurd (some (omega arith)) }

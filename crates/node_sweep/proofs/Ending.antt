@@ -1,25 +1,26 @@
 -- Small pairs are copied, and large ones with their results.
-use Rattle.std.proofs.Common.{◌≡◌, ◌≢◌, ℕ, suc, ◌+◌, ◌-◌, ◌^◌, ◌<◌, ◌≤◌, ◌⊎◌, List, sym, ◌∙◌, ap, subst, arith, inl, inr, ⊎_elim}
+use Rattle.std.proofs.Common.{◌≡◌, ◌≢◌, ℕ, ◌+◌, ◌-◌, ◌^◌, ◌<◌, ◌⊎◌, List, sym, ◌∙◌, ap, subst, arith, inl, inr, ⊎_elim}
 use Rattle.std.specs.Prelude.{slice_index}
 use Rattle.table_core.specs.declared.key.Key.{Key}
 use Rattle.table_core.specs.declared.shape.Kind.TheVariants.{Pair}
-use Rattle.table_core.specs.Layout.{IsSlot, start, result_of}
+use Rattle.table_core.specs.Layout.{start, result_of}
 use Rattle.table_core.specs.Blocks.{Words, IsBlock, square_rank}
-use Rattle.table_core.specs.Good.{HasFuture, IsFutureOf, IsGood, KeepsWords}
+use Rattle.table_core.specs.Good.{IsFutureOf, KeepsWords}
 use Rattle.table_core.proofs.Blocks.{one_rank}
 use Rattle.table_core.proofs.Claims.{same_or_other}
 use Rattle.table_core.proofs.Ways.{not_head}
-use Rattle.node_sweep.specs.Copies.{IsCopyOf, IsLowBlock}
-use Rattle.node_sweep.specs.Copying.{IsCopying}
+use Rattle.node_sweep.specs.Copies.{IsLowBlock}
 use Rattle.node_sweep.specs.Ends.{AreEndsCopied, IsEndCopied, IsFinishedCopied, IsSmallCopied}
 use Rattle.node_sweep.specs.Ranks.{AreAllRanks}
-use Rattle.node_sweep.specs.Reaching.{itself, IsEnd, IsFinished, IsWanted}
+use Rattle.node_sweep.specs.Reaching.{itself, IsEnd, IsWanted}
+use Rattle.node_sweep.specs.Transfers.{fresh_words, old_bits, old_words, IsUnderway}
 use Rattle.node_sweep.specs.declared.transfer.Ends.{Ends}
+use Rattle.node_sweep.specs.declared.transfer.Fresh.{Fresh}
+use Rattle.node_sweep.specs.declared.transfer.Transfer.{Transfer}
 use Rattle.node_sweep.specs.declared.transfer.Wish.{Wish}
 use Rattle.node_sweep.specs.declared.transfer.Wish.TheVariants.{Collected}
-use Rattle.node_sweep.proofs.AllBlocks.{still_noted}
-use Rattle.node_sweep.proofs.Futures.{HasResult}
-use Rattle.node_sweep.proofs.SameBlocks.{block_some, copy_none}
+use Rattle.node_sweep.proofs.Underway.{noted_still}
+use Rattle.node_sweep.proofs.SameBlocks.{block_some}
 
 -- what a collection begins with is wanted
 pub wants_end : (bits : ℕ) (words : Words) (wish : Wish) (ends : Ends) (n : ℕ) → wish ≡ Collected ends → IsEnd bits words ends.root ends.low ends.high n → IsWanted bits words wish n
@@ -31,45 +32,32 @@ result_low key words rank pair future b some f =
     let same : rank ≡ square_rank f.level = one_rank key.shape.bits words rank (square_rank f.level) pair b f.square some in
     (square_rank (f.level - 1), omega arith, f.shown.stands)
 
-module _ (from to : Key) (old : Words) (wanted : ℕ → Type 0) (good : IsGood from old) where
-  -- the copy of a number that isn't 0 isn't 0
-  pub copy_some : (new : List ℕ) (copies : List ℕ) (n i rank : ℕ) → IsCopying from to old wanted new copies → IsCopyOf from.shape.bits to.shape.bits old (slice_index new) n i →
-      IsBlock from.shape.bits old rank n → n ≢ 0 → slice_index copies n ≡ i → slice_index copies n ≢ 0
-  copy_some new copies n i rank h made b some at z = some (copy_none from to old (slice_index new) good h.good.good rank n i (made.at_rank rank b) (sym at ∙ z))
+-- what has copies keeps them
+module _ (transfer : Transfer) (fresh later : Fresh) (before : IsUnderway transfer fresh) (after : IsUnderway transfer later) (keeps : KeepsWords (fresh_words fresh) (fresh_words later)) where
+  small_still : (low pair : ℕ) → IsSmallCopied (old_bits transfer) (old_words transfer) low fresh.copies.items pair → IsSmallCopied (old_bits transfer) (old_words transfer) low later.copies.items pair
+  small_still low pair s = record { copied = λ rank b less. noted_still transfer fresh later before after keeps pair (s.copied rank b less) }
 
-  pub copy_there : (new : List ℕ) (copies : List ℕ) (n i rank : ℕ) → IsCopying from to old wanted new copies → IsCopyOf from.shape.bits to.shape.bits old (slice_index new) n i →
-      IsBlock from.shape.bits old rank n → slice_index copies n ≡ i → (n ≡ 0) ⊎ (slice_index copies n ≢ 0)
-  copy_there new copies n i rank h made b at = ⊎_elim (λ z. inl z) (λ some. inr (copy_some new copies n i rank h made b some at)) (same_or_other n 0)
+  finished_still : (high pair : ℕ) → IsFinishedCopied (old_bits transfer) (old_words transfer) high fresh.copies.items pair → IsFinishedCopied (old_bits transfer) (old_words transfer) high later.copies.items pair
+  finished_still high pair s = record {
+    copied = λ rank future f above. noted_still transfer fresh later before after keeps pair (s.copied rank future f above);
+    result = λ rank future f above. ⊎_elim (λ z. inl z) (λ some. inr (noted_still transfer fresh later before after keeps future some)) (s.result rank future f above);
+  }
 
-  -- what has copies keeps them
-  module _ (new copies later noted : List ℕ) (h : IsCopying from to old wanted new copies) (k : IsCopying from to old wanted later noted) (keeps : KeepsWords (slice_index new) (slice_index later)) where
-    pub noted_still : (n : ℕ) → slice_index copies n ≢ 0 → slice_index noted n ≢ 0
-    noted_still n some = still_noted from to old wanted good new copies later noted n h k keeps some
+  end_still : (low high pair : ℕ) → IsEndCopied (old_bits transfer) (old_words transfer) low high fresh.copies.items pair → IsEndCopied (old_bits transfer) (old_words transfer) low high later.copies.items pair
+  end_still low high pair e = record { small = small_still low pair e.small; finished = finished_still high pair e.finished }
 
-    pub small_still : (low pair : ℕ) → IsSmallCopied from.shape.bits old low copies pair → IsSmallCopied from.shape.bits old low noted pair
-    small_still low pair s = record { copied = λ rank b less. noted_still pair (s.copied rank b less) }
+  pub ends_still : (low high done : ℕ) → AreEndsCopied (old_bits transfer) (old_words transfer) low high fresh.copies.items done → AreEndsCopied (old_bits transfer) (old_words transfer) low high later.copies.items done
+  ends_still low high done all = record { copied = λ pair slot below. end_still low high pair (all.copied pair slot below) }
 
-    pub finished_still : (high pair : ℕ) → IsFinishedCopied from.shape.bits old high copies pair → IsFinishedCopied from.shape.bits old high noted pair
-    finished_still high pair s = record {
-      copied = λ rank future f above. noted_still pair (s.copied rank future f above);
-      result = λ rank future f above. ⊎_elim (λ z. inl z) (λ some. inr (noted_still future some)) (s.result rank future f above);
-    }
-
-    pub end_still : (low high pair : ℕ) → IsEndCopied from.shape.bits old low high copies pair → IsEndCopied from.shape.bits old low high noted pair
-    end_still low high pair e = record { small = small_still low pair e.small; finished = finished_still high pair e.finished }
-
-    pub ends_still : (low high done : ℕ) → AreEndsCopied from.shape.bits old low high copies done → AreEndsCopied from.shape.bits old low high noted done
-    ends_still low high done all = record { copied = λ pair slot below. end_still low high pair (all.copied pair slot below) }
-
-    -- one more pair
-    pub ends_on : (low high done pair : ℕ) → AreEndsCopied from.shape.bits old low high copies done → pair ≡ start from.shape.bits Pair + done → IsEndCopied from.shape.bits old low high noted pair →
-        AreEndsCopied from.shape.bits old low high noted (done + 1)
-    ends_on low high done pair all at here = record {
-      copied = λ other slot below. ⊎_elim
-          (λ e. subst (IsEndCopied from.shape.bits old low high noted) (sym e) here)
-          (λ apart. end_still low high other (all.copied other slot (omega arith)))
-          (same_or_other other pair);
-    }
+  -- one more pair
+  pub ends_on : (low high done pair : ℕ) → AreEndsCopied (old_bits transfer) (old_words transfer) low high fresh.copies.items done → pair ≡ start (old_bits transfer) Pair + done → IsEndCopied (old_bits transfer) (old_words transfer) low high later.copies.items pair →
+      AreEndsCopied (old_bits transfer) (old_words transfer) low high later.copies.items (done + 1)
+  ends_on low high done pair all at here = record {
+    copied = λ other slot below. ⊎_elim
+        (λ e. subst (IsEndCopied (old_bits transfer) (old_words transfer) low high later.copies.items) (sym e) here)
+        (λ apart. end_still low high other (all.copied other slot (omega arith)))
+        (same_or_other other pair);
+  }
 
 -- a pair of another rank isn't small
 pub not_small : (bits : ℕ) (words : Words) (low rank pair : ℕ) (copies : List ℕ) → pair ≢ 0 → IsBlock bits words rank pair → low < rank → IsSmallCopied bits words low copies pair

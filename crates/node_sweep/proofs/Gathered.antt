@@ -1,10 +1,10 @@
 -- What is wanted is copied, and its results.
-use Rattle.std.proofs.Common.{◌≡◌, ◌≢◌, ℕ, ◌+◌, ◌-◌, ◌^◌, ◌<◌, ◌⊎◌, List, sym, ◌∙◌, ap, subst, arith, inl, inr, ⊎_elim}
+use Rattle.std.proofs.Common.{◌≡◌, ◌≢◌, ℕ, ◌-◌, ◌^◌, ◌⊎◌, List, sym, ◌∙◌, ap, subst, arith, inl, inr, ⊎_elim}
 use Rattle.std.specs.Prelude.{slice_index}
 use Rattle.table_core.specs.declared.key.Key.{Key}
 use Rattle.table_core.specs.declared.shape.Kind.{Kind}
 use Rattle.table_core.specs.declared.shape.Kind.TheVariants.{Pair}
-use Rattle.table_core.specs.Layout.{IsSlot, start, result_of}
+use Rattle.table_core.specs.Layout.{IsSlot}
 use Rattle.table_core.specs.Blocks.{Words, IsBlock, square_rank}
 use Rattle.table_core.specs.Good.{HasFuture, IsFutureOf, IsGood}
 use Rattle.table_core.proofs.Claims.{same_or_other}
@@ -13,7 +13,7 @@ use Rattle.node_sweep.specs.Collects.{Collects, IsResultCopiedOrGone}
 use Rattle.node_sweep.specs.Copies.{IsCopy, IsCopyOf, IsWantedCopy}
 use Rattle.node_sweep.specs.Ends.{AreEndsCopied, IsEndCopied}
 use Rattle.node_sweep.specs.Keeping.{IsCopiedResult, IsKeeping}
-use Rattle.node_sweep.specs.Reaching.{Reaches, IsCollected, IsEnd, IsFinished, the_root, low_pair, high_pair, high_result}
+use Rattle.node_sweep.specs.Reaching.{Reaches, IsCollected, IsEnd, the_root, low_pair, high_pair, high_result}
 use Rattle.node_sweep.proofs.Futures.{copy_at, no_copy_of_zero}
 use Rattle.node_sweep.proofs.SameBlocks.{HasTwin, block_some, copy_none, empty_copy, same_copy, same_original, twin_of}
 use Rattle.node_sweep.proofs.Swept.{kind_of_block}

@@ -4,6 +4,7 @@ pub mod Notes
 pub mod Recursing
 pub mod Futures
 pub mod Swept
+pub mod Underway
 pub mod Pigeons
 pub mod Few
 pub mod Squares

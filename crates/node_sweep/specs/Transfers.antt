@@ -1,15 +1,23 @@
 -- What is copied into fresh words, while it is copied.
-use Rattle.std.specs.Prelude.{ℕ, List, slice_index}
+use Rattle.std.specs.Prelude.{◌≡◌, ℕ, List, length, slice_index}
+use Rattle.plane.specs.declared.refusal.Refusal.{Refusal}
+use Rattle.plane.specs.declared.refusal.Refusal.TheVariants.{NodesFull}
 use Rattle.table_core.specs.declared.shape.Kind.{Kind}
-use Rattle.table_core.specs.Blocks.{Words}
+use Rattle.table_core.specs.declared.shape.Kind.TheVariants.{Pair}
+use Rattle.table_core.specs.Layout.{IsSlot}
+use Rattle.table_core.specs.Blocks.{Words, IsBlock}
 use Rattle.node_sweep.specs.Copies.{HasNoRoom, IsCopyOf, IsWordOf}
 use Rattle.node_sweep.specs.Copying.{IsCopying}
 use Rattle.node_sweep.specs.Keeping.{IsKeeping}
 use Rattle.node_sweep.specs.Reaching.{IsWanted}
+use Rattle.node_sweep.specs.declared.transfer.Fresh.{Fresh}
 use Rattle.node_sweep.specs.declared.transfer.Transfer.{Transfer}
 
 abbrev pub old_words : Transfer → Words
 old_words transfer = slice_index transfer.old.now
+
+abbrev pub fresh_words : Fresh → Words
+fresh_words fresh = slice_index fresh.words.items
 
 -- the sizes of both tables, as powers of two
 abbrev pub old_bits : Transfer → ℕ
@@ -22,13 +30,19 @@ new_bits transfer = transfer.to.shape.bits
 abbrev pub wants : Transfer → ℕ → Type 0
 wants transfer = IsWanted (old_bits transfer) (old_words transfer) transfer.wish
 
--- the new words hold what the notes say, and nothing else
-abbrev pub IsUnderway : Transfer → List ℕ → List ℕ → Type 0
-IsUnderway transfer new copies = IsCopying transfer.from.now transfer.to (old_words transfer) (wants transfer) new copies
+-- the fresh words hold the copies that are noted, and nothing else; there is a note for each old number
+pub record IsUnderway (transfer : Transfer) (fresh : Fresh) : Type 0 where
+  pub copying : IsCopying transfer.from.now transfer.to (old_words transfer) (wants transfer) fresh.words.items fresh.copies.items
+  pub long : length fresh.copies.items ≡ length transfer.old.now
 
 -- all is copied, and the results of so many pairs were gone through
 abbrev pub AreResultsKept : Transfer → List ℕ → List ℕ → ℕ → Type 0
 AreResultsKept transfer copies new done = IsKeeping transfer.from.now transfer.to (old_words transfer) (wants transfer) copies new done
+
+-- the number shows a pair of this rank in the old words
+pub record IsOldPair (transfer : Transfer) (rank pair : ℕ) : Type 0 where
+  pub slot : IsSlot (old_bits transfer) Pair pair
+  pub block : IsBlock (old_bits transfer) (old_words transfer) rank pair
 
 -- this is the word that the copy of the number has
 abbrev pub IsWordNeeded : Transfer → List ℕ → Kind → ℕ → ℕ → Type 0
@@ -38,6 +52,15 @@ IsWordNeeded transfer new kind number word = IsWordOf (old_bits transfer) (new_b
 abbrev pub IsCopyMade : Transfer → List ℕ → ℕ → ℕ → Type 0
 IsCopyMade transfer new number copy = IsCopyOf (old_bits transfer) (new_bits transfer) (old_words transfer) (slice_index new) number copy
 
+-- the number has this copy, and that is noted
+pub record IsCopyNoted (transfer : Transfer) (fresh : Fresh) (number copy : ℕ) : Type 0 where
+  pub made : IsCopyMade transfer fresh.words.items number copy
+  pub noted : slice_index fresh.copies.items number ≡ copy
+
 -- copies of some that are wanted leave no room for another one
 abbrev pub HasNoRoomLeft : Transfer → Type 0
 HasNoRoomLeft transfer = HasNoRoom transfer.from.now transfer.to (old_words transfer) (wants transfer)
+
+-- the refusal is a full table, and there is no room left
+abbrev pub SaysNoRoom : Transfer → Refusal → Type 0
+SaysNoRoom transfer refusal = (refusal ≡ NodesFull) × HasNoRoomLeft transfer

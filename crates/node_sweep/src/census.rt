@@ -2,9 +2,8 @@
 
 ghost use Rattle.std.specs.Prelude.{◌≡◌, ◌^◌, length};
 
-use crate::ranks::LARGEST_RANK;
 use crate::transfer::{Ends, Transfer};
-use table_core::Kind;
+use table_core::{Kind, LARGEST_RANK};
 
 // Of the pair slots: up to one in so many for small squares, and for large ones that have results. Pairs of
 // leaves that take more than one in so many leave too few leaf slots for other leaves.

@@ -8,10 +8,7 @@ ghost use Rattle.node_sweep.specs.Ranks.{AreAllRanks, AreRanks, IsPart, KeepsRan
 use crate::transfer::Transfer;
 use plane::Refusal;
 use std::alloc::Global;
-use table_core::{Kind, parts};
-
-// At least the rank of whatever a number shows.
-pub(crate) const LARGEST_RANK: u8 = 124;
+use table_core::{Kind, LARGEST_RANK, parts};
 
 // A part of a pair that isn't 0.
 fn some_part(word: u64) -> u32

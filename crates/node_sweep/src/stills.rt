@@ -14,7 +14,7 @@ use node_table::Still;
 use plane::Refusal;
 use squares::{Num, Sq};
 use std::alloc::Global;
-use table_core::{Key, Shape};
+use table_core::{Key, Shape, square_rank};
 
 // The head of a table of so many pair slots, under the same rule and exponent.
 fn resized(from: &Key, pairs: u32) -> Key
@@ -60,7 +60,7 @@ pub fn sweep(alloc: Global, still: &Still, root: Sq, pairs: u32) -> Result<(Stil
 {
     let level = root.level;
     let transfer = Transfer::of_still(still, Wish::Reached(root.num.0), pairs);
-    let (words, number) = transfer.swept(alloc, root.num.0, 2 * (level - 3))?;
+    let (words, number) = transfer.swept(alloc, root.num.0, square_rank(level))?;
     Ok((
         Still::of_words(transfer.to, words),
         Sq {
@@ -124,7 +124,7 @@ pub fn collect(alloc: Global, still: &Still, root: Sq, pairs: u32) -> Result<Col
     let census = scan.census(ranks.as_slice());
     let ends = census.ends(root.num.0, pairs);
     let transfer = Transfer::of_still(still, Wish::Collected(ends), pairs);
-    let (words, number) = transfer.collected(alloc, ends, ranks.as_slice(), 2 * (level - 3))?;
+    let (words, number) = transfer.collected(alloc, ends, ranks.as_slice(), square_rank(level))?;
     Ok(Collected {
         still: Still::of_words(transfer.to, words),
         root: Sq {

@@ -1,4 +1,4 @@
-//! What is copied from old words into fresh ones.
+//! What is copied from old words into fresh ones, and the fresh ones while they are filled.
 
 ghost use Rattle.std.specs.Prelude.{◌≡◌};
 ghost use Rattle.table_core.specs.Good.{AreGoodWords};
@@ -43,4 +43,13 @@ pub(crate) struct Transfer<'a> {
     ghost good: { AreGoodWords from.now old.now } by { good_prop from.now old.now },
     ghost same_rule: { to.rule ≡ from.now.rule },
     ghost same_exponent: { to.exponent ≡ from.now.exponent },
+}
+
+/// Words that blocks are copied into, and under which numbers they stand there.
+#[derive(Drop)]
+pub(crate) struct Fresh {
+    /// The fresh words.
+    pub(crate) words: Vec<u64>,
+    /// The number of the copy of each old number, 0 where it has none yet.
+    pub(crate) copies: Vec<u32>,
 }

@@ -16,7 +16,8 @@ use Rattle.table_core.specs.declared.key.Key.{Key}
 use Rattle.table_core.specs.declared.knowledge.KnownBlock.{KnownBlock}
 use Rattle.table_core.specs.declared.knowledge.KnownResult.{KnownResult}
 use Rattle.table_core.specs.declared.knowledge.Knowledge.{Knowledge}
-use Rattle.table_core.specs.Blocks.{square_rank, largest_rank, width, height}
+use Rattle.table_core.specs.Blocks.{square_rank, width, height}
+use Rattle.table_core.specs.declared.rank.TheConstants.{LARGEST_RANK}
 use Rattle.table_core.specs.Knowledge.{KnowsBlock, KnowsSquareOf, Grows}
 use Rattle.table_core.proofs.Claims.{same_or_other}
 use Rattle.table_core.proofs.FullShards.{full_later, full_shard_is_seen}
@@ -95,7 +96,7 @@ got_mapped [] i sq e = let no : ⊥ = cc in absurd no
 got_mapped (x ∷ xs) zero sq e = (x, refl, (let same : square_of x ≡ sq = cc in same))
 got_mapped (x ∷ xs) (suc i) sq e = got_mapped xs i sq e
 
-low_level : (level : ℕ) → 3 < level → square_rank level - 1 < largest_rank → level ≤ 65
+low_level : (level : ℕ) → 3 < level → square_rank level - 1 < LARGEST_RANK → level ≤ 65
 low_level level above h = omega arith
 
 known_result : (key : Key) (known : Knowledge) (result : KnownResult) → IsCoherent key.shape.bits known →

@@ -12,7 +12,8 @@ use Rattle.table_core.specs.declared.knowledge.Knowledge.{Knowledge}
 use Rattle.table_core.specs.declared.shape.Kind.{Kind}
 use Rattle.table_core.specs.declared.shape.Kind.TheVariants.{Leaf, Pair}
 use Rattle.table_core.specs.Layout.{IsSlot, size, first_part, second_part, pair_of}
-use Rattle.table_core.specs.Blocks.{square_rank, largest_rank}
+use Rattle.table_core.specs.Blocks.{square_rank}
+use Rattle.table_core.specs.declared.rank.TheConstants.{LARGEST_RANK}
 use Rattle.table_core.specs.Knowledge.{KnowsBlock, Grows}
 use Rattle.table_core.specs.Lawful.{KnowsParts}
 use Rattle.table_core.specs.Learning.{MeetsWord}
@@ -72,7 +73,7 @@ second_is : (a b : ℕ) → b < 2 ^ 32 → second_part (pair_of a b) ≡ b
 second_is a b h = omega arith
 
 -- two known blocks of one rank are the parts of their pair's word
-pub knows_parts : (key : Key) (known : Knowledge) (rank a b : ℕ) (one two : Plane) → ∥ IsCoherent key.shape.bits known ∥₁ → rank < largest_rank →
+pub knows_parts : (key : Key) (known : Knowledge) (rank a b : ℕ) (one two : Plane) → ∥ IsCoherent key.shape.bits known ∥₁ → rank < LARGEST_RANK →
     KnowsBlock known rank a one → KnowsBlock known rank b two → KnowsParts known (pair_of a b)
 knows_parts key known rank a b one two c low h k =
     let fits = below_limit key known rank b two c k in

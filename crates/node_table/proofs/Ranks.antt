@@ -4,14 +4,15 @@ use Rattle.std.specs.Prelude.{◌==◌}
 use Rattle.std.proofs.lemmas.Bool.{eq-eqb, ne_eqb}
 use Rattle.table_core.specs.declared.shape.Kind.TheVariants.{Leaf, Pair}
 use Rattle.table_core.specs.Layout.{start, size, first_part, second_part}
-use Rattle.table_core.specs.Blocks.{Words, IsBlock, largest_rank}
+use Rattle.table_core.specs.Blocks.{Words, IsBlock}
+use Rattle.table_core.specs.declared.rank.TheConstants.{LARGEST_RANK}
 use Rattle.table_core.proofs.Blocks.{parts_equal}
 use Rattle.table_core.proofs.Claims.{same_or_other}
 use Rattle.table_core.proofs.Ways.{slot_below}
 
 -- from a number that shows a block one comes to this number by so many parts, each other than 0
 pub record Descends (bits : ℕ) (words : Words) (from now steps : ℕ) : Type 0 where
-  pub go : (rank : ℕ) → rank ≤ largest_rank → from ≢ 0 → IsBlock bits words rank from →
+  pub go : (rank : ℕ) → rank ≤ LARGEST_RANK → from ≢ 0 → IsBlock bits words rank from →
       (steps ≤ rank) × (now ≢ 0) × IsBlock bits words (rank - steps) now
 
 block_in : (bits : ℕ) (words : Words) (rank n : ℕ) → n ≢ 0 → IsBlock bits words rank n → n < size bits
@@ -69,7 +70,7 @@ descends_on bits words from now steps next d high e = record {
 
 -- where one comes to a leaf, the rank is the number of parts
 pub leaf_reached : (bits : ℕ) (words : Words) (from now steps : ℕ) → Descends bits words from now steps → (now < start bits Pair) ⊎ (size bits ≤ now) →
-    (rank : ℕ) → rank ≤ largest_rank → from ≢ 0 → IsBlock bits words rank from → steps ≡ rank
+    (rank : ℕ) → rank ≤ LARGEST_RANK → from ≢ 0 → IsBlock bits words rank from → steps ≡ rank
 leaf_reached bits words from now steps d end rank low some block =
     let g = d.go rank low some block in
     let before = g.0 in

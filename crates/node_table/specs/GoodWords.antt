@@ -12,7 +12,8 @@ use Rattle.table_core.proofs.Everything.{good_words_can_be_known}
 use Rattle.table_core.specs.declared.shape.Kind.{Kind}
 use Rattle.table_core.specs.declared.shape.Kind.TheVariants.{Pair}
 use Rattle.table_core.specs.Layout.{IsSlot, way, result_of, first_part, second_part}
-use Rattle.table_core.specs.Blocks.{Words, IsBlock, Shows, cells_of, square_rank, largest_rank}
+use Rattle.table_core.specs.Blocks.{Words, IsBlock, Shows, cells_of, square_rank}
+use Rattle.table_core.specs.declared.rank.TheConstants.{LARGEST_RANK}
 use Rattle.table_core.specs.Good.{IsOnWay, IsFutureOf, IsPairBlock, HasFuture, AreGoodWords}
 use Rattle.table_core.proofs.Ways.{every_way, not_head}
 use Rattle.table_core.proofs.Blocks.{one_rank}
@@ -40,7 +41,7 @@ way_prop bits words kind index big low a b =
 
 -- the pair is a block of this rank
 abbrev IsRankOf : ℕ → Words → ℕ → ℕ → Type 0
-IsRankOf bits words index rank = (rank < largest_rank) × IsBlock bits words (suc rank) index
+IsRankOf bits words index rank = (rank < LARGEST_RANK) × IsBlock bits words (suc rank) index
 
 rank_prop : (bits : ℕ) (words : Words) (index rank : ℕ) → IsProp (IsRankOf bits words index rank)
 rank_prop bits words index rank = hlevel (props, block_prop bits words (suc rank) index)

@@ -11,7 +11,7 @@ use crate::shared::SharedStill;
 use plane::Refusal;
 use rule_text::Rule;
 use std::alloc::{AllocError, Global};
-use table_core::{Key, Kind, Shape, parts};
+use table_core::{Key, Kind, LARGEST_RANK, Shape, parts};
 
 /// The words of a table in one owner's hands, good ones.
 #[derive(Drop)]
@@ -22,8 +22,8 @@ pub struct Still {
     ghost is_book: { IsBook (book_of [] key (all_of key words good)) },
 }
 
-// More than the ranks of all squares and halves that a number may show.
-const RANKS: u8 = 125;
+// How many ranks there are, from that of a leaf on.
+const RANK_COUNT: u8 = LARGEST_RANK + 1;
 
 impl Still {
     ghost use Rattle.table_core.specs.Opening.{KeepsResult};
@@ -154,13 +154,13 @@ impl Still {
     {
         let first_pair = self.key.shape.index(Kind::Pair, 0);
         let mut number = number;
-        for rank in 0..RANKS {
+        for rank in 0..RANK_COUNT {
             if number < first_pair || number as usize >= self.words.len() {
                 return rank;
             }
             let (first, second) = parts(self.words.word(number as usize));
             number = if first == 0 { second } else { first };
         }
-        RANKS
+        RANK_COUNT
     }
 }

@@ -16,10 +16,6 @@ Words = ℕ → ℕ
 abbrev pub square_rank : ℕ → ℕ
 square_rank level = 2 * (level - 3)
 
--- the rank of the largest squares, those of level 65
-abbrev pub largest_rank : ℕ
-largest_rank = square_rank 65
-
 abbrev pub width : ℕ → ℕ
 width rank = 2 ^ ((rank + 1) / 2 + 3)
 

@@ -6,7 +6,8 @@ use Rattle.table_core.specs.declared.shape.Kind.{Kind}
 use Rattle.table_core.specs.declared.shape.Kind.TheVariants.{Leaf, Pair}
 use Rattle.table_core.specs.declared.key.Key.{Key}
 use Rattle.table_core.specs.Layout.{IsSlot, way, result_of, size, first_part, second_part}
-use Rattle.table_core.specs.Blocks.{Words, IsBlock, Shows, cells_of, square_rank, largest_rank}
+use Rattle.table_core.specs.Blocks.{Words, IsBlock, Shows, cells_of, square_rank}
+use Rattle.table_core.specs.declared.rank.TheConstants.{LARGEST_RANK}
 
 -- the head's word, which names the rule and the exponent
 abbrev pub head : Key → ℕ
@@ -29,7 +30,7 @@ pub record IsFutureOf (key : Key) (words : Words) (index number : ℕ) : Type 0 
 
 -- the pair at the index is a finite block, of at most a square of level 65
 abbrev pub IsPairBlock : ℕ → Words → ℕ → Type 0
-IsPairBlock bits words index = (rank : ℕ) × (rank < largest_rank) × IsBlock bits words (suc rank) index
+IsPairBlock bits words index = (rank : ℕ) × (rank < LARGEST_RANK) × IsBlock bits words (suc rank) index
 
 -- the result word beside the pair at the index is that of a future
 abbrev pub HasFuture : Key → Words → ℕ → Type 0
@@ -70,7 +71,7 @@ pub record Fills (old new : Words) (index word : ℕ) : Type 0 where
 abbrev pub PartsStand : ℕ → Words → Kind → ℕ → Type 0
 PartsStand bits words Leaf word = Unit {0}
 PartsStand bits words Pair word =
-    (rank : ℕ) × (rank < largest_rank) × IsBlock bits words rank (first_part word) × IsBlock bits words rank (second_part word)
+    (rank : ℕ) × (rank < LARGEST_RANK) × IsBlock bits words rank (first_part word) × IsBlock bits words rank (second_part word)
 
 -- the word may come to the index: at each earlier place of its way another word stands, and its parts are there
 pub record MayStand (bits : ℕ) (words : Words) (kind : Kind) (index word : ℕ) : Type 0 where

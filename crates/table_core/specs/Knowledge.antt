@@ -10,7 +10,8 @@ use Rattle.table_core.specs.declared.knowledge.KnownResult.{KnownResult}
 use Rattle.table_core.specs.declared.knowledge.Knowledge.{Knowledge}
 use Rattle.table_core.specs.declared.shape.Kind.TheVariants.{Leaf, Pair}
 use Rattle.table_core.specs.Layout.{IsSlot, result_of}
-use Rattle.table_core.specs.Blocks.{Words, IsBlock, Shows, square_rank, largest_rank, width, height}
+use Rattle.table_core.specs.Blocks.{Words, IsBlock, Shows, square_rank, width, height}
+use Rattle.table_core.specs.declared.rank.TheConstants.{LARGEST_RANK}
 
 -- it has seen this word at this index
 abbrev pub HasSeen : Knowledge → ℕ → ℕ → Type 0
@@ -73,7 +74,7 @@ pub record IsConsistent (bits : ℕ) (known : Knowledge) : Type 0 where
   pub inside : (rank number : ℕ) (plane : Plane) → KnowsBlock known rank number plane → IsInside (width rank) (height rank) plane
   pub leaf : (number : ℕ) (plane : Plane) → number ≢ 0 → KnowsBlock known 0 number plane → IsSlot bits Leaf number
   pub pair : (rank number : ℕ) (plane : Plane) → number ≢ 0 → KnowsBlock known (suc rank) number plane →
-      IsSlot bits Pair number × (rank < largest_rank)
+      IsSlot bits Pair number × (rank < LARGEST_RANK)
   pub results : AllByRecursion (λ result. (3 < result.level) × (result.square ≢ 0) × KnowsSquareOf known result) known.results
   pub once : HasEachOnce known.results
 

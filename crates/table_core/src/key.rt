@@ -1,3 +1,5 @@
+//! The head of a table: its shape, its rule and its exponent.
+
 ghost use Rattle.std.specs.Prelude.{◌≡◌};
 
 use crate::shape::Shape;

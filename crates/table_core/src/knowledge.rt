@@ -1,3 +1,5 @@
+//! What a desk knows of a table, as contracts see it.
+
 use plane::Cell;
 use std::collections::LinkedList;
 

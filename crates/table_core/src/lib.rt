@@ -7,12 +7,17 @@
 //! its rule. In `specs/`, `Layout` says where words stand, `Blocks` what numbers show, `Good` which
 //! words are good, `Knowledge` what a desk knows, `Lawful` and `Learning` what it may do and what
 //! that teaches it, and `Runs` what a run is.
+//!
+//! - A desk is a thread's handle at the shared hash-consing table.
+//! - The way of a word is its probe sequence, and a shard the 256 slots that it visits: a probe group.
+//! - [`Event::Look`] and [`Event::Claim`] load and insert a node, [`Event::Ask`] and [`Event::Tell`] a memoised result.
 #![tactic(auto)]
 
 mod key;
 mod knowledge;
 mod laws;
 mod machine;
+mod rank;
 mod shape;
 mod word;
 
@@ -24,5 +29,6 @@ pub use laws::{
     good_words_can_be_known,
 };
 pub use machine::{Event, step};
+pub use rank::{LARGEST_RANK, square_rank};
 pub use shape::{Kind, LARGEST_PAIR_COUNT, SHARD_LEN, SMALLEST_PAIR_COUNT, Shape};
 pub use word::{pair_word, parts, result_word};

@@ -1,3 +1,5 @@
+//! Atomic steps on the words of a table, one at a time.
+
 ghost use Rattle.std.specs.Prelude.{◌≡◌, ◌<◌, ◌==◌, if◌then◌else◌, length, slice_index, slice_set};
 ghost use Rattle.table_core.specs.Events.{index_of, words_after};
 

@@ -1,3 +1,5 @@
+//! The size of a table, and where its words stand.
+
 ghost use Rattle.std.specs.Prelude.{◌≡◌, ℕ, ◌≤◌, ◌<◌, ◌+◌, ◌^◌, ◌↔◌, IsTrue};
 ghost use Rattle.table_core.specs.Sizes.{IsPairCount};
 

@@ -1,3 +1,5 @@
+//! The words of pairs and of results.
+
 ghost use Rattle.std.specs.Prelude.{◌≡◌, ◌+◌, ◌^◌};
 ghost use Rattle.table_core.specs.Layout.{first_part, second_part, pair_of};
 

@@ -1,16 +1,15 @@
-use Rattle.std.proofs.Common.{◌≡◌, ◌⊎◌, ◌-◌, ◌*◌, ◌^◌, ℕ, sym, subst, refl, rules}
+use Rattle.std.proofs.Common.{◌≡◌, ◌⊎◌, ℕ, sym, subst, refl, rules}
 use Rattle.std.specs.Prelude.{slice_index, IfErr}
 use Rattle.plane.specs.declared.refusal.Refusal.TheVariants.{NodesFull, NoMemory}
-use Rattle.table_core.specs.Blocks.{IsBlock}
+use Rattle.table_core.specs.Blocks.{IsBlock, square_rank}
 use Rattle.squares.specs.Book.{numbered}
-use Rattle.node_table.specs.Stills.{key_of, items_of, words_of}
-use Rattle.node_sweep.specs.CollectedStills.{HasNoRoomToCollect, is_wanted_in}
+use Rattle.node_table.specs.Stills.{key_of, words_of}
+use Rattle.node_sweep.specs.CollectedStills.{HasNoRoomToCollect}
 use Rattle.node_sweep.specs.Collects.{Collects}
 use Rattle.node_sweep.specs.Copies.{IsCopyOf}
-use Rattle.node_sweep.specs.Ranks.{AreAllRanks}
 use Rattle.node_sweep.specs.Reaching.{IsCollected}
 use Rattle.node_sweep.specs.Transfers.{HasNoRoomLeft}
-use Rattle.node_sweep.specs.declared.transfer.Wish.TheVariants.{Everything, Collected}
+use Rattle.node_sweep.specs.declared.transfer.Wish.TheVariants.{Collected}
 use Rattle.node_sweep.proofs.Compacted.{has_collected, no_room_to_collect}
 use Rattle.node_sweep.proofs.Squares.{known_shows}
 use Rattle.node_sweep.proofs.Transferred.{at_rest, at_transfer, refused_as}
@@ -18,10 +17,10 @@ use Rattle.node_sweep.proofs.stills.collect.Goals as goal
 
 pub collected-requires-clause-block : goal.collected-requires-clause-block
 collected-requires-clause-block c =
-    at_transfer c.args.still.now (Collected c.ends-ends.result) c.args.pairs c.of_still-transfer.result c.of_still-transfer.ensures
-    (λ key words wish. IsBlock key.shape.bits (slice_index words) (2 * (c.args.root.level - 3)) c.ends-ends.result.root)
-    (subst (IsBlock (key_of c.args.still.now).shape.bits (words_of c.args.still.now) (2 * (c.args.root.level - 3))) (sym c.ends-ends.ensures)
-    (known_shows c.args.still.now c.args.root c.requires.known).stands)
+    rw c.square_rank.ensures.rank (at_transfer c.args.still.now (Collected c.ends-ends.result) c.args.pairs c.of_still-transfer.result c.of_still-transfer.ensures
+    (λ key words wish. IsBlock key.shape.bits (slice_index words) (square_rank c.args.root.level) c.ends-ends.result.root)
+    (subst (IsBlock (key_of c.args.still.now).shape.bits (words_of c.args.still.now) (square_rank c.args.root.level)) (sym c.ends-ends.ensures)
+    (known_shows c.args.still.now c.args.root c.requires.known).stands))
 
 pub returns-in_err-words-clause-refusal : goal.returns-in_err-words-clause-refusal
 returns-in_err-words-clause-refusal c =

@@ -1,7 +1,7 @@
-use Rattle.std.proofs.Common.{◌≡◌, ◌⊎◌, ◌-◌, ◌*◌, refl, rules}
+use Rattle.std.proofs.Common.{◌≡◌, ◌⊎◌, refl, rules}
 use Rattle.std.specs.Prelude.{slice_index, IfErr}
 use Rattle.plane.specs.declared.refusal.Refusal.TheVariants.{NodesFull, NoMemory}
-use Rattle.table_core.specs.Blocks.{IsBlock}
+use Rattle.table_core.specs.Blocks.{IsBlock, square_rank}
 use Rattle.squares.specs.Book.{numbered}
 use Rattle.node_sweep.specs.Sweeps.{Sweeps}
 use Rattle.node_sweep.specs.SweptStills.{HasNoRoomFor}
@@ -13,9 +13,9 @@ use Rattle.node_sweep.proofs.stills.sweep.Goals as goal
 
 pub swept-requires-clause-block : goal.swept-requires-clause-block
 swept-requires-clause-block c =
-    at_transfer c.args.still.now (Reached c.args.root.num.0) c.args.pairs c.of_still-transfer.result c.of_still-transfer.ensures
-    (λ key words root. IsBlock key.shape.bits (slice_index words) (2 * (c.args.root.level - 3)) c.args.root.num.0)
-    (known_shows c.args.still.now c.args.root c.requires.known).stands
+    rw c.square_rank.ensures.rank (at_transfer c.args.still.now (Reached c.args.root.num.0) c.args.pairs c.of_still-transfer.result c.of_still-transfer.ensures
+    (λ key words root. IsBlock key.shape.bits (slice_index words) (square_rank c.args.root.level) c.args.root.num.0)
+    (known_shows c.args.still.now c.args.root c.requires.known).stands)
 
 pub returns-in_err-words-clause-refusal : goal.returns-in_err-words-clause-refusal
 returns-in_err-words-clause-refusal c =
@@ -36,6 +36,7 @@ returns-clause-ok c =
     let root = c.args.root in
     let transfer = c.of_still-transfer.result in
     let swept = at_rest c.args.still.now (Reached root.num.0) c.args.pairs transfer c.of_still-transfer.ensures
-    (λ key words from. Sweeps key transfer.to (slice_index words) (2 * (root.level - 3)) root.num.0 c.in_ok-words.words.items c.in_ok-words.number) c.in_ok-words.ensures.ok in
+    (λ key words from. Sweeps key transfer.to (slice_index words) (square_rank root.level) root.num.0 c.in_ok-words.words.items c.in_ok-words.number)
+    (rw c.square_rank.ensures.rank at c.in_ok-words.ensures.ok) in
     is_swept c.args.still.now root (numbered root.level c.in_ok-words.number) c.args.pairs transfer.to c.in_ok-words.words.items c.of_words.result c.requires.known refl
     c.of_still-transfer.ensures.resized c.of_words.ensures swept

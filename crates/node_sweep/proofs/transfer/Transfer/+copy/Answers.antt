@@ -1,30 +1,26 @@
 use Rattle.std.proofs.Common.{◌≡◌, ◌≤◌, ◌+◌, ◌∙◌, ap, sym, subst, arith}
 use Rattle.std.specs.Prelude.{slice_index}
+use Rattle.std.proofs.lemmas.List.{get_or_default}
 use Rattle.table_core.specs.declared.shape.Kind.TheVariants.{Pair}
 use Rattle.table_core.specs.Layout.{start, first_part, second_part}
 use Rattle.table_core.specs.Blocks.{IsBlock}
-use Rattle.node_sweep.specs.Reaching.{IsWanted}
-use Rattle.node_sweep.specs.Copies.{IsCopy, IsCopyOf, IsWantedCopy}
+use Rattle.node_sweep.specs.Copies.{IsCopy}
+use Rattle.node_sweep.specs.Transfers.{fresh_words, old_bits, old_words}
 use Rattle.node_sweep.proofs.SameBlocks.{copy_later, block_parts}
 use Rattle.node_sweep.proofs.Futures.{block_below}
-use Rattle.node_sweep.proofs.Swept.{zero_noted}
-use Rattle.node_sweep.proofs.Recursing.{IsPairOf, ok_then, copy_of_all, empty_copy_of, copy_as, leaf_below, as_pair, higher, first_low, second_low, first_wanted, second_wanted}
+use Rattle.node_sweep.proofs.Recursing.{IsPairOf, copy_as, leaf_below, as_pair, higher, first_low, second_low, first_wanted, second_wanted}
+use Rattle.node_sweep.proofs.Underway.{already_noted, block_inside, empty_noted}
 use Rattle.node_sweep.proofs.transfer.Transfer.+copy.Goals as goal
 
 pub returns-then-number-eq0-clause-ok : goal.returns-then-number-eq0-clause-ok
-returns-then-number-eq0-clause-ok t c =
-    empty_copy_of c.args.self.now.from.now.shape.bits c.args.self.now.to.shape.bits (slice_index c.args.self.now.old.now) (slice_index c.args.words.now) c.args.number c.if-number-eq0.true
-
-pub returns-then-number-eq0-clause-noted : goal.returns-then-number-eq0-clause-noted
-returns-then-number-eq0-clause-noted t c =
-    ap (slice_index c.args.copies.now) c.if-number-eq0.true
-    ∙ zero_noted c.args.self.now.from.now c.args.self.now.to (slice_index c.args.self.now.old.now) (IsWanted c.args.self.now.from.now.shape.bits (slice_index c.args.self.now.old.now) c.args.self.now.wish) c.args.words.now c.args.copies.now
-    c.args.self.now.good.good c.requires.underway
+returns-then-number-eq0-clause-ok t c = empty_noted c.args.self.now c.args.fresh.now c.requires.underway c.args.number c.if-number-eq0.true
 
 pub returns-then-done-ne0-clause-ok : goal.returns-then-done-ne0-clause-ok
 returns-then-done-ne0-clause-ok t c =
-    copy_of_all c.args.self.now.from.now.shape.bits c.args.self.now.to.shape.bits (slice_index c.args.self.now.old.now) (slice_index c.args.words.now) (IsWanted c.args.self.now.from.now.shape.bits (slice_index c.args.self.now.old.now) c.args.self.now.wish)
-    c.args.number _ c.if-number-eq0.false (c.requires.underway.copied c.args.number c.if-done-ne0.true)
+    let fresh = c.args.fresh.now in
+    let inside = block_inside c.args.self.now fresh c.requires.underway c.args.height c.args.number c.requires.block in
+    already_noted c.args.self.now fresh c.requires.underway c.args.number c.index-done.result.now c.if-number-eq0.false c.if-done-ne0.true
+    (c.index-done.ensures ∙ get_or_default fresh.copies.items c.args.number c.index-done.result.now 0 inside)
 
 pub note-requires-clause-word : goal.note-requires-clause-word
 note-requires-clause-word t c =
@@ -33,16 +29,6 @@ note-requires-clause-word t c =
       leaf_below c.args.self.now.from.now.shape.bits (slice_index c.args.self.now.old.now) c.requires.block.0 c.args.number c.if-number-eq0.false (omega arith) c.requires.block.2,
       c.word-word.ensures,
     )
-
-pub returns-then-number-index-clause-ok : goal.returns-then-number-index-clause-ok
-returns-then-number-index-clause-ok t c =
-    let from = c.args.self.now.from.now.shape.bits in
-    let to = c.args.self.now.to.shape.bits in
-    let old = slice_index c.args.self.now.old.now in
-    let new = slice_index c.note.new.words in
-    let wanted = IsWanted from old c.args.self.now.wish in
-    ok_then (IsWantedCopy from to old new wanted c.args.number) (IsCopyOf from to old new c.args.number) c.note.result
-    (λ i h. copy_of_all from to old new wanted c.args.number i c.if-number-eq0.false h) c.note.ensures.ok
 
 pub copy-requires : goal.copy-requires
 copy-requires t c =
@@ -59,11 +45,8 @@ copy-requires t c =
       (
         c.requires.underway,
         (
-          c.requires.long,
-          (
-            first_low from old c.args.height n some high c.requires.block c.parts-first.result.0 first,
-            first_wanted from old c.args.height n some high c.requires.block c.args.self.now.wish c.parts-first.result.0 first c.requires.wanted,
-          ),
+          first_low from old c.args.height n some high c.requires.block c.parts-first.result.0 first,
+          first_wanted from old c.args.height n some high c.requires.block c.args.self.now.wish c.parts-first.result.0 first c.requires.wanted,
         ),
       ),
     )
@@ -83,31 +66,19 @@ copy-requires-2 t c =
       (
         c.copy.ensures.underway,
         (
-          c.copy.auto.copies ∙ c.requires.long,
-          (
-            second_low from old c.args.height n some high c.requires.block c.parts-first.result.1 second,
-            second_wanted from old c.args.height n some high c.requires.block c.args.self.now.wish c.parts-first.result.1 second c.requires.wanted,
-          ),
+          second_low from old c.args.height n some high c.requires.block c.parts-first.result.1 second,
+          second_wanted from old c.args.height n some high c.requires.block c.args.self.now.wish c.parts-first.result.1 second c.requires.wanted,
         ),
       ),
     )
-
-pub note-requires-2-clause-inside : goal.note-requires-2-clause-inside
-note-requires-2-clause-inside t c =
-    let below = block_below c.args.self.now.from.now.shape.bits (slice_index c.args.self.now.old.now) c.requires.block.0 c.args.number c.requires.block.2 in
-    let one = c.copy-2.auto.copies in
-    let two = c.copy.auto.copies in
-    let same = c.requires.long in
-    let long = c.args.self.now.good.long in
-    omega arith
 
 pub note-requires-2-clause-word : goal.note-requires-2-clause-word
 note-requires-2-clause-word t c =
     let from = c.args.self.now.from.now.shape.bits in
     let to = c.args.self.now.to.shape.bits in
     let old = slice_index c.args.self.now.old.now in
-    let between = slice_index c.copy.new.words in
-    let new = slice_index c.copy-2.new.words in
+    let between = fresh_words c.copy.new.fresh in
+    let new = fresh_words c.copy-2.new.fresh in
     let n = c.args.number in
     let start_is : c.index.result ≡ start from Pair + 0 = c.index.ensures.index in
     let not_low = c.if-number-index.false in
@@ -116,9 +87,9 @@ note-requires-2-clause-word t c =
     let p : IsPairOf from old c.args.height n = as_pair from old c.args.height n c.if-number-eq0.false (omega arith) c.requires.block in
     let both = block_parts from old p.rank n c.if-number-eq0.false p.pair in
     let one : IsCopy from to old between p.rank c.parts-first.result.0 c.in_ok-first.first =
-    c.in_ok-first.ensures.ok.at_rank p.rank (subst (IsBlock from old p.rank) (sym first) both.0) in
+    c.in_ok-first.ensures.ok.made.at_rank p.rank (subst (IsBlock from old p.rank) (sym first) both.0) in
     let two : IsCopy from to old new p.rank c.parts-first.result.1 c.in_ok-second.second =
-    c.in_ok-second.ensures.ok.at_rank p.rank (subst (IsBlock from old p.rank) (sym second) both.1) in (
+    c.in_ok-second.ensures.ok.made.at_rank p.rank (subst (IsBlock from old p.rank) (sym second) both.1) in (
       p.rank,
       p.pair,
       copy_as from to old new p.rank c.parts-first.result.0 (first_part (old n)) c.in_ok-first.first (first_part c.pair_word-word.result) first (sym c.pair_word-word.ensures.first)
@@ -127,12 +98,8 @@ note-requires-2-clause-word t c =
           two,
     )
 
-pub returns-clause-ok : goal.returns-clause-ok
-returns-clause-ok t c =
-    let from = c.args.self.now.from.now.shape.bits in
-    let to = c.args.self.now.to.shape.bits in
-    let old = slice_index c.args.self.now.old.now in
-    let new = slice_index c.note-2.new.words in
-    let wanted = IsWanted from old c.args.self.now.wish in
-    ok_then (IsWantedCopy from to old new wanted c.args.number) (IsCopyOf from to old new c.args.number) c.note-2.result
-    (λ i h. copy_of_all from to old new wanted c.args.number i c.if-number-eq0.false h) c.note-2.ensures.ok
+pub word-word-requires : goal.word-word-requires
+word-word-requires t c =
+    let below = block_below (old_bits c.args.self.now) (old_words c.args.self.now) c.requires.block.0 c.args.number c.requires.block.2 in
+    let long = c.args.self.now.good.long in
+    omega arith

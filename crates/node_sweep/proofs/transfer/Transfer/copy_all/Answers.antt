@@ -1,12 +1,14 @@
-use Rattle.std.proofs.Common.{◌≡◌, ◌≢◌, ◌+◌, ◌^◌, ◌∙◌, List, length, ℕ, ap, sym, subst, arith}
+use Rattle.std.proofs.Common.{◌≡◌, ◌≢◌, ◌+◌, ◌^◌, ◌∙◌, sym, subst, arith}
 use Rattle.std.specs.Prelude.{slice_index}
 use Rattle.table_core.specs.declared.shape.Kind.TheVariants.{Pair}
 use Rattle.table_core.specs.Layout.{start}
 use Rattle.table_core.proofs.Ways.{size_fits}
-use Rattle.node_sweep.specs.Transfers.{wants}
+use Rattle.node_sweep.specs.Transfers.{IsUnderway, old_words}
 use Rattle.node_sweep.specs.Copies.{IsLowBlock}
-use Rattle.node_sweep.specs.Copying.{AreCopied, IsCopying}
-use Rattle.node_sweep.proofs.AllBlocks.{all_wanted, low_block_at, copied_on, copied_past}
+use Rattle.node_sweep.specs.Copying.{AreCopied}
+use Rattle.node_sweep.specs.declared.transfer.Fresh.{Fresh}
+use Rattle.node_sweep.proofs.AllBlocks.{all_wanted, low_block_at, copied_past}
+use Rattle.node_sweep.proofs.Underway.{copied_on}
 use Rattle.node_sweep.proofs.transfer.Transfer.copy_all.Goals.{then-word-ne0+in_ok-copy, else-word-ne0}
 use Rattle.node_sweep.proofs.transfer.Transfer.copy_all.Goals as goal
 
@@ -27,9 +29,9 @@ copy-requires-clause-block c =
 
 pub loop-number-preserved : goal.loop-number-preserved
 loop-number-preserved c =
-    let from = c.args.self.now.from.now in
-    let to = c.args.self.now.to in
-    let old = slice_index c.args.self.now.old.now in
+    let transfer = c.args.self.now in
+    let from = transfer.from.now in
+    let old = old_words transfer in
     let bits = from.shape.bits in
     let number = c.loop-number.number in
     let h = c.loop-number.invariant in
@@ -38,21 +40,18 @@ loop-number-preserved c =
     let below = c.loop-number-test.true in
     elim c.if-word-ne0.branch [
       | then-word-ne0+in_ok-copy w ↦
-          let block : IsLowBlock bits old 124 number = low_block_at from old number c.args.self.now.good.good h.some (omega arith) (subst (λ word. word ≢ 0) c.word.ensures w.if-word-ne0.true) in
-          let noted = copied_on from to old (wants c.args.self.now) c.args.self.now.good.good c.loop-number.words c.loop-number.copies w.copy.new.words w.copy.new.copies number w.in_ok-copy.field-0
-          h.underway w.copy.ensures.underway w.copy.ensures.keeps h.all h.some block w.in_ok-copy.ensures.ok w.in_ok-copy.ensures.noted in
+          let new = w.copy.new.fresh in
+          let block : IsLowBlock bits old 124 number = low_block_at from old number transfer.good.good h.some (omega arith) (subst (λ word. word ≢ 0) c.word.ensures w.if-word-ne0.true) in
+          let noted = copied_on transfer c.loop-number.fresh new h.underway w.copy.ensures.underway w.copy.ensures.keeps number w.in_ok-copy.field-0 h.all h.some block w.in_ok-copy.ensures.ok in
           record {
-            underway = subst (λ (ws : List ℕ). IsCopying from to old (wants c.args.self.now) ws c.if-word-ne0.copies) (sym w.words-is)
-                (subst (λ (cs : List ℕ). IsCopying from to old (wants c.args.self.now) w.copy.new.words cs) (sym w.copies-is) w.copy.ensures.underway);
-            all = subst (λ (cs : List ℕ). AreCopied old cs (number + 1)) (sym w.copies-is) noted;
-            long = ap (λ (cs : List ℕ). length cs) w.copies-is ∙ w.copy.auto.copies ∙ h.long;
+            underway = subst (λ (f : Fresh). IsUnderway transfer f) (sym w.fresh-is) w.copy.ensures.underway;
+            all = subst (λ (f : Fresh). AreCopied old f.copies.items (number + 1)) (sym w.fresh-is) noted;
             some = λ z. absurd (omega arith);
           }
       | else-word-ne0 w ↦ record {
-        underway = subst (λ (ws : List ℕ). IsCopying from to old (wants c.args.self.now) ws c.if-word-ne0.copies) (sym w.words-is)
-            (subst (λ (cs : List ℕ). IsCopying from to old (wants c.args.self.now) c.loop-number.words cs) (sym w.copies-is) h.underway);
-        all = subst (λ (cs : List ℕ). AreCopied old cs (number + 1)) (sym w.copies-is) (copied_past old c.loop-number.copies number h.all (sym c.word.ensures ∙ w.if-word-ne0.false));
-        long = ap (λ (cs : List ℕ). length cs) w.copies-is ∙ h.long;
+        underway = subst (λ (f : Fresh). IsUnderway transfer f) (sym w.fresh-is) h.underway;
+        all = subst (λ (f : Fresh). AreCopied old f.copies.items (number + 1)) (sym w.fresh-is)
+            (copied_past old c.loop-number.fresh.copies.items number h.all (sym c.word.ensures ∙ w.if-word-ne0.false));
         some = λ z. absurd (omega arith);
       }
     ]

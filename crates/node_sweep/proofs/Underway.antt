@@ -1,0 +1,114 @@
+-- Steps of a copy that is under way.
+use Rattle.std.proofs.Common.{◌≡◌, ◌≢◌, ◌⊎◌, ℕ, ◌+◌, ◌<◌, List, length, sym, ◌∙◌, ap, subst, arith, inl, inr, ⊎_elim}
+use Rattle.std.specs.Prelude.{slice_index, slice_set}
+use Rattle.std.proofs.lemmas.List.{get_or-set_same}
+use Rattle.table_core.specs.declared.shape.Kind.{Kind}
+use Rattle.table_core.specs.Blocks.{IsBlock}
+use Rattle.table_core.specs.Good.{KeepsWords}
+use Rattle.table_core.proofs.Claims.{same_or_other}
+use Rattle.table_core.proofs.Lists.{length_set}
+use Rattle.node_sweep.specs.Copies.{IsCopy, IsLowBlock, IsWantedCopy}
+use Rattle.node_sweep.specs.Copying.{AreCopied}
+use Rattle.node_sweep.specs.Placing.{IsPlaced}
+use Rattle.node_sweep.specs.Transfers.{fresh_words, new_bits, old_bits, old_words, wants, IsCopyNoted, IsUnderway, IsWordNeeded}
+use Rattle.node_sweep.specs.declared.transfer.Fresh.{Fresh}
+use Rattle.node_sweep.specs.declared.transfer.Transfer.{Transfer}
+use Rattle.node_sweep.proofs.Futures.{block_below}
+use Rattle.node_sweep.proofs.Notes.{copying_still, copy_made, number_inside}
+use Rattle.node_sweep.proofs.Recursing.{copy_of_all, empty_copy_of}
+use Rattle.node_sweep.proofs.SameBlocks.{block_some, copy_later, copy_none, same_original}
+use Rattle.node_sweep.proofs.Swept.{kind_of_block, zero_noted}
+
+module _ (transfer : Transfer) (fresh : Fresh) (underway : IsUnderway transfer fresh) where
+  -- the empty square is its own copy
+  pub empty_noted : (number : ℕ) → number ≡ 0 → IsCopyNoted transfer fresh number 0
+  empty_noted number empty = record {
+    made = empty_copy_of (old_bits transfer) (new_bits transfer) (old_words transfer) (fresh_words fresh) number empty;
+    noted = ap (slice_index fresh.copies.items) empty
+        ∙ zero_noted transfer.from.now transfer.to (old_words transfer) (wants transfer) fresh.words.items fresh.copies.items transfer.good.good underway.copying;
+  }
+
+  -- each block has a note
+  pub block_inside : (height number : ℕ) → IsLowBlock (old_bits transfer) (old_words transfer) height number → number < length fresh.copies.items
+  block_inside height number block =
+      let below = block_below (old_bits transfer) (old_words transfer) block.0 number block.2 in
+      let all = transfer.good.long in
+      let long = underway.long in
+      omega arith
+
+  -- what stands there is its copy
+  pub already_noted : (number copy : ℕ) → number ≢ 0 → copy ≢ 0 → copy ≡ slice_index fresh.copies.items number →
+      IsCopyNoted transfer fresh number copy
+  already_noted number copy some there is = record {
+    made = copy_of_all (old_bits transfer) (new_bits transfer) (old_words transfer) (fresh_words fresh) (wants transfer) number copy some
+        (subst (IsWantedCopy (old_bits transfer) (new_bits transfer) (old_words transfer) (fresh_words fresh) (wants transfer) number) (sym is)
+        (underway.copying.copied number (λ z. there (is ∙ z))));
+    noted = sym is;
+  }
+
+  -- the copy of a number that isn't 0 isn't 0
+  pub copy_some : (number copy rank : ℕ) → IsCopyNoted transfer fresh number copy → IsBlock (old_bits transfer) (old_words transfer) rank number → number ≢ 0 →
+      slice_index fresh.copies.items number ≢ 0
+  copy_some number copy rank noted block some z =
+      some (copy_none transfer.from.now transfer.to (old_words transfer) (fresh_words fresh) transfer.good.good underway.copying.good.good rank number copy (noted.made.at_rank rank block) (sym noted.noted ∙ z))
+
+  pub copy_there : (number copy rank : ℕ) → IsCopyNoted transfer fresh number copy → IsBlock (old_bits transfer) (old_words transfer) rank number →
+      (number ≡ 0) ⊎ (slice_index fresh.copies.items number ≢ 0)
+  copy_there number copy rank noted block = ⊎_elim (λ z. inl z) (λ some. inr (copy_some number copy rank noted block some)) (same_or_other number 0)
+
+  -- a word is placed, and its index noted
+  module _ (now : Fresh) (kind : Kind) (number word index : ℕ) (some : number ≢ 0) (wanted : wants transfer number) (needed : IsWordNeeded transfer fresh.words.items kind number word)
+      (before after : List ℕ) (placed_between : IsPlaced transfer.to before after kind word index) (was : before ≡ fresh.words.items) (became : now.words.items ≡ after)
+      (is : now.copies.items ≡ slice_set fresh.copies.items number index) where
+    placed : IsPlaced transfer.to fresh.words.items now.words.items kind word index
+    placed = subst (λ (ws : List ℕ). IsPlaced transfer.to fresh.words.items ws kind word index) (sym became) (subst (λ (ws : List ℕ). IsPlaced transfer.to ws after kind word index) was placed_between)
+
+    inside : number < length fresh.copies.items
+    inside =
+        let below = number_inside transfer.from.now transfer.to (old_words transfer) (wants transfer) fresh.words.items transfer.good.good underway.copying.good kind number word some needed in
+        let all = transfer.good.long in
+        let long = underway.long in
+        omega arith
+
+    pub still_underway : IsUnderway transfer now
+    still_underway = record {
+      copying = copying_still transfer.from.now transfer.to (old_words transfer) (wants transfer) fresh.words.items transfer.good.good underway.copying.good fresh.copies.items underway.copying
+          kind number word index now.words.items now.copies.items some inside wanted needed placed is;
+      long = ap (λ (cs : List ℕ). length cs) is ∙ length_set fresh.copies.items number index ∙ underway.long;
+    }
+
+    pub now_noted : IsCopyNoted transfer now number index
+    now_noted = record {
+      made = copy_of_all (old_bits transfer) (new_bits transfer) (old_words transfer) (fresh_words now) (wants transfer) number index some
+          (copy_made transfer.from.now transfer.to (old_words transfer) (wants transfer) fresh.words.items transfer.good.good underway.copying.good fresh.copies.items underway.copying
+          kind number word index now.words.items now.copies.items some inside wanted needed placed is);
+      noted = ap (λ (cs : List ℕ). slice_index cs number) is ∙ get_or-set_same fresh.copies.items number index 0 inside;
+    }
+
+module _ (transfer : Transfer) (fresh later : Fresh) (before : IsUnderway transfer fresh) (after : IsUnderway transfer later) (keeps : KeepsWords (fresh_words fresh) (fresh_words later)) where
+  -- what has a copy keeps one
+  pub noted_still : (n : ℕ) → slice_index fresh.copies.items n ≢ 0 → slice_index later.copies.items n ≢ 0
+  noted_still n some =
+      let from = transfer.from.now in
+      let to = transfer.to in
+      let old = old_words transfer in
+      let copy = slice_index fresh.copies.items n in
+      let c : IsWantedCopy from.shape.bits to.shape.bits old (fresh_words fresh) (wants transfer) n copy = before.copying.copied n some in
+      let kind = kind_of_block to.shape.bits (fresh_words fresh) c.rank copy some c.shown.now in
+      let there = block_some to.shape.bits (fresh_words fresh) c.rank copy some c.shown.now in
+      let m = after.copying.each kind.0 copy kind.1 (λ z. there (sym (keeps.kept copy there) ∙ z)) in
+      let d : IsWantedCopy from.shape.bits to.shape.bits old (fresh_words later) (wants transfer) m.0 (slice_index later.copies.items m.0) = after.copying.copied m.0 (λ z. some (sym m.1 ∙ z)) in
+      let same : m.0 ≡ n = same_original from to old (fresh_words later) transfer.good.good after.copying.good.good d.rank c.rank m.0 n copy
+      (subst (IsCopy from.shape.bits to.shape.bits old (fresh_words later) d.rank m.0) m.1 d.shown)
+      (copy_later from.shape.bits to.shape.bits old (fresh_words fresh) (fresh_words later) c.rank n copy keeps c.shown) some in
+      λ z. some (sym m.1 ∙ ap (slice_index later.copies.items) same ∙ z)
+
+  -- one more number has a copy
+  pub copied_on : (number index : ℕ) → AreCopied (old_words transfer) fresh.copies.items number → number ≢ 0 → IsLowBlock (old_bits transfer) (old_words transfer) 124 number →
+      IsCopyNoted transfer later number index → AreCopied (old_words transfer) later.copies.items (number + 1)
+  copied_on number index all some block noted = record {
+    copied = λ n nonzero below there. ⊎_elim
+        (λ e z. copy_some transfer later after number index block.0 noted block.2 some (ap (slice_index later.copies.items) (sym e) ∙ z))
+        (λ apart. noted_still n (all.copied n nonzero (omega arith) there))
+        (same_or_other n number);
+  }

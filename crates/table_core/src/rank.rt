@@ -1,0 +1,18 @@
+//! The rank of a square: how often blocks are paired, from leaves on, until they are the square.
+
+ghost use Rattle.std.specs.Prelude.{◌≡◌, ◌≤◌};
+ghost use Rattle.table_core.specs.Blocks.{square_rank};
+ghost use Rattle.table_core.specs.declared.rank.TheConstants.{LARGEST_RANK};
+
+/// The rank of the largest squares, those of level 65.
+pub const LARGEST_RANK: u8 = 124;
+
+/// The rank of a square of this level: two for each level above 3, since a half has a rank of its own.
+pub fn square_rank(level: u8) -> u8
+    requires { (3 ≤ level) × (level ≤ 65) }
+    ensures rank { result ≡ square_rank level }
+    ensures most { result ≤ LARGEST_RANK }
+    ensures largest { level ≡ 65 → result ≡ LARGEST_RANK }
+{
+    2 * (level - 3)
+}
