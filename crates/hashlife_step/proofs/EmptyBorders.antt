@@ -1,5 +1,5 @@
 -- A square whose border is empty, and what its book says of the pieces.
-use Rattle.std.proofs.Common.{◌≡◌, ℕ, ◌-◌, ◌^◌, ◌<◌, List, [], ◌∷◌, All, sym, ap, subst, arith}
+use Rattle.std.proofs.Common.{◌≡◌, ℕ, ◌-◌, ◌^◌, ◌<◌, List, All, sym, ap, subst, arith}
 use Rattle.plane.specs.Centred.{centred, Holds}
 use Rattle.plane.specs.Plane.{Plane}
 use Rattle.plane.specs.Square.{IsSame, IsSquare, cut, empty}
@@ -7,6 +7,7 @@ use Rattle.plane.proofs.Borders.{dead_border, holds_inside}
 use Rattle.plane.proofs.Same.{same_trans, same_sym, plane_equal}
 use Rattle.std.specs.List.{AllByRecursion}
 use Rattle.std.proofs.lemmas.List.Elements.{All-from_recursion}
+use Rattle.squares.specs.Borders.{border_of}
 use Rattle.squares.specs.Book.{Book, IsBook, IsEmpty, Shows, AreQuarters, nth, numbered}
 use Rattle.squares.specs.declared.sq.Sq.{Sq}
 
@@ -30,10 +31,6 @@ module _ (book : Book) (level : ℕ) (plane : Plane) (sq : Sq) (is : IsBook book
       let zero = is.zero_known level shown.known.low shown.known.high in
       let one : numbered level 0 ≡ sq = is.one_number (numbered level 0) sq zero shown.known.known (sym shown.known.at_level) (same_trans (is.zero_empty level) (same_sym (same_trans shown.cells none))) in
       ap (λ (q : Sq). q.num.0) (sym one)
-
--- the pieces at the border
-abbrev pub border_of : List Sq → List Sq → List Sq → List Sq → List Sq
-border_of qa qb qc qd = nth qa 0 ∷ nth qa 1 ∷ nth qa 2 ∷ nth qb 0 ∷ nth qb 1 ∷ nth qb 3 ∷ nth qc 0 ∷ nth qc 2 ∷ nth qc 3 ∷ nth qd 1 ∷ nth qd 2 ∷ nth qd 3 ∷ []
 
 module _ (level : ℕ) (plane : Plane) (b2 b3 b4 b5 : Book) (qa qb qc qd : List Sq) (least : 4 < level) (square : IsSquare (2 ^ level) plane)
     (is2 : IsBook b2) (is3 : IsBook b3) (is4 : IsBook b4) (is5 : IsBook b5)

@@ -2,7 +2,7 @@
 use Rattle.std.proofs.Common.{◌≡◌, ℕ, ◌+◌, ◌-◌, ◌^◌, ◌<◌, pos, ◌+ℤ◌, List, [], ◌∷◌, sym, ◌∙◌, subst, arith, refl}
 use Rattle.plane.specs.Centred.{centred}
 use Rattle.plane.specs.Plane.{Plane}
-use Rattle.plane.specs.Square.{IsSame, IsSquare, cut, empty, joined}
+use Rattle.plane.specs.Square.{IsSame, IsSquare, cut, empty}
 use Rattle.squares.specs.Book.{Book, IsBook, IsKnown, Shows, Keeps, AreQuarters, joined_squares, nth, numbered}
 use Rattle.squares.specs.declared.sq.Sq.{Sq}
 use Rattle.squares.proofs.Kept.{keeps_trans, same_later}

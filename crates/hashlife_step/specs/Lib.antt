@@ -1,3 +1,4 @@
+pub mod FoundFutures
 pub mod Futures
 pub mod Quarters
 pub mod Round

@@ -20,11 +20,16 @@ fn read_sixteen<S: Squares>(book: &mut S, sq: Sq) -> [u64; 16]
     ensures results { KeepsResults (S.book book.old) (S.book book.new) }
 {
     let [nw, ne, sw, se] = book.read_parts(sq);
-    let [a, b, e, f] = read_leaves(book, nw);
-    let [c, d, g, h] = read_leaves(book, ne);
-    let [i, j, m, n] = read_leaves(book, sw);
-    let [k, l, o, p] = read_leaves(book, se);
-    [a, b, c, d, e, f, g, h, i, j, k, l, m, n, o, p]
+    let nw = read_leaves(book, nw);
+    let ne = read_leaves(book, ne);
+    let sw = read_leaves(book, sw);
+    let se = read_leaves(book, se);
+    [
+        nw[0], nw[1], ne[0], ne[1], //
+        nw[2], nw[3], ne[2], ne[3], //
+        sw[0], sw[1], se[0], se[1], //
+        sw[2], sw[3], se[2], se[3],
+    ]
 }
 
 // The square of level 4 that four leaves make.
@@ -34,11 +39,11 @@ fn join_leaves<S: Squares>(book: &mut S, leaves: [u64; 4]) -> Result<Sq, Refusal
     ensures keeps { Keeps (S.book book.old) (S.book book.new) }
     ensures results { KeepsResults (S.book book.old) (S.book book.new) }
 {
-    let [a, b, c, d] = leaves;
-    let upper_left = book.leaf(a)?;
-    let upper_right = book.leaf(b)?;
-    let lower_left = book.leaf(c)?;
-    let lower_right = book.leaf(d)?;
+    let [nw, ne, sw, se] = leaves;
+    let upper_left = book.leaf(nw)?;
+    let upper_right = book.leaf(ne)?;
+    let lower_left = book.leaf(sw)?;
+    let lower_right = book.leaf(se)?;
     book.quad([upper_left, upper_right, lower_left, lower_right])
 }
 

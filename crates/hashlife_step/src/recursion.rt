@@ -1,7 +1,8 @@
 //! The recursion of HashLife: the future of a square from the futures of smaller ones. The book is the
 //! memo: it recalls the results that it knows and keeps those that are made.
 ghost use Rattle.std.specs.Prelude.{◌≡◌, ◌+◌, ◌-◌, ◌<◌, ◌≤◌, All, IfOk, IfErr, OnOk};
-ghost use Rattle.squares.specs.Book.{HasResult, IsFuture, IsKnown, Keeps, KeepsResults, MayRefuse};
+ghost use Rattle.squares.specs.Book.{IsFuture, IsKnown, Keeps, MayRefuse};
+ghost use Rattle.hashlife_step.specs.FoundFutures.{FindsFuture};
 ghost use Rattle.hashlife_step.specs.Futures.{AreFinished, AreFutures};
 ghost use Rattle.hashlife_step.specs.Tallies.{Tallies};
 
@@ -18,11 +19,7 @@ use squares::{Sq, Squares};
 pub fn future<S: Squares>(book: &mut S, sq: Sq, tally: &mut Tally) -> Result<Sq, Refusal>
     requires known { IsKnown (S.book book.old) sq.level sq }
     requires low { 3 < sq.level }
-    ensures ok { IfOk result (IsFuture (S.book book.new) sq) }
-    ensures kept { OnOk result (HasResult (S.book book.new) sq) }
-    ensures refusal { IfErr result (MayRefuse (S.book book.new)) }
-    ensures keeps { Keeps (S.book book.old) (S.book book.new) }
-    ensures tally { Tallies (S.book book.old) (S.book book.new) sq.level tally.old.expansions tally.new.expansions }
+    ensures { FindsFuture (S.book book.old) (S.book book.new) sq tally.old.expansions tally.new.expansions result }
 {
     future_in_order(book, sq, 0, tally)
 }
@@ -39,11 +36,7 @@ pub fn future_in_order<S: Squares>(
 ) -> Result<Sq, Refusal>
     requires known { IsKnown (S.book book.old) sq.level sq }
     requires low { 3 < sq.level }
-    ensures ok { IfOk result (IsFuture (S.book book.new) sq) }
-    ensures kept { OnOk result (HasResult (S.book book.new) sq) }
-    ensures refusal { IfErr result (MayRefuse (S.book book.new)) }
-    ensures keeps { Keeps (S.book book.old) (S.book book.new) }
-    ensures tally { Tallies (S.book book.old) (S.book book.new) sq.level tally.old.expansions tally.new.expansions }
+    ensures { FindsFuture (S.book book.old) (S.book book.new) sq tally.old.expansions tally.new.expansions result }
 {
     if let Some(future) = book.recall(sq) {
         return Ok(future);

@@ -1,26 +1,15 @@
 //! A square without its empty border.
-ghost use Rattle.std.specs.Prelude.{◌↔◌, ◌-◌, ◌<◌, All, IfOk, IfErr, IsTrue};
+ghost use Rattle.std.specs.Prelude.{◌↔◌, ◌-◌, ◌<◌, IfOk, IfErr, IsTrue};
 ghost use Rattle.plane.specs.Centred.{centred, Holds, IsSmallestLevel};
-ghost use Rattle.squares.specs.Book.{IsEmpty, IsKnown, Keeps, KeepsResults, MayRefuse};
+ghost use Rattle.squares.specs.Book.{IsKnown, Keeps, KeepsResults, MayRefuse};
 ghost use Rattle.hashlife_step.specs.Round.{ShowsRound};
 
 use crate::leaf_squares::surround_leaf;
 use plane::Refusal;
-use squares::{Sq, Squares, centre};
-
-fn are_empty(squares: &[Sq]) -> bool
-    ensures { IsTrue result ↔ All IsEmpty squares.now }
-{
-    for sq in squares {
-        if sq.num.0 != 0 {
-            return false;
-        }
-    }
-    true
-}
+use squares::{Sq, Squares, centre, has_empty_border};
 
 // Whether all live cells lie in the square at the centre.
-fn has_empty_border<S: Squares>(book: &mut S, sq: Sq) -> bool
+fn is_held_by_centre<S: Squares>(book: &mut S, sq: Sq) -> bool
     requires known { IsKnown (S.book book.old) sq.level sq }
     requires low { 4 < sq.level }
     ensures value { IsTrue result ↔ Holds (sq.level - 1) (centred sq.level ((S.book book.old).cells sq)) }
@@ -28,11 +17,11 @@ fn has_empty_border<S: Squares>(book: &mut S, sq: Sq) -> bool
     ensures results { KeepsResults (S.book book.old) (S.book book.new) }
 {
     let [nw, ne, sw, se] = book.read_parts(sq);
-    let [a, b, c, _] = book.read_parts(nw);
-    let [d, e, _, f] = book.read_parts(ne);
-    let [g, _, h, i] = book.read_parts(sw);
-    let [_, j, k, l] = book.read_parts(se);
-    are_empty(&[a, b, c, d, e, f, g, h, i, j, k, l])
+    let nw = book.read_parts(nw);
+    let ne = book.read_parts(ne);
+    let sw = book.read_parts(sw);
+    let se = book.read_parts(se);
+    has_empty_border(nw, ne, sw, se)
 }
 
 /// The square of the smallest level, but at least 4, that has the same cells round its centre. So a
@@ -50,7 +39,7 @@ pub fn trim<S: Squares>(book: &mut S, sq: Sq) -> Result<Sq, Refusal>
     } else {
         sq
     };
-    while trimmed.level > 4 && has_empty_border(book, trimmed) {
+    while trimmed.level > 4 && is_held_by_centre(book, trimmed) {
         trimmed = centre(book, trimmed)?;
     }
     Ok(trimmed)

@@ -12,6 +12,7 @@ use Rattle.plane.proofs.Borders.{dead_border, holds_inside}
 use Rattle.plane.proofs.Cuts.{and_case, cut_cut}
 use Rattle.plane.proofs.Paddings.{holds_more, square_held, twice_half}
 use Rattle.plane.proofs.Same.{plane_equal, same_refl, same_sym, same_trans}
+use Rattle.squares.specs.Borders.{border_of}
 use Rattle.squares.specs.Book.{Book, IsBook, IsEmpty, IsKnown, Shows, AreQuarters, nth, numbered}
 use Rattle.squares.specs.declared.sq.Sq.{Sq}
 use Rattle.pattern_writers.specs.McText.{from_corner}
@@ -86,7 +87,7 @@ module _ (book : Book) (laws : IsBook book) where
     half_is : 2 ^ (root.level - 1) ≡ 2 ^ (root.level - 1 - 1) + 2 ^ (root.level - 1 - 1)
     half_is = twice_half (root.level - 1) (omega arith)
 
-    pub bordered_holds : All IsEmpty (nth qa 0 ∷ nth qa 1 ∷ nth qa 2 ∷ nth qb 0 ∷ nth qb 1 ∷ nth qb 3 ∷ nth qc 0 ∷ nth qc 2 ∷ nth qc 3 ∷ nth qd 1 ∷ nth qd 2 ∷ nth qd 3 ∷ []) → Holds (root.level - 1) plane
+    pub bordered_holds : All IsEmpty (border_of qa qb qc qd) → Holds (root.level - 1) plane
     bordered_holds none =
         subst (Holds (root.level - 1)) (centred_of_corner root.level plane)
         (holds_inside root.level (2 ^ (root.level - 1 - 1)) (from_corner root.level plane) (omega arith) quarter_is (corner_square root.level plane is.holds) (record {
@@ -104,7 +105,7 @@ module _ (book : Book) (laws : IsBook book) where
           se_se = empty_shown _ _ (nth qd 3) in_d.se (none 11 (numbered 0 0) (omega arith));
         }))
 
-    pub holds_bordered : Holds (root.level - 1) plane → All IsEmpty (nth qa 0 ∷ nth qa 1 ∷ nth qa 2 ∷ nth qb 0 ∷ nth qb 1 ∷ nth qb 3 ∷ nth qc 0 ∷ nth qc 2 ∷ nth qc 3 ∷ nth qd 1 ∷ nth qd 2 ∷ nth qd 3 ∷ [])
+    pub holds_bordered : Holds (root.level - 1) plane → All IsEmpty (border_of qa qb qc qd)
     holds_bordered held =
         let dead = dead_border root.level (2 ^ (root.level - 1 - 1)) (from_corner root.level plane) (omega arith) quarter_is (subst (Holds (root.level - 1)) (sym (centred_of_corner root.level plane)) held) in
         let east : AllByRecursion IsEmpty (nth qc 0 ∷ nth qc 2 ∷ nth qc 3 ∷ nth qd 1 ∷ nth qd 2 ∷ nth qd 3 ∷ []) = (
@@ -117,7 +118,7 @@ module _ (book : Book) (laws : IsBook book) where
             ),
           ),
         ) in
-        let all : AllByRecursion IsEmpty (nth qa 0 ∷ nth qa 1 ∷ nth qa 2 ∷ nth qb 0 ∷ nth qb 1 ∷ nth qb 3 ∷ nth qc 0 ∷ nth qc 2 ∷ nth qc 3 ∷ nth qd 1 ∷ nth qd 2 ∷ nth qd 3 ∷ []) = (
+        let all : AllByRecursion IsEmpty (border_of qa qb qc qd) = (
           shown_empty _ _ (nth qa 0) in_a.nw dead.nw_nw,
           (
             shown_empty _ _ (nth qa 1) in_a.ne dead.nw_ne,
@@ -127,7 +128,7 @@ module _ (book : Book) (laws : IsBook book) where
             ),
           ),
         ) in
-        All-from_recursion IsEmpty (nth qa 0 ∷ nth qa 1 ∷ nth qa 2 ∷ nth qb 0 ∷ nth qb 1 ∷ nth qb 3 ∷ nth qc 0 ∷ nth qc 2 ∷ nth qc 3 ∷ nth qd 1 ∷ nth qd 2 ∷ nth qd 3 ∷ []) all
+        All-from_recursion IsEmpty (border_of qa qb qc qd) all
 
     piece : (left top over down left' top' : ℕ) (sq : Sq) → over + 2 ^ (root.level - 1 - 1) ≤ 2 ^ (root.level - 1) → down + 2 ^ (root.level - 1 - 1) ≤ 2 ^ (root.level - 1) →
         left + over ≡ left' + 2 ^ (root.level - 1 - 1) → top + down ≡ top' + 2 ^ (root.level - 1 - 1) →

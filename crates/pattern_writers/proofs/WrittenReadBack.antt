@@ -38,7 +38,8 @@ holds_of_taken : (before after : Option (List ℕ)) (appended : List ℕ) (Holds
 holds_of_taken before after appended Holds appends holds =
     λ old text had has. subst Holds (sym (taken_text before after appended old text appends had has)) holds
 
-one_smallest_level : (plane : Plane) (a b : ℕ) → IsSmallestLevel a plane → IsSmallestLevel b plane → a ≡ b
+-- a plane has one smallest level
+pub one_smallest_level : (plane : Plane) (a b : ℕ) → IsSmallestLevel a plane → IsSmallestLevel b plane → a ≡ b
 one_smallest_level plane a b is other = grind (arith, is.no_smaller b other.least, other.no_smaller a is.least, is.holds, other.holds)
 
 pub rle_written_read : (plane : Plane) (comments : List (List ℕ)) (rule : CountRule) (generation : ℕ) (before after : Option (List ℕ)) →

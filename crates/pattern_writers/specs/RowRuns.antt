@@ -34,6 +34,6 @@ pub record AddsRow (plane : Plane) (y : ℤ) (old new : List RowRun) : Type 0 wh
   pub of_row : AreRowRuns plane y runs
   pub added : new ≡ old ++ map (run_in y) runs
 
--- the plane's rows from one on and above another, and no other cell
+-- the plane's rows from `from` to before `end`, and no other cell
 abbrev pub rows_between : ℤ → ℤ → Plane → Plane
 rows_between from end plane x y = (int_le from y && int_lt y end) && plane x y

@@ -5,7 +5,7 @@ use Rattle.std.specs.Prelude.{IsTrue, Some, Result, Ok, Err, OnOk, OnErr}
 use Rattle.std.specs.HashMap.{Updates, IsUnchanged}
 use Rattle.std.specs.List.{AllByRecursion}
 use Rattle.plane.specs.Plane.{Plane}
-use Rattle.plane.specs.Square.{IsSame, IsSquare, bits_plane}
+use Rattle.plane.specs.Square.{IsSame, IsSquare}
 use Rattle.plane.specs.declared.refusal.Refusal.{Refusal}
 use Rattle.plane.proofs.Rounds.{whole_joined}
 use Rattle.plane.proofs.Paddings.{twice_half}
@@ -20,9 +20,6 @@ use Rattle.squares.proofs.Kept.{shows_kept}
 use Rattle.squares.proofs.KnownQuarters.{from_four}
 use Rattle.squares.proofs.NotedValues.{true_of_kept, true_of_same}
 use Rattle.squares.proofs.SquareNumbers.{same_sq}
-
-pub copies_kept : {from old new : Book} {copies : Noted Num} → Keeps old new → AreCopies from old copies → AreCopies from new copies
-copies_kept keeps h = record { same = λ sq num at. shows_kept keeps (h.same sq num at) }
 
 -- what a number that was noted shows
 noted_shows : (from to : Book) (sq copy : Sq) → Shows to sq.level (from.cells sq) copy → Shows to sq.level (from.cells sq) (numbered sq.level copy.num.0)
@@ -39,10 +36,6 @@ empty_copied from to sq is_from is_to known none =
       known = record { known = there; at_level = refl; low = known.low; high = known.high };
       cells = subst (λ (s : Sq). IsSame (to.cells s) (from.cells s)) zero_is (same_trans (is_to.zero_empty sq.level) (same_sym (is_from.zero_empty sq.level)));
     }
-
--- the copy of a leaf
-pub leaf_copied : (from to : Book) (sq copy : Sq) (word : ℕ) → sq.level ≡ 3 → Shows from 3 (bits_plane word) sq → Shows to 3 (bits_plane word) copy → Shows to sq.level (from.cells sq) copy
-leaf_copied from to sq copy word e is made = shows_as to 3 sq.level (bits_plane word) (from.cells sq) copy (sym e) (same_sym is.cells) made
 
 copied_part : (from to : Book) (level : ℕ) (plane : Plane) (part copy : Sq) → Shows from level plane part → Shows to part.level (from.cells part) copy → IsSame (to.cells copy) plane
 copied_part from to level plane part copy is copied = same_trans copied.cells is.cells

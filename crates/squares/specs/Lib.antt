@@ -1,5 +1,6 @@
 pub mod Accounts
 pub mod Book
+pub mod Borders
 pub mod Copies
 pub mod Nodes
 pub mod Noted

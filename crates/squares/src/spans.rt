@@ -26,7 +26,7 @@ pub fn half_side(level: u8) -> u64
     1 << (level - 1)
 }
 
-/// How far a coordinate lies behind the one that lies so far before 0.
+/// The distance of a coordinate from the left or upper side of a square of this half side round (0,0).
 pub fn distance(coordinate: i64, half: u64) -> u64
     requires half { half ≤ 2 ^ 62 }
     requires low { (pos 0 -ℤ pos half) ≤ℤ coordinate }

@@ -9,7 +9,6 @@ mod halves;
 mod laws;
 mod pictures;
 mod populations;
-mod reading;
 mod rows;
 mod runs;
 mod sides;

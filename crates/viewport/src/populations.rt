@@ -6,9 +6,8 @@ ghost use Rattle.plane.specs.Square.{bits_plane};
 ghost use Rattle.squares.specs.Book.{IsKnown, Keeps, KeepsResults};
 ghost use Rattle.viewport.specs.Population.{AreCounts, HasPopulation, IsCount, cell_count};
 
-use crate::reading::{Looked, Reading};
 use plane::Refusal;
-use squares::{Look, Sq, Squares};
+use squares::{Look, Looked, Reading, Sq, Squares};
 use std::alloc::Global;
 use std::collections::HashMap;
 

@@ -27,7 +27,7 @@ pub fn first_row<B: Look>(book: &B, sq: Sq, y: i64) -> Option<i64>
     Some(row_at(row, half))
 }
 
-// The first row with a live cell, from one row on and above another, counted from the square's top.
+// The first row with a live cell among those from `from` to before `end`, counted from the square's top.
 #[cycle(first_row_below)]
 fn first_row_below<B: Look>(book: &B, sq: Sq, from: u64, end: u64) -> Option<u64>
     requires known { IsKnown (B.book book.now) sq.level sq }
@@ -64,7 +64,7 @@ fn first_row_beside<B: Look>(book: &B, left: Sq, right: Sq, from: u64, end: u64)
     first_row_below(book, right, from, found.unwrap_or(end)).or(found)
 }
 
-// The first row of a leaf with a live cell, from one row on and above another.
+// The first row of a leaf with a live cell among those from `from` to before `end`.
 fn first_leaf_row(word: u64, from: u64, end: u64) -> Option<u64>
     ensures { IsFirstRowBelow (bits_plane word) from end result }
 {

@@ -1,12 +1,12 @@
 //! The smallest square round (0,0) that holds the cells of a larger one.
 
-ghost use Rattle.std.specs.Prelude.{◌≡◌, ◌≤◌, ◌<◌, ◌-◌, ◌+◌, ◌↔◌, All, IsTrue, IfSome, IfNone};
+ghost use Rattle.std.specs.Prelude.{◌≡◌, ◌≤◌, ◌<◌, ◌-◌, ◌+◌, IfSome, IfNone};
 ghost use Rattle.plane.specs.Centred.{Holds, centred};
 ghost use Rattle.plane.specs.Plane.{Plane};
-ghost use Rattle.squares.specs.Book.{IsEmpty, IsKnown};
+ghost use Rattle.squares.specs.Book.{IsKnown};
 ghost use Rattle.pattern_writers.specs.Roots.{AreKnown, HasRoot, IsRoot};
 
-use squares::{Look, Sq};
+use squares::{Look, Sq, has_empty_border};
 
 // The quarters of a square whose centre corner is (0,0), which need not be a square that is known.
 #[derive(Clone, Copy)]
@@ -44,27 +44,20 @@ impl Root {
         ensures none { IfNone result ((plane : Plane) → HasRoot (B.book book.now) plane self → ¬ Holds (self.level - 1) plane) }
     {
         let [nw, ne, sw, se] = self.quarters;
-        let [a, b, c, nw] = book.parts(nw);
-        let [d, e, ne, f] = book.parts(ne);
-        let [g, sw, h, i] = book.parts(sw);
-        let [se, j, k, l] = book.parts(se);
-        if !are_empty(&[a, b, c, d, e, f, g, h, i, j, k, l]) {
+        let nw = book.parts(nw);
+        let ne = book.parts(ne);
+        let sw = book.parts(sw);
+        let se = book.parts(se);
+        if !has_empty_border(nw, ne, sw, se) {
             return None;
         }
+        let [_, _, _, nw] = nw;
+        let [_, _, ne, _] = ne;
+        let [_, sw, _, _] = sw;
+        let [se, _, _, _] = se;
         Some(Root {
             level: self.level - 1,
             quarters: [nw, ne, sw, se],
         })
     }
-}
-
-fn are_empty(squares: &[Sq]) -> bool
-    ensures { IsTrue result ↔ All IsEmpty squares.now }
-{
-    for sq in squares {
-        if sq.num.0 != 0 {
-            return false;
-        }
-    }
-    true
 }

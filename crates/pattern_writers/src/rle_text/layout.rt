@@ -29,14 +29,14 @@ pub(crate) fn write_body<V: Sink>(
 {
     let mut line = ArrayString::new();
     for item in items {
-        lay(file, block, &mut line, item.text().as_str())?;
+        add_to_line(file, block, &mut line, item.text().as_str())?;
     }
-    lay(file, block, &mut line, "!")?;
+    add_to_line(file, block, &mut line, "!")?;
     end_line(file, block, &mut line)
 }
 
 // Puts a piece on the line, or writes the line out and begins a new one with the piece.
-fn lay<V: Sink>(
+fn add_to_line<V: Sink>(
     file: &mut V,
     block: &mut OutputBlock,
     line: &mut ArrayString<LINE_ROOM>,

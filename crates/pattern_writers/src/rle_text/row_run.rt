@@ -48,7 +48,7 @@ impl RowRun {
     }
 }
 
-// The longest runs of a square's cells in the rows from one on and above another, row by row and from left to right.
+// The longest runs of a square's cells in the rows from `from` to before `end`, row by row and from left to right.
 pub(crate) fn runs_between<B: Look>(
     alloc: Global,
     book: &B,
@@ -69,7 +69,7 @@ pub(crate) fn runs_between<B: Look>(
     Ok(runs)
 }
 
-// The first row with a live cell, from one row on and above another.
+// The first row with a live cell among those from `from` to before `end`.
 fn next_row<B: Look>(book: &B, sq: Sq, from: i64, end: i64) -> Option<i64>
     requires known { IsKnown (B.book book.now) sq.level sq }
     requires level { sq.level ≤ 63 }

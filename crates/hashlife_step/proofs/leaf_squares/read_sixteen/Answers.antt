@@ -6,8 +6,8 @@ use Rattle.hashlife_step.proofs.leaf_squares.read_sixteen.Goals as goal
 pub returns-clause-value : goal.returns-clause-value
 returns-clause-value g c =
     let book = g.S.Squares.book in
-    quarters_shown 5 c.args.sq.level ((book c.args.book.now).cells c.args.sq) (book c.read_parts.new.self) (book c.read_leaves.new.book) (book c.read_leaves-2.new.book) (book c.read_leaves-3.new.book)
-    c.read_parts.result (leaves_plane c.read_leaves.result) (leaves_plane c.read_leaves-2.result) (leaves_plane c.read_leaves-3.result) (leaves_plane c.read_leaves-4.result)
+    quarters_shown 5 c.args.sq.level ((book c.args.book.now).cells c.args.sq) (book c.read_parts.new.self) (book c.read_leaves-nw.new.book) (book c.read_leaves-ne.new.book) (book c.read_leaves-sw.new.book)
+    c.read_parts.result (leaves_plane c.read_leaves-nw.result) (leaves_plane c.read_leaves-ne.result) (leaves_plane c.read_leaves-sw.result) (leaves_plane c.read_leaves-se.result)
     refl c.requires.level ((g.met.S.Squares.is_book c.args.book.now).square c.args.sq c.requires.known.known)
-    c.read_parts.ensures.value c.read_leaves.ensures.keeps c.read_leaves-2.ensures.keeps c.read_leaves-3.ensures.keeps
-    c.read_leaves.ensures.value c.read_leaves-2.ensures.value c.read_leaves-3.ensures.value c.read_leaves-4.ensures.value
+    c.read_parts.ensures.value c.read_leaves-nw.ensures.keeps c.read_leaves-ne.ensures.keeps c.read_leaves-sw.ensures.keeps
+    c.read_leaves-nw.ensures.value c.read_leaves-ne.ensures.value c.read_leaves-sw.ensures.value c.read_leaves-se.ensures.value

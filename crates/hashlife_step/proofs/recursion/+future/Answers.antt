@@ -1,4 +1,4 @@
-use Rattle.std.proofs.Common.{rules, arith, ℕ, ◌≡◌, ◌+◌, ◌-◌, ◌<◌, length, sym, subst}
+use Rattle.std.proofs.Common.{Err, rules, arith, ℕ, ◌≡◌, ◌+◌, ◌-◌, ◌<◌, length, sym, subst}
 use Rattle.std.proofs.lemmas.Result.{IfOk-weaker}
 use Rattle.plane.specs.Square.{future}
 use Rattle.squares.specs.Book.{IsKnown, nth, numbered}
@@ -13,35 +13,49 @@ use Rattle.hashlife_step.proofs.NineFutures.{finished_known, futures_known, made
 use Rattle.hashlife_step.proofs.Replaced.{IsReplaced, all_futures, future_shown, next_known, next_made, replaced_kept, replaced_more}
 use Rattle.hashlife_step.proofs.recursion.+future.Goals as goal
 
-pub future_in_order-returns-in-Some-clause-tally : goal.future_in_order-returns-in-Some-clause-tally
-future_in_order-returns-in-Some-clause-tally g t c =
-    tallies_learned (g.S.Squares.book c.args.book.now) (g.S.Squares.book c.recall.new.self) c.args.sq c.args.sq.level c.args.tally.now.expansions (omega arith) c.in-Some.ensures.results
+pub future_in_order-returns-in-Some : goal.future_in_order-returns-in-Some
+future_in_order-returns-in-Some g t c = record {
+  ok = c.in-Some.ensures.some;
+  kept = c.in-Some.ensures.results.known;
+  refusal = tt;
+  keeps = c.recall.ensures.keeps;
+  tally = tallies_learned (g.S.Squares.book c.args.book.now) (g.S.Squares.book c.recall.new.self) c.args.sq c.args.sq.level c.args.tally.now.expansions (omega arith) c.in-Some.ensures.results;
+}
 
-pub future_in_order-returns-in_err-future-clause-tally : goal.future_in_order-returns-in_err-future-clause-tally
-future_in_order-returns-in_err-future-clause-tally g t c =
-    made_between (g.S.Squares.book c.args.book.now) (g.S.Squares.book c.recall.new.self) (g.S.Squares.book c.make.new.book) (g.S.Squares.book c.make.new.book)
-    (c.args.sq.level - 1) c.args.sq.level c.args.tally.now.expansions c.make.new.tally.expansions (omega arith) c.in_default.ensures.results c.make.ensures.tally (results_none _)
+pub future_in_order-returns-in_err-future : goal.future_in_order-returns-in_err-future
+future_in_order-returns-in_err-future g t c =
+    let is : c.from_residual.result ≡ Err c.in_err-future.field-0.0 = search rules in
+    rw is (record {
+      ok = tt;
+      kept = tt;
+      refusal = c.in_err-future.ensures.refusal;
+      keeps = keeps_trans c.recall.ensures.keeps c.make.ensures.keeps;
+      tally = made_between (g.S.Squares.book c.args.book.now) (g.S.Squares.book c.recall.new.self) (g.S.Squares.book c.make.new.book) (g.S.Squares.book c.make.new.book)
+          (c.args.sq.level - 1) c.args.sq.level c.args.tally.now.expansions c.make.new.tally.expansions (omega arith) c.in_default.ensures.results c.make.ensures.tally (results_none _);
+    })
 
-pub future_in_order-returns-in_err-keep-clause-keeps : goal.future_in_order-returns-in_err-keep-clause-keeps
-future_in_order-returns-in_err-keep-clause-keeps g t c = keeps_trans c.recall.ensures.keeps (keeps_trans c.make.ensures.keeps c.keep.ensures.keeps)
+pub future_in_order-returns-in_err-keep : goal.future_in_order-returns-in_err-keep
+future_in_order-returns-in_err-keep g t c =
+    let is : c.from_residual-in_err-keep.result ≡ Err c.in_err-keep.field-0.0 = search rules in
+    rw is (record {
+      ok = tt;
+      kept = tt;
+      refusal = c.in_err-keep.ensures.refusal;
+      keeps = keeps_trans c.recall.ensures.keeps (keeps_trans c.make.ensures.keeps c.keep.ensures.keeps);
+      tally = made_between (g.S.Squares.book c.args.book.now) (g.S.Squares.book c.recall.new.self) (g.S.Squares.book c.make.new.book) (g.S.Squares.book c.keep.new.self)
+          (c.args.sq.level - 1) c.args.sq.level c.args.tally.now.expansions c.make.new.tally.expansions (omega arith) c.in_default.ensures.results c.make.ensures.tally c.in_err-keep.ensures.err;
+    })
 
-pub future_in_order-returns-in_err-keep-clause-tally : goal.future_in_order-returns-in_err-keep-clause-tally
-future_in_order-returns-in_err-keep-clause-tally g t c =
-    made_between (g.S.Squares.book c.args.book.now) (g.S.Squares.book c.recall.new.self) (g.S.Squares.book c.make.new.book) (g.S.Squares.book c.keep.new.self)
-    (c.args.sq.level - 1) c.args.sq.level c.args.tally.now.expansions c.make.new.tally.expansions (omega arith) c.in_default.ensures.results c.make.ensures.tally c.in_err-keep.ensures.err
-
-pub future_in_order-returns-clause-ok : goal.future_in_order-returns-clause-ok
-future_in_order-returns-clause-ok g t c =
-    future_kept (g.S.Squares.book c.make.new.book) (g.S.Squares.book c.keep.new.self) c.args.sq c.in_ok-future.future c.keep.ensures.keeps
-    (known_kept (keeps_trans c.recall.ensures.keeps c.make.ensures.keeps) c.requires.known) c.in_ok-future.ensures.ok
-
-pub future_in_order-returns-clause-keeps : goal.future_in_order-returns-clause-keeps
-future_in_order-returns-clause-keeps g t c = keeps_trans c.recall.ensures.keeps (keeps_trans c.make.ensures.keeps c.keep.ensures.keeps)
-
-pub future_in_order-returns-clause-tally : goal.future_in_order-returns-clause-tally
-future_in_order-returns-clause-tally g t c =
-    made_and_kept (g.S.Squares.book c.args.book.now) (g.S.Squares.book c.recall.new.self) (g.S.Squares.book c.make.new.book) (g.S.Squares.book c.keep.new.self) c.args.sq
-    c.args.tally.now.expansions c.make.new.tally.expansions c.add.new.self.expansions c.requires.low c.in_default.ensures.results c.in_default.ensures.none c.make.ensures.tally c.in_ok-keep.ensures.ok c.add.ensures
+pub future_in_order-returns : goal.future_in_order-returns
+future_in_order-returns g t c = record {
+  ok = future_kept (g.S.Squares.book c.make.new.book) (g.S.Squares.book c.keep.new.self) c.args.sq c.in_ok-future.future c.keep.ensures.keeps
+      (known_kept (keeps_trans c.recall.ensures.keeps c.make.ensures.keeps) c.requires.known) c.in_ok-future.ensures.ok;
+  kept = c.in_ok-keep.ensures.ok.known;
+  refusal = tt;
+  keeps = keeps_trans c.recall.ensures.keeps (keeps_trans c.make.ensures.keeps c.keep.ensures.keeps);
+  tally = made_and_kept (g.S.Squares.book c.args.book.now) (g.S.Squares.book c.recall.new.self) (g.S.Squares.book c.make.new.book) (g.S.Squares.book c.keep.new.self) c.args.sq
+      c.args.tally.now.expansions c.make.new.tally.expansions c.add.new.self.expansions c.requires.low c.in_default.ensures.results c.in_default.ensures.none c.make.ensures.tally c.in_ok-keep.ensures.ok c.add.ensures;
+}
 
 pub make-replace_by_futures-requires : goal.make-replace_by_futures-requires
 make-replace_by_futures-requires g t c κs within =
@@ -78,9 +92,6 @@ replace_by_futures-loop-i-preserved g t c =
       tallies_trans old (book c.loop-i.book) (book c.future_in_order.new.book) c.args.level c.args.level _ _ _ (omega arith) c.loop-i.invariant.1
           (subst (λ n. Tallies (book c.loop-i.book) (book c.future_in_order.new.book) n c.loop-i.tally.expansions c.future_in_order.new.tally.expansions) known.at_level c.future_in_order.ensures.tally),
     )
-
-pub future_in_order-returns-in_err-future-clause-keeps : goal.future_in_order-returns-in_err-future-clause-keeps
-future_in_order-returns-in_err-future-clause-keeps g t c = keeps_trans c.recall.ensures.keeps c.make.ensures.keeps
 
 pub future_in_order-keep-requires-clause-known : goal.future_in_order-keep-requires-clause-known
 future_in_order-keep-requires-clause-known g t c = known_kept (keeps_trans c.recall.ensures.keeps c.make.ensures.keeps) c.requires.known

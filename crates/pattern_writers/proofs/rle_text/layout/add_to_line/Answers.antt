@@ -1,8 +1,8 @@
 use Rattle.std.proofs.Common.{◌≡◌, ◌+◌, ◌<◌, ◌≤◌, [], ◌++◌, codes, length, ap, sym, subst, ◌∙◌, length-append}
 use Rattle.std.proofs.KnownBytes.{Appends-nil}
 use Rattle.pattern_writers.proofs.BodyText.{LaysOut-off, LaysOut-on}
-use Rattle.pattern_writers.proofs.rle_text.layout.lay.Goals as goal
-use Rattle.pattern_writers.proofs.rle_text.layout.lay.Goals.{then-len-piece-gt-LINE_LENGTH+in_ok-end_line, else-len-piece-gt-LINE_LENGTH}
+use Rattle.pattern_writers.proofs.rle_text.layout.add_to_line.Goals as goal
+use Rattle.pattern_writers.proofs.rle_text.layout.add_to_line.Goals.{then-len-piece-gt-LINE_LENGTH+in_ok-end_line, else-len-piece-gt-LINE_LENGTH}
 
 pub returns-clause-line : goal.returns-clause-line
 returns-clause-line g c =

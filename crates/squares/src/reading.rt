@@ -4,10 +4,11 @@ ghost use Rattle.plane.specs.Square.{bits_plane};
 ghost use Rattle.std.specs.Prelude.{◌<◌};
 ghost use Rattle.squares.specs.Book.{AreQuarters, Book, IsBook, IsKnown, Keeps, KeepsResults, Shows};
 
-use squares::{Look, Sq, Squares};
+use crate::book::{Look, Squares};
+use crate::sq::Sq;
 
 /// A book whose squares are read. It goes on knowing what it knew.
-pub(crate) trait Reading {
+pub trait Reading {
     // What is known.
     ghost book: { Self → Book };
 
@@ -45,7 +46,7 @@ impl<S: Squares> Reading for S {
 
 /// Squares that are read where they stand, and where none is made.
 #[derive(Drop)]
-pub(crate) struct Looked<'a, L>(pub(crate) &'a L);
+pub struct Looked<'a, L>(pub &'a L);
 
 impl<L: Look> Reading for Looked<'_, L> {
     ghost book = { λ looked. L.book looked.0.now };

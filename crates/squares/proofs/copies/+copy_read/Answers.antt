@@ -6,11 +6,11 @@ use Rattle.squares.specs.declared.sq.Sq.{Sq}
 use Rattle.squares.proofs.CopyMaps.{copies_known, none_copied, one_copied, part_known, quad_copied, empty_copied}
 use Rattle.squares.proofs.Kept.{keeps_none, keeps_trans, known_kept, results_none, results_trans}
 use Rattle.squares.proofs.KnownCopies.{kept_copies, noted_known_copies, shown_before, shown_later}
-use Rattle.squares.proofs.between.+copy_read.Goals as goal
+use Rattle.squares.proofs.copies.+copy_read.Goals as goal
 
 pub returns-then-sq-eq0-clause-ok : goal.returns-then-sq-eq0-clause-ok
 returns-then-sq-eq0-clause-ok g t c =
-    empty_copied (g.A.Squares.book c.args.from.now) (g.B.Squares.book c.args.to.now) c.args.sq (g.met.A.Squares.is_book c.args.from.now) (g.met.B.Squares.is_book c.args.to.now) c.requires.known c.if-sq-eq0.true
+    empty_copied (g.A.Reading.book c.args.from.now) (g.B.Squares.book c.args.to.now) c.args.sq (g.met.A.Reading.is_book c.args.from.now) (g.met.B.Squares.is_book c.args.to.now) c.requires.known c.if-sq-eq0.true
 
 pub returns-in-Some-clause-ok : goal.returns-in-Some-clause-ok
 returns-in-Some-clause-ok g t c = c.requires.copies.same.same c.args.sq c.in-Some.num.now (sym c.in-Some.ensures.value)
@@ -20,13 +20,13 @@ returns-then-level-eq3-clause-ok g t c = search rules
 
 pub returns-then-level-eq3-clause-copies : goal.returns-then-level-eq3-clause-copies
 returns-then-level-eq3-clause-copies g t c =
-    kept_copies (g.A.Squares.book c.args.from.now) (g.A.Squares.book c.read_bits.new.self) (g.B.Squares.book c.args.to.now) (g.B.Squares.book c.leaf.new.self) c.args.copies.now c.read_bits.ensures.keeps c.leaf.ensures.keeps c.requires.copies
+    kept_copies (g.A.Reading.book c.args.from.now) (g.A.Reading.book c.cells_of.new.self) (g.B.Squares.book c.args.to.now) (g.B.Squares.book c.leaf.new.self) c.args.copies.now c.cells_of.ensures.keeps c.leaf.ensures.keeps c.requires.copies
 
 pub loop-quarter-init : goal.loop-quarter-init
 loop-quarter-init g t c = record {
   size = search rules;
   copied = none_copied _ _ _;
-  copies = kept_copies (g.A.Squares.book c.args.from.now) (g.A.Squares.book c.read_parts-quarters.new.self) (g.B.Squares.book c.args.to.now) (g.B.Squares.book c.args.to.now) c.args.copies.now c.read_parts-quarters.ensures.keeps (keeps_none _) c.requires.copies;
+  copies = kept_copies (g.A.Reading.book c.args.from.now) (g.A.Reading.book c.quarters_of-quarters.new.self) (g.B.Squares.book c.args.to.now) (g.B.Squares.book c.args.to.now) c.args.copies.now c.quarters_of-quarters.ensures.keeps (keeps_none _) c.requires.copies;
   reads = keeps_none _;
   read_results = results_none _;
   keeps = keeps_none _;
@@ -35,11 +35,11 @@ loop-quarter-init g t c = record {
 
 pub copy_read-requires : goal.copy_read-requires
 copy_read-requires g t c κs within =
-    let first = g.A.Squares.book c.read_parts-quarters.new.self in
-    let book = g.A.Squares.book c.loop-quarter.from in
+    let first = g.A.Reading.book c.quarters_of-quarters.new.self in
+    let book = g.A.Reading.book c.loop-quarter.from in
     let next = nth c.loop-quarter.quarter-items c.loop-quarter.quarter-index in
     let below : c.loop-quarter.quarter-index < 4 = c.loop-quarter-test.true in
-    let part = part_known first c.args.sq.level ((g.A.Squares.book c.args.from.now).cells c.args.sq) c.read_parts-quarters.result c.loop-quarter.quarter-index below c.read_parts-quarters.ensures.value in
+    let part = part_known first c.args.sq.level ((g.A.Reading.book c.args.from.now).cells c.args.sq) c.quarters_of-quarters.result c.loop-quarter.quarter-index below c.quarters_of-quarters.ensures.value in
     let same = c.loop-quarter.invariant.copied.left c.loop-quarter.quarter-index (omega arith) in
     let known : IsKnown book (c.args.sq.level - 1) next = known_kept c.loop-quarter.invariant.reads (subst (IsKnown first (c.args.sq.level - 1)) (sym same) part) in
     let own : IsKnown book next.level next = subst (λ n. IsKnown book n next) (sym known.at_level) known in
@@ -49,8 +49,8 @@ copy_read-requires g t c κs within =
 
 pub loop-quarter-preserved : goal.loop-quarter-preserved
 loop-quarter-preserved g t c =
-    let first = g.A.Squares.book c.read_parts-quarters.new.self in
-    let from = g.A.Squares.book c.loop-quarter.from in
+    let first = g.A.Reading.book c.quarters_of-quarters.new.self in
+    let from = g.A.Reading.book c.loop-quarter.from in
     let to = g.B.Squares.book c.copy_read.new.to in
     let h = c.loop-quarter.invariant in
     let made = c.copy_read.ensures in
@@ -58,12 +58,12 @@ loop-quarter-preserved g t c =
     let below : c.loop-quarter.quarter-index < 4 = c.loop-quarter-test.true in
     let within : c.loop-quarter.quarter-index < length c.loop-quarter.quarter-items = omega arith in
     let square = h.copied.left c.loop-quarter.quarter-index (omega arith) in
-    let part = part_known first c.args.sq.level ((g.A.Squares.book c.args.from.now).cells c.args.sq) c.read_parts-quarters.result c.loop-quarter.quarter-index below c.read_parts-quarters.ensures.value in
+    let part = part_known first c.args.sq.level ((g.A.Reading.book c.args.from.now).cells c.args.sq) c.quarters_of-quarters.result c.loop-quarter.quarter-index below c.quarters_of-quarters.ensures.value in
     let shown = subst (λ (sq : Sq). Shows to sq.level (from.cells sq) c.in_ok-quarter.field-0) square c.in_ok-quarter.ensures.ok in
-    let early = shown_before first from to _ (nth c.read_parts-quarters.result c.loop-quarter.quarter-index) c.in_ok-quarter.field-0 h.reads part.known shown in
+    let early = shown_before first from to _ (nth c.quarters_of-quarters.result c.loop-quarter.quarter-index) c.in_ok-quarter.field-0 h.reads part.known shown in
     record {
       size = length-set c.loop-quarter.quarter-items c.loop-quarter.quarter-index c.in_ok-quarter.field-0 ∙ h.size;
-      copied = one_copied first _ _ c.read_parts-quarters.result c.loop-quarter.quarter-index c.loop-quarter.quarter-items c.in_ok-quarter.field-0 made.keeps within h.copied early;
+      copied = one_copied first _ _ c.quarters_of-quarters.result c.loop-quarter.quarter-index c.loop-quarter.quarter-items c.in_ok-quarter.field-0 made.keeps within h.copied early;
       copies = made.copies;
       reads = keeps_trans h.reads made.from;
       read_results = results_trans h.read_results made.from_results;
@@ -73,47 +73,47 @@ loop-quarter-preserved g t c =
 
 pub quad-requires-clause-known : goal.quad-requires-clause-known
 quad-requires-clause-known g t c =
-    let first = g.A.Squares.book c.read_parts-quarters.new.self in
+    let first = g.A.Reading.book c.quarters_of-quarters.new.self in
     let to = g.B.Squares.book c.loop-quarter.to in
-    copies_known first to c.args.sq.level ((g.A.Squares.book c.args.from.now).cells c.args.sq) c.read_parts-quarters.result c.loop-quarter.quarter-items _ c.loop-quarter.invariant.size c.read_parts-quarters.ensures.value (omega arith) c.loop-quarter.invariant.copied
+    copies_known first to c.args.sq.level ((g.A.Reading.book c.args.from.now).cells c.args.sq) c.quarters_of-quarters.result c.loop-quarter.quarter-items _ c.loop-quarter.invariant.size c.quarters_of-quarters.ensures.value (omega arith) c.loop-quarter.invariant.copied
 
 pub quad-requires-clause-level : goal.quad-requires-clause-level
 quad-requires-clause-level g t c =
     let copy = (c.loop-quarter.invariant.copied.made 0 (omega arith)).known.at_level in
-    let part = c.read_parts-quarters.ensures.value.nw.known.at_level in
+    let part = c.quarters_of-quarters.ensures.value.nw.known.at_level in
     let low = c.requires.known.low in
     let high = c.requires.known.high in
     omega arith
 
 pub returns-in_err-copy-clause-copies : goal.returns-in_err-copy-clause-copies
 returns-in_err-copy-clause-copies g t c =
-    kept_copies (g.A.Squares.book c.loop-quarter.from) (g.A.Squares.book c.loop-quarter.from) (g.B.Squares.book c.loop-quarter.to) (g.B.Squares.book c.quad.new.self) c.loop-quarter.copies (keeps_none _) c.quad.ensures.keeps c.loop-quarter.invariant.copies
+    kept_copies (g.A.Reading.book c.loop-quarter.from) (g.A.Reading.book c.loop-quarter.from) (g.B.Squares.book c.loop-quarter.to) (g.B.Squares.book c.quad.new.self) c.loop-quarter.copies (keeps_none _) c.quad.ensures.keeps c.loop-quarter.invariant.copies
 
 pub returns-clause-ok : goal.returns-clause-ok
 returns-clause-ok g t c =
-    let was = g.A.Squares.book c.args.from.now in
-    let first = g.A.Squares.book c.read_parts-quarters.new.self in
+    let was = g.A.Reading.book c.args.from.now in
+    let first = g.A.Reading.book c.quarters_of-quarters.new.self in
     let to = g.B.Squares.book c.loop-quarter.to in
     let sq = c.args.sq in
     let low = c.requires.known.low in
     let more = c.if-level-eq3.false in
-    let shown = quad_copied first to (g.B.Squares.book c.quad.new.self) sq.level (was.cells sq) c.read_parts-quarters.result c.loop-quarter.quarter-items _ c.in_ok-copy.copy (omega arith)
-    ((g.met.A.Squares.is_book c.args.from.now).square sq c.requires.known.known) c.read_parts-quarters.ensures.value (omega arith) c.loop-quarter.invariant.copied c.in_ok-copy.ensures.ok in
+    let shown = quad_copied first to (g.B.Squares.book c.quad.new.self) sq.level (was.cells sq) c.quarters_of-quarters.result c.loop-quarter.quarter-items _ c.in_ok-copy.copy (omega arith)
+    ((g.met.A.Reading.is_book c.args.from.now).square sq c.requires.known.known) c.quarters_of-quarters.ensures.value (omega arith) c.loop-quarter.invariant.copied c.in_ok-copy.ensures.ok in
     IfOk-weaker c.noted.result _ _ (λ (noted : Sq) same. subst (Shows (g.B.Squares.book c.quad.new.self) sq.level (was.cells sq)) (sym same) shown) c.noted.ensures.ok
 
 pub returns-clause-copies : goal.returns-clause-copies
 returns-clause-copies g t c =
-    let was = g.A.Squares.book c.args.from.now in
-    let first = g.A.Squares.book c.read_parts-quarters.new.self in
-    let from = g.A.Squares.book c.loop-quarter.from in
+    let was = g.A.Reading.book c.args.from.now in
+    let first = g.A.Reading.book c.quarters_of-quarters.new.self in
+    let from = g.A.Reading.book c.loop-quarter.from in
     let to = g.B.Squares.book c.loop-quarter.to in
     let now = g.B.Squares.book c.quad.new.self in
     let sq = c.args.sq in
     let low = c.requires.known.low in
     let more = c.if-level-eq3.false in
-    let reads = keeps_trans c.read_parts-quarters.ensures.keeps c.loop-quarter.invariant.reads in
-    let shown = quad_copied first to now sq.level (was.cells sq) c.read_parts-quarters.result c.loop-quarter.quarter-items _ c.in_ok-copy.copy (omega arith)
-    ((g.met.A.Squares.is_book c.args.from.now).square sq c.requires.known.known) c.read_parts-quarters.ensures.value (omega arith) c.loop-quarter.invariant.copied c.in_ok-copy.ensures.ok in
+    let reads = keeps_trans c.quarters_of-quarters.ensures.keeps c.loop-quarter.invariant.reads in
+    let shown = quad_copied first to now sq.level (was.cells sq) c.quarters_of-quarters.result c.loop-quarter.quarter-items _ c.in_ok-copy.copy (omega arith)
+    ((g.met.A.Reading.is_book c.args.from.now).square sq c.requires.known.known) c.quarters_of-quarters.ensures.value (omega arith) c.loop-quarter.invariant.copied c.in_ok-copy.ensures.ok in
     noted_known_copies from now c.loop-quarter.copies c.noted.new.copies sq c.in_ok-copy.copy c.noted.result c.noted.ensures.updates c.noted.ensures.err (reads.known sq c.requires.known.known)
     (shown_later was from now sq.level sq c.in_ok-copy.copy reads c.requires.known.known shown)
     (kept_copies from from to now c.loop-quarter.copies (keeps_none _) c.quad.ensures.keeps c.loop-quarter.invariant.copies)
