@@ -15,8 +15,8 @@ abbrev pub last_desk : Desk → List Desk → Desk
 last_desk desk [] = desk
 last_desk desk (next ∷ later) = last_desk next later
 
--- no worker expands a square twice, and each square has a pair slot: whatever calls follow one another at one table, they count no
--- more expansions than there are workers, for each of its pair slots
+-- whatever calls follow one another at one table, they count at most as many expansions as there are workers, for each of its pair
+-- slots
 abbrev pub EveryExpansionHasItsSlot : Type 0
 EveryExpansionHasItsSlot =
     (table : NodeTable) (workers : ℕ) (first : Desk) (desks : List Desk) → IsDeskOf table first → AreCalls table workers first desks →

@@ -23,7 +23,7 @@ abbrev pub new_results : Book → Book → ℕ
 new_results old new = length new.results - length old.results
 
 -- the desk that comes back from so many workers is one of the table and knows all that the other knew; its number of expansions only
--- rises, and no worker counts a square twice, nor one whose result was known
+-- rises, by at most the number of new results times that of workers
 pub record ComesBack (table : NodeTable) (workers : ℕ) (old new : Desk) : Type 0 where
   pub of_table : IsDeskOf table new
   pub keeps : Keeps (book_at table old) (book_at table new)

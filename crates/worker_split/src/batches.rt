@@ -121,8 +121,8 @@ pub fn batch_future<R: Threads + Wait + Sync, G: Gate>(
     ensures ok { IfOk result.1 (HasFuture (book_at table.now result.0) sq) }
     // Memory ran out, or the desk that comes back knows a full shard.
     ensures refusal { IfErr result.1 (Refuses (book_at table.now result.0)) }
-    // The desk that comes back knows all that it knew, and its number of expansions only rises. No worker counts a
-    // square twice, nor one whose result was known.
+    // The desk that comes back knows all that it knew. Its number of expansions only rises, by at most the number of
+    // new results times that of workers.
     ensures desk { ComesBack table.now team.now.workers desk result.0 }
 {
     let (desk, done) = prepare(team, table, desk, sq);

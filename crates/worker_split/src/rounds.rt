@@ -96,8 +96,8 @@ pub fn round<R: Threads + Wait + Sync, G: Gate>(
     // Memory ran out, and the desk comes back as it was; or the desk that comes back knows a full shard.
     ensures refusal { IfErr result.1 (λ refusal. ((refusal ≡ NoMemory) × (result.0 ≡ desk))
         ⊎ ((refusal ≡ NodesFull) × IsTrue (book_at table.now result.0).is_full)) }
-    // The desk that comes back knows all that it knew, and its number of expansions only rises. No worker counts a
-    // square twice, nor one whose result was known.
+    // The desk that comes back knows all that it knew. Its number of expansions only rises, by at most the number of
+    // new results times that of workers.
     ensures desk { ComesBack table.now team.now.workers desk result.0 }
 {
     let Ok(room) = room_for(team.alloc, jobs.len(), team.workers) else {

@@ -86,8 +86,8 @@ pub fn step<R: Threads + Wait + Sync, G: Gate>(
         (after (book_at table.now desk).rule (centred root.level ((book_at table.now desk).cells root)) (2 ^ (book_at table.now desk).exponent))) }
     // Memory ran out, or the desk that comes back knows a full shard.
     ensures refusal { IfErr result.1 (Refuses (book_at table.now result.0)) }
-    // The desk that comes back knows all that it knew, and its number of expansions only rises. No worker counts a
-    // square twice, nor one whose result was known.
+    // The desk that comes back knows all that it knew. Its number of expansions only rises, by at most the number of
+    // new results times that of workers.
     ensures desk { ComesBack table.now team.now.workers desk result.0 }
 {
     let (desk, padded) = padded_at(table, desk, root);
