@@ -1,5 +1,6 @@
 -- Cells that were copied into new words, and at their table.
 use Rattle.std.proofs.Common.{◌≡◌, ◌⊎◌, inl, inr, ℕ, sym, ◌∙◌, ap, subst}
+use Rattle.std.specs.Prelude.{Result, Ok, Err, IfErr}
 use Rattle.node_sweep.specs.EnlargedStills.{IsEnlarged}
 use Rattle.node_sweep.specs.SweptStills.{IsSwept}
 use Rattle.node_table.specs.Stills.{book_in, key_of}
@@ -7,21 +8,21 @@ use Rattle.plane.specs.Centred.{centred}
 use Rattle.plane.specs.Square.{IsSame}
 use Rattle.plane.specs.declared.refusal.Refusal.{Refusal}
 use Rattle.plane.specs.declared.refusal.Refusal.TheVariants.{NodesFull, NoMemory}
-use Rattle.plane.proofs.Same.{same_refl, same_trans}
+use Rattle.plane.proofs.Same.{same_trans}
 use Rattle.squares.specs.Book.{Shows}
 use Rattle.table_core.specs.declared.key.Key.{Key}
-use Rattle.universe.specs.Cells.{cells_of, exponent_of, live_cells, still_cells, root_of, still_of}
+use Rattle.universe.specs.Cells.{exponent_of, live_cells, still_cells, root_of, still_of}
 use Rattle.universe.specs.Runs.{IsAtExponent}
 use Rattle.universe.specs.RootedTables.{IsCopied}
 use Rattle.universe.specs.declared.rooted_still.RootedStill.{RootedStill}
-use Rattle.universe.specs.declared.rooted_table.RootedTable.{RootedTable}
 use Rattle.universe.specs.declared.universe.Universe.{Universe}
 use Rattle.node_table.proofs.AtWork.{centred_same}
 
 -- a refusal for want of slots says that there is no room
-pub no_room : {NoRoom : Type 0} → (refusal : Refusal) → refusal ≡ NodesFull → (refusal ≡ NoMemory) ⊎ ((refusal ≡ NodesFull) × NoRoom) → NoRoom
-no_room refusal full (inl memory) = let clash : NodesFull ≡ NoMemory = sym full ∙ memory in absurd cc
-no_room refusal full (inr why) = why.1
+pub no_room : {T : Type 0} (NoRoom : Type 0) → (made : Result T Refusal) → made ≡ Err NodesFull → IfErr made (λ refusal. (refusal ≡ NoMemory) ⊎ ((refusal ≡ NodesFull) × NoRoom)) → NoRoom
+no_room NoRoom (Ok value) full why = absurd cc
+no_room NoRoom (Err refusal) full (inl memory) = absurd cc
+no_room NoRoom (Err refusal) full (inr why) = why.1
 
 copied_cells : (old new : RootedStill) → (root_of new).level ≡ (root_of old).level → Shows (book_in (still_of new)) (root_of old).level ((book_in (still_of old)).cells (root_of old)) (root_of new) →
     IsSame (still_cells new) (still_cells old)
@@ -37,20 +38,9 @@ swept_is old new pairs is = record { cells = copied_cells old new is.level is.sh
 
 -- ---- universes
 
--- other tables alone were evicted
-pub roomy : {old new : Universe} → new.here ≡ old.here → new.limit ≡ old.limit → IsAtExponent (exponent_of old) old new
-roomy {old} {new} here limit = record {
-  same = record {
-    cells = subst (λ (s : RootedTable). IsSame (cells_of s) (live_cells old)) (sym here) (same_refl (live_cells old));
-    rule = ap (λ (s : RootedTable). s.table.state.key.rule) here;
-    limit = limit;
-  };
-  exponent = ap (λ (s : RootedTable). s.table.state.key.exponent) here;
-}
-
 -- a universe whose table was closed and opened again
 pub reopened : {old new : Universe} → (rooted : RootedStill) → IsSame (still_cells rooted) (live_cells old) → key_of (still_of rooted) ≡ old.here.table.state.key →
-    IsSame (live_cells new) (still_cells rooted) → new.here.table.state.key ≡ key_of (still_of rooted) → new.limit ≡ old.limit → IsAtExponent (exponent_of old) old new
+    IsSame (live_cells new) (still_cells rooted) → new.here.table.state.key ≡ key_of (still_of rooted) → new.others.limit ≡ old.others.limit → IsAtExponent (exponent_of old) old new
 reopened rooted rested rested_key stands key limit = record {
   same = record { cells = same_trans stands rested; rule = ap (λ (k : Key). k.rule) (key ∙ rested_key); limit = limit };
   exponent = ap (λ (k : Key). k.exponent) (key ∙ rested_key);
@@ -58,7 +48,7 @@ reopened rooted rested rested_key stands key limit = record {
 
 -- a universe whose table was closed, and whose cells were copied into new words and opened there
 pub copied : {old new : Universe} → (rooted fresh : RootedStill) (pairs : ℕ) → IsSame (still_cells rooted) (live_cells old) → key_of (still_of rooted) ≡ old.here.table.state.key → IsCopied rooted fresh pairs →
-    IsSame (live_cells new) (still_cells fresh) → new.here.table.state.key ≡ key_of (still_of fresh) → new.limit ≡ old.limit → IsAtExponent (exponent_of old) old new
+    IsSame (live_cells new) (still_cells fresh) → new.here.table.state.key ≡ key_of (still_of fresh) → new.others.limit ≡ old.others.limit → IsAtExponent (exponent_of old) old new
 copied rooted fresh pairs rested rested_key is stands key limit = record {
   same = record {
     cells = same_trans stands (same_trans is.cells rested);

@@ -16,8 +16,8 @@ use Rattle.node_table.specs.Openings.{Opens}
 use Rattle.node_table.specs.Stills.{IsVacant, book_in, key_of}
 use Rattle.node_sweep.specs.SweptStills.{IsSwept}
 use Rattle.universe.specs.Cells.{exponent_of, limit_of, live_cells, rule_of, square_plane}
-use Rattle.universe.specs.Runs.{IsAttempt, IsExhausted, IsFullAtLimit, IsFullFromAlone, IsFullInPlace, IsAtExponent}
-use Rattle.universe.specs.Tables.{HasFilledUp, IsFreshTable, IsOpened, StaysOpen, known_at, pairs_in}
+use Rattle.universe.specs.Runs.{IsAttempt, IsFullAtLimit, IsFullFromAlone, IsFullInPlace, IsAtExponent}
+use Rattle.universe.specs.Tables.{HasFilledUp, IsFreshTable, IsOpened, StaysOpen, known_at}
 use Rattle.universe.specs.declared.attempts.Attempt.{Attempt}
 use Rattle.universe.specs.declared.attempts.Attempt.TheVariants.{Done, Full}
 use Rattle.universe.specs.declared.tables.OpenTable.{OpenTable}

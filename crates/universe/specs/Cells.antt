@@ -39,11 +39,11 @@ rule_of universe = universe.here.table.state.key.rule
 
 -- how many pair slots its tables may have together
 abbrev pub limit_of : Universe → ℕ
-limit_of universe = 2 ^ universe.limit.bits
+limit_of universe = 2 ^ universe.others.limit.bits
 
 -- how many pair slots its tables have together
 abbrev pub pairs_of : Universe → ℕ
-pairs_of universe = pairs_in universe.here.table + pair_sum universe.others.items
+pairs_of universe = pairs_in universe.here.table + pair_sum universe.others.tables.items
 
 -- how many generations a step of the table with its square takes, as a power of two
 abbrev pub exponent_of : Universe → ℕ

@@ -17,7 +17,7 @@ use Rattle.universe.specs.declared.universe.Universe.{Universe}
 pub record IsSameUniverse (old new : Universe) : Type 0 where
   pub cells : IsSame (live_cells new) (live_cells old)
   pub rule : rule_of new ≡ rule_of old
-  pub limit : new.limit ≡ old.limit
+  pub limit : new.others.limit ≡ old.others.limit
 
 -- so it is, at a table of this exponent
 pub record IsAtExponent (wanted : ℕ) (old new : Universe) : Type 0 where
@@ -28,7 +28,7 @@ pub record IsAtExponent (wanted : ℕ) (old new : Universe) : Type 0 where
 pub record IsLater (old : Universe) (generations : ℕ) (new : Universe) : Type 0 where
   pub cells : IsSame (live_cells new) (after (rule_of old) (live_cells old) generations)
   pub rule : rule_of new ≡ rule_of old
-  pub limit : new.limit ≡ old.limit
+  pub limit : new.others.limit ≡ old.others.limit
 
 -- one step of its table may be taken, and leads to cells in the range
 pub record MayStep (universe : Universe) : Type 0 where

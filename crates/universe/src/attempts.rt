@@ -1,14 +1,10 @@
 //! A step that is tried at one table after the other, until one has room for it.
 
-ghost use Rattle.std.specs.Prelude.{◌≡◌, ◌≤◌, ◌+◌, ◌^◌, IfOk, IfSome, IsOkUnless};
-ghost use Rattle.node_table.specs.Stills.{key_of};
-ghost use Rattle.plane.specs.Square.{IsSame};
-ghost use Rattle.universe.specs.Sums.{pair_sum};
+ghost use Rattle.std.specs.Prelude.{◌≡◌, ◌≤◌, ◌^◌, IfOk, IsOkUnless};
 
 use crate::rooted_still::Keep;
 use crate::rooted_table::Stepped;
 use crate::sizes::{larger, pair_count};
-use crate::tables::OpenTable;
 use crate::universe::Universe;
 use plane::Refusal;
 use std::sync::Wait;
@@ -45,14 +41,14 @@ impl Universe {
         ensures full { IfOk result IsFullAtLimit }
         ensures memory { IsOkUnless result Refusal.NoMemory }
     {
-        let most = self.limit;
+        let most = self.others.limit();
         let mut shape = self.here.table.state.key.shape;
-        let growth = self.here.table.growth();
+        let growth_factor = self.here.table.growth_factor();
         let mut start = match self.step_here_or_swept(team)? {
             Attempt::Full(start) => start,
             done => return Ok(done),
         };
-        'sizes: while let Some(next) = larger(shape, most, growth) {
+        'sizes: while let Some(next) = larger(shape, most, growth_factor) {
             start = match start.step_in(team, next, Keep::Everything)? {
                 Attempt::Full(start) => start,
                 done => return Ok(done),
@@ -75,7 +71,7 @@ impl Universe {
         ensures ok { IfOk result (IsAttempt self) }
         ensures memory { IsOkUnless result Refusal.NoMemory }
     {
-        let most = self.limit;
+        let most = self.others.limit();
         let mut start = self;
         'collections: for _ in 0..MOST_COLLECTIONS {
             if !start.here.table.should_collect() {
@@ -104,7 +100,7 @@ impl Universe {
             done => return Ok(done),
         };
         let shape = start.here.table.state.key.shape;
-        if shape.bits >= start.limit.bits || !start.here.table.should_sweep_first() {
+        if shape.bits >= start.others.limit().bits || !start.here.table.should_sweep_first() {
             return Ok(Attempt::Full(start));
         }
         start.step_in(team, shape, Keep::CellsAlone)
@@ -120,22 +116,10 @@ impl Universe {
         ensures full { IfOk result (IsFullInPlace self) }
         ensures memory { IsOkUnless result Refusal.NoMemory }
     {
-        let Universe {
-            here,
-            others,
-            limit,
-        } = self;
+        let Universe { here, others } = self;
         match here.step(team)? {
-            Stepped::Done(here) => Ok(Attempt::Done(Universe {
-                here,
-                others,
-                limit,
-            })),
-            Stepped::Full(here) => Ok(Attempt::Full(Universe {
-                here,
-                others,
-                limit,
-            })),
+            Stepped::Done(here) => Ok(Attempt::Done(Universe { here, others })),
+            Stepped::Full(here) => Ok(Attempt::Full(Universe { here, others })),
         }
     }
 
@@ -152,31 +136,19 @@ impl Universe {
         ensures full { keep ≡ CellsAlone → 2 ^ shape.bits ≡ limit_of self → IfOk result IsFullAtLimit }
         ensures memory { IsOkUnless result Refusal.NoMemory }
     {
-        let Universe {
-            here,
-            others,
-            limit,
-        } = self.with_room(pair_count(shape));
+        let Universe { here, mut others } = self;
+        others.make_room(pair_count(shape));
         let history = here.table.state.history;
         let start = here.into_still();
         match start.copied(team.alloc, shape, keep, history)? {
             Some((fresh, history)) => {
                 drop(start);
                 let here = fresh.reopen(team.alloc, history)?;
-                Universe {
-                    here,
-                    others,
-                    limit,
-                }
-                .step_here(team)
+                Universe { here, others }.step_here(team)
             }
             None => {
                 let here = start.reopen(team.alloc, history.without_collections())?;
-                Ok(Attempt::Full(Universe {
-                    here,
-                    others,
-                    limit,
-                }))
+                Ok(Attempt::Full(Universe { here, others }))
             }
         }
     }

@@ -7,8 +7,10 @@ ghost use Rattle.universe.specs.Tables.{HasFullTable};
 
 use crate::build::Build;
 use crate::history::TableHistory;
+use crate::other_tables::OtherTables;
+use crate::refusals::unless_full;
 use crate::rooted_table::RootedTable;
-use crate::sizes::{Growth, larger, smallest};
+use crate::sizes::{GrowthFactor, larger, smallest};
 use crate::tables::OpenTable;
 use crate::universe::Universe;
 use plane::Refusal;
@@ -38,20 +40,12 @@ impl Universe {
         let limit = Shape::new(limit);
         let mut shape = smallest(limit);
         'sizes: loop {
-            shape = match RootedTable::built(alloc, rule, source, shape) {
-                Ok(here) => {
-                    return Ok(Universe {
-                        here,
-                        others: Vec::new(alloc),
-                        limit,
-                    });
-                }
-                Err(Refusal::NodesFull) => match larger(shape, limit, Growth::BySixteen) {
-                    Some(next) => next,
-                    None => return Err(Refusal::NodesFull),
-                },
-                Err(refusal) => return Err(refusal),
-            };
+            let made = RootedTable::built(alloc, rule, source, shape);
+            if let Some(here) = unless_full(made)? {
+                let others = OtherTables::new(alloc, limit);
+                return Ok(Universe { here, others });
+            }
+            shape = larger(shape, limit, GrowthFactor::Sixteen).ok_or(Refusal::NodesFull)?;
         }
     }
 }

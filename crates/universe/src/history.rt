@@ -2,7 +2,7 @@
 
 ghost use Rattle.std.specs.Prelude.{◌≤◌};
 
-use crate::sizes::{Growth, LARGE_BITS};
+use crate::sizes::{GrowthFactor, LARGE_BITS};
 use node_sweep::Finished;
 use worker_split::MOST_WORKERS;
 
@@ -27,7 +27,7 @@ enum Collections {
     /// Nothing yet.
     None,
     /// The squares worth keeping. So many were finished at the time.
-    Kept(Finished),
+    Collected(Finished),
     /// All that may help the step.
     All,
 }
@@ -40,7 +40,7 @@ pub(crate) struct TableHistory {
     /// How many squares the last step of the cells expanded, at this table or at the one before it.
     expansions: Option<u64>,
     /// How many squares the last try of a step expanded at this table, whether or not the table was full.
-    tried: u64,
+    last_try: u64,
     /// What was collected for the next step.
     collections: Collections,
 }
@@ -51,7 +51,7 @@ impl TableHistory {
         TableHistory {
             steps: 0,
             expansions: None,
-            tried: 0,
+            last_try: 0,
             collections: Collections::None,
         }
     }
@@ -61,37 +61,37 @@ impl TableHistory {
     /// step may be long.
     pub(crate) fn for_new_table(self, bits: u8) -> TableHistory {
         TableHistory {
-            steps: 0,
             expansions: if bits < LARGE_BITS {
                 self.expansions
             } else {
                 None
             },
-            tried: 0,
-            collections: Collections::None,
+            ..TableHistory::new()
         }
     }
 
     /// For a new table of 2^bits pair slots that takes over what was collected from this one, when so much was
     /// finished.
     pub(crate) fn for_collected_table(self, bits: u8, finished: Finished) -> TableHistory {
-        let mut history = self.for_new_table(bits);
-        history.collections = Collections::Kept(finished);
-        history
+        TableHistory {
+            collections: Collections::Collected(finished),
+            ..self.for_new_table(bits)
+        }
     }
 
     /// For this table, from which nothing more is collected before the next step.
     pub(crate) fn without_collections(self) -> TableHistory {
-        let mut history = self;
-        history.collections = Collections::All;
-        history
+        TableHistory {
+            collections: Collections::All,
+            ..self
+        }
     }
 
     /// For this table, after a try of one more step. A try that met a full table is no step, and doesn't tell
     /// whether the step is short.
     pub(crate) fn after_try(self, is_taken: bool, expansions: u64) -> TableHistory {
         let mut history = self;
-        history.tried = expansions;
+        history.last_try = expansions;
         if is_taken {
             history.steps = history.steps.saturating_add(1);
             history.expansions = Some(expansions);
@@ -105,7 +105,7 @@ impl TableHistory {
     pub(crate) fn should_collect(self, pairs: u64) -> bool {
         match self.collections {
             Collections::None => true,
-            Collections::Kept(_) => self.tried >= pairs / SLOTS_AN_EXPANSION,
+            Collections::Collected(_) => self.last_try >= pairs / SLOTS_AN_EXPANSION,
             Collections::All => false,
         }
     }
@@ -113,7 +113,7 @@ impl TableHistory {
     /// Whether more is finished than at the last collection for the next step.
     pub(crate) fn has_finished_more(self, finished: &Finished) -> bool {
         match self.collections {
-            Collections::Kept(earlier) => finished.is_beyond(&earlier),
+            Collections::Collected(earlier) => finished.is_beyond(&earlier),
             _ => true,
         }
     }
@@ -128,12 +128,13 @@ impl TableHistory {
         }
     }
 
-    /// How the table grows, as long as it isn't large.
-    pub(crate) fn growth(self) -> Growth {
+    /// By which factor the table grows, as long as it isn't large.
+    pub(crate) fn growth_factor(self) -> GrowthFactor {
         if self.steps > STEPS_OF_GROWTH {
-            return Growth::ByFour;
+            GrowthFactor::Four
+        } else {
+            GrowthFactor::Sixteen
         }
-        Growth::BySixteen
     }
 
     /// Whether a full table of 2^bits pair slots should be swept before it grows, since most of it is likely to

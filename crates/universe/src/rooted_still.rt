@@ -9,8 +9,9 @@ ghost use Rattle.node_sweep.specs.SweptStills.{HasNoRoomFor, IsSwept};
 ghost use Rattle.viewport.specs.BoundingBox.{HasBounds};
 
 use crate::history::TableHistory;
+use crate::refusals::unless_full;
 use crate::rooted_table::RootedTable;
-use crate::sizes::{Growth, larger, smallest};
+use crate::sizes::{GrowthFactor, larger, smallest};
 use crate::tables::OpenTable;
 use node_sweep::{Collected, collect, enlarge, sweep};
 use node_table::Still;
@@ -113,18 +114,12 @@ impl RootedStill {
         ensures full { keep ≡ CellsAlone → IfOk result (λ made. IfNone made (HasNoRoomFor (still_of self.now) (root_of self.now) (2 ^ shape.bits))) }
         ensures memory { IsOkUnless result Refusal.NoMemory }
     {
-        let later = history.for_new_table(shape.bits);
-        match keep {
-            Keep::Everything => match self.enlarged(alloc, shape)? {
-                Some(fresh) => Ok(Some((fresh, later))),
-                None => Ok(None),
-            },
-            Keep::Collected => self.collected(alloc, shape, history),
-            Keep::CellsAlone => match self.swept(alloc, shape)? {
-                Some(fresh) => Ok(Some((fresh, later))),
-                None => Ok(None),
-            },
-        }
+        let made = match keep {
+            Keep::Everything => self.enlarged(alloc, shape)?,
+            Keep::Collected => return self.collected(alloc, shape, history),
+            Keep::CellsAlone => self.swept(alloc, shape)?,
+        };
+        Ok(made.map(|fresh| (fresh, history.for_new_table(shape.bits))))
     }
 
     // The cells with all squares and results in new words of this shape, if these have room for them.
@@ -133,10 +128,10 @@ impl RootedStill {
         ensures full { IfOk result (λ made. IfNone made (HasNoRoomForAll (still_of self.now) (2 ^ shape.bits))) }
         ensures memory { IsOkUnless result Refusal.NoMemory }
     {
-        match enlarge(alloc, &self.still, self.root, shape.slot_count(Kind::Pair)) {
-            Ok((still, root)) => Ok(Some(RootedStill { still, root })),
-            Err(Refusal::NodesFull) => Ok(None),
-            Err(_) => Err(Refusal::NoMemory),
+        let made = enlarge(alloc, &self.still, self.root, shape.slot_count(Kind::Pair));
+        match unless_full(made)? {
+            Some((still, root)) => Ok(Some(RootedStill { still, root })),
+            None => Ok(None),
         }
     }
 
@@ -151,16 +146,15 @@ impl RootedStill {
         ensures ok { IfOk result (λ made. IfSome made (λ fresh. IsCopied self.now fresh.0 (2 ^ shape.bits))) }
         ensures memory { IsOkUnless result Refusal.NoMemory }
     {
-        let made = match collect(alloc, &self.still, self.root, shape.slot_count(Kind::Pair)) {
-            Ok(made) => made,
-            Err(Refusal::NodesFull) => return Ok(None),
-            Err(_) => return Err(Refusal::NoMemory),
+        let made = collect(alloc, &self.still, self.root, shape.slot_count(Kind::Pair));
+        let Some(collected) = unless_full(made)? else {
+            return Ok(None);
         };
         let Collected {
             still,
             root,
             finished,
-        } = made;
+        } = collected;
         if !history.has_finished_more(&finished) {
             return Ok(None);
         }
@@ -179,7 +173,7 @@ impl RootedStill {
             if let Some(fresh) = self.swept(alloc, shape)? {
                 return Ok(fresh);
             }
-            let Some(next) = larger(shape, own, Growth::BySixteen) else {
+            let Some(next) = larger(shape, own, GrowthFactor::Sixteen) else {
                 return Ok(self);
             };
             shape = next;
@@ -193,10 +187,10 @@ impl RootedStill {
         ensures full { IfOk result (λ made. IfNone made (HasNoRoomFor (still_of self.now) (root_of self.now) (2 ^ shape.bits))) }
         ensures memory { IsOkUnless result Refusal.NoMemory }
     {
-        match sweep(alloc, &self.still, self.root, shape.slot_count(Kind::Pair)) {
-            Ok((still, root)) => Ok(Some(RootedStill { still, root })),
-            Err(Refusal::NodesFull) => Ok(None),
-            Err(_) => Err(Refusal::NoMemory),
+        let made = sweep(alloc, &self.still, self.root, shape.slot_count(Kind::Pair));
+        match unless_full(made)? {
+            Some((still, root)) => Ok(Some(RootedStill { still, root })),
+            None => Ok(None),
         }
     }
 }

@@ -10,6 +10,7 @@ ghost use Rattle.universe.specs.Tables.{known_at};
 ghost use Rattle.viewport.specs.BoundingBox.{HasBounds};
 ghost use Rattle.viewport.specs.Population.{HasPopulation};
 
+use crate::refusals::unless_full;
 use crate::rooted_still::RootedStill;
 use crate::tables::OpenTable;
 use plane::{Bounds, Refusal};
@@ -102,10 +103,9 @@ impl RootedTable {
     {
         let RootedTable { table, root } = self;
         let (table, made) = table.step(team, root);
-        match made {
-            Ok(later) => Ok(Stepped::Done(RootedTable { table, root: later })),
-            Err(Refusal::NodesFull) => Ok(Stepped::Full(RootedTable { table, root })),
-            Err(_) => Err(Refusal::NoMemory),
+        match unless_full(made)? {
+            Some(later) => Ok(Stepped::Done(RootedTable { table, root: later })),
+            None => Ok(Stepped::Full(RootedTable { table, root })),
         }
     }
 
@@ -115,17 +115,10 @@ impl RootedTable {
         ensures memory { IsOkUnless result Refusal.NoMemory }
     {
         let RootedTable { table, root } = self;
-        let (table, other, copied) = table.copy_across(alloc, root, other);
-        match copied {
-            Ok(copy) => Ok(Moved::There(
-                table,
-                RootedTable {
-                    table: other,
-                    root: copy,
-                },
-            )),
-            Err(Refusal::NodesFull) => Ok(Moved::Full(RootedTable { table, root }, other)),
-            Err(_) => Err(Refusal::NoMemory),
+        let (left, table, copied) = table.copy_across(alloc, root, other);
+        match unless_full(copied)? {
+            Some(root) => Ok(Moved::There(left, RootedTable { table, root })),
+            None => Ok(Moved::Full(RootedTable { table: left, root }, table)),
         }
     }
 }

@@ -19,25 +19,25 @@ pub(crate) fn smallest(most: Shape) -> Shape
     }
 }
 
-/// By how much a table below the large ones grows.
+/// By which factor a full table grows, as long as it isn't large.
 #[derive(Clone, Copy, Debug)]
-pub(crate) enum Growth {
-    ByFour,
-    BySixteen,
+pub(crate) enum GrowthFactor {
+    Four,
+    Sixteen,
 }
 
 /// The shape of the table that replaces a full one. It has four or sixteen times as many pair slots, as the
-/// growth says, after a large one four times as many, and never more than the largest. `None` where the full
+/// factor says, after a large one four times as many, and never more than the largest. `None` where the full
 /// one has the largest shape.
-pub(crate) fn larger(shape: Shape, most: Shape, growth: Growth) -> Option<Shape>
+pub(crate) fn larger(shape: Shape, most: Shape, growth_factor: GrowthFactor) -> Option<Shape>
     ensures some { IfSome result (λ larger. (shape.bits < larger.bits) × (larger.bits ≤ most.bits)) }
     ensures none { IfNone result (most.bits ≤ shape.bits) }
 {
     if shape.bits >= most.bits {
         return None;
     }
-    let bits = match growth {
-        Growth::BySixteen if shape.bits < LARGE_BITS => shape.bits + 4,
+    let bits = match growth_factor {
+        GrowthFactor::Sixteen if shape.bits < LARGE_BITS => shape.bits + 4,
         _ => shape.bits + 2,
     };
     Some(Shape {

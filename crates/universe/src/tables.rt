@@ -12,7 +12,8 @@ ghost use Rattle.viewport.specs.Population.{HasPopulation};
 
 use crate::build::Build;
 use crate::history::TableHistory;
-use crate::sizes::{Growth, pair_count};
+use crate::refusals::unless_full;
+use crate::sizes::{GrowthFactor, pair_count};
 use node_sweep::enlarge;
 use node_table::{Desk, NodeTable, Still};
 use plane::Refusal;
@@ -103,15 +104,13 @@ impl OpenTable {
             level: 4,
             num: Num(0),
         };
-        match enlarge(alloc, &still, none, shape.slot_count(Kind::Pair)) {
-            Ok((larger, _)) => {
-                drop(still);
-                let table = OpenTable::of_words(alloc, larger, &rule, exponent, history)?;
-                Ok(Some(table))
-            }
-            Err(Refusal::NodesFull) => Ok(None),
-            Err(_) => Err(Refusal::NoMemory),
-        }
+        let made = enlarge(alloc, &still, none, shape.slot_count(Kind::Pair));
+        let Some((larger, _)) = unless_full(made)? else {
+            return Ok(None);
+        };
+        drop(still);
+        let table = OpenTable::of_words(alloc, larger, &rule, exponent, history)?;
+        Ok(Some(table))
     }
 
     /// How many pair slots it has.
@@ -132,18 +131,12 @@ impl OpenTable {
     pub(crate) fn is_under(&self, rule: &Rule, exponent: u8) -> bool
         ensures { IsTrue result ↔ IsTableUnder rule.now exponent self.now }
     {
-        if self.state.key.exponent != exponent {
-            return false;
-        }
-        if self.state.key.rule.code() != rule.code() {
-            return false;
-        }
-        true
+        self.state.key.exponent == exponent && self.state.key.rule.code() == rule.code()
     }
 
-    /// How it grows, as long as it isn't large.
-    pub(crate) fn growth(&self) -> Growth {
-        self.state.history.growth()
+    /// By which factor it grows, as long as it isn't large.
+    pub(crate) fn growth_factor(&self) -> GrowthFactor {
+        self.state.history.growth_factor()
     }
 
     /// Whether it should be swept before it grows, since most of it is likely to be left over from earlier steps.
@@ -164,12 +157,7 @@ impl OpenTable {
         ensures says { SaysAll (known_at self) (book_in result) }
     {
         let OpenTable { state, desk } = self;
-        let TableState {
-            table,
-            key: _,
-            history: _,
-        } = state;
-        table.close(desk)
+        state.table.close(desk)
     }
 
     /// One step of 2^exponent generations from a square, by a team. The table comes back after a refusal too.

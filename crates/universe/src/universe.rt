@@ -7,23 +7,20 @@ ghost use Rattle.viewport.specs.Population.{HasPopulation};
 ghost use Rattle.universe.specs.Sums.{pair_sum};
 ghost use Rattle.universe.specs.Tables.{pairs_in};
 
-use crate::room::total;
+use crate::other_tables::OtherTables;
 use crate::rooted_still::RootedStill;
 use crate::rooted_table::RootedTable;
-use crate::tables::OpenTable;
 use plane::{Bounds, Refusal};
 use std::alloc::Global;
-use table_core::Shape;
 
 /// Live cells in the range, as a square round (0,0) at an open table, with a rule, and a limit for the
 /// pair slots of all its tables. A table for each exponent of its steps stays open: the one with the square
-/// is `here`, and the others are listed, the least recently used first.
+/// is `here`.
 #[derive(Drop)]
 pub struct Universe {
     pub(crate) here: RootedTable,
-    pub(crate) others: Vec<OpenTable>,
-    pub(crate) limit: Shape,
-    ghost within: { pairs_in here.table + pair_sum others.items ≤ 2 ^ limit.bits },
+    pub(crate) others: OtherTables,
+    ghost within: { pairs_in here.table + pair_sum others.tables.items ≤ 2 ^ others.limit.bits },
 }
 
 impl Universe {
@@ -44,20 +41,9 @@ impl Universe {
         ensures limit { IfOk result (λ found. limit_of found.0 ≡ limit_of self) }
         ensures memory { IsOkUnless result Refusal.NoMemory }
     {
-        let Universe {
-            here,
-            others,
-            limit,
-        } = self;
+        let Universe { here, others } = self;
         let (here, count) = here.population(alloc)?;
-        Ok((
-            Universe {
-                here,
-                others,
-                limit,
-            },
-            count,
-        ))
+        Ok((Universe { here, others }, count))
     }
 
     /// The universe again, and the smallest box that holds the live cells. `NoMemory` where there is no
@@ -69,20 +55,9 @@ impl Universe {
         ensures limit { IfOk result (λ found. limit_of found.0 ≡ limit_of self) }
         ensures memory { IsOkUnless result Refusal.NoMemory }
     {
-        let Universe {
-            here,
-            others,
-            limit,
-        } = self;
+        let Universe { here, others } = self;
         let (here, bounds) = here.bounds(alloc)?;
-        Ok((
-            Universe {
-                here,
-                others,
-                limit,
-            },
-            bounds,
-        ))
+        Ok((Universe { here, others }, bounds))
     }
 
     /// How many pair slots its tables have together: at most the limit.
@@ -90,18 +65,13 @@ impl Universe {
         ensures pairs { result ≡ pairs_of self.now }
         ensures limit { result ≤ limit_of self.now }
     {
-        self.here.table.pair_count() + total(self.others.as_slice())
+        self.here.table.pair_count() + self.others.pairs()
     }
 
     /// The live cells in the words of their table, which is closed. All other tables are dropped.
     pub fn into_still(self) -> RootedStill
         ensures { IsSame (still_cells result) (live_cells self) }
     {
-        let Universe {
-            here,
-            others: _,
-            limit: _,
-        } = self;
-        here.into_still()
+        self.here.into_still()
     }
 }

@@ -29,18 +29,14 @@ pub moved_to_larger-moved-requires : goal.moved_to_larger-moved-requires
 moved_to_larger-moved-requires t c =
     let under = subst (λ (o : Option OpenTable). IfSome o (IsTableUnder c.args.other.state.key.rule c.args.other.state.key.exponent)) c.in-Some-2.is c.in_ok-larger.ensures.under in
     let size = subst (λ (o : Option OpenTable). IfSome o (λ larger. pairs_in larger ≡ 2 ^ c.in-Some.shape.bits)) c.in-Some-2.is c.in_ok-larger.ensures.pairs in
-    let limit = ap (λ (s : Shape). 2 ^ s.bits) c.with_room-start.ensures.limit in
-    let here = ap (λ (s : RootedTable). pairs_in s.table) c.with_room-start.ensures.here in
-    let fits = c.with_room-start.ensures.others.fits in
+    let limit = ap (λ (s : Shape). 2 ^ s.bits) c.make_room_beside.ensures.limit in
+    let here = c.make_room_beside.ensures.here in
+    let room = c.make_room_beside.ensures.room c.if-not-make_room_beside.false in
     let more = more_pairs c.args.other.state.key.shape.bits c.in-Some.shape.bits c.in-Some.ensures.some.0 in
-    let within = c.if-pairs-pair_count.false in
-    let first = c.pair_count.ensures in
-    let second = c.pair_count-2.ensures in
-    let third = c.pair_count-3.ensures in
     let less = c.decreases in (
-      omega (arith, size, limit, more, within, first, second, third, less),
+      omega (arith, size, limit, more, room, less),
       (
-        under.1 ∙ c.requires.rule ∙ sym (ap (λ (s : RootedTable). s.table.state.key.rule) c.with_room-start.ensures.here),
-        omega (arith, size, limit, here, fits, within, first, second, third),
+        under.1 ∙ c.requires.rule ∙ sym (ap (λ (s : RootedTable). s.table.state.key.rule) here),
+        omega (arith, size, room),
       ),
     )

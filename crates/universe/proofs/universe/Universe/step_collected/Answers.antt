@@ -1,4 +1,4 @@
-use Rattle.std.proofs.Common.{◌≤◌, ◌^◌, subst, sym, arith}
+use Rattle.std.proofs.Common.{◌≤◌, ◌^◌, ◌∙◌, subst, sym, arith}
 use Rattle.table_core.specs.declared.shape.Shape.{Shape}
 use Rattle.universe.specs.Runs.{IsAttempt}
 use Rattle.universe.specs.declared.attempts.Attempt.{Attempt}
@@ -11,7 +11,7 @@ step_in-requires-clause-step g c κs within = step_again c.requires c.collection
 
 pub step_in-requires-clause-shape : goal.step_in-requires-clause-shape
 step_in-requires-clause-shape g c κs within =
-    subst (λ (limit : Shape). 2 ^ c.args.self.limit.bits ≤ 2 ^ limit.bits) (sym c.collections.invariant.same.limit) (omega arith)
+    subst (λ (limit : Shape). 2 ^ c.limit-most.result.bits ≤ 2 ^ limit.bits) (c.limit-most.ensures ∙ sym c.collections.invariant.same.limit) (omega arith)
 
 pub returns-in_default-clause-ok : goal.returns-in_default-clause-ok
 returns-in_default-clause-ok g c = attempt_again c.in_ok-done.done c.collections.invariant c.in_ok-done.ensures.ok

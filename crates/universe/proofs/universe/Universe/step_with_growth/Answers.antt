@@ -1,4 +1,4 @@
-use Rattle.std.proofs.Common.{◌≤◌, ◌^◌, subst, sym, pow_mono}
+use Rattle.std.proofs.Common.{◌≤◌, ◌^◌, ◌∙◌, subst, sym, pow_mono}
 use Rattle.table_core.specs.declared.shape.Shape.{Shape}
 use Rattle.universe.specs.Runs.{IsAttempt}
 use Rattle.universe.specs.declared.attempts.Attempt.{Attempt}
@@ -9,8 +9,8 @@ use Rattle.universe.proofs.universe.Universe.step_with_growth.Goals as goal
 
 pub step_in-requires-clause-shape : goal.step_in-requires-clause-shape
 step_in-requires-clause-shape g c κs within =
-    subst (λ (limit : Shape). 2 ^ c.in-Some.next.bits ≤ 2 ^ limit.bits) (sym c.sizes.invariant.same.limit)
-    (pow_mono {i = c.in-Some.next.bits} {j = c.args.self.limit.bits} c.in-Some.ensures.some.1)
+    subst (λ (limit : Shape). 2 ^ c.in-Some.next.bits ≤ 2 ^ limit.bits) (c.limit-most.ensures ∙ sym c.sizes.invariant.same.limit)
+    (pow_mono {i = c.in-Some.next.bits} {j = c.limit-most.result.bits} c.in-Some.ensures.some.1)
 
 pub step_in-requires-clause-step : goal.step_in-requires-clause-step
 step_in-requires-clause-step g c κs within = step_again c.requires c.sizes.invariant
