@@ -1,16 +1,26 @@
 -- How a run ends, as the program tells it.
-use Rattle.std.proofs.Common.{◌≡◌, ◌⊎◌, ℕ, List, Option, None, inl, inr}
+use Rattle.std.proofs.Common.{◌≡◌, ℕ, List, None, Err, arith, ap, ⊎_elim, inl, inr}
 use Rattle.plane.specs.declared.fault.Fault.{Fault}
-use Rattle.engine.specs.Run.{HasStopped as EndsEarly}
+use Rattle.engine.specs.Run.{IsRun, HasStopped as EndsEarly}
+use Rattle.engine.specs.SinkChange.{SinkChange, Fails}
 use Rattle.engine.specs.declared.options.Options.{Options}
 use Rattle.batch_program.specs.Status.{HasStopped}
 
 -- a run was refused; where no file is asked for, it isn't the file's sink that failed
-pub stopped_run : (bytes : List ℕ) (options : Options) (fault : Fault) (before after : Option (List ℕ)) (SameReport SameFile ReportFailed FileFailed : Type 0) →
-    (options.format ≡ None → FileFailed → ⊥) → EndsEarly bytes options before after SameReport SameFile (ReportFailed ⊎ FileFailed) fault →
-    HasStopped options fault before after SameReport ReportFailed
-stopped_run bytes options fault before after SameReport SameFile ReportFailed FileFailed no_file (inl (refused, same, same_file)) = inr (inl (bytes, refused, same))
-stopped_run bytes options fault before after SameReport SameFile ReportFailed FileFailed no_file (inr (inl (is, same_file, (said, large, appends)))) = inr (inr (inl (is, (bytes, said, large, appends))))
-stopped_run bytes options fault before after SameReport SameFile ReportFailed FileFailed no_file (inr (inr (inl (same_file, (said, stopped, appends))))) = inr (inr (inr (inr (inl (bytes, said, stopped, appends)))))
-stopped_run bytes options fault before after SameReport SameFile ReportFailed FileFailed no_file (inr (inr (inr (is, inl failed)))) = inr (inr (inr (inr (inr (is, λ none. failed)))))
-stopped_run bytes options fault before after SameReport SameFile ReportFailed FileFailed no_file (inr (inr (inr (is, inr failed)))) = inr (inr (inr (inr (inr (is, λ none. absurd (no_file none failed))))))
+stopped_early : {W V : Type 0} (bytes : List ℕ) (options : Options) (fault : Fault) (report : SinkChange W) (file : SinkChange V) →
+    (options.format ≡ None → Fails file → ⊥) → EndsEarly bytes options report file fault →
+    HasStopped options fault (report.taken report.old) (report.taken report.new) (report.new ≡ report.old) (Fails report)
+stopped_early bytes options fault report file no_file (inl (refused, same, same_file)) = inr (inl (bytes, refused, same))
+stopped_early bytes options fault report file no_file (inr (inl (is, same_file, (said, large, appends)))) = inr (inr (inl (is, (bytes, said, large, appends))))
+stopped_early bytes options fault report file no_file (inr (inr (inl (same_file, (said, stopped, appends))))) = inr (inr (inr (inr (inl (bytes, said, stopped, appends)))))
+stopped_early bytes options fault report file no_file (inr (inr (inr (is, inl failed)))) = inr (inr (inr (inr (inr (is, λ none. failed)))))
+stopped_early bytes options fault report file no_file (inr (inr (inr (is, inr failed)))) = inr (inr (inr (inr (inr (is, λ none. absurd (no_file none failed.0))))))
+
+-- a run that begins at a file's sink that has not failed was refused
+pub stopped_run : {W V : Type 0} (bytes : List ℕ) (options : Options) (fault : Fault) (report : SinkChange W) (file : SinkChange V) → file.failure_count file.old ≡ 0 →
+    IsRun bytes options report file (Err fault) → HasStopped options fault (report.taken report.old) (report.taken report.new) (report.new ≡ report.old) (Fails report)
+stopped_run bytes options fault report file none_yet run =
+    stopped_early bytes options fault report file
+    (λ none failed. let same = ap file.failure_count (run.no_format none) in
+    ⊎_elim (λ less. omega (arith, same, none_yet, less)) (λ most. omega (arith, same, none_yet, most)) failed)
+    run.refused

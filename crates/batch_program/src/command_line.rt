@@ -311,10 +311,7 @@ fn number_for(matches: &ArgMatches<'_>, name: &str) -> Result<u64, WordsFault>
     ensures ok { IfOk result (IsNumber (one_text (found_of matches.now) name.now)) }
     ensures err { IfErr result (λ fault. (fault ≡ WordsFault.Unfit) × ((number : ℕ) → ¬ IsNumber (one_text (found_of matches.now) name.now) number)) }
 {
-    match matches.get_one::<u64>(name) {
-        Some(number) => Ok(number),
-        None => Err(WordsFault::Unfit),
-    }
+    matches.get_one::<u64>(name).ok_or(WordsFault::Unfit)
 }
 
 // The most pair slots that the tables may have.

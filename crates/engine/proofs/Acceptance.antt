@@ -1,5 +1,5 @@
 -- How a run is accepted, and how it is refused before its first line.
-use Rattle.std.proofs.Common.{◌≡◌, ◌⊎◌, ℕ, true, List, [], Option, Some, Ok, Err, refl, sym, ap, inl, inr}
+use Rattle.std.proofs.Common.{◌≡◌, ◌⊎◌, ℕ, true, List, [], Option, Some, Ok, Err, refl, sym, ap, subst, inl, inr}
 use Rattle.std.specs.Io.KnownBytes.{Appends}
 use Rattle.std.proofs.KnownBytes.{Appends-nil}
 use Rattle.rule_text.specs.CountRule.{CountRule, IsRule}
@@ -14,11 +14,12 @@ use Rattle.plane.specs.declared.refusal.Refusal.TheVariants.{NodesFull, NoMemory
 use Rattle.universe.specs.Tables.{HasFullTable}
 use Rattle.viewport.specs.BoundingBox.{HasBounds}
 use Rattle.engine.specs.Accepted.{HasRoomFor, IsAccepted, IsRefused, LeavesRange}
-use Rattle.engine.specs.Judgement.{Judges, ReadsRule, rule_refusal}
+use Rattle.engine.specs.Judgement.{ReadsRule, rule_refusal}
 use Rattle.patterns.specs.Meaning.{placeless, Meaning, is_macrocell, judged}
-use Rattle.engine.specs.Run.{IsStopped, IsOutOfRoom}
+use Rattle.engine.specs.Run.{IsOutOfRoom, IsRun}
+use Rattle.engine.specs.SinkChange.{SinkChange}
 use Rattle.engine.specs.declared.options.Options.{Options}
-use Rattle.engine.proofs.Endings.{reported_none, listing_as, stays_as, stopped_by}
+use Rattle.engine.proofs.Endings.{reported_none, listing_as, stays_as, stopped_by, stopped_early}
 
 -- ---- the range
 
@@ -73,10 +74,10 @@ module _ (bytes : List ℕ) (options : Options) (meaning : Meaning) (text : judg
     }
 
 -- a run that is refused before its first line has written nothing
-pub refused_at_once : (bytes : List ℕ) (options : Options) (fault : Fault) (taken : Option (List ℕ)) (ReportSame FileSame TooLarge Failed : Type 0) → ReportSame → FileSame →
-    IsRefused bytes options fault →
-    (Judges bytes options (Err fault) × ReportSame × FileSame) ⊎ TooLarge
-    ⊎ (FileSame × ((said : List ℕ) × IsStopped bytes options fault said × Appends taken taken said)) ⊎ Failed
+pub refused_at_once : {W V : Type 0} (bytes : List ℕ) (options : Options) (fault : Fault) (report : SinkChange W) (file : SinkChange V) → report.new ≡ report.old → file.new ≡ file.old →
+    IsRefused bytes options fault → IsRun bytes options report file (Err fault)
 unfolding IsRefused
-refused_at_once bytes options fault taken ReportSame FileSame TooLarge Failed report file (inl refused) = inl (refused, report, file)
-refused_at_once bytes options fault taken ReportSame FileSame TooLarge Failed report file (inr stopped) = inr (inr (inl (file, ([], stopped, Appends-nil _))))
+refused_at_once bytes options fault report file same same_file (inl refused) = stopped_early (λ _. same_file) (inl (refused, same, same_file))
+refused_at_once bytes options fault report file same same_file (inr stopped) =
+    let nothing = subst (λ sink. Appends (report.taken report.old) (report.taken sink) []) (sym same) (Appends-nil _) in
+    stopped_early (λ _. same_file) (inr (inr (inl (same_file, ([], stopped, nothing)))))

@@ -1,5 +1,5 @@
 -- How runs end.
-use Rattle.std.proofs.Common.{◌≡◌, ◌⊎◌, ℕ, ◌+◌, Bor, List, [], ◌++◌, length, take, Option, None, Some, Ok, refl, sym, ◌∙◌, subst, ap, arith, inl, inr}
+use Rattle.std.proofs.Common.{◌≡◌, ◌⊎◌, ℕ, ◌+◌, Bor, List, [], ◌++◌, length, take, Option, None, Some, Ok, Err, refl, sym, ◌∙◌, subst, ap, arith, inl, inr}
 use Rattle.std.specs.Io.KnownBytes.{Appends}
 use Rattle.std.proofs.KnownBytes.{Appends-trans}
 use Rattle.std.specs.Option.{option_copied, unwrap_or}
@@ -10,23 +10,24 @@ use Rattle.plane.specs.Listing.{IsListing}
 use Rattle.plane.specs.Centred.{IsSmallestLevel}
 use Rattle.plane.specs.Plane.{Plane, after}
 use Rattle.plane.specs.Square.{IsSame}
-use Rattle.plane.specs.Device.{HasFailed}
 use Rattle.plane.specs.Range.{StaysWithin}
 use Rattle.plane.specs.declared.cell.Bounds.{Bounds}
 use Rattle.plane.specs.declared.cell.Cell.{Cell}
+use Rattle.plane.specs.declared.fault.Fault.{Fault}
 use Rattle.plane.specs.declared.refusal.Refusal.{Refusal}
-use Rattle.plane.specs.declared.refusal.Refusal.TheVariants.{BoxTooLarge, NodesFull, NoMemory, WriteFailed}
+use Rattle.plane.specs.declared.refusal.Refusal.TheVariants.{BoxTooLarge, NodesFull, NoMemory}
 use Rattle.patterns.specs.Meaning.{Meaning, judged, placeless}
 use Rattle.plane.specs.Device.{IsWriteRefusal}
 use Rattle.plane.proofs.Uniqueness.{one_listing_lem}
 use Rattle.patterns.specs.FileText.{HasText, IsFileText, Exceeds, Fits, Writes}
 use Rattle.engine.specs.Accepted.{IsAccepted, SumsUp}
-use Rattle.engine.specs.Judgement.{Start, Judges, ReadsRule}
+use Rattle.engine.specs.Judgement.{Start, ReadsRule}
 use Rattle.engine.specs.Report.{Shows, shown}
 use Rattle.engine.specs.Room.{IsStuckWithin}
 use Rattle.patterns.specs.Drawing.{picture_of}
 use Rattle.universe.specs.Tables.{HasFullTable}
-use Rattle.engine.specs.Run.{CanBeWritten, IsLast, IsReport, Finishes, HasBegun, HasReported, IsBegun, IsStopped, IsTooLarge, IsOutOfRoom, last_generation}
+use Rattle.engine.specs.Run.{CanBeWritten, IsLast, IsReport, Finishes, HasBegun, HasFinished, HasReported, HasStopped, IsBegun, IsRun, IsStopped, IsOutOfRoom, last_generation}
+use Rattle.engine.specs.SinkChange.{SinkChange, IsUnfailed, Takes}
 use Rattle.engine.specs.declared.running.Summary.{Summary}
 use Rattle.patterns.specs.declared.format.Format.{Format}
 use Rattle.patterns.specs.declared.format.Format.TheVariants.{Rle, Macrocell}
@@ -65,6 +66,11 @@ pub stopped_by : (bytes : List ℕ) (options : Options) (refusal : Refusal) (sai
     IsStopped bytes options (placeless refusal) said
 stopped_by bytes options refusal said (inl memory) reported full = inl (ap placeless memory, inr (begun_of reported))
 stopped_by bytes options refusal said (inr is) reported full = inr (ap placeless is, record { reported = reported; full = full is })
+
+-- a run that stopped so is a run as it has to be, if without a format its file is as it was
+pub stopped_early : {W V : Type 0} {bytes : List ℕ} {options : Options} {report : SinkChange W} {file : SinkChange V} {fault : Fault} →
+    (options.format ≡ None → file.new ≡ file.old) → HasStopped bytes options report file fault → IsRun bytes options report file (Err fault)
+stopped_early no_format stopped = record { finished = tt; no_format = no_format; unfailed = tt; refused = stopped }
 
 -- a listing of one plane is one of each other with the same cells
 pub listing_as : {cells : List Cell} {plane other : Plane} → IsSame plane other → IsListing cells plane → IsListing cells other
@@ -194,30 +200,31 @@ module _ (bytes : List ℕ) (options : Options) (meaning : Meaning) (rule : Coun
   }
 
   -- in the middle of the report
-  pub refused_reporting : (generation : ℕ) (refusal : Refusal) (failed_before failed_after : ℕ) (old new : Option (List ℕ)) (Unaccepted TooLarge FileSame FileFailed : Type 0) → FileSame → generation ≡ meaning.generation →
+  pub refused_reporting : {W V : Type 0} (generation : ℕ) (refusal : Refusal) (report : SinkChange W) (file : SinkChange V) → file.new ≡ file.old → generation ≡ meaning.generation →
       (refusal ≡ NodesFull → IsStuckWithin rule here options.pairs options.gens) →
-      (IsOutOfRoom refusal × ((lines : ℕ) × (said : List ℕ) × Shows rule here generation (take lines (shown options)) said × Appends old new said))
-      ⊎ IsWriteRefusal failed_before failed_after refusal →
-      Unaccepted ⊎ TooLarge ⊎ (FileSame × ((said : List ℕ) × IsStopped bytes options (placeless refusal) said × Appends old new said))
-      ⊎ ((placeless refusal ≡ placeless WriteFailed) × (HasFailed failed_before failed_after ⊎ FileFailed))
+      (IsOutOfRoom refusal × ((lines : ℕ) × (said : List ℕ) × Shows rule here generation (take lines (shown options)) said × Takes report said))
+      ⊎ IsWriteRefusal (report.failure_count report.old) (report.failure_count report.new) refusal →
+      IsRun bytes options report file (Err (placeless refusal))
   unfolding reported_some
-  refused_reporting generation refusal failed_before failed_after old new Unaccepted TooLarge FileSame FileFailed same is_start stuck (inl (no_room, (lines, said, shows, appends))) =
-      inr (inr (inl (same, (said, stopped_by bytes options refusal said no_room (reported_some lines said (subst (λ n. Shows rule here n (take lines (shown options)) said) is_start shows)) (λ full. inr (stuck_from (stuck full))), appends))))
-  refused_reporting generation refusal failed_before failed_after old new Unaccepted TooLarge FileSame FileFailed same is_start stuck (inr (is, failed)) =
-      inr (inr (inr (ap placeless is, inl failed)))
+  refused_reporting generation refusal report file same is_start stuck (inl (no_room, (lines, said, shows, appends))) =
+      stopped_early (λ _. same)
+      (inr (inr (inl (same, (said, stopped_by bytes options refusal said no_room (reported_some lines said (subst (λ n. Shows rule here n (take lines (shown options)) said) is_start shows)) (λ full. inr (stuck_from (stuck full))), appends)))))
+  refused_reporting generation refusal report file same is_start stuck (inr (is, failed)) = stopped_early (λ _. same) (inr (inr (inr (ap placeless is, inl failed))))
 
   -- after the lines, which count from the generation of the file
-  module _ (from : ℕ) (last : Plane) (old new : Option (List ℕ)) (is_from : from ≡ meaning.generation) (is : IsSame last (after rule here options.gens))
-      (reported : (said : List ℕ) × Shows rule here from (shown options) said × Appends old new said) where
+  module _ {W V : Type 0} (report : SinkChange W) (file : SinkChange V) (from : ℕ) (last : Plane) (lines_taken : Option (List ℕ)) (is_from : from ≡ meaning.generation) (is : IsSame last (after rule here options.gens))
+      (reported : (said : List ℕ) × Shows rule here from (shown options) said × Appends (report.taken report.old) lines_taken said) where
     shows_all : Shows rule here meaning.generation (shown options) reported.0
     shows_all = subst (λ (n : ℕ). Shows rule here n (shown options) reported.0) is_from reported.1
 
     -- memory ran out before the picture
-    pub begun_lines : (said : List ℕ) × IsBegun bytes options said × Appends old new said
-    begun_lines = (reported.0, begun_all reported.0 shows_all, reported.2)
+    pub refused_counting : lines_taken ≡ report.taken report.new → file.new ≡ file.old → IsRun bytes options report file (Err (placeless NoMemory))
+    refused_counting taken same =
+        let said_lines = subst (λ (bytes_taken : Option (List ℕ)). Appends (report.taken report.old) bytes_taken reported.0) taken reported.2 in
+        stopped_early (λ _. same) (inr (inr (inl (same, (reported.0, inl (refl, begun_all reported.0 shows_all), said_lines)))))
 
-    module _ (drawn : Option (List ℕ)) (draws : Appends new drawn (picture_of options.window last)) where
-      said_all : Appends old drawn (reported.0 ++ picture_of options.window last)
+    module _ (draws : Appends lines_taken (report.taken report.new) (picture_of options.window last)) where
+      said_all : Takes report (reported.0 ++ picture_of options.window last)
       said_all = Appends-trans _ _ _ reported.0 (picture_of options.window last) reported.2 draws
 
       -- the format can hold the last cells
@@ -227,16 +234,14 @@ module _ (bytes : List ℕ) (options : Options) (meaning : Meaning) (rule : Coun
       can_be_written (Some Rle) cells asked listing fits = record { start = start; cells = fits.cells; accepted = run.accepted; last = last_cells last fits.cells is fits.listing; fits = rw asked fits.fits }
 
       -- the file was not written
-      pub refused_writing : (format : Option Format) (cells : List Cell) (refusal : Refusal) (failed_before failed_after : ℕ) (Unaccepted FileSame ReportFailed : Type 0) → options.format ≡ format → IsListing cells last →
-          ((refusal ≡ BoxTooLarge) × Exceeds format last × FileSame) ⊎ ((refusal ≡ NoMemory) × FileSame) ⊎ (IsWriteRefusal failed_before failed_after refusal × Fits format last) →
-          Unaccepted
-          ⊎ ((placeless refusal ≡ placeless BoxTooLarge) × FileSame × ((said : List ℕ) × IsTooLarge bytes options said × Appends old drawn said))
-          ⊎ (FileSame × ((said : List ℕ) × IsStopped bytes options (placeless refusal) said × Appends old drawn said))
-          ⊎ ((placeless refusal ≡ placeless WriteFailed) × (ReportFailed ⊎ (HasFailed failed_before failed_after × CanBeWritten bytes options)))
-      refused_writing None cells refusal failed_before failed_after Unaccepted FileSame ReportFailed asked listing (inl (large, unfit, unchanged)) = absurd unfit
-      refused_writing (Some Macrocell) cells refusal failed_before failed_after Unaccepted FileSame ReportFailed asked listing (inl (large, unfit, unchanged)) = absurd unfit
-      refused_writing (Some Rle) cells refusal failed_before failed_after Unaccepted FileSame ReportFailed asked listing (inl (large, unfit, unchanged)) =
-          inr (inl (
+      pub refused_writing : (format : Option Format) (cells : List Cell) (refusal : Refusal) → options.format ≡ format → IsListing cells last → (options.format ≡ None → file.new ≡ file.old) →
+          ((refusal ≡ BoxTooLarge) × Exceeds format last × (file.new ≡ file.old)) ⊎ ((refusal ≡ NoMemory) × (file.new ≡ file.old))
+          ⊎ (IsWriteRefusal (file.failure_count file.old) (file.failure_count file.new) refusal × Fits format last) →
+          IsRun bytes options report file (Err (placeless refusal))
+      refused_writing None cells refusal asked listing no_format (inl (large, unfit, unchanged)) = absurd unfit
+      refused_writing (Some Macrocell) cells refusal asked listing no_format (inl (large, unfit, unchanged)) = absurd unfit
+      refused_writing (Some Rle) cells refusal asked listing no_format (inl (large, unfit, unchanged)) =
+          stopped_early no_format (inr (inl (
             ap placeless large,
             unchanged,
             (
@@ -251,21 +256,22 @@ module _ (bytes : List ℕ) (options : Options) (meaning : Meaning) (rule : Coun
               },
               said_all,
             ),
-          ))
-      refused_writing format cells refusal failed_before failed_after Unaccepted FileSame ReportFailed asked listing (inr (inl (memory, unchanged))) =
-          inr (inr (inl (unchanged, (reported.0 ++ picture_of options.window last, inl (ap placeless memory, begun_whole last reported.0 is shows_all), said_all))))
-      refused_writing format cells refusal failed_before failed_after Unaccepted FileSame ReportFailed asked listing (inr (inr ((failing, failed), fits))) =
-          inr (inr (inr (ap placeless failing, inr (failed, can_be_written format cells asked listing fits))))
+          )))
+      refused_writing format cells refusal asked listing no_format (inr (inl (memory, unchanged))) =
+          stopped_early no_format (inr (inr (inl (unchanged, (reported.0 ++ picture_of options.window last, inl (ap placeless memory, begun_whole last reported.0 is shows_all), said_all)))))
+      refused_writing format cells refusal asked listing no_format (inr (inr ((failing, failed), fits))) =
+          stopped_early no_format (inr (inr (inr (ap placeless failing, inr (failed, can_be_written format cells asked listing fits)))))
 
       -- what an accepted run that ends well writes and answers
-      pub ends_well : (comments : List (List ℕ)) (answer : Summary) (file written : Option (List ℕ)) → comments ≡ meaning.comments → SumsUp (from + options.gens) last answer →
-          Writes options.format last comments rule answer.generation file written →
-          (start : Start) × (said : List ℕ) × (text : List ℕ) × Judges bytes options (Ok start) × Finishes start options answer said text × Appends old drawn said × Appends file written text
-      ends_well comments answer file written is_comments sum writes =
+      pub ends_well : (comments : List (List ℕ)) (answer : Summary) → comments ≡ meaning.comments → SumsUp (from + options.gens) last answer →
+          Writes options.format last comments rule answer.generation (file.taken file.old) (file.taken file.new) → (options.format ≡ None → file.new ≡ file.old) → IsUnfailed file → IsUnfailed report →
+          IsRun bytes options report file (Ok answer)
+      ends_well comments answer is_comments sum writes no_format unfailed_file unfailed_report =
           let sums : SumsUp (last_generation start options) last answer = subst (λ (n : ℕ). SumsUp (n + options.gens) last answer) is_from sum in
-          let text = has_written options.format last sum.bounds.cells meaning.comments rule (last_generation start options) file written sum.bounds.listing
-          (subst (λ (n : ℕ). Writes options.format last meaning.comments rule n file written) sums.last
-          (subst (λ (texts : List (List ℕ)). Writes options.format last texts rule answer.generation file written) is_comments writes)) in (
+          let text = has_written options.format last sum.bounds.cells meaning.comments rule (last_generation start options) (file.taken file.old) (file.taken file.new) sum.bounds.listing
+          (subst (λ (n : ℕ). Writes options.format last meaning.comments rule n (file.taken file.old) (file.taken file.new)) sums.last
+          (subst (λ (texts : List (List ℕ)). Writes options.format last texts rule answer.generation (file.taken file.old) (file.taken file.new)) is_comments writes)) in
+          let finished : HasFinished bytes options report file answer = (
             start,
             reported.0 ++ picture_of options.window last,
             text.text,
@@ -273,4 +279,5 @@ module _ (bytes : List ℕ) (options : Options) (meaning : Meaning) (rule : Coun
             finishes last reported.0 text.cells text.text answer is shows_all text.listing text.fits text.is sums,
             said_all,
             text.appends,
-          )
+          ) in
+          record { finished = finished; no_format = no_format; unfailed = (unfailed_file, unfailed_report); refused = tt }

@@ -1,5 +1,5 @@
 -- A run has one judgement and one ending.
-use Rattle.std.proofs.Common.{◌≡◌, ℕ, ◌+◌, List, [], ◌∷◌, ◌++◌, length, Option, None, Some, Result, Ok, Err, refl, sym, ◌∙◌, ap, subst, arith, inl, inr}
+use Rattle.std.proofs.Common.{◌≡◌, ℕ, ◌+◌, List, [], ◌∷◌, ◌++◌, length, Option, None, Some, Result, Ok, Err, refl, sym, ◌∙◌, ap, subst, inl, inr}
 use Rattle.std.specs.List.{AllZip, concat}
 use Rattle.rule_text.specs.CountRule.{CountRule}
 use Rattle.rule_text.specs.declared.fault.RuleFault.{RuleFault}
@@ -14,7 +14,7 @@ use Rattle.patterns.specs.FileText.{IsFileText}
 use Rattle.patterns.specs.declared.format.Format.{Format}
 use Rattle.patterns.specs.declared.format.Format.TheVariants.{Rle, Macrocell}
 use Rattle.pattern_writers.specs.McText.{mc_text}
-use Rattle.plane.specs.Centred.{IsSmallestLevel}
+use Rattle.pattern_writers.proofs.WrittenReadBack.{one_smallest_level}
 use Rattle.engine.specs.Judgement.{Start, IsStart, Judges, StaysInRange, RefusesRange, RefusesRule, ReadsRule, rule_text_of}
 use Rattle.engine.specs.Report.{IsLineAfter, Shows, report_line, shown}
 use Rattle.patterns.specs.Drawing.{picture_of}
@@ -111,16 +111,13 @@ one_report meaning rule options said others is other =
     ∙ ap (λ (lines : List ℕ). lines ++ picture_of options.window (after rule meaning.live options.gens)) (one_text rule meaning.live meaning.generation (shown options) is.lines other.lines is.shows other.shows)
     ∙ sym other.is
 
-one_level : (plane : Plane) (a b : ℕ) → IsSmallestLevel a plane → IsSmallestLevel b plane → a ≡ b
-one_level plane a b is other = grind (arith, is.no_smaller b other.least, other.no_smaller a is.least, is.holds, other.holds)
-
 -- cells have one text in a format
 one_file_text : (format : Option Format) (comments : List (List ℕ)) (rule : CountRule) (generation : ℕ) (cells : List Cell) (a b : List ℕ) →
     IsFileText format comments rule generation cells a → IsFileText format comments rule generation cells b → a ≡ b
 one_file_text None comments rule generation cells a b is other = is ∙ sym other
 one_file_text (Some Rle) comments rule generation cells a b is other = is ∙ sym other
 one_file_text (Some Macrocell) comments rule generation cells a b is other =
-    is.is ∙ ap (λ (level : ℕ). mc_text comments rule generation level (plane_of cells)) (one_level (plane_of cells) is.level other.level is.smallest other.smallest) ∙ sym other.is
+    is.is ∙ ap (λ (level : ℕ). mc_text comments rule generation level (plane_of cells)) (one_smallest_level (plane_of cells) is.level other.level is.smallest other.smallest) ∙ sym other.is
 
 pub one_ending_lem : (start : Start) (options : Options) (a b : Summary) (said others drawn other : List ℕ) → Finishes start options a said drawn → Finishes start options b others other →
     (a ≡ b) × (said ≡ others) × (drawn ≡ other)

@@ -5,4 +5,5 @@ pub mod Judgement
 pub mod Report
 pub mod Room
 pub mod Run
+pub mod SinkChange
 pub mod Workers

@@ -1,6 +1,5 @@
 -- What a run writes and answers.
-use Rattle.std.specs.Prelude.{◌≡◌, ◌⊎◌, ℕ, ◌+◌, true, List, [], ◌++◌, length, take, Option, Ok, Err}
-use Rattle.std.specs.Io.KnownBytes.{Appends}
+use Rattle.std.specs.Prelude.{◌≡◌, ◌⊎◌, ℕ, ◌+◌, true, List, [], ◌++◌, length, take, None, Result, Ok, Err, IfOk, IfErr, OnOk}
 use Rattle.rule_text.specs.CountRule.{CountRule}
 use Rattle.plane.specs.Bounds.{bounds_of}
 use Rattle.plane.specs.Listing.{IsListing}
@@ -14,6 +13,7 @@ use Rattle.patterns.specs.FileText.{HasText, IsFileText}
 use Rattle.engine.specs.Judgement.{Start, Judges, ReadsRule}
 use Rattle.engine.specs.Report.{Shows, shown}
 use Rattle.engine.specs.Room.{IsStuckWithin}
+use Rattle.engine.specs.SinkChange.{SinkChange, Fails, IsUnfailed, Takes}
 use Rattle.patterns.specs.Drawing.{picture_of}
 use Rattle.universe.specs.Tables.{HasFullTable}
 use Rattle.engine.specs.declared.running.Summary.{Summary}
@@ -88,8 +88,9 @@ pub record HasReported (bytes : List ℕ) (options : Options) (said : List ℕ) 
   pub accepted : IsSilentOrAccepted bytes options said
   pub report : IsBeginning meaning rule options said
 
--- so it is, and there is a full table of as many pair slots as the options allow: nothing is said, and it was opened for the
--- cells of the file; or it was opened for cells on the way, or has no room for what these need
+-- so it is, and tables of as many pair slots as the options allow are too small: nothing is said, and one that was opened
+-- under the run's rule without a square has filled up; or one that was opened for the cells of a generation on the way has,
+-- or has no room for what these need
 pub record IsOutOfTables (bytes : List ℕ) (options : Options) (said : List ℕ) : Type 0 where
   pub reported : HasReported bytes options said
   pub full : ((said ≡ []) × HasFullTable reported.rule options.pairs)
@@ -105,11 +106,11 @@ abbrev pub IsStopped : List ℕ → Options → Fault → List ℕ → Type 0
 IsStopped bytes options fault said =
     ((fault ≡ placeless NoMemory) × IsBegun bytes options said) ⊎ ((fault ≡ placeless NodesFull) × IsOutOfTables bytes options said)
 
--- a run of these bytes ended well: from before to after, its report and its file took what it says and draws
-abbrev pub HasFinished : List ℕ → Options → Option (List ℕ) → Option (List ℕ) → Option (List ℕ) → Option (List ℕ) → Summary → Type 0
-HasFinished bytes options report report_after file file_after answer =
+-- a run of these bytes ended well: its report and its file took what it says and draws
+abbrev pub HasFinished : {W V : Type 0} → List ℕ → Options → SinkChange W → SinkChange V → Summary → Type 0
+HasFinished bytes options report file answer =
     (start : Start) × (said : List ℕ) × (drawn : List ℕ) × Judges bytes options (Ok start) × Finishes start options answer said drawn
-    × Appends report report_after said × Appends file file_after drawn
+    × Takes report said × Takes file drawn
 
 -- the run is accepted, and the format can hold its last cells
 pub record CanBeWritten (bytes : List ℕ) (options : Options) : Type 0 where
@@ -121,9 +122,19 @@ pub record CanBeWritten (bytes : List ℕ) (options : Options) : Type 0 where
 
 -- a run of these bytes was refused: they are not accepted, and nothing was written; or what comes out has no text in the
 -- format, after the whole report; or memory ran out, or the tables are full; or a sink failed
-abbrev pub HasStopped : List ℕ → Options → Option (List ℕ) → Option (List ℕ) → Type 0 → Type 0 → Type 0 → Fault → Type 0
-HasStopped bytes options before after same_report same_file failed fault =
-    (Judges bytes options (Err fault) × same_report × same_file)
-    ⊎ ((fault ≡ placeless BoxTooLarge) × same_file × ((said : List ℕ) × IsTooLarge bytes options said × Appends before after said))
-    ⊎ (same_file × ((said : List ℕ) × IsStopped bytes options fault said × Appends before after said))
-    ⊎ ((fault ≡ placeless WriteFailed) × failed)
+abbrev pub HasStopped : {W V : Type 0} → List ℕ → Options → SinkChange W → SinkChange V → Fault → Type 0
+HasStopped bytes options report file fault =
+    (Judges bytes options (Err fault) × (report.new ≡ report.old) × (file.new ≡ file.old))
+    ⊎ ((fault ≡ placeless BoxTooLarge) × (file.new ≡ file.old) × ((said : List ℕ) × IsTooLarge bytes options said × Takes report said))
+    ⊎ ((file.new ≡ file.old) × ((said : List ℕ) × IsStopped bytes options fault said × Takes report said))
+    ⊎ ((fault ≡ placeless WriteFailed) × (Fails report ⊎ (Fails file × CanBeWritten bytes options)))
+
+-- what a run of these bytes by these options does to its report and to its file, and what it answers
+pub record IsRun {W V : Type 0} (bytes : List ℕ) (options : Options) (report : SinkChange W) (file : SinkChange V) (result : Result Summary Fault) : Type 0 where
+  -- it writes the defined report and file of the cells that the rule, applied that many times, makes live
+  pub finished : IfOk result (HasFinished bytes options report file)
+  pub no_format : options.format ≡ None → file.new ≡ file.old
+  pub unfailed : OnOk result (IsUnfailed file × IsUnfailed report)
+  -- it refuses what is not accepted, by its name and at its place, and then has written nothing; what has no text in the
+  -- format, after the whole report; and else only where memory ran out, the tables are full, or a sink failed
+  pub refused : IfErr result (HasStopped bytes options report file)

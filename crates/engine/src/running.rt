@@ -1,14 +1,13 @@
 //! A run from end to end.
 
-ghost use Rattle.std.specs.Prelude.{◌≡◌, ◌⊎◌, None, IfOk, IfErr, IsOkUnless, OnOk};
-ghost use Rattle.plane.specs.Device.{HasFailed};
+ghost use Rattle.std.specs.Prelude.{IfOk, IsOkUnless};
 ghost use Rattle.table_core.specs.Sizes.{IsPairCount};
 ghost use Rattle.plane.specs.Square.{IsSame};
 ghost use Rattle.universe.specs.Cells.{live_cells};
 ghost use Rattle.engine.specs.Accepted.{SumsUp};
 ghost use Rattle.patterns.specs.Pattern.{plane_of};
 ghost use Rattle.engine.specs.Workers.{IsWorkerCount};
-ghost use Rattle.engine.specs.Run.{CanBeWritten, HasFinished, HasStopped};
+ghost use Rattle.engine.specs.Run.{IsRun};
 
 use crate::accepted::judge;
 use crate::options::Options;
@@ -52,16 +51,9 @@ pub fn run<R: Threads + Wait + Sync, W: Sink, V: Sink>(
 ) -> Result<Summary, Fault>
     requires pairs { IsPairCount options.now.pairs }
     requires workers { IsWorkerCount options.now.workers }
-    // It writes the defined report and file of the cells that the rule, applied that many times, makes live.
-    ensures finished { IfOk result (HasFinished bytes.now options.now (W.taken report.old) (W.taken report.new) (V.taken file.old) (V.taken file.new)) }
-    ensures no_format { options.now.format ≡ None → file.new ≡ file.old }
-    ensures unfailed { OnOk result ((V.failure_count file.new ≡ V.failure_count file.old)
-        × (W.failure_count report.new ≡ W.failure_count report.old)) }
-    // It refuses what is not accepted, by its name and at its place, and then has written nothing; what has no
-    // text in the format, after the whole report; and else only where memory ran out, the tables are full, or a sink
-    // failed.
-    ensures refused { IfErr result (HasStopped bytes.now options.now (W.taken report.old) (W.taken report.new) (report.new ≡ report.old) (file.new ≡ file.old)
-        (HasFailed (W.failure_count report.old) (W.failure_count report.new) ⊎ (HasFailed (V.failure_count file.old) (V.failure_count file.new) × CanBeWritten bytes.now options.now))) }
+    ensures { IsRun bytes.now options.now
+        (record { old = report.old; new = report.new; taken = W.taken; failure_count = W.failure_count })
+        (record { old = file.old; new = file.new; taken = V.taken; failure_count = V.failure_count }) result }
 {
     run_gated(rt, alloc, bytes, options, report, file, &OpenGate)
 }
@@ -79,16 +71,9 @@ pub fn run_gated<R: Threads + Wait + Sync, G: Gate, W: Sink, V: Sink>(
 ) -> Result<Summary, Fault>
     requires pairs { IsPairCount options.now.pairs }
     requires workers { IsWorkerCount options.now.workers }
-    // It writes the defined report and file of the cells that the rule, applied that many times, makes live.
-    ensures finished { IfOk result (HasFinished bytes.now options.now (W.taken report.old) (W.taken report.new) (V.taken file.old) (V.taken file.new)) }
-    ensures no_format { options.now.format ≡ None → file.new ≡ file.old }
-    ensures unfailed { OnOk result ((V.failure_count file.new ≡ V.failure_count file.old)
-        × (W.failure_count report.new ≡ W.failure_count report.old)) }
-    // It refuses what is not accepted, by its name and at its place, and then has written nothing; what has no
-    // text in the format, after the whole report; and else only where memory ran out, the tables are full, or a sink
-    // failed.
-    ensures refused { IfErr result (HasStopped bytes.now options.now (W.taken report.old) (W.taken report.new) (report.new ≡ report.old) (file.new ≡ file.old)
-        (HasFailed (W.failure_count report.old) (W.failure_count report.new) ⊎ (HasFailed (V.failure_count file.old) (V.failure_count file.new) × CanBeWritten bytes.now options.now))) }
+    ensures { IsRun bytes.now options.now
+        (record { old = report.old; new = report.new; taken = W.taken; failure_count = W.failure_count })
+        (record { old = file.old; new = file.new; taken = V.taken; failure_count = V.failure_count }) result }
 {
     let begun = judge(alloc, bytes, options)?;
     let start = begun.text.generation();

@@ -9,16 +9,16 @@ use Rattle.patterns.specs.Meaning.{placeless}
 use Rattle.patterns.specs.Pattern.{plane_of}
 use Rattle.patterns.specs.PatternFile.{meaning_of}
 use Rattle.engine.proofs.Acceptance.{refused_at_once}
-use Rattle.engine.proofs.Endings.{begun_lines, ends_well, refused_reporting, refused_writing}
+use Rattle.engine.proofs.Endings.{ends_well, refused_counting, refused_reporting, refused_writing, stopped_early}
 use Rattle.universe.proofs.Held.{held, short_run}
 use Rattle.engine.specs.Room.{IsStuckWithin}
 use Rattle.universe.specs.Cells.{live_cells, rule_of}
 use Rattle.engine.proofs.running.run_gated.Goals as goal
 
-pub returns-in_err-begun-clause-refused : goal.returns-in_err-begun-clause-refused
-returns-in_err-begun-clause-refused g c =
+pub returns-in_err-begun : goal.returns-in_err-begun
+returns-in_err-begun g c =
     let is : c.from_residual.result ≡ Err c.in_err-begun.field-0.0 = search rules in
-    rw is (refused_at_once c.args.bytes.now c.args.options.now c.in_err-begun.field-0.0 _ _ _ _ _ refl refl c.in_err-begun.ensures.refused)
+    rw is (refused_at_once _ _ _ _ _ refl refl c.in_err-begun.ensures.refused)
 
 pub run_reported-requires-clause-rule : goal.run_reported-requires-clause-rule
 run_reported-requires-clause-rule g c κs within = c.in_ok-begun.ensures.accepted.lawful
@@ -37,45 +37,37 @@ pub run_reported-requires-clause-last : goal.run_reported-requires-clause-last
 run_reported-requires-clause-last g c κs within =
     subst (λ n. n + c.args.options.now.gens ≤ GENERATION_LIMIT) (sym c.generation-start.ensures) c.in_ok-begun.ensures.accepted.accepted.1.last_generation
 
-pub returns-in_err-universe-clause-refused : goal.returns-in_err-universe-clause-refused
-returns-in_err-universe-clause-refused g c =
+pub returns-in_err-universe : goal.returns-in_err-universe
+returns-in_err-universe g c =
     let is : c.from_residual-in_err-universe.result ≡ Err (placeless c.in_err-universe.field-0.0) = search rules in
     rw is (refused_reporting c.args.bytes.now c.args.options.now (meaning_of c.in_ok-begun.begun.text) (rule_of c.in_ok-begun.begun.universe) (live_cells c.in_ok-begun.begun.universe) c.in_ok-begun.ensures.accepted
-    c.generation-start.result c.in_err-universe.field-0.0 _ _ _ _ _ _ _ _ refl c.generation-start.ensures
+    c.generation-start.result c.in_err-universe.field-0.0 _ _ refl c.generation-start.ensures
     (λ full. subst (λ n. IsStuckWithin (rule_of c.in_ok-begun.begun.universe) (live_cells c.in_ok-begun.begun.universe) n c.args.options.now.gens) c.in_ok-begun.ensures.limit (c.in_err-universe.ensures.full full)) c.in_err-universe.ensures.refused)
 
-pub returns-in_err-last-clause-refused : goal.returns-in_err-last-clause-refused
-returns-in_err-last-clause-refused g c =
+pub returns-in_err-last : goal.returns-in_err-last
+returns-in_err-last g c =
     let is : c.from_residual-in_err-last.result ≡ Err (placeless NoMemory) = search rules in
-    let begun = begun_lines c.args.bytes.now c.args.options.now (meaning_of c.in_ok-begun.begun.text) (rule_of c.in_ok-begun.begun.universe) (live_cells c.in_ok-begun.begun.universe) c.in_ok-begun.ensures.accepted
-    c.generation-start.result (live_cells c.in_ok-universe.universe) _ _ c.generation-start.ensures c.in_ok-universe.ensures.cells c.in_ok-universe.ensures.reported in
-    rw is (inr (inr (inl (refl, (begun.0, inl (refl, begun.1), begun.2)))))
+    rw is (refused_counting c.args.bytes.now c.args.options.now (meaning_of c.in_ok-begun.begun.text) (rule_of c.in_ok-begun.begun.universe) (live_cells c.in_ok-begun.begun.universe) c.in_ok-begun.ensures.accepted
+    _ _ c.generation-start.result (live_cells c.in_ok-universe.universe) _ c.generation-start.ensures c.in_ok-universe.ensures.cells c.in_ok-universe.ensures.reported refl refl)
 
-pub returns-in_err-draw-clause-refused : goal.returns-in_err-draw-clause-refused
-returns-in_err-draw-clause-refused g c =
+pub returns-in_err-draw : goal.returns-in_err-draw
+returns-in_err-draw g c =
     let is : c.from_residual-in_err-draw.result ≡ Err (placeless c.in_err-draw.field-0.0) = search rules in
     let refused = c.in_err-draw.ensures.refused in
-    rw is (inr (inr (inr (ap placeless refused.0, inl (subst (λ n. HasFailed n (g.W.Sink.failure_count c.draw.new.report)) c.in_ok-universe.ensures.unfailed refused.1)))))
+    let failed = subst (λ n. HasFailed n (g.W.Sink.failure_count c.draw.new.report)) c.in_ok-universe.ensures.unfailed refused.1 in
+    rw is (stopped_early (λ _. refl) (inr (inr (inr (ap placeless refused.0, inl failed)))))
 
-pub returns-in_err-write-clause-refused : goal.returns-in_err-write-clause-refused
-returns-in_err-write-clause-refused g c =
+pub returns-in_err-write : goal.returns-in_err-write
+returns-in_err-write g c =
     let is : c.from_residual-in_err-write.result ≡ Err (placeless c.in_err-write.field-0.0) = search rules in
     rw is (refused_writing c.args.bytes.now c.args.options.now (meaning_of c.in_ok-begun.begun.text) (rule_of c.in_ok-begun.begun.universe) (live_cells c.in_ok-begun.begun.universe) c.in_ok-begun.ensures.accepted
-    c.generation-start.result (plane_of c.in_ok-last.last) _ _ c.generation-start.ensures (same_trans c.in_ok-last.ensures.same c.in_ok-universe.ensures.cells) c.in_ok-universe.ensures.reported _ c.in_ok-draw.ensures.drawn
-    c.args.options.now.format c.in_ok-last.ensures.ok.bounds.cells c.in_err-write.field-0.0 _ _ _ _ _ refl c.in_ok-last.ensures.ok.bounds.listing c.in_err-write.ensures.refused)
+    _ _ c.generation-start.result (plane_of c.in_ok-last.last) _ c.generation-start.ensures (same_trans c.in_ok-last.ensures.same c.in_ok-universe.ensures.cells) c.in_ok-universe.ensures.reported c.in_ok-draw.ensures.drawn
+    c.args.options.now.format c.in_ok-last.ensures.ok.bounds.cells c.in_err-write.field-0.0 refl c.in_ok-last.ensures.ok.bounds.listing c.in_err-write.ensures.no_format c.in_err-write.ensures.refused)
 
-pub returns-clause-finished : goal.returns-clause-finished
-returns-clause-finished g c =
+pub returns : goal.returns
+returns g c =
     ends_well c.args.bytes.now c.args.options.now (meaning_of c.in_ok-begun.begun.text) (rule_of c.in_ok-begun.begun.universe) (live_cells c.in_ok-begun.begun.universe) c.in_ok-begun.ensures.accepted
-    c.generation-start.result (plane_of c.in_ok-last.last) _ _ c.generation-start.ensures (same_trans c.in_ok-last.ensures.same c.in_ok-universe.ensures.cells) c.in_ok-universe.ensures.reported _ c.in_ok-draw.ensures.drawn
-    c.comments.result c.in_ok-last.summary _ _ c.comments.ensures c.in_ok-last.ensures.ok
+    _ _ c.generation-start.result (plane_of c.in_ok-last.last) _ c.generation-start.ensures (same_trans c.in_ok-last.ensures.same c.in_ok-universe.ensures.cells) c.in_ok-universe.ensures.reported c.in_ok-draw.ensures.drawn
+    c.comments.result c.in_ok-last.summary c.comments.ensures c.in_ok-last.ensures.ok
     (subst (λ (r : CountRule). Writes c.args.options.now.format (plane_of c.in_ok-last.last) c.comments.result r c.in_ok-last.summary.generation (g.V.Sink.taken c.args.file.now) (g.V.Sink.taken c.write.new.file)) (sym c.in_ok-begun.ensures.rule) c.in_ok-write.ensures.written)
-
-pub returns-in_err-write-clause-no_format : goal.returns-in_err-write-clause-no_format
-returns-in_err-write-clause-no_format g c = c.in_err-write.ensures.no_format
-
-pub returns-clause-no_format : goal.returns-clause-no_format
-returns-clause-no_format g c = c.in_ok-write.ensures.no_format
-
-pub returns-clause-unfailed : goal.returns-clause-unfailed
-returns-clause-unfailed g c = (c.in_ok-write.ensures.unfailed, c.in_ok-draw.ensures.unfailed ∙ c.in_ok-universe.ensures.unfailed)
+    c.in_ok-write.ensures.no_format c.in_ok-write.ensures.unfailed (c.in_ok-draw.ensures.unfailed ∙ c.in_ok-universe.ensures.unfailed)
