@@ -1,3 +1,5 @@
+//! Worked examples of rounds of jobs.
+
 mod full_table;
 mod futures;
 mod gates;

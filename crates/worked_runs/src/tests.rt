@@ -1,3 +1,5 @@
+//! Worked examples of runs.
+
 mod accepted;
 mod bad_files;
 mod devices;
@@ -10,6 +12,6 @@ mod nodes;
 mod pictures;
 mod refused;
 mod rows;
-mod sipping;
+mod short_writes;
 mod want_of_memory;
 mod workers;

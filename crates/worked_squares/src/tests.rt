@@ -1,3 +1,5 @@
+//! Worked examples of cells, squares and the words of their table.
+
 mod books;
 mod cells;
 mod futures;

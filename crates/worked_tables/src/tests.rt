@@ -1,3 +1,5 @@
+//! Worked examples of desks at one table, of its words and of universes.
+
 mod glider;
 mod leaves;
 mod reopened;

@@ -1,3 +1,5 @@
+//! Worked examples of the texts of rules and patterns, and what their tests share.
+
 mod banded_rows;
 mod macrocell_nodes;
 mod macrocell_texts;

@@ -1,6 +1,6 @@
 //! What a run leaves behind.
 
-use crate::tests::sipping::Sipping;
+use crate::tests::short_writes::ShortWrites;
 use engine::{Options, Summary, run};
 use plane::Fault;
 use std::alloc::AllocError;
@@ -13,8 +13,8 @@ use table_core::Shape;
 #[derive(Drop)]
 pub(crate) struct Ended {
     pub outcome: Result<Summary, Fault>,
-    pub report: Sipping,
-    pub file: Sipping,
+    pub report: ShortWrites,
+    pub file: ShortWrites,
 }
 
 impl Ended {
@@ -47,8 +47,8 @@ impl Ended {
     ) -> Result<Ended, AllocError> {
         assert!(rt; Shape::is_pair_count(options.pairs));
         assert!(rt; options.workers >= 1 && options.workers <= 64);
-        let mut report = Sipping::new(rt.alloc(), most, calls.0)?;
-        let mut written = Sipping::new(rt.alloc(), most, calls.1)?;
+        let mut report = ShortWrites::new(rt.alloc(), most, calls.0)?;
+        let mut written = ShortWrites::new(rt.alloc(), most, calls.1)?;
         let outcome = run(rt, rt.alloc(), file, options, &mut report, &mut written);
         Ok(Ended {
             outcome,

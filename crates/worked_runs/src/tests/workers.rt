@@ -4,7 +4,7 @@ use crate::tests::ended::Ended;
 use crate::tests::full_tables::SHORT;
 use crate::tests::nodes::{COLLECTED, REPORTED, SETTLED};
 use crate::tests::rows::{FAR_GLIDER, FAR_REPLICATOR, Row, assert_rows, assert_whole_or_refused};
-use crate::tests::sipping::Sipping;
+use crate::tests::short_writes::ShortWrites;
 use engine::{Gate, run_gated};
 use plane::Refusal;
 use std::alloc::AllocError;
@@ -95,8 +95,8 @@ fn two_workers_of_a_run_meet(rt: HostRuntime) -> Result<(), Fail> {
     };
     let options = row.options();
     assert!(rt; Shape::is_pair_count(options.pairs) && options.workers == 2);
-    let mut report = Sipping::new(rt.alloc(), usize::MAX, 0)?;
-    let mut file = Sipping::new(rt.alloc(), usize::MAX, 0)?;
+    let mut report = ShortWrites::new(rt.alloc(), usize::MAX, 0)?;
+    let mut file = ShortWrites::new(rt.alloc(), usize::MAX, 0)?;
     let outcome = run_gated(
         &rt,
         rt.alloc(),

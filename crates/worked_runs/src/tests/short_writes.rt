@@ -11,7 +11,7 @@ const ROOM: usize = 4096;
 /// A sink that takes at most so many bytes at a time, and at least one, fails at one of its calls,
 /// counted from 1, or at none for 0, and counts its calls and failures.
 #[derive(Drop)]
-pub(crate) struct Sipping {
+pub(crate) struct ShortWrites {
     inner: Memory,
     most: usize,
     failing_call: u64,
@@ -19,9 +19,9 @@ pub(crate) struct Sipping {
     pub failures: u64,
 }
 
-impl Sipping {
+impl ShortWrites {
     pub(crate) fn new(alloc: Global, most: usize, failing_call: u64) -> Result<Self, AllocError> {
-        Ok(Sipping {
+        Ok(ShortWrites {
             inner: Memory::with_room(alloc, ROOM)?,
             most,
             failing_call,
@@ -36,7 +36,7 @@ impl Sipping {
     }
 }
 
-impl Sink for Sipping {
+impl Sink for ShortWrites {
     ghost taken = { λ _. None };
 
     ghost failure_count = { λ sink. sink.failures };
