@@ -135,16 +135,16 @@ fn spread_leaves(alloc: Global) -> Result<String, AllocError> {
     let mut text = String::from_str(alloc, "x = 128, y = 88, rule = B1/S01234V\n")?;
     for row in 0..11u8 {
         text.push_str("$")?;
-        push_middles(&mut text, row, 1)?;
-        push_middles(&mut text, row, 16)?;
+        push_centres(&mut text, row, 1)?;
+        push_centres(&mut text, row, 16)?;
         text.push_str("5$")?;
     }
     text.push_str("!")?;
     Ok(text)
 }
 
-// A row of cells through the middles of 16 leaves, of the bits of this worth and the next three of their words.
-fn push_middles(text: &mut String, row: u8, worth: u32) -> Result<(), AllocError> {
+// A row of cells through the centres of 16 leaves, of the bits of this worth and the next three of their words.
+fn push_centres(text: &mut String, row: u8, worth: u32) -> Result<(), AllocError> {
     for column in 0..16u32 {
         let word = 16 * u32::from(row) + column;
         let bits = word.checked_div(worth).unwrap_or(0);

@@ -1,4 +1,4 @@
-//! The middles of squares of 16 by 16 cells, also beside a reckoning that goes cell by cell.
+//! The centres of squares of 16 by 16 cells, also beside a reckoning that goes cell by cell.
 
 use crate::tests::books::rule_of;
 use crate::tests::rows::assert_no_row;

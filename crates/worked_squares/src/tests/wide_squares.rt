@@ -1,4 +1,4 @@
-//! The middles of squares of 64 by 64 cells, reckoned cell by cell, apart from this program and by it.
+//! The centres of squares of 64 by 64 cells, reckoned cell by cell, apart from this program and by it.
 
 use crate::tests::books::rule_of;
 use crate::tests::rows::assert_no_row;
@@ -160,13 +160,13 @@ fn first_wrong_middle(rows: &[(&str, u8, Middle)]) -> Option<usize> {
 }
 
 #[test]
-fn middles_of_a_soup(rt: HostRuntime) {
+fn centres_of_a_soup(rt: HostRuntime) {
     assert_no_row(&rt, first_wrong_middle(MIDDLES));
 }
 
 // Without a live cell nothing comes, and where all live no cell stays: each has eight live neighbours.
 #[test]
-fn middles_of_empty_and_full_squares(rt: HostRuntime) {
+fn centres_of_empty_and_full_squares(rt: HostRuntime) {
     for exponent in 0..5u8 {
         assert_eq!(rt; middle("B3/S23", &[0; 64], exponent), Ok([[0; 4]; 4]));
     }
@@ -295,12 +295,12 @@ fn put_digits(text: &mut [u8; 24], length: &mut usize, first: u8, last: u8, thro
     }
 }
 
-// A rule by throws, of each neighbourhood in turn; the first is B3/S23.
-fn rule_at(turn: usize, state: &mut u64) -> Result<Rule, Refusal> {
-    if turn == 0 {
+// A random rule, of one neighbourhood after the other; the first is B3/S23.
+fn rule_at(index: usize, state: &mut u64) -> Result<Rule, Refusal> {
+    if index == 0 {
         return rule_of("B3/S23");
     }
-    let (last, letter) = match turn % 3 {
+    let (last, letter) = match index % 3 {
         0 => (8, b'M'),
         1 => (4, b'V'),
         _ => (6, b'H'),
@@ -316,25 +316,25 @@ fn rule_at(turn: usize, state: &mut u64) -> Result<Rule, Refusal> {
     Rule::read(&text).map_err(|_| Refusal::BadRule)
 }
 
-// The turn of the first rule under which the middles of one of so many squares differ.
+// The index of the first rule under which the centres of one of so many squares differ.
 fn first_difference(rules: usize, squares: usize) -> Result<Option<usize>, Refusal> {
     let mut state = 1;
-    for turn in 0..rules {
-        let rule = rule_at(turn, &mut state)?;
+    for index in 0..rules {
+        let rule = rule_at(index, &mut state)?;
         for square in 0..squares {
             let leaves = next_leaves(&mut state);
             let exponent = (square % 5) as u8;
             let by_rows = result64(&rule, quarters_of(&leaves), exponent);
             if by_rows != middle_by_cells(&rule, &leaves, exponent) {
-                return Ok(Some(turn));
+                return Ok(Some(index));
             }
         }
     }
     Ok(None)
 }
 
-// B3/S23 and sixty more rules, 10004 squares in all, each exponent in turn.
+// B3/S23 and sixty more rules, 10004 squares in all, by one exponent after the other.
 #[test]
-fn middles_of_many_squares_cell_by_cell(rt: HostRuntime) {
+fn centres_of_many_squares_cell_by_cell(rt: HostRuntime) {
     assert_eq!(rt; first_difference(61, 164), Ok(None));
 }
