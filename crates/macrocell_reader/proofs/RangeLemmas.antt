@@ -89,7 +89,7 @@ planes_squares levels planes (node ∷ nodes) all order =
 -- ---- the root
 
 -- the level of each node is one that a square of the range may have
-level_between : (levels : List ℕ) (nodes : List Node) (at level : ℕ) → StandInOrder levels nodes → slice_get (map level_of nodes) at ≡ Some level → (1 ≤ level) × (level ≤ 63)
+pub level_between : (levels : List ℕ) (nodes : List Node) (at level : ℕ) → StandInOrder levels nodes → slice_get (map level_of nodes) at ≡ Some level → (1 ≤ level) × (level ≤ 63)
 level_between levels [] at level order found = cc
 level_between levels (Leaf bits ∷ nodes) zero level order found = let same : 3 ≡ level = cc in (omega arith, omega arith)
 level_between levels (Inner own kids ∷ nodes) zero level order found =

@@ -1,5 +1,5 @@
 -- The fault of a node line, after nodes of these levels.
-use Rattle.std.specs.Prelude.{◌≡◌, ℕ, zero, suc, ◌+◌, ◌==◌, nat_le, nat_lt, Bool, true, false, not, if◌then◌else◌, List, [], ◌∷◌, ◌++◌, length, slice_get, Option, None, Some}
+use Rattle.std.specs.Prelude.{◌≡◌, ℕ, zero, suc, ◌+◌, ◌-◌, ◌^◌, ◌==◌, nat_le, nat_lt, Bool, true, false, not, if◌then◌else◌, List, [], ◌∷◌, ◌++◌, length, slice_get, Option, None, Some}
 use Rattle.std.specs.List.{list_all}
 use Rattle.std.specs.Option.{option_map_or}
 use Rattle.plane.specs.declared.refusal.Refusal.{Refusal}
@@ -7,19 +7,18 @@ use Rattle.plane.specs.declared.refusal.Refusal.TheVariants.{OutOfRange, TooMany
 use Rattle.macrocell_reader.specs.Nodes.{node_of, level_of}
 use Rattle.macrocell_reader.specs.declared.node.Node.{Node}
 use Rattle.macrocell_reader.specs.declared.node.Node.TheVariants.{Leaf, Inner}
-use Rattle.macrocell_reader.specs.declared.node_faults.TheConstants.{LEAST_INNER_LEVEL, LARGEST_LEVEL, LARGEST_NUMBER}
 
 -- the line has the form of an inner node, of a level that is too large
 abbrev pub is_above : Option Node → Bool
 is_above None = false
 is_above (Some (Leaf bits)) = false
-is_above (Some (Inner level kids)) = nat_lt LARGEST_LEVEL level
+is_above (Some (Inner level kids)) = nat_lt 63 level
 
 -- the line is a leaf, or an inner node of a level above that of leaves
 abbrev pub is_node : Option Node → Bool
 is_node None = false
 is_node (Some (Leaf bits)) = true
-is_node (Some (Inner level kids)) = nat_le LEAST_INNER_LEVEL level
+is_node (Some (Inner level kids)) = nat_le 4 level
 
 -- the number is 0, which is the empty square, or that of an earlier node, one level lower
 abbrev pub is_child : List ℕ → ℕ → ℕ → Bool
@@ -31,11 +30,15 @@ has_children levels None = true
 has_children levels (Some (Leaf bits)) = true
 has_children levels (Some (Inner level kids)) = list_all (is_child levels level) kids
 
+-- the most nodes of a file: they are numbered from 1, and each number has 32 bits
+abbrev pub most_nodes : ℕ
+most_nodes = 2 ^ 32 - 1
+
 -- the first fault of a line that is a node after nodes of these levels
 unfoldable pub fault_among : List ℕ → Option Node → Option Refusal
 fault_among levels node =
     if is_above node then Some OutOfRange
-    else (if nat_le LARGEST_NUMBER (length levels) then Some TooManyCells
+    else (if nat_le most_nodes (length levels) then Some TooManyCells
     else (if not (is_node node) then Some BadNodeLine
     else (if not (has_children levels node) then Some BadChild else None)))
 

@@ -1,6 +1,6 @@
 -- What the lines `#R`, `#G` and `#FRAMES` say.
 use Rattle.std.specs.Prelude.{ℕ, nat_le, if◌then◌else◌, List, drop, fold, Option, None, Some, is_none, ◌&&◌, codes, unwrap_or}
-use Rattle.plane.specs.declared.range.TheConstants.{GENERATION_LIMIT}
+use Rattle.plane.specs.Limits.{largest_generation}
 use Rattle.plane.specs.declared.refusal.Refusal.{Refusal}
 use Rattle.plane.specs.declared.refusal.Refusal.TheVariants.{FramesNotRead, BadGen}
 use Rattle.text_lines.specs.Bytes.{begins_with, trimmed}
@@ -20,7 +20,7 @@ nothing_said = record { generation = 0; rule = None; rule_place = 0 }
 -- the number, if it is no more than the last generation
 abbrev pub within_limit : Option ℕ → Option ℕ
 within_limit None = None
-within_limit (Some number) = if nat_le number GENERATION_LIMIT then Some number else None
+within_limit (Some number) = if nat_le number largest_generation then Some number else None
 
 -- the generation that digits write, with blanks at their ends or none
 unfoldable pub generation_of : List ℕ → Option ℕ

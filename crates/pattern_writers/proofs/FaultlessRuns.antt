@@ -6,7 +6,7 @@ use Rattle.std.proofs.lemmas.Bool.Decides.{nat_tests}
 use Rattle.std.proofs.lemmas.Int.{ints}
 use Rattle.plane.specs.Range.{IsInRange}
 use Rattle.plane.specs.declared.cell.Cell.{Cell}
-use Rattle.plane.specs.declared.range.TheConstants.{COORDINATE_LIMIT, LIVE_CELL_LIMIT}
+use Rattle.plane.specs.Limits.{coordinate_limit, most_live_cells}
 use Rattle.rle_reader.specs.State.{State, after_item, leaves_range, passes_cells, state_at}
 use Rattle.rle_reader.specs.declared.item.Tag.{Tag}
 use Rattle.rle_reader.specs.declared.item.Tag.TheVariants.{Dead, Live, Row}
@@ -22,8 +22,8 @@ use Rattle.pattern_writers.proofs.RunReading.{by_joined}
 
 -- the run lies in the range, with the cell before its end
 record IsRunInRange (run : RowRun) : Type 0 where
-  row : run.row <ℤ COORDINATE_LIMIT
-  end : run.end ≤ℤ COORDINATE_LIMIT
+  row : run.row <ℤ coordinate_limit
+  end : run.end ≤ℤ coordinate_limit
 
 run_at_in_range : (cell : Cell) → IsInRange cell → IsRunInRange (run_at cell)
 run_at_in_range cell within = record { row = within.y.high; end = omega (arith, ints, within.x.high) }
@@ -44,7 +44,7 @@ not_below a b order = grind (arith, ints)
 not_over : (a b : ℤ) → a <ℤ b → int_le b a ≡ false
 not_over a b order = grind (arith, ints)
 
-few_cells : (cells : ℕ) → cells ≤ LIVE_CELL_LIMIT → nat_lt LIVE_CELL_LIMIT cells ≡ false
+few_cells : (cells : ℕ) → cells ≤ most_live_cells → nat_lt most_live_cells cells ≡ false
 few_cells cells few = grind (arith, nat_tests)
 
 -- an item that may be left out
@@ -67,11 +67,11 @@ module _ (left : ℤ) (next : Cell) (live : ℕ) (run : RowRun) (items : List It
   abbrev cells : ℕ
   cells = distance run.first run.end
 
-  live_faultless : live + cells ≤ LIVE_CELL_LIMIT → AreFaultless left (state_at run.end run.row (live + cells)) items → AreFaultless left (state_at run.first run.row live) (counted Live cells ++ items)
+  live_faultless : live + cells ≤ most_live_cells → AreFaultless left (state_at run.end run.row (live + cells)) items → AreFaultless left (state_at run.first run.row live) (counted Live cells ++ items)
   live_faultless few more =
       let to_end : run.first +ℤ pos cells ≡ run.end = omega (arith, ints, ahead.ends) in
       counted_faultless left (state_at run.first run.row live) Live cells items
-      (ap (λ b. b || int_le COORDINATE_LIMIT run.row) (not_below (run.first +ℤ pos cells) COORDINATE_LIMIT (omega (arith, ints, to_end, within.end))) ∙ not_over run.row COORDINATE_LIMIT within.row)
+      (ap (λ b. b || int_le coordinate_limit run.row) (not_below (run.first +ℤ pos cells) coordinate_limit (omega (arith, ints, to_end, within.end))) ∙ not_over run.row coordinate_limit within.row)
       (few_cells (live + cells) few)
       (λ none.
       let column : run.end ≡ run.first = omega (arith, ints, none, to_end) in
@@ -83,7 +83,7 @@ module _ (left : ℤ) (next : Cell) (live : ℕ) (run : RowRun) (items : List It
   dead_faultless others more =
       let to_first : start +ℤ pos dead ≡ run.first = omega (arith, ints, ahead.across) in
       counted_faultless left (state_at start run.row live) Dead dead others
-      (not_below (start +ℤ pos dead) COORDINATE_LIMIT (omega (arith, ints, to_first, ahead.ends, within.end)))
+      (not_below (start +ℤ pos dead) coordinate_limit (omega (arith, ints, to_first, ahead.ends, within.end)))
       refl
       (λ none.
       let column : run.first ≡ start = omega (arith, ints, none, to_first) in
@@ -94,12 +94,12 @@ module _ (left : ℤ) (next : Cell) (live : ℕ) (run : RowRun) (items : List It
   rows_faultless others more =
       let to_row : next.y +ℤ pos rows ≡ run.row = omega (arith, ints, ahead.down) in
       counted_faultless left (state_at next.x next.y live) Row rows others
-      (not_below (next.y +ℤ pos rows) COORDINATE_LIMIT (omega (arith, ints, to_row, within.row)))
+      (not_below (next.y +ℤ pos rows) coordinate_limit (omega (arith, ints, to_row, within.row)))
       refl
       (λ none. subst (λ (cell : Cell). AreFaultless left (state_at cell.x cell.y live) others) (sym (start_same left next run none)) more)
       (λ some. subst (λ (cell : Cell). AreFaultless left (state_at cell.x cell.y live) others) (sym (start_below left next run ahead.down some)) more)
 
-  run_faultless : live + cells ≤ LIVE_CELL_LIMIT → AreFaultless left (state_at run.end run.row (live + cells)) items → AreFaultless left (state_at next.x next.y live) (run_items left next run ++ items)
+  run_faultless : live + cells ≤ most_live_cells → AreFaultless left (state_at run.end run.row (live + cells)) items → AreFaultless left (state_at next.x next.y live) (run_items left next run ++ items)
   run_faultless few more =
       subst (AreFaultless left (state_at next.x next.y live))
       (sym (append_assoc (counted Row rows ++ counted Dead dead) (counted Live cells) items ∙ append_assoc (counted Row rows) (counted Dead dead) (counted Live cells ++ items)))
@@ -112,7 +112,7 @@ span_length row first zero = refl
 span_length row first (suc count) = ap suc (span_length row (first +ℤ pos 1) count)
 
 runs_faultless : (left : ℤ) (next : Cell) (live : ℕ) (runs : List RowRun) → AreAhead left next runs → AllByRecursion IsRunInRange runs →
-    live + length (flat_map run_cells runs) ≤ LIVE_CELL_LIMIT → AreFaultless left (state_at next.x next.y live) (items_of left next runs)
+    live + length (flat_map run_cells runs) ≤ most_live_cells → AreFaultless left (state_at next.x next.y live) (items_of left next runs)
 runs_faultless left next live [] ahead within few = tt
 runs_faultless left next live (run ∷ runs) ahead within few =
     let cells : ℕ = distance run.first run.end in
@@ -122,7 +122,7 @@ runs_faultless left next live (run ∷ runs) ahead within few =
     (runs_faultless left (next_cell run) (live + cells) runs ahead.1 within.1 (omega (arith, own, total, few)))
 
 -- the items of cells in the range, at most 2^28, have no fault
-pub items_faultless : (corner : Cell) (cells : List Cell) → AreAhead corner.x corner (runs_of cells) → AllByRecursion IsInRange cells → flat_map run_cells (runs_of cells) ≡ cells → length cells ≤ LIVE_CELL_LIMIT →
+pub items_faultless : (corner : Cell) (cells : List Cell) → AreAhead corner.x corner (runs_of cells) → AllByRecursion IsInRange cells → flat_map run_cells (runs_of cells) ≡ cells → length cells ≤ most_live_cells →
     AreFaultless corner.x (state_at corner.x corner.y 0) (items_of corner.x corner (runs_of cells))
 items_faultless corner cells ahead within same few =
     runs_faultless corner.x corner 0 (runs_of cells) ahead (runs_in_range cells within) (omega (arith, ap length same, few))

@@ -8,7 +8,7 @@ use Rattle.std.proofs.lemmas.Bool.Decides.{nat_tests}
 use Rattle.rule_text.specs.CountRule.{CountRule}
 use Rattle.rule_text.specs.RuleText.{canonical_text}
 use Rattle.plane.specs.declared.refusal.Refusal.TheVariants.{BadGen}
-use Rattle.plane.specs.declared.range.TheConstants.{GENERATION_LIMIT}
+use Rattle.plane.specs.Limits.{largest_generation}
 use Rattle.plane.proofs.Turns.{AllByRecursion-append}
 use Rattle.squares.proofs.NumberMaps.{by_cases}
 use Rattle.text_lines.specs.Bytes.{begins_with}
@@ -66,13 +66,13 @@ rule_said rule said place = ap (λ t. record said { rule = Some t; rule_place = 
 within : (number limit : ℕ) → number ≤ limit → nat_le number limit ≡ true
 within number limit low = grind (arith, nat_tests)
 
-generation_read : (generation : ℕ) → generation ≤ GENERATION_LIMIT → generation < 2 ^ 64 → generation_of (32 ∷ decimal generation) ≡ Some generation
+generation_read : (generation : ℕ) → generation ≤ largest_generation → generation < 2 ^ 64 → generation_of (32 ∷ decimal generation) ≡ Some generation
 unfolding generation_of
 generation_read generation low small =
     ap (λ t. within_limit (number_of t)) (blank_cut (decimal generation) (decimal_is generation small).marks)
-    ∙ ap within_limit (decimal_read generation small) ∙ ap (λ t. cond t (Some generation) None) (within generation GENERATION_LIMIT low)
+    ∙ ap within_limit (decimal_read generation small) ∙ ap (λ t. cond t (Some generation) None) (within generation largest_generation low)
 
-module _ (generation : ℕ) (low : generation ≤ GENERATION_LIMIT) (small : generation < 2 ^ 64) where
+module _ (generation : ℕ) (low : generation ≤ largest_generation) (small : generation < 2 ^ 64) where
   pub generation_unfaulted : said_fault (generation_line generation) ≡ None
   unfolding said_fault
   generation_unfaulted = ap (λ o. cond (is_none o) (Some BadGen) None) (generation_read generation low small)

@@ -7,7 +7,7 @@ use Rattle.std.specs.List.{AllByRecursion, after_first}
 use Rattle.std.proofs.lemmas.Bool.Decides.{nat_tests}
 use Rattle.std.proofs.lemmas.Int.{ints}
 use Rattle.plane.specs.Range.{IsCoordinate}
-use Rattle.plane.specs.declared.range.TheConstants.{COORDINATE_LIMIT, GENERATION_LIMIT}
+use Rattle.plane.specs.Limits.{coordinate_limit, largest_generation}
 use Rattle.plane.specs.declared.refusal.Refusal.TheVariants.{BadGen, OutOfRange}
 use Rattle.plane.proofs.Turns.{AllByRecursion-append}
 use Rattle.text_lines.specs.Bytes.{is_byte}
@@ -24,16 +24,16 @@ use Rattle.pattern_writers.proofs.Decimals.{decimal_is, decimal_read}
 use Rattle.pattern_writers.proofs.ShortCounts.{coordinate_short, mag_short}
 use Rattle.pattern_writers.proofs.WrittenNumbers.{before_end, after_end, IsNumberByte, signed_bytes, marks_of, no_commas, signed_read, six_parts}
 
-from_low : (z : ℤ) → IsCoordinate z → int_le (neg_ℤ COORDINATE_LIMIT) z ≡ true
+from_low : (z : ℤ) → IsCoordinate z → int_le (neg_ℤ coordinate_limit) z ≡ true
 from_low z is = grind (arith, ints, is.low)
 
-to_high : (z : ℤ) → IsCoordinate z → int_lt z COORDINATE_LIMIT ≡ true
+to_high : (z : ℤ) → IsCoordinate z → int_lt z coordinate_limit ≡ true
 to_high z is = grind (arith, ints, is.high)
 
 coordinate_is : (z : ℤ) → IsCoordinate z → is_coordinate z ≡ true
-coordinate_is z is = ap (λ b. b && int_lt z COORDINATE_LIMIT) (from_low z is) ∙ to_high z is
+coordinate_is z is = ap (λ b. b && int_lt z coordinate_limit) (from_low z is) ∙ to_high z is
 
-within_limit : (generation : ℕ) → generation ≤ GENERATION_LIMIT → nat_le generation GENERATION_LIMIT ≡ true
+within_limit : (generation : ℕ) → generation ≤ largest_generation → nat_le generation largest_generation ≡ true
 within_limit generation low = grind (arith, nat_tests)
 
 word_flat : (head x comma y rest : List ℕ) → (head ++ (x ++ (comma ++ y))) ++ rest ≡ head ++ (x ++ (comma ++ (y ++ rest)))
@@ -43,7 +43,7 @@ word_flat head x comma y rest = simp append_assoc
 pub record IsPosition (x y : ℤ) (generation : ℕ) : Type 0 where
   pub column : IsCoordinate x
   pub row : IsCoordinate y
-  pub low : generation ≤ GENERATION_LIMIT
+  pub low : generation ≤ largest_generation
 
 coordinate_mag : (z : ℤ) → IsCoordinate z → mag z < 2 ^ 63
 coordinate_mag z is = mag_short z (coordinate_short z is)

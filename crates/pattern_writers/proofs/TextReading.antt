@@ -11,7 +11,7 @@ use Rattle.plane.specs.Listing.{reading_order}
 use Rattle.plane.specs.Range.{IsCoordinate, IsInRange}
 use Rattle.plane.specs.declared.cell.Bounds.{Bounds}
 use Rattle.plane.specs.declared.cell.Cell.{Cell}
-use Rattle.plane.specs.declared.range.TheConstants.{COORDINATE_LIMIT}
+use Rattle.plane.specs.Limits.{coordinate_limit}
 use Rattle.plane.proofs.Boxes.{Covers, box_at, covers_bounds, some_box, within_bounds}
 use Rattle.plane.proofs.Cells.{at}
 use Rattle.plane.proofs.Turns.{AllByRecursion-weaker}
@@ -33,10 +33,10 @@ use Rattle.pattern_writers.proofs.ShortCounts.{IsShort, coordinate_short, counts
 -- the box of the whole range
 abbrev whole_range : Bounds
 whole_range = record {
-  left = pos 0 -ℤ COORDINATE_LIMIT;
-  top = pos 0 -ℤ COORDINATE_LIMIT;
-  right = COORDINATE_LIMIT -ℤ pos 1;
-  bottom = COORDINATE_LIMIT -ℤ pos 1;
+  left = pos 0 -ℤ coordinate_limit;
+  top = pos 0 -ℤ coordinate_limit;
+  right = coordinate_limit -ℤ pos 1;
+  bottom = coordinate_limit -ℤ pos 1;
 }
 
 range_holds : (cell : Cell) → IsInRange cell → IsWithin whole_range cell
@@ -69,7 +69,7 @@ record IsShortSide (first last : ℤ) : Type 0 where
   start : IsCoordinate first
   steps : side first last < 2 ^ 64
 
-short_side : (first between last : ℤ) → (pos 0 -ℤ COORDINATE_LIMIT) ≤ℤ first → first ≤ℤ between → between ≤ℤ last → last ≤ℤ (COORDINATE_LIMIT -ℤ pos 1) → IsShortSide first last
+short_side : (first between last : ℤ) → (pos 0 -ℤ coordinate_limit) ≤ℤ first → first ≤ℤ between → between ≤ℤ last → last ≤ℤ (coordinate_limit -ℤ pos 1) → IsShortSide first last
 short_side first between last low above below high = record { start = record { low = low; high = omega (arith, ints) }; steps = omega (arith, ints) }
 
 box_frame : (box : Bounds) (cell : Cell) (cells : List Cell) → AllByRecursion (IsWithin box) (cell ∷ cells) → Covers whole_range box → IsFrame (frame_of (Some box)) (cell ∷ cells)

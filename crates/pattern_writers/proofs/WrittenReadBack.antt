@@ -10,7 +10,7 @@ use Rattle.plane.specs.Listing.{IsListing, plane_of}
 use Rattle.plane.specs.Plane.{Plane}
 use Rattle.plane.specs.Range.{IsInRange}
 use Rattle.plane.specs.declared.cell.Cell.{Cell}
-use Rattle.plane.specs.declared.range.TheConstants.{GENERATION_LIMIT, LIVE_CELL_LIMIT}
+use Rattle.plane.specs.Limits.{largest_generation, most_live_cells}
 use Rattle.plane.proofs.Uniqueness.{one_listing_lem}
 use Rattle.squares.specs.Book.{Book, IsBook, IsKnown}
 use Rattle.squares.specs.declared.sq.Sq.{Sq}
@@ -62,7 +62,7 @@ mc_written_read plane comments rule generation before after writes =
 
 -- the cells of a square can be read from RLE, if they are not too many
 pub square_readable : (book : Book) (sq : Sq) (comments : List (List ℕ)) (generation : ℕ) (cells : List Cell) → IsBook book → IsKnown book sq.level sq → sq.level ≤ 63 →
-    IsListing cells (centred sq.level (book.cells sq)) → length cells ≤ LIVE_CELL_LIMIT → generation ≤ GENERATION_LIMIT → AllByRecursion IsComment comments →
+    IsListing cells (centred sq.level (book.cells sq)) → length cells ≤ most_live_cells → generation ≤ largest_generation → AllByRecursion IsComment comments →
     IsReadable comments generation (centred sq.level (book.cells sq)) cells
 unfolding plane_of
 square_readable book sq comments generation cells laws known low listing few in_range are =
@@ -80,7 +80,7 @@ square_readable book sq comments generation cells laws known low listing few in_
 -- nor is their square too large for a macrocell file
 pub square_fits : (book : Book) (sq : Sq) (comments : List (List ℕ)) (generation level : ℕ) → IsBook book → IsKnown book sq.level sq → sq.level ≤ 63 →
     IsSmallestLevel level (centred sq.level (book.cells sq)) → length (listed_in level (from_corner level (centred sq.level (book.cells sq)))) < 2 ^ 32 →
-    generation ≤ GENERATION_LIMIT → AllByRecursion IsComment comments → FitsMc comments generation level (centred sq.level (book.cells sq))
+    generation ≤ largest_generation → AllByRecursion IsComment comments → FitsMc comments generation level (centred sq.level (book.cells sq))
 square_fits book sq comments generation level laws known low smallest few in_range are =
     let held = square_in_range book sq laws known low in
     record {

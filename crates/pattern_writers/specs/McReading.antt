@@ -6,7 +6,7 @@ use Rattle.rule_text.specs.RuleText.{canonical_text}
 use Rattle.plane.specs.Centred.{IsSmallestLevel}
 use Rattle.plane.specs.Plane.{Plane}
 use Rattle.plane.specs.Square.{IsSame}
-use Rattle.plane.specs.declared.range.TheConstants.{GENERATION_LIMIT}
+use Rattle.plane.specs.Limits.{largest_generation}
 use Rattle.macrocell_reader.specs.Meaning.{Meaning, judged}
 use Rattle.macrocell_reader.specs.Planes.{live_plane}
 use Rattle.pattern_writers.specs.McText.{from_corner}
@@ -15,7 +15,7 @@ use Rattle.pattern_writers.specs.WrittenComments.{HasNoReturn, IsComment}
 
 -- a pattern that a macrocell file can hold
 pub record FitsMc (comments : List (List ℕ)) (generation level : ℕ) (plane : Plane) : Type 0 where
-  pub in_range : generation ≤ GENERATION_LIMIT
+  pub in_range : generation ≤ largest_generation
   pub smallest : IsSmallestLevel level plane
   pub high : level ≤ 63
   pub are_comments : AllByRecursion IsComment comments

@@ -8,17 +8,17 @@ use Rattle.plane.specs.Plane.{Plane}
 use Rattle.plane.specs.Range.{IsInRange}
 use Rattle.plane.specs.Square.{IsSame}
 use Rattle.plane.specs.declared.cell.Cell.{Cell}
-use Rattle.plane.specs.declared.range.TheConstants.{GENERATION_LIMIT, LIVE_CELL_LIMIT}
+use Rattle.plane.specs.Limits.{largest_generation, most_live_cells}
 use Rattle.rle_reader.specs.Meaning.{Meaning, judged, live_plane}
 use Rattle.pattern_writers.specs.WrittenComments.{HasNoReturn, IsComment}
 
 -- a pattern whose text in RLE can be read
 pub record IsReadable (comments : List (List ℕ)) (generation : ℕ) (plane : Plane) (cells : List Cell) : Type 0 where
-  pub in_range : generation ≤ GENERATION_LIMIT
+  pub in_range : generation ≤ largest_generation
   pub are_comments : AllByRecursion IsComment comments
   pub listing : IsListing cells plane
   pub cells_in_range : AllByRecursion IsInRange cells
-  pub few : length cells ≤ LIVE_CELL_LIMIT
+  pub few : length cells ≤ most_live_cells
 
 -- the text is accepted, and has this meaning
 pub record IsReadFromRle (comments : List (List ℕ)) (rule : CountRule) (generation : ℕ) (plane : Plane) (text : List ℕ) : Type 0 where

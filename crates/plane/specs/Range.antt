@@ -2,12 +2,12 @@
 use Rattle.std.specs.Prelude.{ℕ, ◌+◌, ◌≤◌, ℤ, pos, ◌+ℤ◌, ◌-ℤ◌, ◌≤ℤ◌, ◌<ℤ◌, Option, IfSome}
 use Rattle.plane.specs.declared.cell.Cell.{Cell}
 use Rattle.plane.specs.declared.cell.Bounds.{Bounds}
-use Rattle.plane.specs.declared.range.TheConstants.{COORDINATE_LIMIT, GENERATION_LIMIT}
+use Rattle.plane.specs.Limits.{coordinate_limit, largest_generation}
 
 -- a coordinate that a cell may have
 pub record IsCoordinate (z : ℤ) : Type 0 where
-  pub low : (pos 0 -ℤ COORDINATE_LIMIT) ≤ℤ z
-  pub high : z <ℤ COORDINATE_LIMIT
+  pub low : (pos 0 -ℤ coordinate_limit) ≤ℤ z
+  pub high : z <ℤ coordinate_limit
 
 -- a cell that lies in the range
 pub record IsInRange (cell : Cell) : Type 0 where
@@ -32,5 +32,5 @@ widened n box = record {
 
 -- a run of so many generations, from this box and start, stays within the last generation and the range
 pub record StaysWithin (box : Option Bounds) (start generations : ℕ) : Type 0 where
-  pub last_generation : start + generations ≤ GENERATION_LIMIT
+  pub last_generation : start + generations ≤ largest_generation
   pub coordinates : IfSome box (λ bounds. IsBoxInRange (widened generations bounds))

@@ -2,10 +2,10 @@
 use Rattle.std.specs.Prelude.{◌≡◌, ◌⊎◌, ℕ, ◌<◌, ℤ, pos, ◌+ℤ◌, ◌≤ℤ◌, ◌<ℤ◌, int_le, int_lt, ◌&&◌, Bool, List, [], ◌∷◌}
 use Rattle.std.specs.List.{AllByRecursion, list_any}
 use Rattle.std.specs.Ordering.{int_eq}
+use Rattle.plane.specs.Limits.{coordinate_limit}
 use Rattle.plane.specs.Plane.{Plane}
 use Rattle.plane.specs.Range.{IsCoordinate}
 use Rattle.plane.specs.declared.cell.Cell.{Cell}
-use Rattle.plane.specs.declared.range.TheConstants.{COORDINATE_LIMIT}
 
 -- whether the run has the cell
 abbrev pub is_in_run : ℤ → ℤ → (Cell × ℕ) → Bool
@@ -20,7 +20,7 @@ pub record IsRun (run : Cell × ℕ) : Type 0 where
   pub row : IsCoordinate run.0.y
   pub first : IsCoordinate run.0.x
   pub some : 0 < run.1
-  pub end : (run.0.x +ℤ pos run.1) ≤ℤ COORDINATE_LIMIT
+  pub end : (run.0.x +ℤ pos run.1) ≤ℤ coordinate_limit
 
 -- in the order of reading the other run begins behind this one
 abbrev pub Precedes : (Cell × ℕ) → (Cell × ℕ) → Type 0

@@ -1,8 +1,6 @@
 -- The cells of a window: so many columns from its left on, so many rows from its top on.
-use Rattle.std.specs.Prelude.{◌≡◌, ℕ, zero, suc, ◌≤◌, ℤ, pos, ◌+ℤ◌, ◌-ℤ◌, ◌≤ℤ◌, false, ◌&&◌, List, [], ◌∷◌, ◌++◌, filter}
+use Rattle.std.specs.Prelude.{◌≡◌, ℕ, zero, suc, ◌≤◌, ◌^◌, ℤ, pos, ◌+ℤ◌, ◌-ℤ◌, ◌≤ℤ◌, false, ◌&&◌, List, [], ◌∷◌, ◌++◌, filter}
 use Rattle.plane.specs.declared.cell.Cell.{Cell}
-use Rattle.plane.specs.declared.range.TheConstants.{COORDINATE_LIMIT}
-use Rattle.plane.specs.declared.window.TheConstants.{WINDOW_SIDE_LIMIT}
 use Rattle.plane.specs.Plane.{Plane}
 use Rattle.plane.specs.Square.{spans}
 
@@ -16,12 +14,12 @@ pub record Rectangle : Type 0 where
 -- how many columns, or rows, a window may have
 pub record IsWindowSide (cells : ℕ) : Type 0 where
   pub some : 1 ≤ cells
-  pub most : cells ≤ WINDOW_SIDE_LIMIT
+  pub most : cells ≤ 1024
 
 -- where a window may begin
 pub record IsWindowCorner (z : ℤ) : Type 0 where
-  pub low : (pos 0 -ℤ COORDINATE_LIMIT) ≤ℤ z
-  pub high : z ≤ℤ COORDINATE_LIMIT
+  pub low : (pos 0 -ℤ pos (2 ^ 62)) ≤ℤ z
+  pub high : z ≤ℤ pos (2 ^ 62)
 
 -- the rectangle is neither empty nor too large, and not too far away
 pub record IsWindow (rectangle : Rectangle) : Type 0 where

@@ -1,6 +1,10 @@
-//! What holds of all planes and all rules, as calls that do nothing and say it in their clause.
+//! What holds of all planes and all rules, and how far the range goes, as calls that do nothing and say it in their
+//! clauses.
 
+ghost use Rattle.std.specs.Prelude.{◌≡◌, ◌^◌, pos};
 ghost use Rattle.plane.specs.Laws.{BoundedListing, LightCone, NineParts, OneListing, SmallestBox, Translation};
+ghost use Rattle.plane.specs.declared.range.TheConstants.{COORDINATE_LIMIT, GENERATION_LIMIT, LIVE_CELL_LIMIT};
+ghost use Rattle.plane.specs.declared.window.TheConstants.{WINDOW_CORNER_LIMIT, WINDOW_SIDE_LIMIT};
 
 /// A plane has at most one listing: sets with the same cells are seen as equal.
 pub fn one_listing()
@@ -30,4 +34,13 @@ pub fn nine_parts()
 /// The box of some cells holds them all, and no smaller box does.
 pub fn smallest_box()
     ensures { SmallestBox }
+{}
+
+/// The limits as numbers.
+pub fn limits()
+    ensures coordinates { COORDINATE_LIMIT ≡ pos (2 ^ 62) }
+    ensures generations { GENERATION_LIMIT ≡ 2 ^ 63 }
+    ensures live_cells { LIVE_CELL_LIMIT ≡ 2 ^ 28 }
+    ensures window_sides { WINDOW_SIDE_LIMIT ≡ 1024 }
+    ensures window_corners { WINDOW_CORNER_LIMIT ≡ pos (2 ^ 62) }
 {}

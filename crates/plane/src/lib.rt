@@ -16,7 +16,9 @@ pub use cell::{Bounds, Cell};
 pub use cell_set::CellSet;
 pub use device::{Counted, FailAt, Failed, Memory, Sink, Source, write_all};
 pub use fault::Fault;
-pub use laws::{bounded_listing, light_cone, nine_parts, one_listing, smallest_box, translation};
+pub use laws::{
+    bounded_listing, light_cone, limits, nine_parts, one_listing, smallest_box, translation,
+};
 pub use range::{COORDINATE_LIMIT, GENERATION_LIMIT, LIVE_CELL_LIMIT, is_coordinate, reach};
 pub use refusal::Refusal;
-pub use window::{WINDOW_SIDE_LIMIT, Window};
+pub use window::{WINDOW_CORNER_LIMIT, WINDOW_SIDE_LIMIT, Window};

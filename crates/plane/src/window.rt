@@ -3,12 +3,14 @@
 ghost use Rattle.std.specs.Prelude.{◌≡◌, ◌↔◌, IfOk, IfErr, IsTrue};
 ghost use Rattle.plane.specs.Window.{IsWindow, IsWindowCorner, IsWindowSide};
 
-use crate::range::COORDINATE_LIMIT;
 use crate::refusal::Refusal;
 use std::marker::Model;
 
 /// The most columns of a window, and the most rows.
 pub const WINDOW_SIDE_LIMIT: u32 = 1024;
+
+/// Windows begin at coordinates from `-WINDOW_CORNER_LIMIT` to `WINDOW_CORNER_LIMIT`.
+pub const WINDOW_CORNER_LIMIT: i64 = 1 << 62;
 
 /// A rectangle of the plane that a picture can show. It is never empty.
 #[derive(Clone, Copy, Debug, PartialEq, Eq)]
@@ -42,13 +44,13 @@ fn is_window_side(cells: u32) -> bool
 fn is_window_corner(z: i64) -> bool
     ensures { IsTrue result ↔ IsWindowCorner z }
 {
-    -COORDINATE_LIMIT <= z && z <= COORDINATE_LIMIT
+    -WINDOW_CORNER_LIMIT <= z && z <= WINDOW_CORNER_LIMIT
 }
 
 impl Window {
     /// The window whose upper left cell is (x, y), with so many columns and rows. `WindowTooLarge`
-    /// unless there are 1 to `WINDOW_SIDE_LIMIT` of each, and x and y are from `-COORDINATE_LIMIT` to
-    /// `COORDINATE_LIMIT`.
+    /// unless there are 1 to `WINDOW_SIDE_LIMIT` of each, and x and y are from
+    /// `-WINDOW_CORNER_LIMIT` to `WINDOW_CORNER_LIMIT`.
     pub fn new(x: i64, y: i64, width: u32, height: u32) -> Result<Window, Refusal>
         ensures ok { IfOk result (λ window.
             IsWindow window × (window ≡ record { x = x; y = y; width = width; height = height })) }

@@ -8,7 +8,7 @@ use Rattle.std.specs.declared.cmp.Ordering.TheVariants.{Less}
 use Rattle.std.proofs.lemmas.Bool.Decides.{Decides-int_eq}
 use Rattle.std.proofs.lemmas.Int.{ints}
 use Rattle.plane.specs.declared.cell.Cell.{Cell}
-use Rattle.plane.specs.declared.range.TheConstants.{LIVE_CELL_LIMIT}
+use Rattle.plane.specs.Limits.{most_live_cells}
 use Rattle.plane.specs.Listing.{IsListing, is_at, plane_of, reading_order}
 use Rattle.plane.specs.Plane.{Plane}
 use Rattle.plane.proofs.Listings.{is_at-own}
@@ -151,7 +151,7 @@ listing-few left state runs cells listing =
     let all = passing-all (λ c. is_covered left state runs c.x c.y) cells (listing-live cells (is_covered left state runs) listing) in
     omega (arith, all, few_live left state runs cells listing.rising)
 
-pub accepted-listing : (text : List ℕ) (meaning : Meaning) (cells : List Cell) → judged text ≡ Ok meaning → IsListing cells (live_plane meaning) → length cells ≤ LIVE_CELL_LIMIT
+pub accepted-listing : (text : List ℕ) (meaning : Meaning) (cells : List Cell) → judged text ≡ Ok meaning → IsListing cells (live_plane meaning) → length cells ≤ most_live_cells
 accepted-listing text meaning cells is listing =
     let few = listing-few meaning.pos.x (start_at meaning.pos) meaning.runs cells listing in
     omega (arith, few, accepted-live_cells text meaning is)

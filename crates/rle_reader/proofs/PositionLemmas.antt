@@ -6,7 +6,7 @@ use Rattle.std.proofs.lemmas.Int.{ints}
 use Rattle.plane.specs.Range.{IsCoordinate, IsInRange}
 use Rattle.plane.specs.declared.cell.Cell.{Cell}
 use Rattle.plane.specs.declared.fault.Fault.{Fault}
-use Rattle.plane.specs.declared.range.TheConstants.{COORDINATE_LIMIT}
+use Rattle.plane.specs.Limits.{coordinate_limit}
 use Rattle.plane.specs.declared.refusal.Refusal.{Refusal}
 use Rattle.plane.specs.declared.refusal.Refusal.TheVariants.{OutOfRange}
 use Rattle.rle_reader.specs.Bytes.{words}
@@ -30,7 +30,7 @@ use Rattle.rle_reader.proofs.SettingsLemmas.{both_true}
 
 coordinate : (number : ℤ) → is_coordinate number ≡ true → IsCoordinate number
 coordinate number is =
-    let h = both_true (int_le (neg_ℤ COORDINATE_LIMIT) number) (int_lt number COORDINATE_LIMIT) is in record { low = grind (arith, ints, h.0); high = grind (arith, ints, h.1) }
+    let h = both_true (int_le (neg_ℤ coordinate_limit) number) (int_lt number coordinate_limit) is in record { low = grind (arith, ints, h.0); high = grind (arith, ints, h.1) }
 
 cell_if-in_range : (b : Bool) (x y : ℤ) → (is_coordinate x && is_coordinate y) ≡ b → IfOk (cond {A = Result Cell Refusal} b (Ok (record { y = y; x = x })) (Err OutOfRange)) IsInRange
 cell_if-in_range true x y both =

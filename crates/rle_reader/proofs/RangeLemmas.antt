@@ -6,7 +6,7 @@ use Rattle.std.proofs.lemmas.Int.{ints}
 use Rattle.std.proofs.lemmas.List.Sums.{sum_by-cons}
 use Rattle.plane.specs.Range.{IsCoordinate, IsInRange}
 use Rattle.plane.specs.declared.fault.Fault.{Fault}
-use Rattle.plane.specs.declared.range.TheConstants.{COORDINATE_LIMIT, LIVE_CELL_LIMIT}
+use Rattle.plane.specs.Limits.{coordinate_limit, most_live_cells}
 use Rattle.rle_reader.specs.Body.{stripped}
 use Rattle.rle_reader.specs.Items.{ItemSlice, items_of}
 use Rattle.text_lines.specs.Faults.{unless}
@@ -48,7 +48,7 @@ run-in_range : (state : State) (tag : Tag) (count : ℕ) (x y : ℤ) → InReach
 run-in_range state Dead count x y reach stays covered = cc
 run-in_range state Row count x y reach stays covered = cc
 run-in_range state Live count x y reach stays covered =
-    let inside = neither (passes_limit state.column count) (int_le COORDINATE_LIMIT state.row) stays in
+    let inside = neither (passes_limit state.column count) (int_le coordinate_limit state.row) stays in
     let covers_it = all_true (is_live Live) (int_eq y state.row) (int_le state.column x) (int_lt x (state.column +ℤ pos count)) covered in
     let row : y ≡ state.row = (Decides-int_eq y state.row).0 covers_it.0 in
     record {
@@ -84,12 +84,12 @@ live_after left state Live count = refl
 live_after left state Dead count = omega arith
 live_after left state Row count = omega arith
 
-few_after : (left : ℤ) (state : State) (tag : Tag) (count : ℕ) → state.live ≤ LIVE_CELL_LIMIT → passes_cells state tag count ≡ false → (after_item left state tag count).live ≤ LIVE_CELL_LIMIT
+few_after : (left : ℤ) (state : State) (tag : Tag) (count : ℕ) → state.live ≤ most_live_cells → passes_cells state tag count ≡ false → (after_item left state tag count).live ≤ most_live_cells
 few_after left state Live count few below = grind (arith, nat_tests, below)
 few_after left state Dead count few below = few
 few_after left state Row count few below = few
 
-live_cells-few : (left : ℤ) (state : State) (runs : List ItemSlice) → state.live ≤ LIVE_CELL_LIMIT → StayInRange left state runs → state.live + live_cells runs ≤ LIVE_CELL_LIMIT
+live_cells-few : (left : ℤ) (state : State) (runs : List ItemSlice) → state.live ≤ most_live_cells → StayInRange left state runs → state.live + live_cells runs ≤ most_live_cells
 live_cells-few left state [] few stay = omega (arith, few)
 live_cells-few left state (run ∷ runs) few stay =
     let later = live_cells-few left (after_item left state run.tag run.count) runs (few_after left state run.tag run.count few stay.1) stay.2 in
@@ -128,7 +128,7 @@ module _ (text : List ℕ) (meaning : Meaning) (is : judged text ≡ Ok meaning)
       let h = accepted text meaning is in
       subst (λ (m : Meaning). StayInRange m.pos.x (start_at m.pos) m.runs) h.is (stay-opening text h.opening h.none)
 
-  pub accepted-live_cells : live_cells meaning.runs ≤ LIVE_CELL_LIMIT
+  pub accepted-live_cells : live_cells meaning.runs ≤ most_live_cells
   accepted-live_cells =
       let few = live_cells-few meaning.pos.x (start_at meaning.pos) meaning.runs (omega arith) accepted-items in omega (arith, few)
 

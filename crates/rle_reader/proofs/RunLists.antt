@@ -7,7 +7,7 @@ use Rattle.std.proofs.lemmas.Int.{ints}
 use Rattle.std.proofs.lemmas.List.{append-nil}
 use Rattle.std.proofs.lemmas.List.Folds.{list_any-append}
 use Rattle.plane.specs.declared.cell.Cell.{Cell}
-use Rattle.plane.specs.declared.range.TheConstants.{COORDINATE_LIMIT}
+use Rattle.plane.specs.Limits.{coordinate_limit}
 use Rattle.plane.specs.declared.refusal.Refusal.{Refusal}
 use Rattle.plane.specs.declared.refusal.Refusal.TheVariants.{BadCount}
 use Rattle.plane.specs.Runs.{AreRising, AreRuns, IsRun, Precedes, is_in_run, runs_plane}
@@ -118,7 +118,7 @@ or_swap false false false = refl
 -- a live item is a run of the range
 run_in_range : (column row : ℤ) (live count : ℕ) → IsWithinReach column → IsWithinReach row → leaves_range (state_at column row live) Live count ≡ false → 0 < count → IsRun (record { y = row; x = column }, count)
 run_in_range column row live count across down stays some =
-    let end = either_false (passes_limit column count) (int_le COORDINATE_LIMIT row) stays in
+    let end = either_false (passes_limit column count) (int_le coordinate_limit row) stays in
     record {
       row = record { low = omega (arith, ints, down.low); high = grind (arith, ints, down.high) };
       first = record { low = omega (arith, ints, across.low); high = grind (arith, ints, across.high) };

@@ -4,7 +4,7 @@ use Rattle.std.specs.Prelude.{Result, Ok, Err, Option, None, Some}
 use Rattle.plane.specs.declared.cell.Cell.{Cell}
 use Rattle.plane.specs.declared.refusal.Refusal.{Refusal}
 use Rattle.plane.specs.declared.refusal.Refusal.TheVariants.{BadCount, OutOfRange, TooManyCells}
-use Rattle.plane.specs.declared.range.TheConstants.{COORDINATE_LIMIT, LIVE_CELL_LIMIT}
+use Rattle.plane.specs.Limits.{coordinate_limit, most_live_cells}
 use Rattle.rle_reader.specs.declared.item.Tag.{Tag}
 use Rattle.rle_reader.specs.declared.item.Tag.TheVariants.{Dead, Live, Row}
 
@@ -30,18 +30,18 @@ after_item left state Row count = record state { column = left; row = state.row 
 
 -- the coordinate is then above the limit
 abbrev pub passes_limit : ℤ → ℕ → Bool
-passes_limit coordinate count = int_lt COORDINATE_LIMIT (coordinate +ℤ pos count)
+passes_limit coordinate count = int_lt coordinate_limit (coordinate +ℤ pos count)
 
 -- the item leads out of the range, or its live cells lie below it
 abbrev pub leaves_range : State → Tag → ℕ → Bool
 leaves_range state Dead count = passes_limit state.column count
-leaves_range state Live count = passes_limit state.column count || int_le COORDINATE_LIMIT state.row
+leaves_range state Live count = passes_limit state.column count || int_le coordinate_limit state.row
 leaves_range state Row count = passes_limit state.row count
 
 -- the live cells are then too many
 abbrev pub passes_cells : State → Tag → ℕ → Bool
 passes_cells state Dead count = false
-passes_cells state Live count = nat_lt LIVE_CELL_LIMIT (state.live + count)
+passes_cells state Live count = nat_lt most_live_cells (state.live + count)
 passes_cells state Row count = false
 
 -- the refusal, where the test is true

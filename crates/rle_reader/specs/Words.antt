@@ -7,7 +7,7 @@ use Rattle.std.specs.Str.{byte}
 use Rattle.plane.specs.declared.cell.Cell.{Cell}
 use Rattle.plane.specs.declared.refusal.Refusal.{Refusal}
 use Rattle.plane.specs.declared.refusal.Refusal.TheVariants.{BadHeader, OutOfRange, BadGen}
-use Rattle.plane.specs.declared.range.TheConstants.{COORDINATE_LIMIT, GENERATION_LIMIT}
+use Rattle.plane.specs.Limits.{coordinate_limit, largest_generation}
 use Rattle.text_lines.specs.Bytes.{begins_with, is_byte}
 use Rattle.rle_reader.specs.Numbers.{integer_of}
 use Rattle.text_lines.specs.Numbers.{number_of}
@@ -16,7 +16,7 @@ use Rattle.rle_reader.specs.declared.settings.Word.TheVariants.{Pos, Gen, Other}
 
 -- whether the number is in the range of coordinates
 abbrev pub is_coordinate : ℤ → Bool
-is_coordinate number = int_le (neg_ℤ COORDINATE_LIMIT) number && int_lt number COORDINATE_LIMIT
+is_coordinate number = int_le (neg_ℤ coordinate_limit) number && int_lt number coordinate_limit
 
 -- the cell of two coordinates: first of all both have to be numbers, and then both in the range
 unfoldable pub cell_at : Option ℤ → Option ℤ → Result Cell Refusal
@@ -33,7 +33,7 @@ position_of text =
 -- the generation, if the number is one
 unfoldable pub generation_at : Option ℕ → Result ℕ Refusal
 generation_at None = Err BadGen
-generation_at (Some number) = if nat_le number GENERATION_LIMIT then Ok number else Err BadGen
+generation_at (Some number) = if nat_le number largest_generation then Ok number else Err BadGen
 
 -- what a word says
 unfoldable pub word_of : List ℕ → Result Word Refusal

@@ -2,7 +2,7 @@
 
 ghost use Rattle.std.specs.Prelude.{◌≡◌, true, false, pos, ◌+◌, ◌+ℤ◌, ◌<◌, ◌≤◌, IfOk, IfErr};
 ghost use Rattle.rle_reader.specs.State.{state_at, start_at, after_item, motion_fault, passes_limit};
-ghost use Rattle.plane.specs.declared.range.TheConstants.{LIVE_CELL_LIMIT};
+ghost use Rattle.plane.specs.Limits.{most_live_cells};
 ghost use Rattle.rle_reader.specs.Range.{IsWithinReach};
 ghost use Rattle.plane.specs.Range.{IsInRange};
 
@@ -19,7 +19,7 @@ pub(crate) struct Cursor {
     ghost left_in_reach: { IsWithinReach left },
     ghost column_in_reach: { IsWithinReach column },
     ghost row_in_reach: { IsWithinReach row },
-    ghost live_in_reach: { live ≤ LIVE_CELL_LIMIT },
+    ghost live_in_reach: { live ≤ most_live_cells },
 }
 
 impl Cursor {
@@ -91,9 +91,9 @@ fn moved(coordinate: i64, count: u64) -> Result<i64, Refusal>
 
 /// So many live cells more. `TooManyCells` if they are then too many.
 fn more_live(live: u64, count: u64) -> Result<u64, Refusal>
-    requires { live ≤ LIVE_CELL_LIMIT }
-    ensures ok { IfOk result (λ more. (more ≡ live + count) × (more ≤ LIVE_CELL_LIMIT)) }
-    ensures err { IfErr result (λ refusal. (LIVE_CELL_LIMIT < live + count) × (refusal ≡ Refusal.TooManyCells)) }
+    requires { live ≤ most_live_cells }
+    ensures ok { IfOk result (λ more. (more ≡ live + count) × (more ≤ most_live_cells)) }
+    ensures err { IfErr result (λ refusal. (most_live_cells < live + count) × (refusal ≡ Refusal.TooManyCells)) }
 {
     if count > LIVE_CELL_LIMIT - live {
         return Err(Refusal::TooManyCells);

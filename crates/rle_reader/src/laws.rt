@@ -4,7 +4,7 @@ ghost use Rattle.std.specs.Prelude.{◌≡◌, ◌≤◌, ℕ, ℤ, List, length
 ghost use Rattle.plane.specs.Listing.{IsListing};
 ghost use Rattle.plane.specs.Range.{IsInRange};
 ghost use Rattle.plane.specs.declared.cell.Cell.{Cell};
-ghost use Rattle.plane.specs.declared.range.TheConstants.{LIVE_CELL_LIMIT};
+ghost use Rattle.plane.specs.Limits.{most_live_cells};
 ghost use Rattle.rle_reader.specs.declared.body.LocatedByte.{LocatedByte};
 ghost use Rattle.rle_reader.specs.Items.{Items, AreItemsOf, items_of};
 ghost use Rattle.rle_reader.specs.Meaning.{Meaning, StayInRange, judged, live_cells, live_plane};
@@ -23,11 +23,11 @@ pub fn accepted_in_range()
     ensures items { (text : List ℕ) (meaning : Meaning) → judged text ≡ Ok meaning →
         StayInRange meaning.pos.x (start_at meaning.pos) meaning.runs }
     ensures live_cells { (text : List ℕ) (meaning : Meaning) → judged text ≡ Ok meaning →
-        live_cells meaning.runs ≤ LIVE_CELL_LIMIT }
+        live_cells meaning.runs ≤ most_live_cells }
     ensures cells { (text : List ℕ) (meaning : Meaning) → judged text ≡ Ok meaning →
         (x y : ℤ) → live_plane meaning x y ≡ true → IsInRange (record { y = y; x = x }) }
     ensures listing { (text : List ℕ) (meaning : Meaning) (cells : List Cell) → judged text ≡ Ok meaning →
-        IsListing cells (live_plane meaning) → length cells ≤ LIVE_CELL_LIMIT }
+        IsListing cells (live_plane meaning) → length cells ≤ most_live_cells }
 {}
 
 /// Each item of an accepted text is the slice of the text from its first digit, or from its tag if it has no

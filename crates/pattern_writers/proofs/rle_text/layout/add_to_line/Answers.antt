@@ -1,4 +1,4 @@
-use Rattle.std.proofs.Common.{◌≡◌, ◌+◌, ◌<◌, ◌≤◌, [], ◌++◌, codes, length, ap, sym, subst, ◌∙◌, length-append}
+use Rattle.std.proofs.Common.{◌≡◌, ◌+◌, ◌<◌, ◌≤◌, [], ◌++◌, arith, codes, length, ap, sym, subst, ◌∙◌, length-append}
 use Rattle.std.proofs.KnownBytes.{Appends-nil}
 use Rattle.pattern_writers.proofs.BodyText.{LaysOut-off, LaysOut-on}
 use Rattle.pattern_writers.proofs.rle_text.layout.add_to_line.Goals as goal
@@ -14,7 +14,7 @@ returns-clause-line g c =
           subst (λ l. length l ≤ 70) (sym next) c.requires.piece
       | else-len-piece-gt-LINE_LENGTH w ↦
           let next : c.push_str.new.self.bytes ≡ line ++ piece = c.push_str.ensures.bytes ∙ ap (λ l. l.bytes ++ piece) w.line-is in
-          let fits : length line + length piece ≤ 70 = subst (λ n. n + length piece ≤ 70) c.len.ensures.value w.if-len-piece-gt-LINE_LENGTH.false in
+          let fits : length line + length piece ≤ 70 = omega (arith, c.len.ensures.value, w.if-len-piece-gt-LINE_LENGTH.false) in
           subst (λ n. n ≤ 70) (sym (ap length next ∙ length-append line piece)) fits
     ]
 
