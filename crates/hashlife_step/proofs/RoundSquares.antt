@@ -33,8 +33,9 @@ reached_next old now new plane low high sq next is keeps results shown above bel
 }
 
 -- there is room for what the cells become
-pub room_after : (book : Book) (sq : Sq) (exponent level : ℕ) → IsBook book → IsKnown book sq.level sq → 3 < sq.level → level ≡ max (sq.level + 2) (exponent + 3) →
+pub room_after : (book : Book) (sq : Sq) (exponent level : ℕ) → IsBook book → IsKnown book sq.level sq → level ≡ max (sq.level + 2) (exponent + 3) →
     Holds (level - 1) (after book.rule (centred sq.level (book.cells sq)) (2 ^ exponent))
-room_after book sq exponent level is known low e =
+room_after book sq exponent level is known e =
+    let low = known.low in
     padded_after book.rule is.rule.no_birth_on_zero sq.level exponent level (centred sq.level (book.cells sq)) (omega arith) (omega arith) (omega arith)
     (square_held sq.level (book.cells sq) (is.square sq known.known))

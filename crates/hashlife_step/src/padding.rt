@@ -5,6 +5,7 @@ ghost use Rattle.plane.specs.Plane.{after};
 ghost use Rattle.squares.specs.Book.{IsKnown, Keeps, KeepsResults, MayRefuse};
 ghost use Rattle.hashlife_step.specs.Round.{ShowsRound};
 
+use crate::leaf_squares::surround_leaf;
 use plane::Refusal;
 use squares::{Num, Sq, Squares};
 
@@ -32,10 +33,10 @@ fn grow<S: Squares>(book: &mut S, sq: Sq) -> Result<Sq, Refusal>
 }
 
 /// The square with empty squares round it, so that there is room for 2^exponent generations: at the
-/// level `max(level + 2, exponent + 3)`, with the same cells round its centre.
+/// level `max(level + 2, exponent + 3)`, with the same cells round its centre. So a leaf comes into
+/// the middle of a square of level 5 at least.
 pub fn pad<S: Squares>(book: &mut S, sq: Sq, exponent: u8) -> Result<Sq, Refusal>
     requires known { IsKnown (S.book book.old) sq.level sq }
-    requires low { 3 < sq.level }
     requires high { max (sq.level + 2) (exponent + 3) ≤ 65 }
     ensures level { IfOk result (λ padded. padded.level ≡ max (sq.level + 2) (exponent + 3)) }
     ensures cells { IfOk result (ShowsRound (S.book book.new) (centred sq.level ((S.book book.old).cells sq))) }
@@ -47,7 +48,11 @@ pub fn pad<S: Squares>(book: &mut S, sq: Sq, exponent: u8) -> Result<Sq, Refusal
     ensures results { KeepsResults (S.book book.old) (S.book book.new) }
 {
     let level = u8::max(sq.level + 2, exponent + 3);
-    let mut padded = sq;
+    let mut padded = if sq.level == 3 {
+        surround_leaf(book, sq)?
+    } else {
+        sq
+    };
     while padded.level < level {
         padded = grow(book, padded)?;
     }

@@ -1,5 +1,5 @@
 //! One step of a run: the square is padded, its future taken and trimmed.
-ghost use Rattle.std.specs.Prelude.{◌+◌, ◌^◌, ◌<◌, ◌≤◌, max, IfOk, IfErr};
+ghost use Rattle.std.specs.Prelude.{◌+◌, ◌^◌, ◌≤◌, max, IfOk, IfErr};
 ghost use Rattle.plane.specs.Centred.{centred};
 ghost use Rattle.plane.specs.Plane.{after};
 ghost use Rattle.squares.specs.Book.{IsKnown, Keeps, MayRefuse};
@@ -18,7 +18,6 @@ use squares::{Sq, Squares};
 /// least 4, round the same centre.
 pub fn step<S: Squares>(book: &mut S, root: Sq, tally: &mut Tally) -> Result<Sq, Refusal>
     requires known { IsKnown (S.book book.old) root.level root }
-    requires low { 3 < root.level }
     requires high { max (root.level + 2) ((S.book book.old).exponent + 3) ≤ 65 }
     ensures ok { IfOk result (IsRound (S.book book.new)
         (after (S.book book.old).rule (centred root.level ((S.book book.old).cells root)) (2 ^ (S.book book.old).exponent))) }

@@ -8,6 +8,7 @@ use Rattle.macrocell_reader.specs.Planes.{node_plane, plane_at, planes_after, pl
 use Rattle.macrocell_reader.specs.declared.node.Node.{Node}
 use Rattle.macrocell_reader.specs.declared.node.Node.TheVariants.{Inner}
 use Rattle.macrocell_reader.proofs.OrderLemmas.{accepted_inner}
+use Rattle.macrocell_reader.proofs.RangeLemmas.{level_between}
 use Rattle.plane.specs.Plane.{Plane}
 use Rattle.plane.specs.Square.{empty, joined}
 use Rattle.plane.proofs.Same.{plane_equal}
@@ -205,6 +206,13 @@ last_shown book nodes squares root shown found =
       cells = sym (plane_before (planes_of nodes) (length nodes) (book.cells root)
           (subst (λ (planes : List Plane). slice_get planes (length nodes - 1) ≡ Some (book.cells root)) shown.planes (slice_get-map book.cells squares _ root at)) some);
     }
+
+-- the root's level is that of a square of the range
+pub root_high : (book : Book) (nodes : List Node) (squares : List Sq) (root : Sq) → StandInOrder [] nodes → ShowNodes book nodes squares → slice_get squares (length squares - 1) ≡ Some root →
+    root.level ≤ 63
+root_high book nodes squares root order shown found =
+    (level_between [] nodes (length squares - 1) root.level order
+    (subst (λ (levels : List ℕ). slice_get levels (length squares - 1) ≡ Some root.level) shown.levels (slice_get-map (λ (s : Sq). s.level) squares _ root found))).1
 
 -- the root's cells, round (0,0)
 pub root_shown : (book : Book) (nodes : List Node) (root : Sq) → IsRoot book nodes root → centred root.level (book.cells root) ≡ root_plane nodes

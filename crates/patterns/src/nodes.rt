@@ -29,6 +29,7 @@ pub(crate) fn nodes_to_square<S: Squares>(
 ) -> Result<Sq, Refusal>
     requires { StandInOrder [] (map (λ line. line.node) lines) }
     ensures ok { IfOk result (IsRound (S.book book.new) (root_plane (map (λ line. line.node) lines.entry))) }
+    ensures high { IfOk result (λ sq. sq.level ≤ 63) }
     ensures refusal { IfErr result (λ refusal. (refusal ≡ Refusal.NoMemory) ⊎ MayRefuse (S.book book.new) refusal) }
     ensures keeps { Keeps (S.book book.old) (S.book book.new) }
     ensures results { KeepsResults (S.book book.old) (S.book book.new) }

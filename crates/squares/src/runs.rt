@@ -88,8 +88,8 @@ fn spans_to_square<S: Squares>(
 }
 
 /// The square of the runs' cells, at the smallest level of at least 4 round (0,0): a square of level
-/// n has the cells from -2^(n-1) to 2^(n-1) - 1. `NoMemory` where memory ran out, and what the book
-/// refuses.
+/// n has the cells from -2^(n-1) to 2^(n-1) - 1, so the level is at most 63. `NoMemory` where memory
+/// ran out, and what the book refuses.
 pub fn runs_to_square<S: Squares>(
     alloc: Global,
     book: &mut S,
@@ -97,6 +97,7 @@ pub fn runs_to_square<S: Squares>(
 ) -> Result<Sq, Refusal>
     requires { AllByRecursion IsRun runs.now }
     ensures ok { IfOk result (IsRound (S.book book.new) (runs_plane runs.now)) }
+    ensures high { IfOk result (λ sq. sq.level ≤ 63) }
     ensures refusal { IfErr result (λ refusal. (refusal ≡ Refusal.NoMemory) ⊎ MayRefuse (S.book book.new) refusal) }
     ensures keeps { Keeps (S.book book.old) (S.book book.new) }
     ensures results { KeepsResults (S.book book.old) (S.book book.new) }
@@ -119,14 +120,15 @@ fn runs_of(alloc: Global, cells: &CellSet) -> Result<Vec<(Cell, u64)>, Refusal>
     Ok(runs)
 }
 
-/// The square of the set's cells, at the smallest level of at least 4 round (0,0). `NoMemory` where
-/// memory ran out, and what the book refuses.
+/// The square of the set's cells, at the smallest level of at least 4 round (0,0), so at most 63.
+/// `NoMemory` where memory ran out, and what the book refuses.
 pub fn cells_to_square<S: Squares>(
     alloc: Global,
     book: &mut S,
     cells: &CellSet,
 ) -> Result<Sq, Refusal>
     ensures ok { IfOk result (IsRound (S.book book.new) (plane_of cells.now)) }
+    ensures high { IfOk result (λ sq. sq.level ≤ 63) }
     ensures refusal { IfErr result (λ refusal. (refusal ≡ Refusal.NoMemory) ⊎ MayRefuse (S.book book.new) refusal) }
     ensures keeps { Keeps (S.book book.old) (S.book book.new) }
     ensures results { KeepsResults (S.book book.old) (S.book book.new) }

@@ -1,6 +1,6 @@
 //! Tables that stay open, each with its one desk.
 
-ghost use Rattle.std.specs.Prelude.{◌≡◌, ◌⊎◌, ◌≤◌, ◌<◌, ◌^◌, ◌↔◌, IfErr, IfOk, IfSome, IsOkUnless, IsTrue};
+ghost use Rattle.std.specs.Prelude.{◌≡◌, ◌⊎◌, ◌≤◌, ◌^◌, ◌↔◌, IfErr, IfOk, IfSome, IsOkUnless, IsTrue};
 ghost use Rattle.node_table.specs.Desks.{IsDeskOf};
 ghost use Rattle.node_table.specs.Openings.{SaysAll};
 ghost use Rattle.node_table.specs.Stills.{book_in, key_of};
@@ -167,7 +167,7 @@ impl OpenTable {
         root: Sq,
     ) -> (OpenTable, Result<Sq, Refusal>)
         requires known { IsKnown (known_at self) root.level root }
-        requires level { (3 < root.level) × (root.level ≤ 63) }
+        requires level { root.level ≤ 63 }
         requires exponent { self.state.key.exponent ≤ 62 }
         ensures stays { StaysOpen self result.0 }
         ensures ok { IfOk result.1 (IsRound (known_at result.0) (after self.state.key.rule (centred root.level ((known_at self).cells root)) (2 ^ self.state.key.exponent))) }

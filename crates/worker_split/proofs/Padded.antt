@@ -1,5 +1,5 @@
 -- Padding, and trimming, as the desk sees it that comes back from them.
-use Rattle.std.proofs.Common.{◌≡◌, ◌∙◌, ℕ, ◌+◌, ◌-◌, ◌^◌, ◌<◌, max, sym, ap, subst, arith, Ok, Err}
+use Rattle.std.proofs.Common.{◌≡◌, ◌∙◌, ℕ, ◌+◌, ◌-◌, ◌^◌, ◌≤◌, max, sym, ap, subst, arith, Ok, Err}
 use Rattle.std.specs.Prelude.{IfOk}
 use Rattle.std.specs.declared.result.Result.{Result}
 use Rattle.plane.specs.Centred.{centred, Holds, IsSmallestLevel}
@@ -32,7 +32,7 @@ back_shown table desk back book plane sq is shown = record { known = is.known sq
 -- a square that was padded at work
 pub padded : (table : NodeTable) (desk back : Desk) (begun ended : Book) (root sq : Sq) (exponent : ℕ) → begun ≡ work_at (expansions_of desk) table desk → IsBack table desk back ended →
     exponent ≡ begun.exponent → sq.level ≡ max (root.level + 2) (exponent + 3) → ShowsRound ended (centred root.level (begun.cells root)) sq →
-    Holds (sq.level - 1) (after begun.rule (centred root.level (begun.cells root)) (2 ^ exponent)) → 3 < root.level →
+    Holds (sq.level - 1) (after begun.rule (centred root.level (begun.cells root)) (2 ^ exponent)) → 3 ≤ root.level →
     IsPadded (book_at table back) (centred root.level ((book_at table desk).cells root)) sq
 padded table desk back begun ended root sq exponent begins is same level shown room low =
     let plane : Plane = centred root.level ((book_at table desk).cells root) in

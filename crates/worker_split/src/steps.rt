@@ -1,5 +1,5 @@
 //! One step of a run, by a team.
-ghost use Rattle.std.specs.Prelude.{◌+◌, ◌^◌, ◌<◌, ◌≤◌, max, IfOk, IfErr};
+ghost use Rattle.std.specs.Prelude.{◌+◌, ◌^◌, ◌≤◌, max, IfOk, IfErr};
 ghost use Rattle.plane.specs.Centred.{centred};
 ghost use Rattle.plane.specs.Plane.{after};
 ghost use Rattle.squares.specs.Book.{IsKnown};
@@ -24,7 +24,6 @@ use std::thread::Threads;
 fn padded_at(table: &NodeTable, desk: Desk, root: Sq) -> (Desk, Result<Sq, Refusal>)
     requires desk { IsDeskOf table.now desk }
     requires known { IsKnown (book_at table.now desk) root.level root }
-    requires low { 3 < root.level }
     requires high { max (root.level + 2) ((book_at table.now desk).exponent + 3) ≤ 65 }
     ensures desk { Continues table.now 1 desk result.0 }
     ensures ok { IfOk result.1 (IsPadded (book_at table.now result.0) (centred root.level ((book_at table.now desk).cells root))) }
@@ -80,7 +79,6 @@ pub fn step<R: Threads + Wait + Sync, G: Gate>(
 ) -> (Desk, Result<Sq, Refusal>)
     requires desk { IsDeskOf table.now desk }
     requires known { IsKnown (book_at table.now desk) root.level root }
-    requires low { 3 < root.level }
     requires high { max (root.level + 2) ((book_at table.now desk).exponent + 3) ≤ 65 }
     ensures ok { IfOk result.1 (IsRound (book_at table.now result.0)
         (after (book_at table.now desk).rule (centred root.level ((book_at table.now desk).cells root)) (2 ^ (book_at table.now desk).exponent))) }

@@ -13,5 +13,5 @@ pub returns-clause-ok : goal.returns-clause-ok
 returns-clause-ok c =
     let back = is_back c.args.table.now c.args.desk c.leave.result _ _ c.at-at.ensures c.pad-padded.ensures.keeps c.leave.ensures in
     on_three c.pad-padded.result _ _ _ _
-    (λ sq level shown room. padded c.args.table.now c.args.desk c.leave.result _ _ c.args.root sq c.exponent-exponent.result c.at-at.ensures back c.exponent-exponent.ensures level shown room c.requires.low)
+    (λ sq level shown room. padded c.args.table.now c.args.desk c.leave.result _ _ c.args.root sq c.exponent-exponent.result c.at-at.ensures back c.exponent-exponent.ensures level shown room c.requires.known.low)
     c.pad-padded.ensures.level c.pad-padded.ensures.cells c.pad-padded.ensures.room
