@@ -6,7 +6,9 @@ pub mod Desks
 pub mod TwoBlocks
 pub mod Refusing
 pub mod TwoHalves
+mod NineQuarters
 mod NineByHalves
+mod RefusedNine
 mod OverlapsByHalves
 pub mod Telling
 pub mod Joining

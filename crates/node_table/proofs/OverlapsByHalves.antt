@@ -1,23 +1,24 @@
 -- The four squares that neighbours make, put together of the halves of rows.
-use Rattle.std.proofs.Common.{◌≡◌, ℕ, ◌+◌, ◌^◌, ◌<◌, All, List, length, arith}
+use Rattle.std.proofs.Common.{◌≡◌, ℕ, ◌+◌, ◌*◌, ◌^◌, ◌<◌, All, List, length, arith}
 use Rattle.plane.specs.Square.{joined}
 use Rattle.squares.specs.declared.sq.Sq.{Sq}
 use Rattle.squares.specs.Book.{Book, IsKnown, Keeps, Shows, joined_squares, nth, numbered}
 use Rattle.squares.proofs.FourKnown.{joined_later}
 use Rattle.squares.proofs.Kept.{known_kept}
+use Rattle.table_core.specs.declared.shape.Kind.TheVariants.{Pair}
+use Rattle.table_core.specs.Layout.{pair_of}
 use Rattle.node_table.specs.declared.desk.Desk.{Desk}
 use Rattle.node_table.specs.declared.halves.Half.{Half}
 use Rattle.node_table.specs.declared.overlaps.HalvesOfRows.{HalvesOfRows}
 use Rattle.node_table.specs.declared.table.NodeTable.{NodeTable}
 use Rattle.node_table.specs.Desks.{book_at}
 use Rattle.node_table.specs.Halves.{AreBeside, AreHalvesOfRows, IsHalfOf, LearnsBlocks, MakeSquare, squares_of}
-use Rattle.node_table.proofs.TwoHalves.{beside, book_kept, half_kept, half_of, joined_of, make_square}
+use Rattle.node_table.specs.Refusals.{HasNoRoom, HasNoRoomForOverlap, HasNoRoomForQuad, neighbours_at, word_of}
+use Rattle.node_table.proofs.Refusing.{no_upper_half, no_lower_half, no_whole}
+use Rattle.node_table.proofs.TwoHalves.{beside, book_kept, half_kept, half_of, half_shown, half_stays, joined_of, make_square}
 
 pub beside_kept : {table : NodeTable} {old new : Desk} {left right : Sq} → LearnsBlocks table old new → AreBeside (book_at table old) left right → AreBeside (book_at table new) left right
 beside_kept learns are = record { fits = are.fits; left = known_kept (book_kept learns) are.left; right = known_kept (book_kept learns) are.right }
-
-pub half_stays : {table : NodeTable} {old new : Desk} {left right : Sq} {half : Half} → LearnsBlocks table old new → IsHalfOf table old left right half → IsHalfOf table new left right half
-half_stays learns is = record { left = is.left; right = is.right; known = half_kept learns is.known }
 
 pub all_kept : {old new : Book} {level : ℕ} (nine : List Sq) → Keeps old new → All (IsKnown old level) nine → All (IsKnown new level) nine
 all_kept nine keeps known k d less = known_kept keeps (known k d less)
@@ -55,3 +56,18 @@ pub corner_shown : {table : NodeTable} {desk made last : Desk} {level : ℕ} {up
 corner_shown {table} {desk} {made} {upper = upper} {lower = lower} {sq = sq} nine long known k less is also learns later shown =
     joined_later (nth_known nine long known k (omega arith)) (nth_known nine long known (k + 1) (omega arith)) (nth_known nine long known (k + 3) (omega arith)) (nth_known nine long known (k + 4) (omega arith)) (book_kept learns) (book_kept later)
     (joined_of (book_at table desk) (book_at table made) upper lower sq is.left is.right also.left also.right shown)
+
+-- where the square of four neighbours has no room
+module _ {table : NodeTable} {desk : Desk} (nine : List Sq) (row column : ℕ) (above : row < 2) (left : column < 2) where
+  no_overlap : HasNoRoomForQuad table desk desk (neighbours_at nine row column) → HasNoRoomForOverlap table desk nine
+  no_overlap lack = record { row = row; column = column; above = above; left = left; room = lack }
+
+  pub no_half_above : HasNoRoom table desk Pair (word_of (nth nine (3 * row + column)) (nth nine (3 * row + column + 1))) → HasNoRoomForOverlap table desk nine
+  no_half_above room = no_overlap (no_upper_half table desk desk _ room)
+
+  pub no_half_below : HasNoRoom table desk Pair (word_of (nth nine (3 * row + column + 3)) (nth nine (3 * row + column + 4))) → HasNoRoomForOverlap table desk nine
+  no_half_below room = no_overlap (no_lower_half table desk desk _ room)
+
+  pub no_corner : {upper lower : Half} → IsHalfOf table desk (nth nine (3 * row + column)) (nth nine (3 * row + column + 1)) upper → IsHalfOf table desk (nth nine (3 * row + column + 3)) (nth nine (3 * row + column + 4)) lower →
+      HasNoRoom table desk Pair (pair_of upper.number lower.number) → HasNoRoomForOverlap table desk nine
+  no_corner {upper} {lower} is also room = no_overlap (no_whole table desk desk _ upper.number lower.number (half_shown is) (half_shown also) room)

@@ -3,7 +3,9 @@ use Rattle.std.proofs.Common.{ℕ, List}
 use Rattle.std.specs.Prelude.{Result, Ok, Err, OnErr}
 use Rattle.squares.specs.declared.sq.Sq.{Sq}
 use Rattle.squares.specs.Book.{nth}
+use Rattle.table_core.specs.declared.shape.Kind.{Kind}
 use Rattle.table_core.specs.declared.shape.Kind.TheVariants.{Pair}
+use Rattle.table_core.specs.Knowledge.{Grows}
 use Rattle.table_core.specs.Layout.{pair_of}
 use Rattle.node_table.specs.declared.desk.Desk.{Desk}
 use Rattle.node_table.specs.declared.table.NodeTable.{NodeTable}
@@ -23,3 +25,21 @@ module _ (table : NodeTable) (old new : Desk) (quarters : List Sq) where
   pub no_whole : (upper lower : ℕ) → IsHalf (known_by old) (known_by new) (nth quarters 0) (nth quarters 1) upper →
       IsHalf (known_by old) (known_by new) (nth quarters 2) (nth quarters 3) lower → HasNoRoom table new Pair (pair_of upper lower) → HasNoRoomForQuad table old new quarters
   no_whole upper lower top bottom room = record { word = pair_of upper lower; needed = Needs.both_halves upper lower top bottom; room = room }
+
+  -- which word it is that has no room
+  pub lacks : {P : Type 0} → (HasNoRoom table new Pair (word_of (nth quarters 0) (nth quarters 1)) → P) → (HasNoRoom table new Pair (word_of (nth quarters 2) (nth quarters 3)) → P) →
+      ((upper lower : ℕ) → IsHalf (known_by old) (known_by new) (nth quarters 0) (nth quarters 1) upper → IsHalf (known_by old) (known_by new) (nth quarters 2) (nth quarters 3) lower → HasNoRoom table new Pair (pair_of upper lower) → P) →
+      HasNoRoomForQuad table old new quarters → P
+  lacks {P} above below both lack = one_of lack.word lack.needed lack.room
+    where
+      one_of : (word : ℕ) → Needs (known_by old) (known_by new) quarters word → HasNoRoom table new Pair word → P
+      one_of word Needs.upper_half room = above room
+      one_of word Needs.lower_half room = below room
+      one_of word (Needs.both_halves upper lower top bottom) room = both upper lower top bottom room
+
+-- a word that has no room has none later
+pub room_stays : {table : NodeTable} {old new : Desk} {kind : Kind} {word : ℕ} → Grows (known_by old) (known_by new) → HasNoRoom table old kind word → HasNoRoom table new kind word
+room_stays grows lack = record {
+  some = lack.some;
+  way = record { full = λ place short. let other = lack.way.full place short in (other.0, grows.words _ other.1, other.2, other.3) };
+}

@@ -92,6 +92,13 @@ module _ {key : Key} {old now after : Knowledge} {kind : Kind} {word place index
         (same_or_other earlier place);
   }
 
+  -- another word was known to stand there: it is met
+  pub other_met : KnowsFullWay key.shape.bits old kind word → place < 256 → (found ≢ 0) × (found ≢ word)
+  other_met full short =
+      let other = full.full place short in
+      let e : found ≡ other.0 = (met.agrees other.0 (subst (λ i. HasSeen now i other.0) (sym there) (sought.grows.words _ other.1))).0 in
+      (λ none. other.2 (sym e ∙ none), λ same. other.3 (sym e ∙ same))
+
   -- a zero was found: a claim is lawful there
   pub may_claim : word ≢ 0 → word < 2 ^ 64 → place < 256 → KnowsPartsFor old kind word → MayClaim key.shape.bits after index word
   may_claim some fits less parts = record {

@@ -1,5 +1,7 @@
 -- Halves of squares: made of two squares, kept, read, and made into a square.
 use Rattle.std.proofs.Common.{◌≡◌, ℕ, suc, ◌+◌, ◌-◌, ◌^◌, ◌<◌, [], ◌∷◌, sym, subst, arith, refl}
+use Rattle.std.proofs.Math.Logic.{∥∥₁_elim}
+use Rattle.std.proofs.Props.{props}
 use Rattle.plane.specs.Plane.{Plane}
 use Rattle.plane.specs.Square.{IsSame}
 use Rattle.plane.proofs.Cuts.{joined_same}
@@ -90,6 +92,10 @@ half_level {table} {desk} {half = half} e h = subst (λ n. KnowsHalf table desk 
 pub half_of : {table : NodeTable} {desk : Desk} {level : ℕ} {left right : Sq} {half : Half} → left.level ≡ level → IsHalfOf table desk left right half → KnowsHalf table desk level half
 half_of e is = half_level e is.known
 
+-- it stays that half
+pub half_stays : {table : NodeTable} {old new : Desk} {left right : Sq} {half : Half} → LearnsBlocks table old new → IsHalfOf table old left right half → IsHalfOf table new left right half
+half_stays learns is = record { left = is.left; right = is.right; known = half_kept learns is.known }
+
 -- two known halves of a level, as those of a square
 pub make_square : {table : NodeTable} {desk : Desk} {level : ℕ} {upper lower : Half} → level < 65 → KnowsHalf table desk level upper → KnowsHalf table desk level lower → MakeSquare table desk upper lower
 make_square fits h k = record {
@@ -159,3 +165,16 @@ half_before {table} {old} {mid} new {level} {half} {left} {right} learns grows i
     let keeps = book_kept learns in
     let is = subst (λ (two : Sq × Sq). IsHalf (known_by mid) (known_by mid) two.0 two.1 half.number) (λ i. (e i, f i)) h.shown in
     half_again (known_by mid) (known_by mid) (known_by new) (known_by old) left right half.number grows (keeps.cells left in_left.known) (keeps.cells right in_right.known) is
+
+same_prop : (n m : ℕ) → IsProp (n ≡ m)
+same_prop n m = hlevel props
+
+-- a half shows its two squares
+pub half_shown : {table : NodeTable} {desk : Desk} {left right : Sq} {half : Half} → IsHalfOf table desk left right half → IsHalf (known_by desk) (known_by desk) left right half.number
+half_shown {desk = desk} {half = half} is = subst (λ (two : Sq × Sq). IsHalf (known_by desk) (known_by desk) two.0 two.1 half.number) (λ i. (is.left i, is.right i)) is.known.shown
+
+-- a half has one number, to a desk that learns too
+pub same_half : {table : NodeTable} {old new : Desk} (left right : Sq) {number other : ℕ} → LearnsBlocks table old new → IsHalf (known_by old) (known_by old) left right number → IsHalf (known_by old) (known_by new) left right other → number ≡ other
+same_half {table} {old} {new} left right {number} {other} learns is also =
+    let rank = suc (square_rank left.level) in
+    ∥∥₁_elim (coherent_at table new learns.of_table) (same_prop number other) (λ t. t.consistent.one_number rank number other _ (knows_grown (known_by old) (known_by new) rank number _ learns.grows is) also)

@@ -1,7 +1,9 @@
 -- Where a table has no room for a word.
-use Rattle.std.specs.Prelude.{◌≢◌, ℕ, suc, List}
+use Rattle.std.specs.Prelude.{◌≢◌, ℕ, suc, ◌+◌, ◌-◌, ◌*◌, ◌<◌, List, [], ◌∷◌}
+use Rattle.plane.specs.Plane.{Plane}
+use Rattle.plane.specs.Square.{subsquare}
 use Rattle.squares.specs.declared.sq.Sq.{Sq}
-use Rattle.squares.specs.Book.{nth}
+use Rattle.squares.specs.Book.{AreQuarters, nth}
 use Rattle.table_core.specs.declared.knowledge.Knowledge.{Knowledge}
 use Rattle.table_core.specs.declared.shape.Kind.{Kind}
 use Rattle.table_core.specs.declared.shape.Kind.TheVariants.{Pair}
@@ -12,6 +14,7 @@ use Rattle.table_core.specs.FullWays.{KnowsFullWay}
 use Rattle.node_table.specs.declared.desk.Desk.{Desk}
 use Rattle.node_table.specs.declared.table.NodeTable.{NodeTable}
 use Rattle.node_table.specs.Books.{cells_in}
+use Rattle.node_table.specs.Desks.{book_at}
 
 abbrev pub known_by : Desk → Knowledge
 known_by desk = desk.seat.me.0.known
@@ -42,3 +45,27 @@ pub record HasNoRoomForQuad (table : NodeTable) (old new : Desk) (quarters : Lis
   pub word : ℕ
   pub needed : Needs (known_by old) (known_by new) quarters word
   pub room : HasNoRoom table new Pair word
+
+-- the desk has no room for one of the nine overlapping squares of a square of this level with these cells: it knows the
+-- quarters of that one
+pub record HasNoRoomForSubsquare (table : NodeTable) (desk : Desk) (level : ℕ) (plane : Plane) : Type 0 where
+  pub row : ℕ
+  pub column : ℕ
+  pub above : row < 3
+  pub left : column < 3
+  pub quarters : List Sq
+  pub known : AreQuarters (book_at table desk) (level - 1) (subsquare level row column plane) quarters
+  pub room : HasNoRoomForQuad table desk desk quarters
+
+-- four neighbours among three rows of three squares: the upper left one stands in this row and column
+abbrev pub neighbours_at : List Sq → ℕ → ℕ → List Sq
+neighbours_at nine row column =
+    let first = 3 * row + column in nth nine first ∷ nth nine (first + 1) ∷ nth nine (first + 3) ∷ nth nine (first + 4) ∷ []
+
+-- the desk has no room for the square of four neighbours among three rows of three squares
+pub record HasNoRoomForOverlap (table : NodeTable) (desk : Desk) (nine : List Sq) : Type 0 where
+  pub row : ℕ
+  pub column : ℕ
+  pub above : row < 2
+  pub left : column < 2
+  pub room : HasNoRoomForQuad table desk desk (neighbours_at nine row column)

@@ -1,11 +1,12 @@
 //! A desk at work at its table: the book of squares that the recursion reads and writes.
-ghost use Rattle.std.specs.Prelude.{◌≡◌, ◌<◌, ◌+◌, IfOk, IfErr, OnErr, OnOk, IsOk};
+ghost use Rattle.std.specs.Prelude.{◌≡◌, ◌<◌, ◌+◌, All, IfOk, IfErr, OnErr, OnOk, IsOk, IsErr};
 ghost use Rattle.std.specs.List.{AllByRecursion};
 ghost use Rattle.plane.specs.Square.{bits_plane};
-ghost use Rattle.squares.specs.Book.{AddsResult, IsFuture, IsKnown, Shows, IsEmpty, Keeps, KeepsResults, MayRefuse, numbered, joined_squares, nth};
+ghost use Rattle.squares.specs.Book.{AddsResult, AreSubsquares, IsFuture, IsKnown, Shows, IsEmpty, Keeps, KeepsResults, MayRefuse, numbered, joined_squares, nth};
+ghost use Rattle.squares.specs.Overlaps.{AreOverlaps};
 ghost use Rattle.table_core.specs.declared.shape.Kind.TheVariants.{Leaf};
 ghost use Rattle.node_table.specs.Desks.{IsDeskOf, work_store};
-ghost use Rattle.node_table.specs.Refusals.{HasNoRoom, HasNoRoomForQuad};
+ghost use Rattle.node_table.specs.Refusals.{HasNoRoom, HasNoRoomForOverlap, HasNoRoomForQuad, HasNoRoomForSubsquare};
 
 use crate::desk::Desk;
 use crate::table::NodeTable;
@@ -15,8 +16,9 @@ use squares::{Num, Sq, Squares};
 use table_core::{Kind, parts};
 
 /// A desk at work at its table. Its calls wait for nobody, take no memory and always return,
-/// whatever other desks do meanwhile. `leaf`, `quad`, `nine` and `overlaps` refuse `NodesFull` alone, where each of the
-/// 256 slots of the way of a word that they need holds another word; `keep` refuses nothing.
+/// whatever other desks do meanwhile. `leaf`, `quad`, `nine` and `overlaps` refuse `NodesFull` alone, and only where
+/// the desk saw another word in each of the 256 slots of the way of a word that they need; `leaf` and `quad` refuse
+/// wherever it saw that before the call. `keep` refuses nothing.
 #[derive(Drop)]
 pub struct At<'t> {
     pub(crate) table: &'t NodeTable,
@@ -84,6 +86,7 @@ impl Squares for At<'_> {
         ensures empty { word ≡ 0 → IsOk result }
         ensures refusal { IfErr result (MayRefuse (book_here self.new)) }
         ensures full { OnErr result (HasNoRoom self.new.table.now self.new.desk Leaf word) }
+        ensures refused { HasNoRoom self.old.table.now self.old.desk Leaf word → IsErr result }
         ensures keeps { Keeps (book_here self.old) (book_here self.new) }
         ensures results { KeepsResults (book_here self.old) (book_here self.new) }
     {
@@ -104,6 +107,7 @@ impl Squares for At<'_> {
         ensures empty { AllByRecursion IsEmpty quarters → IsOk result }
         ensures refusal { IfErr result (MayRefuse (book_here self.new)) }
         ensures full { OnErr result (HasNoRoomForQuad self.new.table.now self.old.desk self.new.desk quarters) }
+        ensures refused { HasNoRoomForQuad self.old.table.now self.old.desk self.old.desk quarters → IsErr result }
         ensures keeps { Keeps (book_here self.old) (book_here self.new) }
         ensures results { KeepsResults (book_here self.old) (book_here self.new) }
     {
@@ -115,11 +119,27 @@ impl Squares for At<'_> {
         self.desk.whole(self.table, upper, lower)
     }
 
-    fn nine(&mut self, sq: Sq) -> Result<[Sq; 9], Refusal> {
+    fn nine(&mut self, sq: Sq) -> Result<[Sq; 9], Refusal>
+        requires known { IsKnown (book_here self.old) sq.level sq }
+        requires level { 4 < sq.level }
+        ensures ok { IfOk result (AreSubsquares (book_here self.new) sq.level ((book_here self.old).cells sq)) }
+        ensures refusal { IfErr result (MayRefuse (book_here self.new)) }
+        ensures full { OnErr result (HasNoRoomForSubsquare self.new.table.now self.new.desk sq.level ((book_here self.old).cells sq)) }
+        ensures keeps { Keeps (book_here self.old) (book_here self.new) }
+        ensures results { KeepsResults (book_here self.old) (book_here self.new) }
+    {
         self.desk.nine(self.table, sq)
     }
 
-    fn overlaps(&mut self, level: u8, nine: [Sq; 9]) -> Result<[Sq; 4], Refusal> {
+    fn overlaps(&mut self, level: u8, nine: [Sq; 9]) -> Result<[Sq; 4], Refusal>
+        requires known { All (IsKnown (book_here self.old) level) nine }
+        requires level { level < 65 }
+        ensures ok { IfOk result (AreOverlaps (book_here self.new) level nine) }
+        ensures refusal { IfErr result (MayRefuse (book_here self.new)) }
+        ensures full { OnErr result (HasNoRoomForOverlap self.new.table.now self.new.desk nine) }
+        ensures keeps { Keeps (book_here self.old) (book_here self.new) }
+        ensures results { KeepsResults (book_here self.old) (book_here self.new) }
+    {
         self.desk.overlaps(self.table, level, nine)
     }
 

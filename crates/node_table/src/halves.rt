@@ -1,5 +1,5 @@
 //! A square as its two halves: its quarters side by side, each two with a number of their own.
-ghost use Rattle.std.specs.Prelude.{◌≡◌, ◌<◌, ◌+◌, IfOk, IfErr, OnErr, IsOk, Ok};
+ghost use Rattle.std.specs.Prelude.{◌≡◌, ◌<◌, ◌+◌, IfOk, IfErr, OnErr, IsErr, IsOk, Ok};
 ghost use Rattle.squares.specs.Book.{IsEmpty, IsKnown, MayRefuse, Shows, joined_squares};
 ghost use Rattle.table_core.specs.declared.shape.Kind.TheVariants.{Pair};
 ghost use Rattle.table_core.specs.Layout.{pair_of};
@@ -31,6 +31,7 @@ impl Desk {
         ensures empty { IsEmpty left → IsEmpty right → result ≡ Ok (record { left = left; right = right; number = 0 }) }
         ensures refusal { IfErr result (MayRefuse (book_at table.now self.new)) }
         ensures full { OnErr result (HasNoRoom table.now self.new Pair (word_of left right)) }
+        ensures refused { HasNoRoom table.now self.old Pair (word_of left right) → IsErr result }
     {
         let number = self.pair(table, left.num.0, right.num.0)?;
         Ok(Half {
@@ -55,6 +56,7 @@ impl Desk {
         ensures empty { upper.number ≡ 0 → lower.number ≡ 0 → IsOk result }
         ensures refusal { IfErr result (MayRefuse (book_at table.now self.new)) }
         ensures full { OnErr result (HasNoRoom table.now self.new Pair (pair_of upper.number lower.number)) }
+        ensures refused { HasNoRoom table.now self.old Pair (pair_of upper.number lower.number) → IsErr result }
     {
         let number = self.pair(table, upper.number, lower.number)?;
         Ok(square(upper.left.level + 1, number))

@@ -1,10 +1,12 @@
 //! The four squares that neighbours make among nine squares in three rows.
 
-ghost use Rattle.std.specs.Prelude.{◌<◌, All, IfOk, IfErr};
+ghost use Rattle.std.specs.Prelude.{◌<◌, ◌⊎◌, All, IfOk, IfErr, OnErr};
 ghost use Rattle.squares.specs.Book.{IsKnown, MayRefuse};
 ghost use Rattle.squares.specs.Overlaps.{AreOverlaps};
+ghost use Rattle.table_core.specs.declared.shape.Kind.TheVariants.{Pair};
 ghost use Rattle.node_table.specs.Desks.{IsDeskOf, book_at};
 ghost use Rattle.node_table.specs.Halves.{AreBeside, AreHalvesOfRows, IsHalfOf, LearnsBlocks};
+ghost use Rattle.node_table.specs.Refusals.{HasNoRoom, HasNoRoomForOverlap, word_of};
 
 use crate::desk::Desk;
 use crate::halves::Half;
@@ -36,6 +38,7 @@ impl Desk {
         ensures first { IfOk result (λ halves. IsHalfOf table.now self.new left middle halves.0) }
         ensures last { IfOk result (λ halves. IsHalfOf table.now self.new middle right halves.1) }
         ensures refusal { IfErr result (MayRefuse (book_at table.now self.new)) }
+        ensures full { OnErr result (HasNoRoom table.now self.new Pair (word_of left middle) ⊎ HasNoRoom table.now self.new Pair (word_of middle right)) }
     {
         let first = self.half(table, left, middle)?;
         let last = self.half(table, middle, right)?;
@@ -55,6 +58,7 @@ impl Desk {
         ensures desk { LearnsBlocks table.now self.old self.new }
         ensures ok { IfOk result (AreHalvesOfRows table.now self.new level nine) }
         ensures refusal { IfErr result (MayRefuse (book_at table.now self.new)) }
+        ensures full { OnErr result (HasNoRoomForOverlap table.now self.new nine) }
     {
         let [nw, n, ne, w, centre, e, sw, s, se] = nine;
         table.prefetch_half(nw, n);
@@ -87,6 +91,7 @@ impl Desk {
         ensures desk { LearnsBlocks table.now self.old self.new }
         ensures ok { IfOk result (AreOverlaps (book_at table.now self.new) level nine) }
         ensures refusal { IfErr result (MayRefuse (book_at table.now self.new)) }
+        ensures full { OnErr result (HasNoRoomForOverlap table.now self.new nine) }
     {
         let rows = self.halves_of_rows(table, level, nine)?;
         table.prefetch_whole(rows.upper.0, rows.middle.0);

@@ -1,5 +1,5 @@
 //! Two blocks and the number of both together: found or made, and read again.
-ghost use Rattle.std.specs.Prelude.{◌≡◌, IfOk, IfErr, OnErr};
+ghost use Rattle.std.specs.Prelude.{◌≡◌, IfOk, IfErr, OnErr, IsErr};
 ghost use Rattle.squares.specs.Book.{MayRefuse};
 ghost use Rattle.table_core.specs.declared.shape.Kind.TheVariants.{Pair};
 ghost use Rattle.table_core.specs.Knowledge.{Grows};
@@ -32,6 +32,7 @@ impl Desk {
         ensures empty { first ≡ 0 → second ≡ 0 → result ≡ Ok 0 }
         ensures refusal { IfErr result (MayRefuse (book_at table.now self.new)) }
         ensures full { OnErr result (HasNoRoom table.now self.new Pair (pair_of first second)) }
+        ensures refused { HasNoRoom table.now self.old Pair (pair_of first second) → IsErr result }
     {
         if first == 0 && second == 0 {
             return Ok(0);

@@ -1,5 +1,5 @@
 //! The search for a word along its probe sequence: for an equal word, or the first empty slot.
-ghost use Rattle.std.specs.Prelude.{◌≢◌, IfSome, IfNone};
+ghost use Rattle.std.specs.Prelude.{◌≢◌, IfSome, IfNone, IsNone};
 ghost use Rattle.table_core.specs.Knowledge.{Grows};
 ghost use Rattle.table_core.specs.Lawful.{KnowsPartsFor};
 ghost use Rattle.node_table.specs.Numbers.{KeepsTold, IsNumber};
@@ -22,6 +22,7 @@ impl Desk {
         ensures told { KeepsTold self.old.seat.me.0.known self.new.seat.me.0.known }
         ensures some { IfSome result (IsNumber table.now.key.shape.bits self.old.seat.me.0.known self.new.seat.me.0.known kind word) }
         ensures none { IfNone result (HasNoRoom table.now self.new kind word) }
+        ensures refused { HasNoRoom table.now self.old kind word → IsNone result }
     {
         let shape = table.key.shape;
         for place in 0..SHARD_LEN {

@@ -1,8 +1,9 @@
 //! The nine overlapping squares of a square.
-ghost use Rattle.std.specs.Prelude.{◌<◌, IfOk, IfErr};
+ghost use Rattle.std.specs.Prelude.{◌<◌, IfOk, IfErr, OnErr};
 ghost use Rattle.squares.specs.Book.{AreSubsquares, IsKnown, MayRefuse};
 ghost use Rattle.node_table.specs.Desks.{IsDeskOf, book_at};
 ghost use Rattle.node_table.specs.Halves.{AreHalvesOfQuarters, LearnsBlocks};
+ghost use Rattle.node_table.specs.Refusals.{HasNoRoomForSubsquare};
 
 use crate::desk::Desk;
 use crate::halves::Half;
@@ -52,6 +53,7 @@ impl Desk {
         ensures desk { LearnsBlocks table.now self.old self.new }
         ensures ok { IfOk result (AreSubsquares (book_at table.now self.new) sq.level ((book_at table.now self.old).cells sq)) }
         ensures refusal { IfErr result (MayRefuse (book_at table.now self.new)) }
+        ensures full { OnErr result (HasNoRoomForSubsquare table.now self.new sq.level ((book_at table.now self.old).cells sq)) }
     {
         let parts = self.read_halves_of_quarters(table, sq);
         let [nw, ne, sw, se] = parts.quarters;

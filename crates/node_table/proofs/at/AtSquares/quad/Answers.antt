@@ -1,12 +1,17 @@
-use Rattle.std.proofs.Common.{rules, refl}
+use Rattle.std.proofs.Common.{ℕ, rules, refl, subst}
+use Rattle.std.proofs.lemmas.Bool.{false≢true}
 use Rattle.std.proofs.lemmas.Result.{IfOk-weaker, on_err_weaker}
 use Rattle.squares.specs.Book.{nth}
 use Rattle.squares.proofs.PlainQuads.{all_four}
 use Rattle.squares.proofs.Kept.{known_kept}
+use Rattle.table_core.specs.declared.shape.Kind.TheVariants.{Pair}
+use Rattle.table_core.specs.Layout.{pair_of}
+use Rattle.table_core.proofs.Knowing.{grows_refl}
 use Rattle.node_table.specs.Desks.{book_at}
+use Rattle.node_table.specs.Refusals.{HasNoRoom, known_by}
 use Rattle.node_table.proofs.Working.{keeps_working, all_known_at, shows_working}
-use Rattle.node_table.proofs.Refusing.{on_err, no_upper_half, no_lower_half, no_whole}
-use Rattle.node_table.proofs.TwoHalves.{beside, book_kept, half_before, half_kept, half_of, joined_earlier, joined_of, learns_trans, make_square}
+use Rattle.node_table.proofs.Refusing.{lacks, on_err, no_upper_half, no_lower_half, no_whole, room_stays}
+use Rattle.node_table.proofs.TwoHalves.{beside, book_kept, half_before, half_kept, half_of, joined_earlier, joined_of, learns_trans, make_square, same_half}
 use Rattle.node_table.proofs.at.AtSquares.quad.Goals as goal
 
 pub half-requires-clause-squares : goal.half-requires-clause-squares
@@ -72,3 +77,19 @@ returns-clause-full c =
     (half_before c.whole.new.self both later four.nw four.ne upper.left upper.right (half_kept c.half-2.ensures.desk (half_of refl upper)))
     (half_before c.whole.new.self both later four.sw four.se lower.left lower.right (half_of four.sw.at_level lower)))
     c.whole.ensures.full
+
+pub returns-clause-refused : goal.returns-clause-refused
+returns-clause-refused c =
+    let at = c.args.self.now in
+    let new = c.half-2.new.self in
+    let level = (nth c.args.quarters 0).level in
+    let four = all_four _ c.args.quarters (search rules) (all_known_at at.expansions at.table.now at.desk level c.args.quarters c.requires.known) in
+    let upper = c.in_ok-upper.ensures.ok in let lower = c.in_ok-lower.ensures.ok in
+    let both = learns_trans c.half.ensures.desk c.half-2.ensures.desk in
+    lacks at.table.now at.desk at.desk c.args.quarters
+    (λ room. absurd (false≢true (c.in_ok-upper.ensures.refused room)))
+    (λ room. absurd (false≢true (c.in_ok-lower.ensures.refused (room_stays c.half.ensures.desk.grows room))))
+    (λ one other top bottom room.
+    let e = same_half _ _ both top (half_before new both (grows_refl (known_by new)) four.nw four.ne upper.left upper.right (half_kept c.half-2.ensures.desk (half_of refl upper))) in
+    let f = same_half _ _ both bottom (half_before new both (grows_refl (known_by new)) four.sw four.se lower.left lower.right (half_of four.sw.at_level lower)) in
+    c.whole.ensures.refused (subst (λ (n : ℕ × ℕ). HasNoRoom at.table.now new Pair (pair_of n.0 n.1)) (λ i. (e i, f i)) (room_stays both.grows room)))

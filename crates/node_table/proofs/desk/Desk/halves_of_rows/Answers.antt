@@ -1,6 +1,7 @@
-use Rattle.std.proofs.Common.{◌≡◌, length, arith, rules}
-use Rattle.node_table.proofs.OverlapsByHalves.{all_kept, half_stays, two_beside}
-use Rattle.node_table.proofs.TwoHalves.{book_kept, learns_trans}
+use Rattle.std.proofs.Common.{◌≡◌, length, arith, rules, ⊎_elim}
+use Rattle.node_table.proofs.OverlapsByHalves.{all_kept, no_half_above, no_half_below, two_beside}
+use Rattle.node_table.proofs.Refusing.{on_err}
+use Rattle.node_table.proofs.TwoHalves.{book_kept, half_stays, learns_trans}
 use Rattle.node_table.proofs.desk.Desk.halves_of_rows.Goals as goal
 
 pub halves_of_row-requires-clause-first : goal.halves_of_row-requires-clause-first
@@ -53,3 +54,15 @@ returns-clause-ok c =
       lower_left = c.in_ok-lower.ensures.first;
       lower_right = c.in_ok-lower.ensures.last;
     }
+
+pub returns-in_err-upper-clause-full : goal.returns-in_err-upper-clause-full
+returns-in_err-upper-clause-full c =
+    on_err c.from_residual.result (⊎_elim (no_half_above c.args.nine 0 0 (omega arith) (omega arith)) (no_half_above c.args.nine 0 1 (omega arith) (omega arith)) c.in_err-upper.ensures.full)
+
+pub returns-in_err-middle-clause-full : goal.returns-in_err-middle-clause-full
+returns-in_err-middle-clause-full c =
+    on_err c.from_residual-in_err-middle.result (⊎_elim (no_half_below c.args.nine 0 0 (omega arith) (omega arith)) (no_half_below c.args.nine 0 1 (omega arith) (omega arith)) c.in_err-middle.ensures.full)
+
+pub returns-in_err-lower-clause-full : goal.returns-in_err-lower-clause-full
+returns-in_err-lower-clause-full c =
+    on_err c.from_residual-in_err-lower.result (⊎_elim (no_half_below c.args.nine 1 0 (omega arith) (omega arith)) (no_half_below c.args.nine 1 1 (omega arith) (omega arith)) c.in_err-lower.ensures.full)

@@ -1,6 +1,8 @@
 use Rattle.squares.proofs.NineSquares.{nine_made}
 use Rattle.node_table.specs.Desks.{book_at}
-use Rattle.node_table.proofs.TwoHalves.{book_kept, half_kept, half_of, joined_of, learns_trans}
+use Rattle.node_table.proofs.Refusing.{on_err}
+use Rattle.node_table.proofs.RefusedNine.{no_first, no_second, no_third, no_fourth, no_upper, no_left, no_middle, no_right, no_lower}
+use Rattle.node_table.proofs.TwoHalves.{book_kept, half_kept, half_of, half_stays, joined_of, learns_trans}
 use Rattle.node_table.proofs.NineByHalves.{are_parts, column_halves, left_halves, parts_kept, right_halves, second_beside, third_beside, fourth_beside}
 use Rattle.node_table.proofs.desk.Desk.nine.Goals as goal
 
@@ -75,3 +77,48 @@ returns-clause-ok c =
     (book_kept c.whole-3.ensures.desk) (joined_of (book c.whole-2.new.self) (book c.whole-3.new.self) c.in_ok-second.second c.in_ok-third.third _ second.left second.right third.left third.right c.in_ok-middle.ensures.ok)
     (book_kept c.whole-4.ensures.desk) c.in_ok-right.ensures.ok
     (book_kept c.whole-5.ensures.desk) (joined_of (book c.whole-4.new.self) (book c.whole-5.new.self) c.in_ok-third.third c.in_ok-fourth.fourth _ third.left third.right fourth.left fourth.right c.in_ok-lower.ensures.ok)
+
+pub returns-in_err-first-clause-full : goal.returns-in_err-first-clause-full
+returns-in_err-first-clause-full c =
+    on_err c.from_residual.result (no_first c.requires.level c.requires.known.high c.half.ensures.desk.of_table (parts_kept c.half.ensures.desk c.read_halves_of_quarters-parts.ensures.value) c.in_err-first.ensures.full)
+
+pub returns-in_err-second-clause-full : goal.returns-in_err-second-clause-full
+returns-in_err-second-clause-full c =
+    on_err c.from_residual-in_err-second.result (no_second c.requires.level c.requires.known.high c.half-2.ensures.desk.of_table (parts_kept (learns_trans c.half.ensures.desk c.half-2.ensures.desk) c.read_halves_of_quarters-parts.ensures.value) c.in_err-second.ensures.full)
+
+pub returns-in_err-third-clause-full : goal.returns-in_err-third-clause-full
+returns-in_err-third-clause-full c =
+    on_err c.from_residual-in_err-third.result (no_third c.requires.level c.requires.known.high c.half-3.ensures.desk.of_table (parts_kept (learns_trans c.half.ensures.desk (learns_trans c.half-2.ensures.desk c.half-3.ensures.desk)) c.read_halves_of_quarters-parts.ensures.value) c.in_err-third.ensures.full)
+
+pub returns-in_err-fourth-clause-full : goal.returns-in_err-fourth-clause-full
+returns-in_err-fourth-clause-full c =
+    on_err c.from_residual-in_err-fourth.result (no_fourth c.requires.level c.requires.known.high c.half-4.ensures.desk.of_table (parts_kept (learns_trans c.half.ensures.desk (learns_trans c.half-2.ensures.desk (learns_trans c.half-3.ensures.desk c.half-4.ensures.desk))) c.read_halves_of_quarters-parts.ensures.value) c.in_err-fourth.ensures.full)
+
+pub returns-in_err-upper-clause-full : goal.returns-in_err-upper-clause-full
+returns-in_err-upper-clause-full c =
+    on_err c.from_residual-in_err-upper.result (no_upper c.requires.level c.requires.known.high c.whole.ensures.desk.of_table (parts_kept (learns_trans c.half.ensures.desk (learns_trans c.half-2.ensures.desk (learns_trans c.half-3.ensures.desk (learns_trans c.half-4.ensures.desk c.whole.ensures.desk)))) c.read_halves_of_quarters-parts.ensures.value)
+    (half_stays (learns_trans c.half-2.ensures.desk (learns_trans c.half-3.ensures.desk (learns_trans c.half-4.ensures.desk c.whole.ensures.desk))) c.in_ok-first.ensures.ok)
+    (half_stays (learns_trans c.half-3.ensures.desk (learns_trans c.half-4.ensures.desk c.whole.ensures.desk)) c.in_ok-second.ensures.ok)
+    c.in_err-upper.ensures.full)
+
+pub returns-in_err-left-clause-full : goal.returns-in_err-left-clause-full
+returns-in_err-left-clause-full c =
+    on_err c.from_residual-in_err-left.result (no_left c.requires.level c.requires.known.high c.whole-2.ensures.desk.of_table (parts_kept (learns_trans c.half.ensures.desk (learns_trans c.half-2.ensures.desk (learns_trans c.half-3.ensures.desk (learns_trans c.half-4.ensures.desk (learns_trans c.whole.ensures.desk c.whole-2.ensures.desk))))) c.read_halves_of_quarters-parts.ensures.value) c.in_err-left.ensures.full)
+
+pub returns-in_err-middle-clause-full : goal.returns-in_err-middle-clause-full
+returns-in_err-middle-clause-full c =
+    on_err c.from_residual-in_err-middle.result (no_middle c.requires.level c.requires.known.high c.whole-3.ensures.desk.of_table (parts_kept (learns_trans c.half.ensures.desk (learns_trans c.half-2.ensures.desk (learns_trans c.half-3.ensures.desk (learns_trans c.half-4.ensures.desk (learns_trans c.whole.ensures.desk (learns_trans c.whole-2.ensures.desk c.whole-3.ensures.desk)))))) c.read_halves_of_quarters-parts.ensures.value)
+    (half_stays (learns_trans c.half-3.ensures.desk (learns_trans c.half-4.ensures.desk (learns_trans c.whole.ensures.desk (learns_trans c.whole-2.ensures.desk c.whole-3.ensures.desk)))) c.in_ok-second.ensures.ok)
+    (half_stays (learns_trans c.half-4.ensures.desk (learns_trans c.whole.ensures.desk (learns_trans c.whole-2.ensures.desk c.whole-3.ensures.desk))) c.in_ok-third.ensures.ok)
+    c.in_err-middle.ensures.full)
+
+pub returns-in_err-right-clause-full : goal.returns-in_err-right-clause-full
+returns-in_err-right-clause-full c =
+    on_err c.from_residual-in_err-right.result (no_right c.requires.level c.requires.known.high c.whole-4.ensures.desk.of_table (parts_kept (learns_trans c.half.ensures.desk (learns_trans c.half-2.ensures.desk (learns_trans c.half-3.ensures.desk (learns_trans c.half-4.ensures.desk (learns_trans c.whole.ensures.desk (learns_trans c.whole-2.ensures.desk (learns_trans c.whole-3.ensures.desk c.whole-4.ensures.desk))))))) c.read_halves_of_quarters-parts.ensures.value) c.in_err-right.ensures.full)
+
+pub returns-in_err-lower-clause-full : goal.returns-in_err-lower-clause-full
+returns-in_err-lower-clause-full c =
+    on_err c.from_residual-in_err-lower.result (no_lower c.requires.level c.requires.known.high c.whole-5.ensures.desk.of_table (parts_kept (learns_trans c.half.ensures.desk (learns_trans c.half-2.ensures.desk (learns_trans c.half-3.ensures.desk (learns_trans c.half-4.ensures.desk (learns_trans c.whole.ensures.desk (learns_trans c.whole-2.ensures.desk (learns_trans c.whole-3.ensures.desk (learns_trans c.whole-4.ensures.desk c.whole-5.ensures.desk)))))))) c.read_halves_of_quarters-parts.ensures.value)
+    (half_stays (learns_trans c.half-4.ensures.desk (learns_trans c.whole.ensures.desk (learns_trans c.whole-2.ensures.desk (learns_trans c.whole-3.ensures.desk (learns_trans c.whole-4.ensures.desk c.whole-5.ensures.desk))))) c.in_ok-third.ensures.ok)
+    (half_stays (learns_trans c.whole.ensures.desk (learns_trans c.whole-2.ensures.desk (learns_trans c.whole-3.ensures.desk (learns_trans c.whole-4.ensures.desk c.whole-5.ensures.desk)))) c.in_ok-fourth.ensures.ok)
+    c.in_err-lower.ensures.full)

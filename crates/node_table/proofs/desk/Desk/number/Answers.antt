@@ -1,7 +1,7 @@
 use Rattle.std.proofs.Common.{◌+◌, ◌∙◌, arith, sym, subst}
 use Rattle.node_table.specs.Desks.{IsDeskOf}
 use Rattle.node_table.specs.declared.desk.Desk.{Desk}
-use Rattle.node_table.proofs.Searching.{Sought, all_sought, sought_start, still_grows, still_told, still_sought, is_number, goes_on, may_claim, left_word, left_other}
+use Rattle.node_table.proofs.Searching.{Sought, all_sought, sought_start, still_grows, still_told, still_sought, is_number, goes_on, may_claim, other_met, left_word, left_other}
 use Rattle.node_table.proofs.desk.Desk.number.Goals.{then-found-eq0+else-found-eq0-2+else-found-word-2, else-found-eq0}
 use Rattle.node_table.proofs.desk.Desk.number.Goals as goal
 
@@ -61,3 +61,11 @@ returns-clause-none c = record {
 
 pub loop-place-init : goal.loop-place-init
 loop-place-init c = record { at = c.requires.table; sought = sought_start c.args.table.now.key.shape.bits c.args.self.now.seat.me.0.known c.args.kind c.args.word }
+
+pub returns-then-found-word-clause-refused : goal.returns-then-found-word-clause-refused
+returns-then-found-word-clause-refused c = λ room.
+    absurd ((other_met c.loop-place.invariant.sought c.way_index-index.ensures.index c.look-found.ensures.met.grows c.look-found.ensures.met.learns room.way (let short = c.loop-place-test.true in omega arith)).1 c.if-found-word.true)
+
+pub returns-then-found-eq0-2-clause-refused : goal.returns-then-found-eq0-2-clause-refused
+returns-then-found-eq0-2-clause-refused c = λ room.
+    absurd ((other_met c.loop-place.invariant.sought c.way_index-index.ensures.index c.look-found.ensures.met.grows c.look-found.ensures.met.learns room.way (let short = c.loop-place-test.true in omega arith)).0 c.if-found-eq0.true)

@@ -1,6 +1,7 @@
 use Rattle.std.proofs.Common.{◌≡◌, length, arith, rules}
 use Rattle.node_table.proofs.NineByHalves.{learns_none}
-use Rattle.node_table.proofs.OverlapsByHalves.{corner, corner_shown, rows_kept}
+use Rattle.node_table.proofs.OverlapsByHalves.{corner, corner_shown, no_corner, rows_kept}
+use Rattle.node_table.proofs.Refusing.{on_err}
 use Rattle.node_table.proofs.TwoHalves.{learns_trans}
 use Rattle.node_table.proofs.desk.Desk.overlaps.Goals as goal
 
@@ -56,3 +57,26 @@ returns-clause-ok c =
       sw = corner_shown c.args.nine long r2.known 3 (omega arith) r2.middle_left r2.lower_left c.whole-3.ensures.desk c.whole-4.ensures.desk c.in_ok-sw.ensures.ok;
       se = corner_shown c.args.nine long r3.known 4 (omega arith) r3.middle_right r3.lower_right c.whole-4.ensures.desk (learns_none c.whole-4.ensures.desk.of_table) c.in_ok-se.ensures.ok;
     }
+
+pub returns-in_err-rows-clause-full : goal.returns-in_err-rows-clause-full
+returns-in_err-rows-clause-full c = on_err c.from_residual.result c.in_err-rows.ensures.full
+
+pub returns-in_err-nw-clause-full : goal.returns-in_err-nw-clause-full
+returns-in_err-nw-clause-full c =
+    let rows = rows_kept c.whole.ensures.desk c.in_ok-rows.ensures.ok in
+    on_err c.from_residual-in_err-nw.result (no_corner c.args.nine 0 0 (omega arith) (omega arith) rows.upper_left rows.middle_left c.in_err-nw.ensures.full)
+
+pub returns-in_err-ne-clause-full : goal.returns-in_err-ne-clause-full
+returns-in_err-ne-clause-full c =
+    let rows = rows_kept (learns_trans c.whole.ensures.desk c.whole-2.ensures.desk) c.in_ok-rows.ensures.ok in
+    on_err c.from_residual-in_err-ne.result (no_corner c.args.nine 0 1 (omega arith) (omega arith) rows.upper_right rows.middle_right c.in_err-ne.ensures.full)
+
+pub returns-in_err-sw-clause-full : goal.returns-in_err-sw-clause-full
+returns-in_err-sw-clause-full c =
+    let rows = rows_kept (learns_trans c.whole.ensures.desk (learns_trans c.whole-2.ensures.desk c.whole-3.ensures.desk)) c.in_ok-rows.ensures.ok in
+    on_err c.from_residual-in_err-sw.result (no_corner c.args.nine 1 0 (omega arith) (omega arith) rows.middle_left rows.lower_left c.in_err-sw.ensures.full)
+
+pub returns-in_err-se-clause-full : goal.returns-in_err-se-clause-full
+returns-in_err-se-clause-full c =
+    let rows = rows_kept (learns_trans c.whole.ensures.desk (learns_trans c.whole-2.ensures.desk (learns_trans c.whole-3.ensures.desk c.whole-4.ensures.desk))) c.in_ok-rows.ensures.ok in
+    on_err c.from_residual-in_err-se.result (no_corner c.args.nine 1 1 (omega arith) (omega arith) rows.middle_right rows.lower_right c.in_err-se.ensures.full)

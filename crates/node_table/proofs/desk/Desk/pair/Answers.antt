@@ -1,4 +1,4 @@
-use Rattle.std.proofs.Common.{inr, refl, subst, sym}
+use Rattle.std.proofs.Common.{arith, inr, refl, subst, sym}
 use Rattle.table_core.specs.declared.shape.Kind.TheVariants.{Pair}
 use Rattle.table_core.specs.Knowledge.{KnowsBlock}
 use Rattle.table_core.specs.Lawful.{KnowsParts}
@@ -31,3 +31,6 @@ returns-in-Some-clause-ok c =
 
 pub returns-in-None-clause-full : goal.returns-in-None-clause-full
 returns-in-None-clause-full c = subst (HasNoRoom c.args.table.now c.number.new.self Pair) c.pair_word.ensures.word c.in-None.ensures.none
+
+pub returns-then-second-eq0-clause-refused : goal.returns-then-second-eq0-clause-refused
+returns-then-second-eq0-clause-refused c = λ room. let e = c.if-first-eq0.true in let f = c.if-second-eq0.true in absurd (room.some (omega arith))
