@@ -10,7 +10,7 @@ use Rattle.plane.specs.declared.refusal.Refusal.TheVariants.{BoxTooLarge, NoMemo
 use Rattle.batch_program.specs.CommandLine.{AsksFor, IsFit, RefusesWords, command_form}
 use Rattle.engine.specs.Judgement.{Start, Judges}
 use Rattle.patterns.specs.Meaning.{placeless}
-use Rattle.engine.specs.Run.{Finishes, IsStopped, IsTooLarge}
+use Rattle.engine.specs.Run.{Finishes, IsAcceptedRun, IsStopped, IsTooLarge}
 use Rattle.engine.specs.declared.running.Summary.{Summary}
 use Rattle.batch_program.specs.declared.request.Asked.{Asked}
 use Rattle.engine.specs.declared.options.Options.{Options}
@@ -39,8 +39,8 @@ HasRun options before after =
     × Judges bytes options (Ok start) × Finishes start options answer said drawn × Appends before after said
 
 -- some bytes could not be read or were refused, and between the two what is said of them went out: nothing, or a
--- report, or the first lines of one; a device that fails may take a part of a line, and it is the one of the report where
--- no file is asked for
+-- report, or the first lines of one; a device that fails once the bytes are accepted may take a part of a line, and it is the
+-- one of the report where no file is asked for
 abbrev pub HasStopped : Options → Fault → Option (List ℕ) → Option (List ℕ) → Type 0 → Type 0 → Type 0
 HasStopped options fault before after unchanged failed =
     ((fault ≡ placeless ReadFailed) × unchanged)
@@ -48,7 +48,7 @@ HasStopped options fault before after unchanged failed =
     ⊎ ((fault ≡ placeless BoxTooLarge) × ((bytes : List ℕ) × (said : List ℕ) × IsTooLarge bytes options said × Appends before after said))
     ⊎ ((fault ≡ placeless NoMemory) × unchanged)
     ⊎ ((bytes : List ℕ) × (said : List ℕ) × IsStopped bytes options fault said × Appends before after said)
-    ⊎ ((fault ≡ placeless WriteFailed) × (options.format ≡ None → failed))
+    ⊎ ((fault ≡ placeless WriteFailed) × ((bytes : List ℕ) × IsAcceptedRun bytes options) × (options.format ≡ None → failed))
 
 -- what the words ask for was refused: a run stopped; before it memory ran out, or the rule that they give was refused;
 -- or the help could not be written

@@ -1,4 +1,4 @@
-//! The words of the command line.
+//! The command line: its options, and what they ask for.
 
 ghost use Rattle.std.specs.Prelude.{◌≡◌, ℕ, List, [], ◌∷◌, codes, map, string_bytes, Option, IfOk, IfErr};
 ghost use Rattle.std.specs.Option.{option_copied, option_map};
@@ -41,14 +41,14 @@ const EXAMPLES: &str = "Examples:
   lifebatch -q -m 1103 -o later.rle r-pentomino.rle
       run 1103 generations, write the pattern and report nothing
   lifebatch -m 100 --window=-20,-15,40,30 r-pentomino.rle
-      run 100 generations and draw 40 by 30 cells, of which (-20,-15) is the upper left one
+      run 100 generations and draw 40 x 30 cells from (-20,-15)
   lifebatch -m 1073741824 --nodes 67108864 --workers 4 breeder.mc
       run 2^30 generations in larger node tables, with four workers";
 
-/// Why the words of a command line ask for no run.
+/// Why a command line asks for no run.
 #[derive(Debug, Drop)]
 pub enum WordsFault {
-    /// The words are not of the command line's form, or ask for its help.
+    /// The arguments have a syntax error, or ask for the help.
     Clap(clap::Error),
     /// A value is not fit: the name of the output has no ending that says its format, the window is not four
     /// numbers, or the number of nodes is no power of two.
@@ -196,7 +196,12 @@ fn generation_option<'a>(alloc: Global) -> Arg<'a>
 fn step_option<'a>(alloc: Global) -> Arg<'a>
     ensures { HasRule result step_option }
 {
-    number_option(alloc, "stepsize", 'i', "Report every N generations")
+    number_option(
+        alloc,
+        "stepsize",
+        'i',
+        "Report every N generations; 0 reports the first and the last",
+    )
 }
 
 fn output_option<'a>(alloc: Global) -> Arg<'a>
@@ -230,7 +235,7 @@ fn window_option<'a>(alloc: Global) -> Arg<'a>
         alloc,
         "window",
         "X,Y,W,H",
-        "Draw W by H cells from (X,Y) after the report: * live, . dead",
+        "Draw W by H cells from (X,Y) after the report (* live, . dead), as --window=-20,-15,40,30",
     )
 }
 
@@ -338,7 +343,7 @@ fn workers_asked(matches: &ArgMatches<'_>) -> Result<usize, WordsFault>
     }
 }
 
-// Whether a flag is up, for any text; the contract of `get_flag` speaks of two texts only.
+// Whether a flag is set; `get_one` serves for any text, the contract of `get_flag` for two.
 fn is_set(matches: &ArgMatches<'_>, name: &str) -> bool
     ensures { IsFlag (one_text (found_of matches.now) name.now) result }
 {

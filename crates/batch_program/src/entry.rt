@@ -1,6 +1,6 @@
 //! The whole program, over any standard output and standard error.
 
-ghost use Rattle.std.specs.Prelude.{◌≡◌, ◌≤◌, ◌⊎◌, ℕ, List, map, OnOk, IfErr};
+ghost use Rattle.std.specs.Prelude.{◌≡◌, ◌≤◌, ◌⊎◌, ℕ, List, map, Err, OnOk, IfErr};
 ghost use Rattle.std.specs.Io.KnownBytes.{Appends};
 ghost use Rattle.plane.specs.Device.{HasFailed};
 ghost use Rattle.plane.specs.declared.fault.Fault.{Fault};
@@ -28,7 +28,7 @@ use std::thread::Threads;
 // The name of standard input. It is read as such, so also where its device may not be opened.
 const STANDARD_INPUT: &str = "/dev/stdin";
 
-// Why the program does not do what its words ask for.
+// Why the program stops without doing what its arguments ask for.
 #[derive(Drop)]
 enum Stop {
     BadWords(WordsFault),
@@ -43,12 +43,12 @@ impl From<Fault> for Stop {
     }
 }
 
-/// The whole program, on the words of its command line, of which the first is its name: it writes the
-/// report or the help to `out` and messages to `err`, and answers its exit status.
+/// The whole program. `words` are the arguments, the program's name first. It writes the report or the
+/// help to `out` and messages to `err`, and returns the exit status.
 ///
 /// - 0: the run went well, or help was asked for.
-/// - 1: the run was refused; one line says the refusal and its place.
-/// - 2: the words are bad; one line says so.
+/// - 1: the run was refused; one line names the refusal and its byte offset.
+/// - 2: usage error; one line says what is wrong.
 /// - 3: the input could not be read, or the report or the output could not be written.
 ///
 /// The output file is created at its first byte. A failure of `err` changes nothing else.
@@ -60,6 +60,8 @@ pub fn program<R: Files + Input + Threads + Wait + Sync, O: Sink, E: Sink>(
     err: &mut E,
 ) -> u8
     ensures status { result ≤ 3 }
+    // Below 3 standard output did not fail.
+    ensures unfailed { result ≤ 2 → O.failure_count out.new ≡ O.failure_count out.old }
     // At 0 a text for those who ask for the help went out, or the report, and nothing was told.
     ensures well { result ≡ 0 → IsDone (map (λ word. word.now) words.now) (O.taken out.old) (O.taken out.new)
         × (O.failure_count out.new ≡ O.failure_count out.old) × (err.new ≡ err.old) }
@@ -95,7 +97,7 @@ fn perform<R: Files + Input + Threads + Wait + Sync, O: Sink>(
     out: &mut O,
 ) -> Result<(), Stop>
     ensures done { OnOk result (IsDone (map (λ word. word.now) words.now) (O.taken out.old) (O.taken out.new)) }
-    ensures unfailed { OnOk result (O.failure_count out.new ≡ O.failure_count out.old) }
+    ensures unfailed { (result ≡ Err (Refused (placeless Refusal.WriteFailed))) ⊎ (O.failure_count out.new ≡ O.failure_count out.old) }
     ensures stopped { IfErr result (IsStop (map (λ word. word.now) words.now) (O.taken out.old) (O.taken out.new) (out.new ≡ out.old)
         (HasFailed (O.failure_count out.old) (O.failure_count out.new))) }
 {
@@ -119,7 +121,7 @@ fn run_asked<R: Files + Input + Threads + Wait + Sync, O: Sink>(
     requires pairs { IsPairCount asked.now.options.pairs }
     requires workers { IsWorkerCount asked.now.options.workers }
     ensures ran { OnOk result (HasRun asked.now.options (O.taken out.old) (O.taken out.new)) }
-    ensures unfailed { OnOk result (O.failure_count out.new ≡ O.failure_count out.old) }
+    ensures unfailed { (result ≡ Err (placeless Refusal.WriteFailed)) ⊎ (O.failure_count out.new ≡ O.failure_count out.old) }
     ensures stopped { IfErr result (λ fault. HasStopped asked.now.options fault (O.taken out.old) (O.taken out.new) (out.new ≡ out.old)
         (HasFailed (O.failure_count out.old) (O.failure_count out.new))) }
 {

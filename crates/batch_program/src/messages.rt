@@ -15,7 +15,7 @@ use std::alloc::Global;
 // Room for two numbers of up to 40 digits, a name and the words round them.
 const LINE_ROOM: usize = 160;
 
-/// Says on one line why a run was refused, or refuses `WriteFailed` where the sink failed.
+/// Writes one line with the refusal and its byte offset. Refuses `WriteFailed` if the sink failed.
 pub fn tell_fault<E: Sink>(messages: &mut E, fault: Fault) -> Result<(), Refusal>
     ensures told { OnOk result (Appends (E.taken messages.old) (E.taken messages.new) (fault_line fault)) }
     ensures refused { IfErr result (IsWriteRefusal (E.failure_count messages.old) (E.failure_count messages.new)) }

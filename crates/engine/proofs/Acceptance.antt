@@ -19,7 +19,7 @@ use Rattle.patterns.specs.Meaning.{placeless, Meaning, is_macrocell, judged}
 use Rattle.engine.specs.Run.{IsOutOfRoom, IsRun}
 use Rattle.engine.specs.SinkChange.{SinkChange}
 use Rattle.engine.specs.declared.options.Options.{Options}
-use Rattle.engine.proofs.Endings.{reported_none, listing_as, stays_as, stopped_by, stopped_early}
+use Rattle.engine.proofs.Endings.{begun_none, listing_as, stays_as, stopped_early, unfailed_same}
 
 -- ---- the range
 
@@ -56,7 +56,8 @@ module _ (bytes : List ℕ) (options : Options) (meaning : Meaning) (text : judg
     pub range_refused : (refusal : Refusal) → IsOutOfRoom refusal ⊎ ((refusal ≡ TooFar) × LeavesRange meaning options.gens) →
         (refusal ≡ NodesFull → HasFullTable rule options.pairs) → IsRefused bytes options (placeless refusal)
     unfolding IsRefused
-    range_refused refusal (inl no_room) full = inr (stopped_by bytes options refusal [] no_room (reported_none bytes options meaning rule text read) (λ is. inl (refl, full is)))
+    range_refused refusal (inl (inl memory)) full = inr (inl (ap placeless memory, inr (begun_none bytes options meaning rule text read)))
+    range_refused refusal (inl (inr is)) full = inr (inr (ap placeless is, inl (record { meaning = meaning; rule = rule; text = text; read = read; silent = refl; full = full is })))
     range_refused refusal (inr (far, leaves)) full = inl (inr (inr (record {
       start = record { meaning = meaning; rule = rule; cells = leaves.cells };
       accepted = record { text = text; rule = read; cells = leaves.listing };
@@ -77,7 +78,7 @@ module _ (bytes : List ℕ) (options : Options) (meaning : Meaning) (text : judg
 pub refused_at_once : {W V : Type 0} (bytes : List ℕ) (options : Options) (fault : Fault) (report : SinkChange W) (file : SinkChange V) → report.new ≡ report.old → file.new ≡ file.old →
     IsRefused bytes options fault → IsRun bytes options report file (Err fault)
 unfolding IsRefused
-refused_at_once bytes options fault report file same same_file (inl refused) = stopped_early (λ _. same_file) (inl (refused, same, same_file))
+refused_at_once bytes options fault report file same same_file (inl refused) = stopped_early (λ _. same_file) (inr (unfailed_same file same_file, unfailed_same report same)) (inl (refused, same, same_file))
 refused_at_once bytes options fault report file same same_file (inr stopped) =
     let nothing = subst (λ sink. Appends (report.taken report.old) (report.taken sink) []) (sym same) (Appends-nil _) in
-    stopped_early (λ _. same_file) (inr (inr (inl (same_file, ([], stopped, nothing)))))
+    stopped_early (λ _. same_file) (inr (unfailed_same file same_file, unfailed_same report same)) (inr (inr (inl (same_file, ([], stopped, nothing)))))

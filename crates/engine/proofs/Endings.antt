@@ -1,5 +1,5 @@
 -- How runs end.
-use Rattle.std.proofs.Common.{◌≡◌, ◌⊎◌, ℕ, ◌+◌, Bor, List, [], ◌++◌, length, take, Option, None, Some, Ok, Err, refl, sym, ◌∙◌, subst, ap, arith, inl, inr}
+use Rattle.std.proofs.Common.{◌≡◌, ◌⊎◌, ℕ, ◌+◌, Bor, List, [], ◌++◌, length, take, Option, None, Some, Ok, Err, refl, sym, ◌∙◌, subst, ap, arith, ⊎_elim, inl, inr}
 use Rattle.std.specs.Io.KnownBytes.{Appends}
 use Rattle.std.proofs.KnownBytes.{Appends-trans}
 use Rattle.std.specs.Option.{option_copied, unwrap_or}
@@ -15,7 +15,7 @@ use Rattle.plane.specs.declared.cell.Bounds.{Bounds}
 use Rattle.plane.specs.declared.cell.Cell.{Cell}
 use Rattle.plane.specs.declared.fault.Fault.{Fault}
 use Rattle.plane.specs.declared.refusal.Refusal.{Refusal}
-use Rattle.plane.specs.declared.refusal.Refusal.TheVariants.{BoxTooLarge, NodesFull, NoMemory}
+use Rattle.plane.specs.declared.refusal.Refusal.TheVariants.{BoxTooLarge, NodesFull, NoMemory, WriteFailed}
 use Rattle.patterns.specs.Meaning.{Meaning, judged, placeless}
 use Rattle.plane.specs.Device.{IsWriteRefusal}
 use Rattle.plane.proofs.Uniqueness.{one_listing_lem}
@@ -25,9 +25,8 @@ use Rattle.engine.specs.Judgement.{Start, ReadsRule}
 use Rattle.engine.specs.Report.{Shows, shown}
 use Rattle.engine.specs.Room.{IsStuckWithin}
 use Rattle.patterns.specs.Drawing.{picture_of}
-use Rattle.universe.specs.Tables.{HasFullTable}
-use Rattle.engine.specs.Run.{CanBeWritten, IsLast, IsReport, Finishes, HasBegun, HasFinished, HasReported, HasStopped, IsBegun, IsRun, IsStopped, IsOutOfRoom, last_generation}
-use Rattle.engine.specs.SinkChange.{SinkChange, IsUnfailed, Takes}
+use Rattle.engine.specs.Run.{CanBeWritten, IsAcceptedRun, IsBeginning, IsLast, IsReport, Finishes, HasBegun, HasFinished, HasStopped, IsBegun, IsRun, IsStopped, IsOutOfRoom, last_generation}
+use Rattle.engine.specs.SinkChange.{SinkChange, Fails, IsUnfailed, Takes}
 use Rattle.engine.specs.declared.running.Summary.{Summary}
 use Rattle.patterns.specs.declared.format.Format.{Format}
 use Rattle.patterns.specs.declared.format.Format.TheVariants.{Rle, Macrocell}
@@ -45,32 +44,34 @@ copied_or None other = refl
 copied_or (Some slice) other = refl
 
 -- a run that has said nothing yet
-abbrev pub reported_none : (bytes : List ℕ) (options : Options) (meaning : Meaning) (rule : CountRule) → judged bytes ≡ Ok meaning → ReadsRule options.rule meaning (Ok rule) →
-    HasReported bytes options []
-reported_none bytes options meaning rule text read = record {
+pub begun_none : (bytes : List ℕ) (options : Options) (meaning : Meaning) (rule : CountRule) → judged bytes ≡ Ok meaning → ReadsRule options.rule meaning (Ok rule) → HasBegun bytes options []
+begun_none bytes options meaning rule text read = record {
   meaning = meaning;
   rule = rule;
   text = text;
   read = read;
   accepted = inl refl;
-  report = (0, shows_none rule meaning.live meaning.generation);
+  report = inl (0, shows_none rule meaning.live meaning.generation);
 }
 
--- a run that has said its first lines has begun
-pub begun_of : {bytes : List ℕ} {options : Options} {said : List ℕ} → HasReported bytes options said → HasBegun bytes options said
-begun_of reported = record { meaning = reported.meaning; rule = reported.rule; text = reported.text; read = reported.read; accepted = reported.accepted; report = inl reported.report }
+-- a sink that is as it was has not failed
+pub unfailed_same : {S : Type 0} (sink : SinkChange S) → sink.new ≡ sink.old → IsUnfailed sink
+unfailed_same sink same = ap sink.failure_count same
 
--- a run whose text and rule are accepted was stopped
-pub stopped_by : (bytes : List ℕ) (options : Options) (refusal : Refusal) (said : List ℕ) → IsOutOfRoom refusal → (reported : HasReported bytes options said) →
-    (refusal ≡ NodesFull → ((said ≡ []) × HasFullTable reported.rule options.pairs) ⊎ IsStuckWithin reported.rule reported.meaning.live options.pairs options.gens) →
-    IsStopped bytes options (placeless refusal) said
-stopped_by bytes options refusal said (inl memory) reported full = inl (ap placeless memory, inr (begun_of reported))
-stopped_by bytes options refusal said (inr is) reported full = inr (ap placeless is, record { reported = reported; full = full is })
-
--- a run that stopped so is a run as it has to be, if without a format its file is as it was
+-- a run that stopped so is a run as it has to be, if without a format its file is as it was, and no sink failed but at
+-- `WriteFailed`
 pub stopped_early : {W V : Type 0} {bytes : List ℕ} {options : Options} {report : SinkChange W} {file : SinkChange V} {fault : Fault} →
-    (options.format ≡ None → file.new ≡ file.old) → HasStopped bytes options report file fault → IsRun bytes options report file (Err fault)
-stopped_early no_format stopped = record { finished = tt; no_format = no_format; unfailed = tt; refused = stopped }
+    (options.format ≡ None → file.new ≡ file.old) → (fault ≡ placeless WriteFailed) ⊎ (IsUnfailed file × IsUnfailed report) → HasStopped bytes options report file fault →
+    IsRun bytes options report file (Err fault)
+stopped_early no_format unfailed stopped = record { finished = tt; no_format = no_format; unfailed = ⊎_elim (λ told. inl (ap Err told)) (λ both. inr both) unfailed; refused = stopped }
+
+-- a run that a failed sink stopped
+pub failed_early : {W V : Type 0} {bytes : List ℕ} {options : Options} {report : SinkChange W} {file : SinkChange V} {refusal : Refusal} →
+    (options.format ≡ None → file.new ≡ file.old) → refusal ≡ WriteFailed → (Fails report × (file.new ≡ file.old) × IsAcceptedRun bytes options) ⊎ (Fails file × CanBeWritten bytes options) →
+    IsRun bytes options report file (Err (placeless refusal))
+failed_early no_format is failed =
+    let told = ap placeless is in
+    stopped_early no_format (inl told) (inr (inr (inr (told, failed))))
 
 -- a listing of one plane is one of each other with the same cells
 pub listing_as : {cells : List Cell} {plane other : Plane} → IsSame plane other → IsListing cells plane → IsListing cells other
@@ -124,22 +125,26 @@ module _ (bytes : List ℕ) (options : Options) (meaning : Meaning) (rule : Coun
   abbrev pub start : Start
   start = record { meaning = meaning; rule = rule; cells = run.cells }
 
+  -- the first lines of the report
+  pub first_said : (lines : ℕ) (said : List ℕ) → Shows rule here meaning.generation (take lines (shown options)) said → IsBeginning meaning rule options said
+  first_said lines said shows = (lines, same_shows rule here meaning.live run.same.same meaning.generation (take lines (shown options)) said shows)
+
   -- a run that has said some lines
-  pub reported_some : (lines : ℕ) (said : List ℕ) → Shows rule here meaning.generation (take lines (shown options)) said → HasReported bytes options said
-  reported_some lines said shows = record {
+  pub begun_some : (lines : ℕ) (said : List ℕ) → Shows rule here meaning.generation (take lines (shown options)) said → IsBegun bytes options said
+  begun_some lines said shows = inr (record {
     meaning = meaning;
     rule = rule;
     text = run.accepted.0.text;
     read = run.accepted.0.rule;
     accepted = inr (start, run.accepted);
-    report = (lines, same_shows rule here meaning.live run.same.same meaning.generation (take lines (shown options)) said shows);
-  }
+    report = inl (first_said lines said shows);
+  })
 
   -- a run that has said all lines
   pub begun_all : (said : List ℕ) → Shows rule here meaning.generation (shown options) said → IsBegun bytes options said
   begun_all said shows =
       let all : take (length (shown options)) (shown options) ≡ shown options = take_all (length (shown options)) (shown options) (omega arith) in
-      inr (begun_of (reported_some (length (shown options)) said (subst (λ ns. Shows rule here meaning.generation ns said) (sym all) shows)))
+      begun_some (length (shown options)) said (subst (λ ns. Shows rule here meaning.generation ns said) (sym all) shows)
 
   -- the lines and the picture of the last cells
   pub whole_report : (last : Plane) (lines : List ℕ) → IsSame last (after rule here options.gens) → Shows rule here meaning.generation (shown options) lines →
@@ -199,17 +204,23 @@ module _ (bytes : List ℕ) (options : Options) (meaning : Meaning) (rule : Coun
     exhausted = stuck.exhausted;
   }
 
+  -- a run that has said some lines was stopped
+  stopped_by : (refusal : Refusal) (lines : ℕ) (said : List ℕ) → IsOutOfRoom refusal → Shows rule here meaning.generation (take lines (shown options)) said →
+      (refusal ≡ NodesFull → IsStuckWithin rule here options.pairs options.gens) → IsStopped bytes options (placeless refusal) said
+  stopped_by refusal lines said (inl memory) shows stuck = inl (ap placeless memory, begun_some lines said shows)
+  stopped_by refusal lines said (inr is) shows stuck =
+      inr (ap placeless is, inr (record { start = start; accepted = run.accepted; report = first_said lines said shows; stuck = stuck_from (stuck is) }))
+
   -- in the middle of the report
   pub refused_reporting : {W V : Type 0} (generation : ℕ) (refusal : Refusal) (report : SinkChange W) (file : SinkChange V) → file.new ≡ file.old → generation ≡ meaning.generation →
       (refusal ≡ NodesFull → IsStuckWithin rule here options.pairs options.gens) →
-      (IsOutOfRoom refusal × ((lines : ℕ) × (said : List ℕ) × Shows rule here generation (take lines (shown options)) said × Takes report said))
+      (IsOutOfRoom refusal × IsUnfailed report × ((lines : ℕ) × (said : List ℕ) × Shows rule here generation (take lines (shown options)) said × Takes report said))
       ⊎ IsWriteRefusal (report.failure_count report.old) (report.failure_count report.new) refusal →
       IsRun bytes options report file (Err (placeless refusal))
-  unfolding reported_some
-  refused_reporting generation refusal report file same is_start stuck (inl (no_room, (lines, said, shows, appends))) =
-      stopped_early (λ _. same)
-      (inr (inr (inl (same, (said, stopped_by bytes options refusal said no_room (reported_some lines said (subst (λ n. Shows rule here n (take lines (shown options)) said) is_start shows)) (λ full. inr (stuck_from (stuck full))), appends)))))
-  refused_reporting generation refusal report file same is_start stuck (inr (is, failed)) = stopped_early (λ _. same) (inr (inr (inr (ap placeless is, inl failed))))
+  refused_reporting generation refusal report file same is_start stuck (inl (no_room, unfailed, (lines, said, shows, appends))) =
+      let shows_start = subst (λ n. Shows rule here n (take lines (shown options)) said) is_start shows in
+      stopped_early (λ _. same) (inr (unfailed_same file same, unfailed)) (inr (inr (inl (same, (said, stopped_by refusal lines said no_room shows_start stuck, appends)))))
+  refused_reporting generation refusal report file same is_start stuck (inr (is, failed)) = failed_early (λ _. same) is (inl (failed, same, (start, run.accepted)))
 
   -- after the lines, which count from the generation of the file
   module _ {W V : Type 0} (report : SinkChange W) (file : SinkChange V) (from : ℕ) (last : Plane) (lines_taken : Option (List ℕ)) (is_from : from ≡ meaning.generation) (is : IsSame last (after rule here options.gens))
@@ -218,10 +229,10 @@ module _ (bytes : List ℕ) (options : Options) (meaning : Meaning) (rule : Coun
     shows_all = subst (λ (n : ℕ). Shows rule here n (shown options) reported.0) is_from reported.1
 
     -- memory ran out before the picture
-    pub refused_counting : lines_taken ≡ report.taken report.new → file.new ≡ file.old → IsRun bytes options report file (Err (placeless NoMemory))
-    refused_counting taken same =
+    pub refused_counting : lines_taken ≡ report.taken report.new → file.new ≡ file.old → IsUnfailed report → IsRun bytes options report file (Err (placeless NoMemory))
+    refused_counting taken same unfailed =
         let said_lines = subst (λ (bytes_taken : Option (List ℕ)). Appends (report.taken report.old) bytes_taken reported.0) taken reported.2 in
-        stopped_early (λ _. same) (inr (inr (inl (same, (reported.0, inl (refl, begun_all reported.0 shows_all), said_lines)))))
+        stopped_early (λ _. same) (inr (unfailed_same file same, unfailed)) (inr (inr (inl (same, (reported.0, inl (refl, begun_all reported.0 shows_all), said_lines)))))
 
     module _ (draws : Appends lines_taken (report.taken report.new) (picture_of options.window last)) where
       said_all : Takes report (reported.0 ++ picture_of options.window last)
@@ -234,14 +245,14 @@ module _ (bytes : List ℕ) (options : Options) (meaning : Meaning) (rule : Coun
       can_be_written (Some Rle) cells asked listing fits = record { start = start; cells = fits.cells; accepted = run.accepted; last = last_cells last fits.cells is fits.listing; fits = rw asked fits.fits }
 
       -- the file was not written
-      pub refused_writing : (format : Option Format) (cells : List Cell) (refusal : Refusal) → options.format ≡ format → IsListing cells last → (options.format ≡ None → file.new ≡ file.old) →
+      pub refused_writing : (format : Option Format) (cells : List Cell) (refusal : Refusal) → options.format ≡ format → IsListing cells last → (options.format ≡ None → file.new ≡ file.old) → IsUnfailed report →
           ((refusal ≡ BoxTooLarge) × Exceeds format last × (file.new ≡ file.old)) ⊎ ((refusal ≡ NoMemory) × (file.new ≡ file.old))
           ⊎ (IsWriteRefusal (file.failure_count file.old) (file.failure_count file.new) refusal × Fits format last) →
           IsRun bytes options report file (Err (placeless refusal))
-      refused_writing None cells refusal asked listing no_format (inl (large, unfit, unchanged)) = absurd unfit
-      refused_writing (Some Macrocell) cells refusal asked listing no_format (inl (large, unfit, unchanged)) = absurd unfit
-      refused_writing (Some Rle) cells refusal asked listing no_format (inl (large, unfit, unchanged)) =
-          stopped_early no_format (inr (inl (
+      refused_writing None cells refusal asked listing no_format unfailed (inl (large, unfit, unchanged)) = absurd unfit
+      refused_writing (Some Macrocell) cells refusal asked listing no_format unfailed (inl (large, unfit, unchanged)) = absurd unfit
+      refused_writing (Some Rle) cells refusal asked listing no_format unfailed (inl (large, unfit, unchanged)) =
+          stopped_early no_format (inr (unfailed_same file unchanged, unfailed)) (inr (inl (
             ap placeless large,
             unchanged,
             (
@@ -257,10 +268,10 @@ module _ (bytes : List ℕ) (options : Options) (meaning : Meaning) (rule : Coun
               said_all,
             ),
           )))
-      refused_writing format cells refusal asked listing no_format (inr (inl (memory, unchanged))) =
-          stopped_early no_format (inr (inr (inl (unchanged, (reported.0 ++ picture_of options.window last, inl (ap placeless memory, begun_whole last reported.0 is shows_all), said_all)))))
-      refused_writing format cells refusal asked listing no_format (inr (inr ((failing, failed), fits))) =
-          stopped_early no_format (inr (inr (inr (ap placeless failing, inr (failed, can_be_written format cells asked listing fits)))))
+      refused_writing format cells refusal asked listing no_format unfailed (inr (inl (memory, unchanged))) =
+          stopped_early no_format (inr (unfailed_same file unchanged, unfailed)) (inr (inr (inl (unchanged, (reported.0 ++ picture_of options.window last, inl (ap placeless memory, begun_whole last reported.0 is shows_all), said_all)))))
+      refused_writing format cells refusal asked listing no_format unfailed (inr (inr ((failing, failed), fits))) =
+          failed_early no_format failing (inr (failed, can_be_written format cells asked listing fits))
 
       -- what an accepted run that ends well writes and answers
       pub ends_well : (comments : List (List ℕ)) (answer : Summary) → comments ≡ meaning.comments → SumsUp (from + options.gens) last answer →
@@ -280,4 +291,4 @@ module _ (bytes : List ℕ) (options : Options) (meaning : Meaning) (rule : Coun
             said_all,
             text.appends,
           ) in
-          record { finished = finished; no_format = no_format; unfailed = (unfailed_file, unfailed_report); refused = tt }
+          record { finished = finished; no_format = no_format; unfailed = inr (unfailed_file, unfailed_report); refused = tt }

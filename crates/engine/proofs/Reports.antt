@@ -148,10 +148,10 @@ first_lines rule plane start options done said within = subst (λ ns. Shows rule
 pub stopped : {S : Type 0} (taken : S → Option (List ℕ)) (failures : S → ℕ) (start old new : S) (rule : CountRule) (plane : Plane) (generation : ℕ) (options : Options) (refusal : Refusal) (lines : ℕ) (said : List ℕ) →
     failures old ≡ failures start → Shows rule plane generation (take lines (shown options)) said → Appends (taken start) (taken old) said →
     ((refusal ≡ NoMemory) × (new ≡ old)) ⊎ IsWriteRefusal (failures old) (failures new) refusal →
-    (IsOutOfRoom refusal × ((lines : ℕ) × (said : List ℕ) × Shows rule plane generation (take lines (shown options)) said × Appends (taken start) (taken new) said))
+    (IsOutOfRoom refusal × (failures new ≡ failures start) × ((lines : ℕ) × (said : List ℕ) × Shows rule plane generation (take lines (shown options)) said × Appends (taken start) (taken new) said))
     ⊎ IsWriteRefusal (failures start) (failures new) refusal
 stopped taken failures start old new rule plane generation options refusal lines said unfailed shows appends (inl (memory, same)) =
-    inl (inl memory, (lines, said, shows, subst (λ s. Appends (taken start) (taken s) said) (sym same) appends))
+    inl (inl memory, ap failures same ∙ unfailed, (lines, said, shows, subst (λ s. Appends (taken start) (taken s) said) (sym same) appends))
 stopped taken failures start old new rule plane generation options refusal lines said unfailed shows appends (inr refused) =
     inr (subst (λ n. IsWriteRefusal n (failures new) refusal) unfailed refused)
 

@@ -8,6 +8,6 @@ use Rattle.plane.specs.declared.refusal.Refusal.TheVariants.{NoMemory, ReadFaile
 abbrev pub IsWholeInput : Option (List ℕ) → List ℕ → Type 0
 IsWholeInput remaining bytes = IfSome remaining (λ left. bytes ≡ left)
 
--- memory ran out, or the source failed between the two counts
+-- memory ran out, and the source did not fail between the two counts; or it failed
 abbrev pub IsReadRefusal : ℕ → ℕ → Refusal → Type 0
-IsReadRefusal before after refusal = (refusal ≡ NoMemory) ⊎ ((refusal ≡ ReadFailed) × HasFailed before after)
+IsReadRefusal before after refusal = ((refusal ≡ NoMemory) × (after ≡ before)) ⊎ ((refusal ≡ ReadFailed) × HasFailed before after)

@@ -1,5 +1,5 @@
 -- What a run writes and answers.
-use Rattle.std.specs.Prelude.{◌≡◌, ◌⊎◌, ℕ, ◌+◌, true, List, [], ◌++◌, length, take, None, Result, Ok, Err, IfOk, IfErr, OnOk}
+use Rattle.std.specs.Prelude.{◌≡◌, ◌⊎◌, ℕ, ◌+◌, true, List, [], ◌++◌, length, take, None, Result, Ok, Err, IfOk, IfErr}
 use Rattle.rule_text.specs.CountRule.{CountRule}
 use Rattle.plane.specs.Bounds.{bounds_of}
 use Rattle.plane.specs.Listing.{IsListing}
@@ -60,9 +60,13 @@ pub record IsTooLarge (bytes : List ℕ) (options : Options) (said : List ℕ) :
   pub report : IsReport start.meaning start.rule options said
   pub unfit : HasText options.format cells → ⊥
 
+-- the run is accepted
+abbrev pub IsAcceptedRun : List ℕ → Options → Type 0
+IsAcceptedRun bytes options = (start : Start) × Judges bytes options (Ok start)
+
 -- where a run has said anything, it is accepted
 abbrev pub IsSilentOrAccepted : List ℕ → Options → List ℕ → Type 0
-IsSilentOrAccepted bytes options said = (said ≡ []) ⊎ ((start : Start) × Judges bytes options (Ok start))
+IsSilentOrAccepted bytes options said = (said ≡ []) ⊎ IsAcceptedRun bytes options
 
 -- the run's text and rule are accepted, and its range where it has said anything; and this is the whole of its report, or
 -- its first lines, or none
@@ -78,30 +82,33 @@ pub record HasBegun (bytes : List ℕ) (options : Options) (said : List ℕ) : T
 abbrev pub IsBegun : List ℕ → Options → List ℕ → Type 0
 IsBegun bytes options said = ((is_macrocell bytes ≡ true) × (said ≡ [])) ⊎ HasBegun bytes options said
 
--- the run's text and rule are accepted, and its range where it has said anything; and these are the first lines of its
--- report, or none
-pub record HasReported (bytes : List ℕ) (options : Options) (said : List ℕ) : Type 0 where
+-- the text and the rule of a run are accepted, and it has said nothing; and a table of as many pair slots as the options allow,
+-- which was opened under this rule without a square, is full, whatever filled it
+pub record IsFullAtFirst (bytes : List ℕ) (options : Options) (said : List ℕ) : Type 0 where
   pub meaning : Meaning
   pub rule : CountRule
   pub text : judged bytes ≡ Ok meaning
   pub read : ReadsRule options.rule meaning (Ok rule)
-  pub accepted : IsSilentOrAccepted bytes options said
-  pub report : IsBeginning meaning rule options said
+  pub silent : said ≡ []
+  pub full : HasFullTable rule options.pairs
 
--- so it is, and tables of as many pair slots as the options allow are too small: nothing is said, and one that was opened
--- under the run's rule without a square has filled up; or one that was opened for the cells of a generation on the way has,
--- or has no room for what these need
-pub record IsOutOfTables (bytes : List ℕ) (options : Options) (said : List ℕ) : Type 0 where
-  pub reported : HasReported bytes options said
-  pub full : ((said ≡ []) × HasFullTable reported.rule options.pairs)
-      ⊎ IsStuckWithin reported.rule reported.meaning.live options.pairs options.gens
+-- a run is accepted, and these are the first lines of its report, or none; and the tables that the options allow are too small
+-- for a generation before its last
+pub record IsFullOnTheWay (bytes : List ℕ) (options : Options) (said : List ℕ) : Type 0 where
+  pub start : Start
+  pub accepted : Judges bytes options (Ok start)
+  pub report : IsBeginning start.meaning start.rule options said
+  pub stuck : IsStuckWithin start.rule start.meaning.live options.pairs options.gens
+
+-- tables of as many pair slots as the options allow are full at first, or on the way
+abbrev pub IsOutOfTables : List ℕ → Options → List ℕ → Type 0
+IsOutOfTables bytes options said = IsFullAtFirst bytes options said ⊎ IsFullOnTheWay bytes options said
 
 -- memory ran out, or the tables of squares are full
 abbrev pub IsOutOfRoom : Refusal → Type 0
 IsOutOfRoom refusal = (refusal ≡ NoMemory) ⊎ (refusal ≡ NodesFull)
 
--- a run that has said this was stopped: memory ran out, or, once its text and rule were accepted, the tables that the
--- options allow were full
+-- a run that has said this was stopped: memory ran out, or the tables that the options allow were full
 abbrev pub IsStopped : List ℕ → Options → Fault → List ℕ → Type 0
 IsStopped bytes options fault said =
     ((fault ≡ placeless NoMemory) × IsBegun bytes options said) ⊎ ((fault ≡ placeless NodesFull) × IsOutOfTables bytes options said)
@@ -121,20 +128,22 @@ pub record CanBeWritten (bytes : List ℕ) (options : Options) : Type 0 where
   pub fits : HasText options.format cells
 
 -- a run of these bytes was refused: they are not accepted, and nothing was written; or what comes out has no text in the
--- format, after the whole report; or memory ran out, or the tables are full; or a sink failed
+-- format, after the whole report; or memory ran out, or the tables are full; or they are accepted, and a sink failed: that of
+-- the report, or that of the file where the format can hold the last cells
 abbrev pub HasStopped : {W V : Type 0} → List ℕ → Options → SinkChange W → SinkChange V → Fault → Type 0
 HasStopped bytes options report file fault =
     (Judges bytes options (Err fault) × (report.new ≡ report.old) × (file.new ≡ file.old))
     ⊎ ((fault ≡ placeless BoxTooLarge) × (file.new ≡ file.old) × ((said : List ℕ) × IsTooLarge bytes options said × Takes report said))
     ⊎ ((file.new ≡ file.old) × ((said : List ℕ) × IsStopped bytes options fault said × Takes report said))
-    ⊎ ((fault ≡ placeless WriteFailed) × (Fails report ⊎ (Fails file × CanBeWritten bytes options)))
+    ⊎ ((fault ≡ placeless WriteFailed) × ((Fails report × (file.new ≡ file.old) × IsAcceptedRun bytes options) ⊎ (Fails file × CanBeWritten bytes options)))
 
 -- what a run of these bytes by these options does to its report and to its file, and what it answers
 pub record IsRun {W V : Type 0} (bytes : List ℕ) (options : Options) (report : SinkChange W) (file : SinkChange V) (result : Result Summary Fault) : Type 0 where
   -- it writes the defined report and file of the cells that the rule, applied that many times, makes live
   pub finished : IfOk result (HasFinished bytes options report file)
   pub no_format : options.format ≡ None → file.new ≡ file.old
-  pub unfailed : OnOk result (IsUnfailed file × IsUnfailed report)
+  -- no sink failed, or the answer is that one did
+  pub unfailed : (result ≡ Err (placeless WriteFailed)) ⊎ (IsUnfailed file × IsUnfailed report)
   -- it refuses what is not accepted, by its name and at its place, and then has written nothing; what has no text in the
   -- format, after the whole report; and else only where memory ran out, the tables are full, or a sink failed
   pub refused : IfErr result (HasStopped bytes options report file)

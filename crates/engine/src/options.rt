@@ -9,8 +9,7 @@ use rule_text::Rule;
 pub struct Options {
     /// The number of generations to run on from the file's own.
     pub gens: u64,
-    /// How many generations lie from one reported generation to the next; 0 where only the first and the
-    /// last are reported.
+    /// The distance of reported generations; 0 reports the first and the last.
     pub step: u64,
     /// The rule to run by in place of the file's, if one is given.
     pub rule: Option<Rule>,

@@ -40,6 +40,7 @@ pub(crate) fn run_reported<R: Threads + Wait + Sync, G: Gate, W: Sink>(
     ensures unfailed { OnOk result (W.failure_count report.new ≡ W.failure_count report.old) }
     ensures refused { IfErr result (λ refusal.
         (IsOutOfRoom refusal
+        × (W.failure_count report.new ≡ W.failure_count report.old)
         × ((lines : ℕ) × (said : List ℕ) × Shows (rule_of start) (live_cells start) generation (take lines (shown options.now)) said
         × Appends (W.taken report.old) (W.taken report.new) said))
         ⊎ IsWriteRefusal (W.failure_count report.old) (W.failure_count report.new) refusal) }

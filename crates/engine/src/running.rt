@@ -31,16 +31,16 @@ pub struct Summary {
     pub bounds: Option<Bounds>,
 }
 
-/// Runs the pattern of a file's bytes: it writes a line for the first and the last generation, and for
-/// those on the way that the step asks for, to `report`, unless it is to be quiet, and behind them the picture
-/// of a window of the last one, if one is asked for; and then the last one's pattern to `file`, if a format is.
+/// Runs the pattern in a file's bytes. It writes the report to `report` (the first generation, the last, and
+/// each multiple of the step between, unless it is to be quiet), then the picture of the window, if one is
+/// asked for; then the last pattern to `file`, if a format is.
 ///
 /// It refuses, in this order, a text that is no pattern file, by its first fault; the file's rule
-/// (`BadRule`, `BirthOnZero`), at the place of the header, unless another rule is given; and a run that
-/// would leave the range (`TooFar`). Until then nothing is written. `BoxTooLarge`, where a side of the last
-/// pattern's box is 2^31 or more, `NoMemory`, and `NodesFull`, where the cells of the file or those after a single
-/// generation have no room in the tables that the options allow, leave `file` as it was. `WriteFailed` comes where a
-/// sink failed; that of the file is asked for nothing before the box is known to fit.
+/// (`BadRule`, `BirthOnZero`), at the byte offset of the header, unless another rule is given; and a run that
+/// would leave the range (`TooFar`). Until then nothing is written. `BoxTooLarge`, if a side of the last
+/// pattern's box is 2^31 or more, `NoMemory`, and `NodesFull`, if the cells of the file or those after a single
+/// generation have no room in the tables that the options allow, leave `file` as it was. `WriteFailed` comes if a
+/// sink failed, and whenever one did; nothing is written to `file` before the box is known to fit.
 pub fn run<R: Threads + Wait + Sync, W: Sink, V: Sink>(
     rt: &R,
     alloc: Global,

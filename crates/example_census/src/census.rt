@@ -20,8 +20,8 @@ const BOUNDS_ROOM: usize = 192;
 
 const LINE_ROOM: usize = 320;
 
-/// Writes a line for 1, 2, 4, 8, .. generations, so many of them: the generation, how many cells live in it, and from
-/// where to where their bounding box goes. Each run goes by two workers. It refuses what `run` refuses.
+/// Writes `lines` lines, for 1, 2, 4, 8, .. generations: the generation, its population and its bounding box. Each
+/// run has two workers. It refuses what `run` refuses.
 pub(crate) fn census<R: Threads + Wait + Sync, W: Sink>(
     rt: &R,
     alloc: Global,
@@ -46,7 +46,7 @@ fn power_of_two(power: u8) -> u64
     1 << power
 }
 
-// What a run of so many generations ends with.
+// The summary of a run of this many generations.
 fn summary_after<R: Threads + Wait + Sync>(
     rt: &R,
     alloc: Global,

@@ -29,7 +29,7 @@ fn main(rt: HostRuntime) -> ExitCode {
     }
 }
 
-// Want of memory while the words are read.
+// Memory ran out while the arguments were read.
 const NO_MEMORY: Fault = Fault {
     refusal: Refusal::NoMemory,
     place: None,

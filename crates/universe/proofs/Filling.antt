@@ -5,7 +5,7 @@ use Rattle.rule_text.specs.CountRule.{CountRule}
 use Rattle.plane.specs.declared.refusal.Refusal.{Refusal}
 use Rattle.plane.specs.Square.{IsSame}
 use Rattle.plane.proofs.Same.{same_sym, same_trans}
-use Rattle.squares.specs.Book.{Keeps}
+use Rattle.squares.specs.Book.{IsKnown, Keeps}
 use Rattle.squares.specs.declared.sq.Sq.{Sq}
 use Rattle.table_core.specs.declared.key.Key.{Key}
 use Rattle.table_core.specs.declared.shape.Shape.{Shape}
@@ -64,13 +64,14 @@ full_from_alone still root start same alone at_exponent stays full =
     }
 
 -- where a step that begins with the cells alone meets a full table of the largest size, there is no larger one
-pub full_at_limit : (still : Still) (root : Sq) (start : Universe) (attempt : Result Attempt Refusal) → IsSame (square_plane (book_in still) root) (live_cells start) → IsOpenedAlone still root start →
+pub full_at_limit : (still : Still) (root : Sq) (start : Universe) (attempt : Result Attempt Refusal) → IsKnown (book_in still) root.level root → IsSame (square_plane (book_in still) root) (live_cells start) → IsOpenedAlone still root start →
     IfOk attempt (IsAttempt start) → IfOk attempt (IsFullInPlace start) → IfOk attempt IsFullAtLimit
-full_at_limit still root start (Ok (Done later)) cells alone is full = tt
-full_at_limit still root start (Ok (Full same)) cells alone at_exponent full = record {
+full_at_limit still root start (Ok (Done later)) known cells alone is full = tt
+full_at_limit still root start (Ok (Full same)) known cells alone at_exponent full = record {
   still = still;
   root = root;
+  known = known;
   cells = same_trans cells (same_sym at_exponent.same.cells);
   full = inl (full_from_alone still root start same alone at_exponent full.0 full.1);
 }
-full_at_limit still root start (Err refusal) cells alone is full = tt
+full_at_limit still root start (Err refusal) known cells alone is full = tt

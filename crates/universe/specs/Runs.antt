@@ -6,6 +6,7 @@ use Rattle.node_sweep.specs.SweptStills.{HasNoRoomFor, IsSwept}
 use Rattle.plane.specs.Centred.{Holds}
 use Rattle.plane.specs.Plane.{after}
 use Rattle.plane.specs.Square.{IsSame}
+use Rattle.squares.specs.Book.{IsKnown}
 use Rattle.squares.specs.declared.sq.Sq.{Sq}
 use Rattle.universe.specs.Cells.{exponent_of, limit_of, live_cells, rule_of, square_plane}
 use Rattle.universe.specs.Tables.{HasFilledUp, StaysOpen, known_at, pairs_in}
@@ -58,11 +59,12 @@ pub record IsFullFromAlone (still : Still) (root : Sq) (universe : Universe) : T
   pub size : pairs_in universe.here.table ≡ limit_of universe
   pub filled : HasFilledUp alone (rule_of universe) (exponent_of universe) universe.here.table
 
--- words show the cells; the table, which has the largest size and began with what these cells need and nothing else, is full,
--- or that size has no room for what they need
+-- words know a square and show the cells by it; the table, which has the largest size and began with what this square needs
+-- and nothing else, is full, or that size has no room for what the square needs
 pub record IsExhausted (universe : Universe) : Type 0 where
   pub still : Still
   pub root : Sq
+  pub known : IsKnown (book_in still) root.level root
   pub cells : IsSame (square_plane (book_in still) root) (live_cells universe)
   pub full : IsFullFromAlone still root universe ⊎ HasNoRoomFor still root (limit_of universe)
 

@@ -55,6 +55,7 @@ returns-in_err-universe-2-clause-refused g c =
     let is : c.from_residual-in_err-universe-2.result ≡ Err c.in_err-universe-2.field-0.0 = search rules in
     rw is (inl (
       c.in_err-universe-2.ensures.refusal,
+      c.loop-done.invariant.unfailed,
       (
         length (shown_until options c.loop-done.done),
         said.0,

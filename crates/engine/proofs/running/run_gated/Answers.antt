@@ -9,7 +9,7 @@ use Rattle.patterns.specs.Meaning.{placeless}
 use Rattle.patterns.specs.Pattern.{plane_of}
 use Rattle.patterns.specs.PatternFile.{meaning_of}
 use Rattle.engine.proofs.Acceptance.{refused_at_once}
-use Rattle.engine.proofs.Endings.{ends_well, refused_counting, refused_reporting, refused_writing, stopped_early}
+use Rattle.engine.proofs.Endings.{ends_well, refused_counting, refused_reporting, refused_writing, failed_early}
 use Rattle.universe.proofs.Held.{held, short_run}
 use Rattle.engine.specs.Room.{IsStuckWithin}
 use Rattle.universe.specs.Cells.{live_cells, rule_of}
@@ -48,21 +48,21 @@ pub returns-in_err-last : goal.returns-in_err-last
 returns-in_err-last g c =
     let is : c.from_residual-in_err-last.result ≡ Err (placeless NoMemory) = search rules in
     rw is (refused_counting c.args.bytes.now c.args.options.now (meaning_of c.in_ok-begun.begun.text) (rule_of c.in_ok-begun.begun.universe) (live_cells c.in_ok-begun.begun.universe) c.in_ok-begun.ensures.accepted
-    _ _ c.generation-start.result (live_cells c.in_ok-universe.universe) _ c.generation-start.ensures c.in_ok-universe.ensures.cells c.in_ok-universe.ensures.reported refl refl)
+    _ _ c.generation-start.result (live_cells c.in_ok-universe.universe) _ c.generation-start.ensures c.in_ok-universe.ensures.cells c.in_ok-universe.ensures.reported refl refl c.in_ok-universe.ensures.unfailed)
 
 pub returns-in_err-draw : goal.returns-in_err-draw
 returns-in_err-draw g c =
     let is : c.from_residual-in_err-draw.result ≡ Err (placeless c.in_err-draw.field-0.0) = search rules in
     let refused = c.in_err-draw.ensures.refused in
     let failed = subst (λ n. HasFailed n (g.W.Sink.failure_count c.draw.new.report)) c.in_ok-universe.ensures.unfailed refused.1 in
-    rw is (stopped_early (λ _. refl) (inr (inr (inr (ap placeless refused.0, inl failed)))))
+    rw is (failed_early (λ _. refl) refused.0 (inl (failed, refl, (_, c.in_ok-begun.ensures.accepted.accepted))))
 
 pub returns-in_err-write : goal.returns-in_err-write
 returns-in_err-write g c =
     let is : c.from_residual-in_err-write.result ≡ Err (placeless c.in_err-write.field-0.0) = search rules in
     rw is (refused_writing c.args.bytes.now c.args.options.now (meaning_of c.in_ok-begun.begun.text) (rule_of c.in_ok-begun.begun.universe) (live_cells c.in_ok-begun.begun.universe) c.in_ok-begun.ensures.accepted
     _ _ c.generation-start.result (plane_of c.in_ok-last.last) _ c.generation-start.ensures (same_trans c.in_ok-last.ensures.same c.in_ok-universe.ensures.cells) c.in_ok-universe.ensures.reported c.in_ok-draw.ensures.drawn
-    c.args.options.now.format c.in_ok-last.ensures.ok.bounds.cells c.in_err-write.field-0.0 refl c.in_ok-last.ensures.ok.bounds.listing c.in_err-write.ensures.no_format c.in_err-write.ensures.refused)
+    c.args.options.now.format c.in_ok-last.ensures.ok.bounds.cells c.in_err-write.field-0.0 refl c.in_ok-last.ensures.ok.bounds.listing c.in_err-write.ensures.no_format (c.in_ok-draw.ensures.unfailed ∙ c.in_ok-universe.ensures.unfailed) c.in_err-write.ensures.refused)
 
 pub returns : goal.returns
 returns g c =

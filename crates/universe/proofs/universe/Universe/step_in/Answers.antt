@@ -50,6 +50,7 @@ returns-in_ok-here-in-None-clause-full g c = λ alone most.
     record {
       still = still;
       root = root;
+      known = c.into_still-start.result.known;
       cells = same_sym c.in_ok-here-in-None.ensures.ok;
       full = inr (subst (λ (pairs : ℕ). HasNoRoomFor still root pairs) (most ∙ ap (λ (shape : Shape). 2 ^ shape.bits) (sym c.make_room.ensures.limit)) full);
     }
@@ -62,7 +63,7 @@ returns-in_ok-here-in-Some-clause-full g c = λ alone most.
     let is = subst (λ (o : Option (RootedStill × TableHistory)). IfSome o (λ fresh. IsCopied old fresh.0 pairs)) c.in-Some.is c.in_ok-fresh.ensures.ok in
     let swept = subst (λ (o : Option (RootedStill × TableHistory)). IfSome o (λ fresh. IsSwept (still_of old) (root_of old) pairs (still_of fresh.0) (root_of fresh.0))) c.in-Some.is (c.in_ok-fresh.ensures.alone alone) in
     let here = c.in_ok-here-in-Some.ensures in
-    full_at_limit (still_of old) (root_of old) _ c.step_here.result (same_sym (same_trans here.ok is.cells)) (record {
+    full_at_limit (still_of old) (root_of old) _ c.step_here.result old.known (same_sym (same_trans here.ok is.cells)) (record {
       alone = still_of fresh;
       copy = root_of fresh;
       swept = subst (λ (n : ℕ). IsSwept (still_of old) (root_of old) n (still_of fresh) (root_of fresh)) (most ∙ ap (λ (shape : Shape). 2 ^ shape.bits) (sym c.make_room.ensures.limit)) swept;
