@@ -1,5 +1,7 @@
 //! Worked examples of desks at one table, of its words and of universes.
 
+mod collections;
+mod few_words;
 mod glider;
 mod leaves;
 mod reopened;

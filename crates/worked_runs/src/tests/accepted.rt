@@ -261,15 +261,18 @@ fn reports_each_step_and_the_last_generation_once(rt: HostRuntime) -> Result<(),
 
 #[test]
 fn runs_by_another_rule(rt: HostRuntime) -> Result<(), AllocError> {
-    let options = Options {
-        rule: Rule::read(b"b3s23").ok(),
-        format: Some(Format::Rle),
-        ..PLAIN
-    };
     let file = "x = 1, y = 1, rule = B03/S23\no!";
-    let end = Ended::of(&rt, file, &options)?;
     let text = "#CXRLE Pos=0,0 Gen=0\nx = 1, y = 1, rule = B3/S23\no!\n";
-    assert_told(&rt, file, &end, (None, "0: 1\n", text));
+    for workers in [1, 2] {
+        let options = Options {
+            rule: Rule::read(b"b3s23").ok(),
+            format: Some(Format::Rle),
+            workers,
+            ..PLAIN
+        };
+        let end = Ended::of(&rt, file, &options)?;
+        assert_told(&rt, file, &end, (None, "0: 1\n", text));
+    }
     Ok(())
 }
 

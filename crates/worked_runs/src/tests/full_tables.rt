@@ -4,7 +4,7 @@
 use crate::tests::accepted::{FAR, LIMITS, LONG_ROWS, PATTERNS, STEPS};
 use crate::tests::ended::Ended;
 use crate::tests::full_squares::{SQUARES, full_square};
-use crate::tests::macrocell::WRITTEN;
+use crate::tests::macrocell::{self, WRITTEN};
 use crate::tests::many_leaves::many_leaves;
 use crate::tests::nodes::{FULL, GLIDER, REPORTED, SETTLED};
 use crate::tests::refused::REFUSED;
@@ -42,7 +42,15 @@ fn assert_in_the_fewest<R: Abort + AllocGlobal + Threads + Wait + Sync>(
 }
 
 /// The rows of short runs.
-pub(crate) const SHORT: [&[Row]; 6] = [PATTERNS, LIMITS, LONG_ROWS, STEPS, WRITTEN, REFUSED];
+pub(crate) const SHORT: [&[Row]; 7] = [
+    PATTERNS,
+    LIMITS,
+    LONG_ROWS,
+    STEPS,
+    WRITTEN,
+    REFUSED,
+    macrocell::REFUSED,
+];
 
 #[test]
 fn runs_each_pattern_in_the_fewest_slots(rt: HostRuntime) -> Result<(), AllocError> {

@@ -166,7 +166,7 @@ pub(crate) const WRITTEN: &[Row] = &[
     },
 ];
 
-const REFUSED: &[Row] = &[
+pub(crate) const REFUSED: &[Row] = &[
     Row {
         file: "[M2]\n*$\n4 0 0 0 2\n",
         refusal: Some(Refusal::BadChild),

@@ -156,33 +156,42 @@ fn push_centres(text: &mut String, row: u8, worth: u32) -> Result<(), AllocError
     Ok(())
 }
 
-// After one generation by this rule there are at least 320 different leaves.
+// The cells of the 160 leaves are counted.
+#[test]
+fn counts_the_cells_of_160_leaves(rt: HostRuntime) -> Result<(), AllocError> {
+    let file = spread_leaves(rt.alloc())?;
+    for workers in [1, 2] {
+        let none = Options {
+            pairs: 1024,
+            workers,
+            ..RLE.options()
+        };
+        let end = Ended::of(&rt, file.as_str(), &none)?;
+        assert!(rt; end.is_summed_up_by(0, 562));
+        assert_eq!(rt; end.report.text(), "0: 562\n");
+    }
+    Ok(())
+}
+
+// After one generation by this rule there are at least 320 different leaves, which have no room.
 #[test]
 fn refuses_the_first_generation_of_160_leaves(rt: HostRuntime) -> Result<(), AllocError> {
     let file = spread_leaves(rt.alloc())?;
-    let none = Options {
-        pairs: 1024,
-        ..RLE.options()
-    };
-    let end = Ended::of(&rt, file.as_str(), &none)?;
-    assert!(rt; end.is_summed_up_by(0, 562));
-    assert_eq!(rt; end.report.text(), "0: 562\n");
     for workers in [1, 2] {
-        let one = Options {
+        let few = Options {
             gens: 1,
+            pairs: 1024,
             workers,
-            ..none
+            ..RLE.options()
         };
-        let end = Ended::of(&rt, file.as_str(), &one)?;
+        let end = Ended::of(&rt, file.as_str(), &few)?;
         assert_told(&rt, "", &end, (Some(FULL), "0: 562\n", ""));
-    }
-    for workers in [1, 2] {
-        let options = Options {
-            gens: 1,
-            workers,
-            ..PLAIN
+        let many = Options {
+            pairs: PLAIN.pairs,
+            format: None,
+            ..few
         };
-        let end = Ended::of(&rt, file.as_str(), &options)?;
+        let end = Ended::of(&rt, file.as_str(), &many)?;
         assert_told(&rt, "", &end, (None, "0: 562\n1: 1736\n", ""));
     }
     Ok(())

@@ -81,15 +81,20 @@ fn asked(generations: u64, window: (i64, i64, u32, u32), quiet: bool) -> Result<
     })
 }
 
-/// Runs a row with its lines and without.
+/// Runs a row with its lines and without, by one worker and by two.
 fn assert_pictured<R: Abort + AllocGlobal + Threads + Wait + Sync>(
     rt: &R,
     row: &Pictured,
 ) -> Result<(), Fail> {
-    for (quiet, report) in [(false, row.report), (true, row.picture)] {
-        let options = asked(row.generations, row.window, quiet)?;
-        let end = Ended::of(rt, row.file, &options)?;
-        assert_told(rt, row.file, &end, (None, report, ""));
+    for workers in [1, 2] {
+        for (quiet, report) in [(false, row.report), (true, row.picture)] {
+            let options = Options {
+                workers,
+                ..asked(row.generations, row.window, quiet)?
+            };
+            let end = Ended::of(rt, row.file, &options)?;
+            assert_told(rt, row.file, &end, (None, report, ""));
+        }
     }
     Ok(())
 }

@@ -1,6 +1,6 @@
 //! Rules, books and squares that several examples begin with.
 
-ghost use Rattle.std.specs.Prelude.{◌≡◌, IfOk};
+ghost use Rattle.std.specs.Prelude.{◌≡◌, ◌≤◌, IfOk};
 ghost use Rattle.squares.specs.Book.{IsKnown};
 
 use plane::{CellSet, Refusal};
@@ -37,7 +37,8 @@ pub(crate) fn square_round<S: Squares>(
     book: &mut S,
     cells: &CellSet,
 ) -> Result<Sq, Refusal>
-    ensures { IfOk result (λ sq. IsKnown (S.book book.new) sq.level sq) }
+    ensures known { IfOk result (λ sq. IsKnown (S.book book.new) sq.level sq) }
+    ensures level { IfOk result (λ sq. (4 ≤ sq.level) × (sq.level ≤ 63)) }
 {
     cells_to_square(alloc, book, cells)
 }

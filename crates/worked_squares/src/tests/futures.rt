@@ -45,6 +45,10 @@ fn plans_of_worked_numbers(rt: HostRuntime) {
 
 // The level of a root, an exponent, and the level that the root is padded to.
 const PADDINGS: &[(u8, u8, u8)] = &[
+    (3, 0, 5),
+    (3, 2, 5),
+    (3, 3, 6),
+    (3, 62, 65),
     (4, 0, 6),
     (4, 3, 6),
     (4, 4, 7),
@@ -54,10 +58,13 @@ const PADDINGS: &[(u8, u8, u8)] = &[
     (63, 62, 65),
 ];
 
-// A root that has one cell, of level 4 or of a level from 7 on.
+// A root that has one cell, of level 3 or 4 or of a level from 7 on.
 fn root_of<S: Squares>(book: &mut S, level: u8) -> Result<Sq, Refusal>
     ensures { IfOk result (λ sq. IsKnown (S.book book.new) sq.level sq) }
 {
+    if level == 3 {
+        return book.leaf(1);
+    }
     let root = square_of(book, [0, 0, 0, 1])?;
     if level < 7 || level > 65 {
         return Ok(root);
@@ -69,7 +76,7 @@ fn root_of<S: Squares>(book: &mut S, level: u8) -> Result<Sq, Refusal>
 fn padded_and_trimmed<S: Squares>(book: &mut S, root: Sq, exponent: u8) -> Result<(u8, u8), Refusal>
     requires { IsKnown (S.book book.old) root.level root }
 {
-    if root.level < 4 || root.level > 63 || exponent > 62 {
+    if root.level > 63 || exponent > 62 {
         return Err(Refusal::OutOfRange);
     }
     let padded = pad(book, root, exponent)?;
@@ -127,16 +134,12 @@ fn leaves_of<B: Look>(book: &B, sq: Sq) -> [u64; 4]
     [book.bits(nw), book.bits(ne), book.bits(sw), book.bits(se)]
 }
 
-// A leaf trimmed: its level, whether its number is 0, and its four leaves if it has the level 4.
+// A leaf trimmed: its level, whether its number is 0, and its four leaves.
 fn trimmed_leaf(alloc: Global, word: u64) -> Result<(u8, bool, [u64; 4]), Refusal> {
     let mut book = book_of(alloc, "B3/S23", 0)?;
     let leaf = book.leaf(word)?;
     let trimmed = trim(&mut book, leaf)?;
-    let leaves = if trimmed.level == 4 {
-        leaves_of(&book, trimmed)
-    } else {
-        [0; 4]
-    };
+    let leaves = leaves_of(&book, trimmed);
     Ok((trimmed.level, trimmed.num.0 == 0, leaves))
 }
 
@@ -204,7 +207,7 @@ fn futures_are_made_once(rt: HostRuntime) {
 fn stepped<S: Squares>(book: &mut S, root: Sq) -> Result<Sq, Refusal>
     requires { IsKnown (S.book book.old) root.level root }
 {
-    if root.level < 4 || root.level > 60 || book.exponent() > 62 {
+    if root.level > 60 || book.exponent() > 62 {
         return Err(Refusal::OutOfRange);
     }
     step(book, root, &mut Tally { expansions: 0 })

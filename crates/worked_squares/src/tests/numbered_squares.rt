@@ -22,28 +22,11 @@ fn life_book(alloc: Global) -> Result<PlainBook, Refusal> {
     book_of(alloc, "B3/S23", 2)
 }
 
-// The glider's square by its runs; once more if memory ran out.
-fn glider_of_runs<S: Squares>(alloc: Global, book: &mut S) -> Result<Sq, Refusal> {
-    match runs_to_square(alloc, book, &GLIDER_RUNS) {
-        Err(Refusal::NoMemory) => runs_to_square(alloc, book, &GLIDER_RUNS),
-        made => made,
-    }
-}
-
-// The glider's square by its cells; once more if memory ran out.
-fn glider_of_cells<S: Squares>(alloc: Global, book: &mut S) -> Result<Sq, Refusal> {
-    let cells = cells_at(alloc, &GLIDER)?;
-    match square_round(alloc, book, &cells) {
-        Err(Refusal::NoMemory) => square_round(alloc, book, &cells),
-        made => made,
-    }
-}
-
 // The glider's squares by its runs, by its cells and by its leaf.
 fn gliders(alloc: Global) -> Result<[Sq; 3], Refusal> {
     let mut book = life_book(alloc)?;
-    let of_runs = glider_of_runs(alloc, &mut book)?;
-    let of_cells = glider_of_cells(alloc, &mut book)?;
+    let of_runs = runs_to_square(alloc, &mut book, &GLIDER_RUNS)?;
+    let of_cells = square_round(alloc, &mut book, &cells_at(alloc, &GLIDER)?)?;
     let square = square_of(&mut book, [0, 0, 0, GLIDER_BITS])?;
     Ok([of_runs, of_cells, square])
 }

@@ -2,6 +2,7 @@
 //! apart from this program. A square of level 5 takes nine futures of level 4, and four more where there
 //! is time for them; one of level 6 takes none.
 
+ghost use Rattle.std.specs.Prelude.{◌<◌};
 ghost use Rattle.squares.specs.Book.{IsKnown};
 
 use crate::tests::books::{book_of, square_round};
@@ -280,6 +281,54 @@ const ROWS: &[Row] = &[
         ],
         expansions: 1,
     },
+    Row {
+        rule: "B36/S125H",
+        exponent: 2,
+        leaves: &SOUP_64,
+        middle: &[
+            0x212890961211000c,
+            0x02f0064000100e00,
+            0x0031500000808060,
+            0x42203c3e05032029,
+            0x0c04010007050402,
+            0x00020bb8f0f07034,
+            0x8000078680000060,
+            0x60d0600140b024e0,
+            0x2540704801030d0f,
+            0x1007020000000000,
+            0xa060445e25130006,
+            0x0080000a10121801,
+            0x7800043402831840,
+            0x0040400000818020,
+            0x420000133a4d8040,
+            0x00010180b1010202,
+        ],
+        expansions: 1,
+    },
+    Row {
+        rule: "B13/S024V",
+        exponent: 3,
+        leaves: &SOUP_64,
+        middle: &[
+            0x04d18a4c48d74e55,
+            0x1cacbddb8596f33c,
+            0xad9f23560ef375e5,
+            0x6e418eaeb40aa0d4,
+            0x4955ffe97fd51a82,
+            0xb20cb6814c6dce22,
+            0x0dbfbb3601422b12,
+            0x1a2c0e83ec1b18f1,
+            0xa88a5c257e3258fd,
+            0x181a3b6165df4f81,
+            0x16fd50846a1318c3,
+            0x6a92e9aabfa9cd65,
+            0x1cc6d62a6b033b8f,
+            0x9c8beb07074ec16d,
+            0x575c268f1a04bfe7,
+            0x18b3bfa47a969b9f,
+        ],
+        expansions: 1,
+    },
 ];
 
 // How many leaves stand side by side.
@@ -338,11 +387,9 @@ fn cells_of(alloc: Global, leaves: &[u64]) -> Result<CellSet, Refusal> {
 
 // The future of a square, at the smallest level.
 fn trimmed_future<S: Squares>(book: &mut S, sq: Sq, tally: &mut Tally) -> Result<Sq, Refusal>
-    requires { IsKnown (S.book book.old) sq.level sq }
+    requires known { IsKnown (S.book book.old) sq.level sq }
+    requires low { 3 < sq.level }
 {
-    if sq.level < 4 {
-        return Err(Refusal::OutOfRange);
-    }
     let future = future(book, sq, tally)?;
     trim(book, future)
 }

@@ -213,9 +213,6 @@ fn draw<W: Sink>(
     let cells = cells_at(alloc, places)?;
     let mut book = empty_book(alloc)?;
     let sq = square_round(alloc, &mut book, &cells)?;
-    if sq.level > 63 {
-        return Err(Refusal::OutOfRange);
-    }
     draw_windows(&book, sq, &[sides], sink)
 }
 

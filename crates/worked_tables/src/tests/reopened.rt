@@ -13,27 +13,30 @@ use squares::{Sq, Squares};
 use std::process::Abort;
 use std::test::Fail;
 
-// The level of a square whose result is made under B3/S23 and the exponent 3, the rule and the
-// exponent under which the words are opened again, and whether the result stays.
-const REOPENINGS: [(u8, &str, u8, bool); 5] = [
-    (5, "B3/S23", 2, false),
-    (4, "B3/S23", 2, true),
-    (5, "B3/S23", 5, true),
-    (5, "B3/S23", 3, true),
-    (5, "B36/S23", 3, false),
+// A rule and an exponent under which words are opened again, and whether the results of squares of the
+// levels 4, 5 and 6 stay that were made under B3/S23 and the exponent 3.
+const REOPENINGS: [(&str, u8, [bool; 3]); 4] = [
+    ("B3/S23", 2, [true, false, false]),
+    ("B3/S23", 5, [true, true, false]),
+    ("B3/S23", 3, [true, true, true]),
+    ("B36/S23", 3, [false, false, false]),
 ];
 
-// A square of level 4 or 5 that is full of blocks.
+// A square of a level from 4 to 6 that is full of blocks.
 fn blocks<S: Squares>(book: &mut S, level: u8) -> Result<Sq, Refusal>
     ensures known { IfOk result (λ sq. IsKnown (S.book book.new) sq.level sq) }
-    ensures level { IfOk result (λ sq. (3 < sq.level) × (sq.level ≤ 5)) }
+    ensures level { IfOk result (λ sq. (3 < sq.level) × (sq.level ≤ 6)) }
     ensures keeps { Keeps (S.book book.old) (S.book book.new) }
 {
     let small = of_leaves(book, [0x1818000000; 4])?;
     if level == 4 {
         return Ok(small);
     }
-    book.quad([small; 4])
+    let middle = book.quad([small; 4])?;
+    if level == 5 {
+        return Ok(middle);
+    }
+    book.quad([middle; 4])
 }
 
 fn has_result<S: Squares>(book: &mut S, level: u8) -> Result<bool, Refusal>
@@ -83,8 +86,14 @@ fn keeps_result(
 
 #[test]
 fn results_stay_where_they_are_the_same(rt: HostRuntime) -> Result<(), Fail> {
-    for (level, rule, exponent, kept) in REOPENINGS {
-        assert_eq!(rt; keeps_result(&rt, level, rule, exponent)?, kept);
+    for (rule, exponent, kept) in REOPENINGS {
+        for (level, stays) in [(4, kept[0]), (5, kept[1]), (6, kept[2])] {
+            let is_there = keeps_result(&rt, level, rule, exponent)?;
+            assert_eq!(rt;
+                (rule, exponent, level, is_there),
+                (rule, exponent, level, stays)
+            );
+        }
     }
     Ok(())
 }

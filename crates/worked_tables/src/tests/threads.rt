@@ -6,7 +6,7 @@ ghost use Rattle.node_table.specs.Desks.{IsDeskOf};
 use crate::tests::tables::{PAIRS, empty_table};
 use node_table::{Desk, NodeTable};
 use plane::Refusal;
-use squares::Squares;
+use squares::{Num, Squares};
 use std::test::Fail;
 use std::thread::{Threads, join};
 
@@ -29,33 +29,22 @@ fn numbered(table: &NodeTable, desk: Desk, rising: bool) -> Desk
     at.leave()
 }
 
-// Numbers the words by 2^splits desks, each in a thread of its own: of two that were split the first
-// goes rising, the second falling.
-fn numbered_by<R: Threads + Sync>(
-    rt: &R,
-    table: &NodeTable,
-    desk: Desk,
-    splits: u32,
-    rising: bool,
-) -> Desk
+// Numbers the words by two desks, each in a thread of its own: one goes rising, the other falling.
+fn numbered_by_two<R: Threads + Sync>(rt: &R, table: &NodeTable, desk: Desk) -> Desk
     requires { IsDeskOf table.now desk }
     ensures { IsDeskOf table.now result }
 {
-    if splits == 0 {
-        return numbered(table, desk, rising);
-    }
-    let splits = splits - 1;
     let (first, second) = table.split(desk);
     let (first, second) = join(
         rt,
         move || -> Desk
             requires { IsDeskOf table.now first }
             ensures { IsDeskOf table.entry.now result }
-        { numbered_by(rt, table, first, splits, true) },
+        { numbered(table, first, true) },
         move || -> Desk
             requires { IsDeskOf table.now second }
             ensures { IsDeskOf table.entry.now result }
-        { numbered_by(rt, table, second, splits, false) },
+        { numbered(table, second, false) },
     );
     table.join(first, second)
 }
@@ -87,15 +76,89 @@ fn numbers_and_refusals<S: Squares>(book: &mut S) -> (usize, usize) {
 #[test]
 fn two_threads_give_one_number_each(rt: HostRuntime) -> Result<(), Fail> {
     let (table, desk) = empty_table(&rt, PAIRS, 0)?;
-    let joined = numbered_by(&rt, &table, desk, 1, true);
+    let joined = numbered_by_two(&rt, &table, desk);
     assert_eq!(rt; numbers_and_refusals(&mut table.at(joined)), (256, 1));
     Ok(())
 }
 
+// What the words 1 to 257 are answered.
+type Answers = [Result<Num, Refusal>; 257];
+
+// What a desk answers that begins with this word and goes round.
+fn answers_from<S: Squares>(book: &mut S, first: u64) -> Answers
+    ensures { Keeps (S.book book.old) (S.book book.new) }
+{
+    let mut answers = [Err(Refusal::NoMemory); 257];
+    for step in 0..257 {
+        let place = (first % 257 + step) % 257;
+        answers[place as usize] = book.leaf(place + 1).map(|sq| sq.num);
+    }
+    answers
+}
+
+fn answered(table: &NodeTable, desk: Desk, first: u64) -> (Desk, Option<Answers>)
+    requires { IsDeskOf table.now desk }
+    ensures { IsDeskOf table.now result.0 }
+{
+    let mut at = table.at(desk);
+    let answers = answers_from(&mut at, first);
+    (at.leave(), Some(answers))
+}
+
+// The answers that two have alike, if they have.
+fn alike(first: Option<Answers>, second: Option<Answers>) -> Option<Answers> {
+    if first == second { first } else { None }
+}
+
+// What 2^splits desks answer alike, each in a thread of its own: of two that were split the second begins so
+// many words behind the first.
+fn answered_by<R: Threads + Sync>(
+    rt: &R,
+    table: &NodeTable,
+    desk: Desk,
+    splits: u32,
+    first: u64,
+    behind: u64,
+) -> (Desk, Option<Answers>)
+    requires { IsDeskOf table.now desk }
+    ensures { IsDeskOf table.now result.0 }
+{
+    if splits == 0 {
+        return answered(table, desk, first);
+    }
+    let splits = splits - 1;
+    let (one, other) = table.split(desk);
+    let ((one, answers), (other, others)) = join(
+        rt,
+        move || -> (Desk, Option<Answers>)
+            requires { IsDeskOf table.now one }
+            ensures { IsDeskOf table.entry.now result.0 }
+        { answered_by(rt, table, one, splits, first, behind / 2) },
+        move || -> (Desk, Option<Answers>)
+            requires { IsDeskOf table.now other }
+            ensures { IsDeskOf table.entry.now result.0 }
+        {
+            answered_by(
+                rt,
+                table,
+                other,
+                splits,
+                first.wrapping_add(behind),
+                behind / 2,
+            )
+        },
+    );
+    (table.join(one, other), alike(answers, others))
+}
+
+// Desk d of eight begins with the word 32d + 1, which is the place 32d. One word finds no room at any of them.
 #[test]
-fn eight_threads_give_one_number_each(rt: HostRuntime) -> Result<(), Fail> {
+fn eight_threads_answer_alike(rt: HostRuntime) -> Result<(), Fail> {
     let (table, desk) = empty_table(&rt, PAIRS, 0)?;
-    let joined = numbered_by(&rt, &table, desk, 3, true);
-    assert_eq!(rt; numbers_and_refusals(&mut table.at(joined)), (256, 1));
+    let (joined, answers) = answered_by(&rt, &table, desk, 3, 0, 128);
+    assert!(rt; answers.is_some());
+    let mut at = table.at(joined);
+    assert_eq!(rt; numbers_and_refusals(&mut at), (256, 1));
+    assert!(rt; Some(answers_from(&mut at, 0)) == answers);
     Ok(())
 }

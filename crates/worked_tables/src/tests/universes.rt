@@ -62,7 +62,7 @@ fn later<R: Threads + Wait + Sync + AllocGlobal>(
 }
 
 // Goes on by so many generations, again and again, and asserts the population that each comes to.
-fn assert_comes_to<R: Threads + Wait + Sync + Abort + AllocGlobal>(
+pub(crate) fn assert_comes_to<R: Threads + Wait + Sync + Abort + AllocGlobal>(
     rt: &R,
     start: Universe,
     reports: &[(u64, u128)],

@@ -1,8 +1,8 @@
 //! Rows that are written in bands: patterns of few rows and of many, and of rows that lie far apart.
 //!
-//! In a plain run of the tests there is memory. `rt try --test --fail-alloc N -- banded_rows` makes the Nth
-//! allocation of each of these tests fail, and is run for each N from 1 up to the first at which neither of
-//! them prints a line of its own.
+//! In a plain run of the tests there is memory. `rt try --test --fail-alloc N -- want_of_memory` makes the
+//! Nth allocation of the last test fail, and is run for each N from 1 up to the first at which it prints no
+//! line of its own.
 
 use pattern_writers::write_rle;
 use plane::{Cell, CellSet, Memory, Refusal};
@@ -60,32 +60,19 @@ fn written<R: Threads + Sync>(
     };
     let mut book = PlainBook::new(alloc, rule, 0);
     let sq = cells_to_square(alloc, &mut book, cells)?;
-    if sq.level > 63 {
-        return Err(Refusal::BoxTooLarge);
-    }
     let outcome = write_rle(rt, alloc, &book, sq, read.comments(), &rule, 0, &mut file);
     Ok((outcome, file))
 }
 
-// The cells have this text, or memory ran out before its first byte.
-fn assert_text<R: Threads + Sync + Abort + Print>(
+// The cells have this text.
+fn assert_text<R: Threads + Sync + Abort>(
     rt: &R,
     alloc: Global,
-    cells: Result<CellSet, Refusal>,
+    cells: &CellSet,
     text: &str,
 ) -> Result<(), Fail> {
-    let Ok(cells) = cells else {
-        return Ok(println!(rt; "no cells")?);
-    };
-    let Ok((outcome, file)) = written(rt, alloc, &cells) else {
-        return Ok(println!(rt; "no square")?);
-    };
-    if outcome == Err(Refusal::NoMemory) {
-        assert_eq!(rt; file.bytes(), b"".as_slice());
-        return Ok(println!(rt; "refused")?);
-    }
-    assert_eq!(rt; outcome, Ok(()));
-    assert_eq!(rt; file.bytes(), text.as_bytes());
+    let (outcome, file) = written(rt, alloc, cells)?;
+    assert_eq!(rt; (outcome, file.bytes()), (Ok(()), text.as_bytes()));
     Ok(())
 }
 
@@ -116,20 +103,47 @@ const TEXTS: &[Text] = &[
 #[test]
 fn texts_of_few_rows(rt: HostRuntime) -> Result<(), Fail> {
     for (places, text) in TEXTS {
-        assert_text(&rt, rt.alloc(), cells_at(rt.alloc(), places), text)?;
+        assert_text(&rt, rt.alloc(), &cells_at(rt.alloc(), places)?, text)?;
     }
     Ok(())
 }
 
+const COLUMN: &str = "#CXRLE Pos=0,0 Gen=0\nx = 1, y = 100, rule = B3/S23\n\
+     o$o$o$o$o$o$o$o$o$o$o$o$o$o$o$o$o$o$o$o$o$o$o$o$o$o$o$o$o$o$o$o$o$o$o$\n\
+     o$o$o$o$o$o$o$o$o$o$o$o$o$o$o$o$o$o$o$o$o$o$o$o$o$o$o$o$o$o$o$o$o$o$o$\n\
+     o$o$o$o$o$o$o$o$o$o$o$o$o$o$o$o$o$o$o$o$o$o$o$o$o$o$o$o$o$o!\n";
+
 #[test]
 fn one_cell_in_each_of_100_rows(rt: HostRuntime) -> Result<(), Fail> {
-    assert_text(
-        &rt,
-        rt.alloc(),
-        column(rt.alloc(), 100),
-        "#CXRLE Pos=0,0 Gen=0\nx = 1, y = 100, rule = B3/S23\n\
-         o$o$o$o$o$o$o$o$o$o$o$o$o$o$o$o$o$o$o$o$o$o$o$o$o$o$o$o$o$o$o$o$o$o$o$\n\
-         o$o$o$o$o$o$o$o$o$o$o$o$o$o$o$o$o$o$o$o$o$o$o$o$o$o$o$o$o$o$o$o$o$o$o$\n\
-         o$o$o$o$o$o$o$o$o$o$o$o$o$o$o$o$o$o$o$o$o$o$o$o$o$o$o$o$o$o!\n",
-    )
+    assert_text(&rt, rt.alloc(), &column(rt.alloc(), 100)?, COLUMN)
+}
+
+// The cells have this text, or memory runs out before its first byte; then they have it at the second try.
+fn assert_text_or_refused<R: Threads + Sync + Abort + Print>(
+    rt: &R,
+    alloc: Global,
+    cells: Result<CellSet, Refusal>,
+    text: &str,
+) -> Result<(), Fail> {
+    let Ok(cells) = cells else {
+        return Ok(println!(rt; "no cells")?);
+    };
+    let Ok((outcome, file)) = written(rt, alloc, &cells) else {
+        return Ok(println!(rt; "no square")?);
+    };
+    if outcome == Err(Refusal::NoMemory) {
+        println!(rt; "refused")?;
+        assert_eq!(rt; file.bytes(), b"".as_slice());
+        return assert_text(rt, alloc, &cells, text);
+    }
+    assert_eq!(rt; (outcome, file.bytes()), (Ok(()), text.as_bytes()));
+    Ok(())
+}
+
+#[test]
+fn texts_or_nothing_for_want_of_memory(rt: HostRuntime) -> Result<(), Fail> {
+    for (places, text) in TEXTS {
+        assert_text_or_refused(&rt, rt.alloc(), cells_at(rt.alloc(), places), text)?;
+    }
+    assert_text_or_refused(&rt, rt.alloc(), column(rt.alloc(), 100), COLUMN)
 }
