@@ -2,19 +2,19 @@
 """Times lifebatch beside Golly's bgolly, compares their last populations, and prints a table.
 
     bench/compare.py                           the sets runs and steps, the best of three rounds, one worker
-    bench/compare.py --workers 1 4             by one worker and by four
+    bench/compare.py --workers 1 4             with one worker and with four
     bench/compare.py --rounds 5 --rows gun     the rows with "gun" in their names, the best of five
     bench/compare.py --set rules               soups by rules other than Life
     bench/compare.py --set formats             the rows that read, write and count, and run little
     bench/compare.py --set long                long runs, most of which fill the tables
     bench/compare.py --processors 2            on two processors
-    bench/compare.py --aims                    with what is aimed at, in brackets
+    bench/compare.py --aims                    with the aims in brackets
     bench/compare.py --json FILE --svg FILE    the table as JSON too, and the ratios as a bar chart
 
-In a round each program runs once, one after the other, so that both meet the same moods of the machine. A ratio is the time of lifebatch by that
-of bgolly: below 1 lifebatch is quicker. "Memory" is the same ratio of the peaks of memory, where bgolly takes 30 MB or more. lifebatch runs in large
-pages, as ./lifebatch asks for them. With --aims the mean has an aim where the sets of all rows have the same aims. A row differs where the programs
-report different populations, or lifebatch fails.
+In a round each program runs once, one after the other, so that load affects both equally. A ratio is the time of lifebatch divided by that of
+bgolly: below 1 lifebatch is faster. "Memory" is the same ratio of the peaks of memory, where bgolly takes 30 MB or more. lifebatch runs in large
+pages, as ./lifebatch asks for them. --aims shows an aim for the mean only if all rows have the same aims. A row differs if the programs report
+different populations, or if lifebatch fails.
 """
 import argparse
 import json
@@ -42,13 +42,13 @@ CHECK = Check(
     replay="give the name of the row, or a part of it, to --rows.",
 )
 
-# Memory counts where bgolly takes as many megabytes or more.
+# Memory is compared if bgolly takes as many megabytes or more.
 COUNTED_MEGABYTES = 30
 
 
 @dataclass(frozen=True)
 class Result:
-    """What came of a row: a run, or why there is none, for each number of workers and for bgolly."""
+    """The result of a row: a run, or why there is none, for each number of workers and for bgolly."""
 
     set: str
     row: Row
@@ -69,7 +69,7 @@ class Result:
         return ours.seconds / self.theirs.seconds if both else None
 
     def memory(self) -> float | None:
-        """The largest ratio of the memories, where they count."""
+        """The largest ratio of the memories, if they count."""
         if not self.is_compared() or self.theirs.megabytes < COUNTED_MEGABYTES:
             return None
         return max(it.megabytes for it in self.ours.values()) / self.theirs.megabytes
@@ -185,8 +185,8 @@ def json_text(results: Sequence[Result], options: argparse.Namespace) -> str:
 
 def svg_text(results: Sequence[Result], options: argparse.Namespace) -> str:
     """The ratios as a bar chart."""
-    groups = [Group(f"{it.row.name}, {it.row.said()}", [it.ratio(workers) for workers in options.workers]) for it in results]
-    return svg("The time of lifebatch by that of bgolly", [said(it) for it in options.workers], groups)
+    groups = [Group(it.row.label(), [it.ratio(workers) for workers in options.workers]) for it in results]
+    return svg("Shorter than bgolly to the left, longer to the right", "lifebatch time / bgolly time", "bgolly", [said(it) for it in options.workers], groups)
 
 
 def write_files(results: Sequence[Result], options: argparse.Namespace) -> None:
@@ -213,13 +213,13 @@ def chosen(options: argparse.Namespace) -> list[tuple[str, Row]]:
 
 def parsed() -> argparse.Namespace:
     parser = CHECK.parser()
-    parser.add_argument("--rounds", type=int, default=3, help="how many runs of each, of which the best counts (3)")
+    parser.add_argument("--rounds", type=int, default=3, help="how many runs of each; the best counts (3)")
     parser.add_argument("--set", nargs="+", choices=sorted(SETS), default=["runs", "steps"], help="which rows (runs steps)")
     parser.add_argument("--rows", nargs="+", default=[], help="only the rows with one of these texts in their names")
-    parser.add_argument("--workers", type=int, nargs="+", default=[1], help="by how many workers, one number or several (1)")
-    parser.add_argument("--words", default="", help="further words for lifebatch, as '--nodes 65536'")
+    parser.add_argument("--workers", type=int, nargs="+", default=[1], help="the numbers of workers (1)")
+    parser.add_argument("--words", default="", help="more options for lifebatch, as '--nodes 65536'")
     parser.add_argument("--processors", type=int, help="how many processors both may use (all)")
-    parser.add_argument("--aims", action="store_true", help="show what is aimed at, in brackets")
+    parser.add_argument("--aims", action="store_true", help="show the aims in brackets")
     parser.add_argument("--json", type=pathlib.Path, metavar="FILE", help="write the table as JSON")
     parser.add_argument("--svg", type=pathlib.Path, metavar="FILE", help="write the ratios as a bar chart")
     return CHECK.options(parser)

@@ -1,4 +1,4 @@
-"""The rows that compare.py runs, by sets, and what is aimed at in each set."""
+"""The rows that compare.py runs, by sets, and the aims of each set."""
 import pathlib
 import random
 import re
@@ -8,7 +8,7 @@ from dataclasses import dataclass
 
 @dataclass(frozen=True)
 class Aims:
-    """What is aimed at, beside bgolly: the most time of one worker, the mean of the times by a number of workers, and the most memory."""
+    """The aims beside bgolly: the most time of one worker, the mean of the times with a number of workers, and the most memory."""
 
     time: float
     means: dict[int, float]
@@ -20,24 +20,29 @@ class Row:
     """A run of both programs."""
 
     name: str
-    # A file of Golly's, a text of one's own, or what makes one.
+    # A file of Golly's, a text, or a function that makes one.
     source: str | Callable[[], str]
     generations: int
     step: int = 0
     output: str = ""
-    # The most time of one worker beside bgolly's, where it is not that of the set.
+    # The most time of one worker beside bgolly's, if it differs from that of the set.
     aim: float | None = None
 
     def words(self, path: pathlib.Path) -> list[str]:
-        """The words that both programs take."""
+        """The arguments that both programs take."""
         words = ["-m", str(self.generations)]
         words += ["-i", str(self.step)] if self.step else []
         words += ["-o", self.output] if self.output else []
         return [*words, str(path)]
 
     def said(self) -> str:
-        """The generations, with the step where there is one."""
+        """The generations, with the step if there is one."""
         return f"{self.generations}, every {self.step}" if self.step else str(self.generations)
+
+    def label(self) -> str:
+        """The name and the generations in words, for a chart."""
+        reports = f", a report every {self.step}" if self.step else ""
+        return f"{self.name}, {self.generations} generations{reports}"
 
 
 R_PENTOMINO = "x = 3, y = 3, rule = B3/S23\nb2o$2o$bo!\n"
@@ -45,7 +50,7 @@ REPLICATOR = "x = 1, y = 1, rule = B1357/S1357\no!\n"
 
 
 def soup(side: int = 4096) -> str:
-    """A square of cells, each live or dead by the throw of a coin that falls alike at every call."""
+    """A square of random cells, the same at every call."""
     coin = random.Random(side)
     rows = (f"{coin.getrandbits(side):0{side}b}" for _ in range(side))
     runs = (re.sub("0+|1+", lambda run: f"{len(run[0])}{'bo'[int(run[0][0])]}", row) for row in rows)
@@ -53,7 +58,7 @@ def soup(side: int = 4096) -> str:
 
 
 def small_soup(rule: str) -> str:
-    """A square of 200 by 200 cells by a rule, 37 of 100 of them live, which fall alike at every call."""
+    """A square of 200 by 200 random cells with a rule, 37 % of them live, the same at every call."""
     coin = random.Random(7)
     rows = ("".join("bo"[coin.random() < 0.37] for _ in range(200)) for _ in range(200))
     return f"x = 200, y = 200, rule = {rule}\n" + "$\n".join(rows) + "!\n"

@@ -1,4 +1,4 @@
-"""Runs of a program, with the time and the memory that they take."""
+"""Runs of a program, with their time and memory."""
 import os
 import pathlib
 import subprocess
@@ -12,7 +12,7 @@ SECONDS = 300
 
 @dataclass(frozen=True)
 class Command:
-    """The words of a run, and settings of the environment, of which the caller's own stand."""
+    """The arguments of a run, and settings of the environment. The caller's own settings win."""
 
     words: list[str]
     settings: dict[str, str] = field(default_factory=dict)
@@ -64,7 +64,7 @@ def run_once(command: Command, folder: pathlib.Path) -> Found:
 
 
 def best_of_rounds(commands: Sequence[Command], rounds: int, folder: pathlib.Path) -> list[Found]:
-    """The quickest run of each command, or why there is none. In a round each command runs once, unless it failed before."""
+    """The fastest run of each command, or why there is none. In a round each command runs once, unless it failed before."""
     found: list[list[Found]] = [[] for _ in commands]
     for _ in range(rounds):
         for runs, command in zip(found, commands):
@@ -74,7 +74,7 @@ def best_of_rounds(commands: Sequence[Command], rounds: int, folder: pathlib.Pat
 
 
 def best(runs: Sequence[Found]) -> Found:
-    """The quickest of some runs, unless the last one failed or they report different populations."""
+    """The fastest run, unless the last one failed or they report different populations."""
     if isinstance(runs[-1], str):
         return runs[-1]
     lasts = sorted({it.last for it in runs})

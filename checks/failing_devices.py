@@ -4,8 +4,8 @@
     checks/failing_devices.py
     checks/failing_devices.py --only pipe    the rows with "pipe" in their names
 
-What is written meets a full device, a closed pipe or a closed descriptor; what is read can't be opened or read. docs/formats.md and README.md
-say what has to come of it. Under root the script runs the program as the user `nobody`, since nothing is locked for root.
+Output goes to a full device, a closed pipe or a closed descriptor; input can't be opened or read. docs/formats.md and README.md define the
+result. As root the script runs the program as the user `nobody`, since root may read and write everything.
 """
 import contextlib
 import os
@@ -71,7 +71,7 @@ def endless_link(folder: pathlib.Path) -> None:
 
 @dataclass
 class Row:
-    """Words, how their run is set up, and its status, report and message."""
+    """The arguments of a run, its set-up, and its status, report and message."""
 
     name: str
     words: list[str]
@@ -136,7 +136,7 @@ def closed_pipe() -> int:
 
 
 def prepare_process(row: Row) -> None:
-    """Closes what a row has closed, and takes memory away, in the process of its run."""
+    """In the process of the run, closes the streams that its row has closed, and limits its memory."""
     if row.memory:
         resource.setrlimit(resource.RLIMIT_AS, (row.memory << 20, row.memory << 20))
     for number, is_closed in enumerate((row.read == "closed", row.out == "closed", row.is_error_closed)):
@@ -145,7 +145,7 @@ def prepare_process(row: Row) -> None:
 
 
 def give_to_nobody(*paths: pathlib.Path) -> None:
-    """Makes the user `nobody` the owner of what is there, if this script runs under root."""
+    """Makes the user `nobody` the owner of a folder's files, if this script runs as root."""
     if os.geteuid() == 0:
         for path in paths:
             if path.exists() and not path.is_symlink():
@@ -162,7 +162,7 @@ def make_files(row: Row, folder: pathlib.Path) -> None:
 
 @contextlib.contextmanager
 def streams(row: Row, folder: pathlib.Path) -> Iterator[dict[str, int]]:
-    """What stands for standard input and output. A stream that is to be closed is closed in the process of the run."""
+    """The standard input and output of a run. A stream that its row has closed is closed in the process of the run."""
     opened = []
     if row.read != "closed":
         opened.append(os.open(folder / row.read, os.O_RDONLY))
@@ -179,7 +179,7 @@ def streams(row: Row, folder: pathlib.Path) -> Iterator[dict[str, int]]:
 
 
 def run_row(program: str, row: Row, folder: pathlib.Path) -> Ended:
-    """Runs a row in a folder of its own."""
+    """Runs a row in its own folder."""
     make_files(row, folder)
     user = "nobody" if os.geteuid() == 0 else None
     with streams(row, folder) as how:
@@ -192,7 +192,7 @@ def run_row(program: str, row: Row, folder: pathlib.Path) -> Ended:
 
 
 def difference(program: str, row: Row, folder: pathlib.Path) -> str | None:
-    """What differs in a run of a row, if something does."""
+    """The difference in a run of a row, or None."""
     ended = run_row(program, row, folder)
     told = (ended.status, ended.report, ended.message)
     output = folder / "out.rle"

@@ -1,12 +1,12 @@
 #!/usr/bin/env python3
-"""Runs the other checks with programs that are faulty or missing, and looks whether they say so.
+"""Runs the other checks with faulty or missing programs, and tests whether they report it.
 
     checks/faulty_programs.py
     checks/faulty_programs.py --only golly_patterns    the rows with this text in them
 
-A program that crashes, hangs, writes one cell less, prints another population or refuses with another status has to be a difference: status 1.
-So has a page whose link leads nowhere. Where the program or a tool is missing, or nothing is chosen or compared, the status has to be 2. With
-the right program and the same options it has to be 0.
+A check has to end with status 1 for a program that crashes, hangs, writes one cell less, prints another population or refuses with another
+status, and for a page with a dead link. It has to end with status 2 if the program or a tool is missing, or if nothing is chosen or compared.
+With the right program and the same options the status has to be 0.
 """
 import os
 import pathlib
@@ -17,12 +17,12 @@ import sys
 import tempfile
 from dataclasses import dataclass
 
-from common.check import BGOLLY, BUILT, C_COMPILER, DIFFERS, GOLLY_PATTERNS, HOLDS, NOT_RUN, Check, end, status_of
+from common.check import BGOLLY, BUILT, C_COMPILER, DIFFERS, GOLLY_PATTERNS, HOLDS, NOT_RUN, PARALLEL, Check, end, status_of
 
 CHECK = Check(
     text=__doc__,
-    needs=(BUILT, BGOLLY, GOLLY_PATTERNS, C_COMPILER),
-    takes="20 s",
+    needs=(BUILT, BGOLLY, GOLLY_PATTERNS, C_COMPILER, PARALLEL),
+    takes="a minute",
     replay="give the row, or a part of it, to --only.",
 )
 
@@ -94,6 +94,10 @@ ROWS = [
     Row("hostile_files", "--megabytes 1 --only header --seconds 1", "hangs", DIFFERS),
     Row("hostile_files", "--megabytes 1 --only again", "prints another population", DIFFERS),
     Row("hostile_files", "--only no-such-name", RIGHT, NOT_RUN),
+    Row("many_patterns", "--patterns 40", RIGHT, HOLDS),
+    Row("many_patterns", "--patterns 40", "crashes", DIFFERS),
+    Row("many_patterns", "--patterns 40", "is missing", NOT_RUN),
+    Row("many_patterns", "--patterns 40", "", NOT_RUN),
     Row("refused_memory", "--only help --number 1", RIGHT, HOLDS),
     Row("refused_memory", "--only help --number 1", "crashes", DIFFERS),
     Row("refused_memory", "--only help --number 1", "prints nothing", DIFFERS),
@@ -135,7 +139,7 @@ class Bench:
         return subprocess.run(words, cwd=FOLDER, env=settings, stdin=subprocess.DEVNULL, capture_output=True, text=True)
 
     def holds(self, row: Row) -> bool:
-        """Whether a check ends as it has to. One that fails itself leaves a traceback, and doesn't."""
+        """Whether a check ends with its status, without a traceback of its own."""
         ran = self.run(row)
         holds = ran.returncode == row.status and "Traceback" not in ran.stderr
         print(f"{'holds  ' if holds else 'differs'}  {row.says()}", flush=True)

@@ -1,11 +1,11 @@
 #!/usr/bin/env python3
-"""Runs lifebatch and bgolly for each line of docs/from-bgolly.md, and looks whether the line holds.
+"""Runs lifebatch and bgolly for each line of docs/from-bgolly.md, and tests whether the line holds.
 
     checks/from_bgolly_page.py
     checks/from_bgolly_page.py --only rule    the lines with "rule" in them
 
 The page says what is the same in both programs and what differs: options, reports, where cells lie, and what lifebatch refuses. The script
-prints the words and the first lines of both runs. It was written for bgolly 3.3; a line may also fail because bgolly is another one.
+prints the arguments and the first lines of both runs. It was written for bgolly 3.3; a line may fail with another version.
 """
 import gzip
 import pathlib
@@ -51,7 +51,7 @@ class Programs:
         (self.folder / to).write_text(written)
 
     def shows(self, line: Line) -> bool:
-        """Prints both runs, and answers whether the line holds."""
+        """Prints both runs, and returns whether the line holds."""
         ours = self.run("lifebatch", line.ours)
         theirs = self.run("bgolly", line.theirs, WATCHED if line.is_endless else SECONDS)
         holds = bool(line.holds(ours, theirs))

@@ -3,15 +3,16 @@
 
     checks/golly_patterns.py --generations 300 --workers 1 2 4
     checks/golly_patterns.py --only HashLife/ Life/Guns    the patterns with one of these texts in their paths
-    checks/golly_patterns.py --words='--nodes 65536'       lifebatch has further words
+    checks/golly_patterns.py --words='--nodes 65536'       more options for lifebatch
 
-The script tries each RLE and macrocell file of the folder, compressed ones too. lifebatch runs a pattern by each number of workers, and
-has to print and write the same bytes. Then bgolly runs it. Both have to report the same last generation and population, and both RLE texts have to
-be the same from the sides in their header on: bgolly leaves the position out. With --macrocell bgolly also reads the macrocell file that lifebatch writes, and has to find the same cells.
+The script tries each RLE and macrocell file of the folder, including compressed ones. lifebatch runs a pattern with each number of workers, and
+has to print and write the same bytes each time. Then bgolly runs it. Both have to report the same last generation and population, and to write the
+same RLE text from the sides in the header on: bgolly leaves the position out. With --macrocell bgolly also reads the macrocell file that lifebatch
+writes, and has to find the same cells.
 
-The script skips and counts a pattern that lifebatch refuses by name (more states, bounded grids, other rules), that takes bgolly too long
-or that bgolly doesn't write. Every other end of lifebatch is a difference: a crash, a run that takes ten times as long as bgolly
-may, another status, a file that a refused run leaves, or a refusal by some numbers of workers alone.
+The script skips and counts patterns that lifebatch refuses by name (more states, bounded grids, other rules), that take bgolly too long, or that
+bgolly doesn't write. Any other end of lifebatch is a difference: a crash, a run of more than ten times the time that bgolly may take, another
+status, a file left by a refused run, or a refusal with some numbers of workers only.
 """
 import argparse
 import pathlib
@@ -32,9 +33,9 @@ CHECK = Check(
     replay="give the same options, and --only with the path that is printed.",
 )
 
-# So many times as long as a run of bgolly may a run of lifebatch take. What takes longer counts as one that never ends.
+# A run of lifebatch may take this many times the time of bgolly. A longer one counts as endless.
 PATIENCE = 10
-# A run of some numbers of workers alone may fill its tables.
+# Tables may be full with some numbers of workers only.
 FULL = "NodesFull"
 
 
@@ -48,7 +49,7 @@ class Different(Exception):
 
 @dataclass(frozen=True)
 class Answer:
-    """What comes of a run of lifebatch: a refusal, or a report and a file."""
+    """The result of a run of lifebatch: a refusal, or a report and a file."""
 
     refusal: str | None
     report: str = ""
@@ -63,7 +64,7 @@ def body(path: pathlib.Path) -> tuple[tuple[str, ...], str] | None:
 
 
 def ours(path: pathlib.Path, options: argparse.Namespace, folder: pathlib.Path, workers: int, output: str) -> Answer:
-    """Runs lifebatch by a number of workers."""
+    """Runs lifebatch with a number of workers."""
     (folder / output).unlink(missing_ok=True)
     words = [str(options.program.resolve()), *options.words.split(), "-m", str(options.generations), "-o", output]
     ended = run([*words, "--workers", str(workers), str(path)], folder, PATIENCE * options.seconds)
@@ -83,7 +84,7 @@ def ours(path: pathlib.Path, options: argparse.Namespace, folder: pathlib.Path, 
 
 
 def theirs(path: str, generation: int, options: argparse.Namespace, folder: pathlib.Path, output: str) -> str:
-    """Runs bgolly up to a generation, and answers its report, without the commas that it writes into numbers."""
+    """Runs bgolly up to a generation, and returns its report without the commas in its numbers."""
     (folder / output).unlink(missing_ok=True)
     words = ["bgolly", "-a", "HashLife", "-m", str(generation), "-i", str(generation), "-o", output, path]
     ended = run(words, folder, options.seconds)
@@ -95,16 +96,16 @@ def theirs(path: str, generation: int, options: argparse.Namespace, folder: path
 
 
 def one_answer(path: pathlib.Path, options: argparse.Namespace, folder: pathlib.Path) -> Answer:
-    """What comes of a pattern, by whatever number of workers."""
+    """The result of a pattern, the same with each number of workers."""
     answers = {ours(path, options, folder, workers, "ours.rle") for workers in options.workers}
     refusals = {it.refusal for it in answers}
     if FULL in refusals:
         raise Skipped(FULL)
     if len(refusals) > 1:
         names = sorted(it or "accepted" for it in refusals)
-        raise Different(f"the answer is another one by other numbers of workers: {', '.join(names)}")
+        raise Different(f"the result depends on the number of workers: {', '.join(names)}")
     if len(answers) > 1:
-        raise Different("lifebatch prints or writes other bytes by other numbers of workers")
+        raise Different("what lifebatch prints or writes depends on the number of workers")
     return answers.pop()
 
 
@@ -144,7 +145,7 @@ def compare_macrocell(path: pathlib.Path, options: argparse.Namespace, folder: p
 
 
 def tried(path: pathlib.Path, options: argparse.Namespace, folder: pathlib.Path) -> tuple[str, str]:
-    """What comes of a pattern, and why."""
+    """The result of a pattern, and the reason."""
     try:
         compare(unpacked(path, folder), options, folder)
     except Skipped as reason:
@@ -156,13 +157,13 @@ def tried(path: pathlib.Path, options: argparse.Namespace, folder: pathlib.Path)
 
 
 def chosen(options: argparse.Namespace) -> list[pathlib.Path]:
-    """The pattern files of the folder that are to be tried."""
+    """The pattern files of the folder to try."""
     files = [it for it in options.folder.resolve().rglob("*") if re.search(r"\.(rle|mc)(\.gz)?$", it.name) and it.is_file()]
     return sorted(it for it in files if not options.only or any(part in str(it) for part in options.only))
 
 
 def sum_up(found: Counter) -> int:
-    """Prints what came of all patterns, and answers the status."""
+    """Prints the results of all patterns, and returns the status."""
     reasons = ", ".join(f"{reason}: {count}" for (answer, reason), count in found.most_common() if answer == "skipped")
     counts = Counter()
     for (answer, _), count in found.items():
@@ -180,7 +181,7 @@ def parsed() -> argparse.Namespace:
     parser.add_argument("--only", nargs="+", default=[], help="only the patterns with one of these texts in their paths")
     parser.add_argument("--folder", type=pathlib.Path, default=PATTERNS, help=f"the folder of the patterns ({PATTERNS})")
     parser.add_argument("--seconds", type=float, default=30, help=f"how long a run of bgolly may take (30), and lifebatch {PATIENCE} times as long")
-    parser.add_argument("--words", default="", help="further words for lifebatch, as '--nodes 65536'")
+    parser.add_argument("--words", default="", help="more options for lifebatch, as '--nodes 65536'")
     return CHECK.options(parser)
 
 

@@ -1,13 +1,13 @@
 #!/usr/bin/env python3
-"""Runs lifebatch on files that are made to be hard to read, at two sizes each, and prints what they take.
+"""Runs lifebatch on files that are hard to read, at two sizes each, and prints their time and memory.
 
     checks/hostile_files.py --megabytes 100
     checks/hostile_files.py --only "#C lines"    the files with "#C lines" in their names
 
-Each file is one piece of text over and over, as digits, blanks, comments, row ends, a line without an end, NUL and high bytes; or it has nodes
-that are each used once. A row of the table says how many bytes the larger file has, its seconds and its peak of memory, how much either
-grows for each byte more than the smaller file has (1.0 is linear), and the answer. docs/formats.md says what has to come of a file.
-A run that takes longer, or more memory, than the options allow differs too. The files take the disk of two files of --megabytes.
+Each file repeats one piece of text: digits, blanks, comments, row ends, an endless line, NUL or high bytes; or it has nodes that are each used
+once. A row of the table shows the bytes of the larger file, its seconds and peak memory, how much both grow with each byte more (1.0 is linear),
+and the result. docs/formats.md defines the result. A run that takes more time or memory than the options allow differs too. The script needs
+disk for two files of --megabytes.
 """
 import argparse
 import hashlib
@@ -33,13 +33,13 @@ CHECK = Check(
     replay="give the name of the file, or a part of it, to --only, and the same --megabytes.",
 )
 
-# Below so many seconds, and so many MB, growth says nothing.
+# Growth is shown only above so many seconds and MB.
 LITTLE_TIME, LITTLE_MEMORY = 0.2, 40
 
 
 @dataclass(frozen=True)
 class Run:
-    """How a run ended, and what it took."""
+    """How a run ended, and its time and memory."""
 
     length: int
     seconds: float
@@ -63,7 +63,7 @@ def chunks(path: pathlib.Path) -> Iterator[bytes]:
 
 
 def limit(options: argparse.Namespace) -> None:
-    """Bounds the memory and the time of a process, in that process."""
+    """Limits the memory and the time of a process, in that process."""
     if options.memory:
         resource.setrlimit(resource.RLIMIT_AS, (options.memory << 20, options.memory << 20))
     signal.alarm(options.seconds)
@@ -94,7 +94,7 @@ def is_right(row: Row | Tree, size: int, ended: Run) -> bool:
 
 
 def growth(small: float, large: float, lengths: tuple[int, int], little: float) -> str:
-    """By how much more something grew than the lengths did."""
+    """The growth of a figure, divided by the growth of the lengths."""
     if large < little or lengths[0] == lengths[1]:
         return "-"
     return f"{large / max(small, little / 4) / (lengths[1] / lengths[0]):.1f}"

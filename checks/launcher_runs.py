@@ -3,10 +3,9 @@
 
     checks/launcher_runs.py
 
-The script copies the launcher and the code of the crates, and puts its own rt, rattle and rattle-link on the path. It looks in which order the
-launcher has crates proved, for which processor it compiles the program, and what it does where nothing is to be built, where a crate fails,
-where files are newer or change meanwhile, where a build is broken off, and where there are two calls at once. It leaves the program of this
-repository alone.
+The script copies the launcher and the code of the crates, and puts its own rt, rattle and rattle-link on the PATH. It tests the order in which
+crates are proved, the processor that the program is compiled for, and what the launcher does if nothing is to be built, if a crate fails, if files
+are newer or change during the build, if a build is interrupted, and if two calls run at once. It does not touch the program of this repository.
 """
 import os
 import pathlib
@@ -84,14 +83,14 @@ class Repository:
         return ran.returncode, out, err
 
     def logged(self) -> list[str]:
-        """What the kit was called for since the last look."""
+        """The calls of the kit since the last look."""
         lines = self.log.read_text().split("\n")[:-1] if self.log.exists() else []
         self.log.unlink(missing_ok=True)
         return lines
 
 
 def printed(ran: subprocess.Popen, given: str = "") -> tuple[str, str]:
-    """What a call prints. One that takes too long is killed."""
+    """The output of a call, which is killed if it takes too long."""
     try:
         return ran.communicate(given, timeout=SECONDS)
     except subprocess.TimeoutExpired:
@@ -144,7 +143,7 @@ def newer(it: Repository) -> bool:
 
 
 def changed_meanwhile(it: Repository) -> bool:
-    # What was proved of the other text is not kept, whatever the file then has.
+    # A proof of the other text is not kept, whatever the file contains afterwards.
     file = next((it.folder / "crates" / "viewport" / "src").glob("*.rt"))
     text = file.read_text()
     file.write_text(text + "// one\n")
@@ -158,7 +157,7 @@ def changed_meanwhile(it: Repository) -> bool:
     return (ran.returncode, status) == (0, 0) and "proves viewport" in it.logged()
 
 
-def broken_off(it: Repository) -> bool:
+def interrupted(it: Repository) -> bool:
     ran = it.start(SECONDS_EACH="0.5")
     time.sleep(2)
     build = subprocess.run(["pgrep", "-P", str(ran.pid)], capture_output=True, text=True).stdout.split()
@@ -166,7 +165,7 @@ def broken_off(it: Repository) -> bool:
     _, err = printed(ran)
     left = subprocess.run(["pgrep", "-f", str(it.folder / "bin")], capture_output=True).stdout
     kept = (it.folder / "crates" / "rule_text" / "out" / "library" / "sum").exists()
-    return ran.returncode == 143 and "broken off" in err and not left and kept
+    return ran.returncode == 143 and "build interrupted" in err and not left and kept
 
 
 def two(it: Repository) -> bool:
@@ -198,12 +197,12 @@ GROUPS: list[list[tuple[str, Callable[[Repository], bool]]]] = [
     ],
     [
         ("a crate that fails is named, and ends the call with status 2", failed),
-        ("the next call goes on from the crates that are proved", goes_on),
+        ("the next call resumes from the crates that are proved", goes_on),
         ("a newer file has its crate and those above it proved anew", newer),
         ("a file that changes during the build has its crate proved anew by the next call", changed_meanwhile),
     ],
     [
-        ("a build that is broken off leaves no process, and keeps what is proved", broken_off),
+        ("an interrupted build leaves no process, and keeps what is proved", interrupted),
         ("two calls at once prove each crate once", two),
     ],
 ]

@@ -1,12 +1,11 @@
 #!/usr/bin/env python3
-"""Looks up each link, and each script, that README.md and docs/*.md name.
+"""Looks up each link and each script in README.md and docs/*.md.
 
     checks/page_links.py
     checks/page_links.py --root FOLDER    the pages of another copy
 
-A link to a file has to name a file or a folder of the repository, from the folder of its page on. An anchor has to be one of a heading of the page
-that it names, as GitHub makes them. Links in code and links to other sites are left out.
-A script of checks/ or bench/ that a page names, in code too, has to be there and to be executable.
+A link has to name a file or a folder of the repository, relative to its page. An anchor has to be that of a heading, as GitHub makes them. Links in
+code and links to other sites are skipped. A script of checks/ or bench/ that a page names, also in code, has to exist and to be executable.
 """
 import os
 import pathlib

@@ -5,10 +5,10 @@
     checks/random_patterns.py --seed 7 --only 31    pattern 31 of seed 7 alone
 
 Each run has a random pattern, a rule in one of the three neighbourhoods, generations, a step, perhaps a window, a limit of
-slots, a number of workers, an output file in one of the two formats, and an input file in one of them, spelled in odd forms and
-sometimes with a fault. Report, picture, output file, message and status have to be the same to the byte. Under a small limit lifebatch
-may refuse a run as NodesFull. Then its report has to be a beginning of the right one, up to the end of a line, and there is no file.
-The script counts such a run as skipped.
+slots, a number of workers, an output file in one of the two formats, and an input file in one of them, in odd spellings and
+sometimes with a fault. Report, picture, output file, message and status have to be the same to the byte. With a small limit lifebatch
+may refuse a run as NodesFull. Its report then has to be the first lines of the right one, and there may be no file. The script counts
+such a run as skipped.
 """
 import argparse
 import pathlib
@@ -30,7 +30,7 @@ CHECK = Check(
     replay="give the --seed and the --only that are printed, and the same --workers. The input file stays at the path that is printed.",
 )
 
-# A pattern that has grown to so many cells runs no further.
+# A pattern stops at so many cells.
 MOST_CELLS = 4000
 
 FULL = (1, "lifebatch: refused 17: NodesFull\n")
@@ -78,7 +78,7 @@ def random_cells(chance: random.Random) -> set[tuple[int, int]]:
 
 
 class Case:
-    """A random run, and what has to come of it: status, report, message and output file."""
+    """A random run, and its right result: status, report, message and output file."""
 
     def __init__(self, chance: random.Random, workers: list[int]):
         self.rule, self.cells = random_rule(chance), random_cells(chance)
@@ -113,7 +113,7 @@ class Case:
         self.file, self.rule_place, self.fault = spelled(self.cells, text, self.start, self.comments, chance, fault)
 
     def refused_at_once(self) -> Told | None:
-        """What comes of a run that is refused before its first line, if it is."""
+        """The result of a run that is refused before its first line, or None."""
         if self.fault:
             number, name, place = self.fault
             return 1, "", f"lifebatch: refused {number} at {place}: {name}\n", None
@@ -129,7 +129,7 @@ class Case:
         return not self.is_quiet and (is_end or self.step > 0 and done % self.step == 0)
 
     def ending(self) -> Told:
-        """What comes of a run that is accepted, cell by cell."""
+        """The result of an accepted run, cell by cell."""
         report, found = "", self.cells
         for done in range(self.generations + 1):
             if len(found) > MOST_CELLS:
@@ -163,7 +163,7 @@ def is_full_table(case: Case, ended: Ended, is_written: bool) -> bool:
 
 
 def compare(program: str, case: Case, folder: pathlib.Path, seconds: float) -> str:
-    """What comes of a case: "same", "full", or what differs."""
+    """The result of a case: "same", "full", or what differs."""
     for old in folder.iterdir():
         old.unlink()
     (folder / "in").write_bytes(case.file)
@@ -181,7 +181,7 @@ def compare(program: str, case: Case, folder: pathlib.Path, seconds: float) -> s
 
 
 def show_difference(answer: str, case: Case, number: int, options: argparse.Namespace) -> None:
-    """Keeps the input file of a case, and prints how it is run again."""
+    """Keeps the input file of a case, and prints how to run it again."""
     file = pathlib.Path(tempfile.gettempdir()) / f"differs-{options.seed}-{number}"
     file.write_bytes(case.file)
     workers = " ".join(map(str, options.workers))
@@ -190,7 +190,7 @@ def show_difference(answer: str, case: Case, number: int, options: argparse.Name
 
 
 def answers(options: argparse.Namespace) -> Counter:
-    """What comes of all patterns: how many are the same, refused, full or different."""
+    """How many patterns are the same, refused, full or different."""
     program, counts = str(options.program.resolve()), Counter()
     numbers = range(options.count) if options.only is None else [options.only]
     with tempfile.TemporaryDirectory() as name:

@@ -1,14 +1,14 @@
 #!/usr/bin/env python3
-"""Runs lifebatch with each growth of its memory refused in turn, and compares all that comes of each run.
+"""Runs lifebatch with each growth of its memory refused in turn, and checks the result of each run.
 
     checks/refused_memory.py
     checks/refused_memory.py --only help               the runs with "help" in their names
     checks/refused_memory.py --only help --number 17   their 17th growth, or thread, alone
 
-The script compiles a small library (common/refuse.c), which stands before the C library and refuses the Nth growth: alone, as where memory is
-short for a moment, and with all behind it, as where there is none left. N goes from 1 up to the first run that asks for fewer. Each run has to
-end as the one in which nothing is refused, or with status 1, "lifebatch: refused 18: NoMemory", a beginning of the report that ends at a line's
-end and no output file. Where words are bad, a shorter message may stand too. Threads are refused in the same way, which has to change nothing.
+The script compiles a small library (common/refuse.c), which is loaded before the C library and refuses the Nth growth: alone, as if memory were
+short for a moment, and with all later ones, as if none were left. N goes from 1 up to the first run that asks for fewer. Each run has to end like
+the run in which nothing is refused, or with status 1, "lifebatch: refused 18: NoMemory", the first lines of the report and no output file. The
+message of a usage error may also be shorter. Threads are refused in the same way, which must change nothing.
 """
 import argparse
 import itertools
@@ -36,7 +36,7 @@ CHECK = Check(
 
 # How many seconds a run may take.
 SECONDS = 60
-# After so many runs in a row in which nothing was refused, there is no more to refuse.
+# After so many runs in a row without a refusal there is no more to refuse.
 MISSED = 3
 WRONG = "different"
 
@@ -62,7 +62,7 @@ class Run:
 
 @dataclass(frozen=True)
 class Told:
-    """What comes of a run."""
+    """The result of a run."""
 
     status: int
     report: str
@@ -98,7 +98,7 @@ class Machine:
             raise CannotRun(f"cc doesn't compile common/refuse.c: {text_of(compiled.stderr)}")
 
     def ended(self, run: Run, kind: str = "memory", first: int = 0, last: int = 0) -> tuple[Told, bool]:
-        """What comes of a run, and whether anything was refused in it."""
+        """The result of a run, and whether anything was refused in it."""
         (self.folder / "in").write_text(run.file)
         for old in self.folder.glob("out.*"):
             old.unlink()
@@ -126,19 +126,19 @@ def is_plain(told: Told, run: Run) -> bool:
 
 
 def is_no_memory(told: Told, plain: Told) -> bool:
-    """Whether a run says that memory was wanting, with what may stand then."""
+    """Whether a run ends with NoMemory, and leaves only what it may."""
     is_beginning = plain.report.startswith(told.report) and (not told.report or told.report.endswith("\n"))
     return (told.status, told.message, told.file) == (1, NO_MEMORY, None) and is_beginning
 
 
 def is_cut_message(told: Told, plain: Told) -> bool:
-    """Whether words are called bad in fewer words than there is memory for."""
+    """Whether the message of a usage error is cut short."""
     is_one_line = told.message.startswith("lifebatch: bad words") and told.message.count("\n") == 1
     return plain.status == told.status == 2 and told.report == plain.report and is_one_line
 
 
 def answer(told: Told, plain: Told, kind: str, is_refused: bool) -> str | None:
-    """What comes of a run, or None where it is something else than it may be."""
+    """The result of a run, or None if it is none of the allowed ones."""
     if told == plain:
         return "as if nothing was refused"
     if kind == "memory" and is_refused and is_no_memory(told, plain):
@@ -157,7 +157,7 @@ def numbers(kind: str, options: argparse.Namespace) -> Iterator[int]:
 
 
 def refused_in_turn(machine: Machine, run: Run, plain: Told, kind: str, is_all: bool, options: argparse.Namespace) -> Counter:
-    """What comes of refusing each one in turn, alone or with all behind it, for those runs that ask for so many."""
+    """The results of refusing each one in turn, alone or with all later ones, up to the runs that ask for fewer."""
     counts, missed = Counter(), 0
     for number in numbers(kind, options):
         told, is_refused = machine.ended(run, kind, number, sys.maxsize if is_all else number)
@@ -175,7 +175,7 @@ def refused_in_turn(machine: Machine, run: Run, plain: Told, kind: str, is_all: 
 
 
 def tried(machine: Machine, run: Run, options: argparse.Namespace) -> Counter:
-    """What comes of a run, whatever is refused in it."""
+    """The results of a run, with each refusal."""
     plain, _ = machine.ended(run)
     if not is_plain(plain, run):
         print(f"differs: {run.name}, nothing refused: {plain}", flush=True)

@@ -2,13 +2,13 @@
 """Runs the checks of this folder.
 
     checks/run.py --list                         list the checks
-    checks/run.py --quick                        run all of them, each with a small load: two minutes
+    checks/run.py --quick                        run all of them, each with a small load: three minutes
     checks/run.py --all                          run all of them
     checks/run.py random_patterns page_links     run those that are named
     checks/run.py --quick hostile_files          run one of them with a small load
 
-Each check is a script of its own, with more options: checks/NAME.py --help shows them. A line says what comes of a check, how long it
-took, and how it sums up. What a check printed follows only where it doesn't hold, or with --show.
+Each check is a script of its own, with more options: checks/NAME.py --help shows them. A line shows whether a check holds, how long it took,
+and its last line. All that it printed follows if it does not hold, or with --show. bench/compare.py is not among them.
 """
 import argparse
 import importlib
@@ -24,6 +24,7 @@ from common.check import BUILT, DIFFERS, HOLDS, NOT_RUN, STATUSES, Check, add_pr
 FOLDER = pathlib.Path(__file__).resolve().parent
 NAMES = [
     "page_links",
+    "no_axioms",
     "faulty_programs",
     "failing_devices",
     "from_bgolly_page",
@@ -31,6 +32,7 @@ NAMES = [
     "golly_patterns",
     "refused_memory",
     "hostile_files",
+    "many_patterns",
     "launcher_runs",
 ]
 ANSWERS = {HOLDS: "holds", DIFFERS: "DIFFERS", NOT_RUN: "NOT RUN"}
@@ -64,15 +66,15 @@ def show_list(options: argparse.Namespace) -> None:
 
 
 def run(name: str, check: Check, options: argparse.Namespace) -> Outcome:
-    """Runs a check as a program of its own."""
+    """Runs a check as a separate process."""
     words = [sys.executable, str(FOLDER / f"{name}.py"), *(check.quick if options.quick else [])]
     words += ["--program", str(options.program.resolve())] if BUILT in check.needs else []
     if sys.stdout.isatty():
-        # The line that says what comes of it is written over this one.
+        # The line with the result overwrites this one.
         print(f"runs     {name}", end="\r", flush=True)
     began = time.monotonic()
     ran = subprocess.run(words, stdin=subprocess.DEVNULL, stdout=subprocess.PIPE, stderr=subprocess.STDOUT)
-    # A check that is killed, or ends otherwise than a check may, has not run.
+    # A check that is killed, or ends with another status, has not run.
     status = ran.returncode if ran.returncode in ANSWERS else NOT_RUN
     return Outcome(name, status, time.monotonic() - began, ran.stdout.decode(errors="backslashreplace"))
 

@@ -1,12 +1,13 @@
 #!/usr/bin/env python3
-"""Proves and builds the program lifebatch, for the launcher of that name. It takes no words.
+"""Proves and builds the program lifebatch, for the launcher of that name. It takes no arguments.
 
-Crates are proved side by side, as many as cores and memory allow, each once those below it stand. Of a crate that is proved a
-library is written that has its statements, which are all that the crates above it read: that makes their checks shorter than
-over the libraries with proofs that `rt lib` keeps for whoever edits them. So the compiler of the kit, `rattle`, is called and not `rt`.
-A build that is broken off keeps the libraries that it has, and the next one goes on from them.
+Crates are proved side by side, as many as cores and memory allow, each after those below it. For each proved crate the build writes a library
+of its statements, which is all that the crates above it read. Their checks are shorter than over the libraries with proofs that `rt lib`
+keeps for editing, so the build calls the compiler of the kit, `rattle`, and not `rt`. An interrupted build keeps the libraries that it has
+made, and the next one resumes from them.
 
-What is being proved is told on standard error. The status is 0 once the program is built, else 2, or 128 and a signal's number.
+Standard error shows what is being proved. The status is 0 if the program was built, 2 if not, and 128 plus the signal's number if the build was
+interrupted.
 """
 import contextlib
 import fcntl
@@ -25,20 +26,20 @@ from dataclasses import dataclass, field
 
 ROOT = pathlib.Path(__file__).resolve().parent.parent
 PROGRAM = "lifebatch"
-# The program, and a file that is as old as the beginning of the last build that went well.
+# The program, and a file with the time at which the last successful build began.
 BUILT = ROOT / "crates" / PROGRAM / "out" / PROGRAM
 BEGAN = BUILT.with_suffix(".built")
 GIGABYTE = 10**9
-# What a check takes: with one job, and more with each further one.
+# The memory that a check takes with one job, and that each further job adds.
 MEMORY = 4 * GIGABYTE
 MEMORY_OF_JOB = 3 * GIGABYTE // 2
 MOST_JOBS = 4
-# How a crate is proved that is not on the longest chain: by what the others leave of the processors.
+# Crates off the longest chain are proved at a lower priority.
 BEHIND = ["nice", "-n", "5"]
-# What all crates leave in their folders `out`.
+# The disk space that the folders `out` of all crates take.
 DISK = 2 * GIGABYTE
 TARGET = "x86_64-unknown-linux-gnu"
-# Processors whose vectors hold a square of 16 by 16 cells, as those of nearly all machines of the last ten years do, and what /proc/cpuinfo says of them.
+# Processors whose vectors hold a square of 16 by 16 cells, and the flags that /proc/cpuinfo lists for them.
 WIDE = "x86-64-v3"
 FLAGS_OF_WIDE = {"abm", "avx", "avx2", "bmi1", "bmi2", "f16c", "fma", "movbe", "xsave"}
 
@@ -51,18 +52,18 @@ def kit():
 
 
 def lines_of_crates():
-    """The lines of crates.txt, each without its comment, and the crates that they are of."""
+    """The lines of crates.txt by crate, without comments."""
     lines = [it.partition("#")[0].strip() for it in (ROOT / "crates.txt").read_text().splitlines()]
     return {re.match(r"\w+", it)[0]: it for it in lines if it}
 
 
 def used_by():
-    """For each crate those that it uses, of the kit too."""
+    """For each crate the crates that it uses, including the kit's."""
     return {name: line.partition(":")[2].split() for name, line in lines_of_crates().items()}
 
 
 def crates_below(program):
-    """The crates that the program stands on and itself, lowest first, each with the crates that it uses."""
+    """The program and the crates below it, lowest first, each with the crates that it uses."""
     listed = used_by()
     needed = {program}
     for name in reversed(listed):
@@ -72,12 +73,12 @@ def crates_below(program):
 
 
 def all_below(name, crates):
-    """The crates that this one stands on, through others too."""
+    """The crates that this one uses, directly or through others."""
     return {name for it in crates[name] for name in (it, *all_below(it, crates))}
 
 
 def chains(crates):
-    """For each crate the lines of the longest chain of crates from it to the program."""
+    """For each crate the number of lines in the longest chain of crates from it to the program."""
     lines = {name: sum(len(it.read_bytes().splitlines()) for it in folder(name).glob("src/**/*.rt")) for name in crates}
     found = {}
     for name in reversed(crates):
@@ -91,7 +92,7 @@ def folder(name):
 
 
 def processor():
-    """The words that have the program compiled for this machine's processor, where it is not compiled for any."""
+    """The options that compile the program for this machine's processor, or none to compile it for any."""
     flags = re.search(r"^flags\s*:(.*)", pathlib.Path("/proc/cpuinfo").read_text(), re.MULTILINE)
     return ["--cpu", WIDE] if flags and FLAGS_OF_WIDE <= set(flags[1].split()) else []
 
@@ -101,13 +102,13 @@ def library(name):
 
 
 def sum_file(name):
-    """Where it is said what a library, or the program, was proved from."""
+    """The file with the checksum of all that a library, or the program, was proved from."""
     return library(name).with_name("sum")
 
 
 @functools.cache
 def sum_of(name):
-    """A sum of all that a crate is proved from: its line, its files, the crates below it, and the kit."""
+    """A checksum of all that a crate is proved from: its line, its files, the crates below it, and the kit."""
     files = [it for part in ("src", "specs", "proofs") for it in sorted((folder(name) / part).glob("**/*")) if it.is_file()]
     said = [lines_of_crates()[name], (kit() / "KIT-ID").read_text()]
     said += [f"{it.relative_to(ROOT)} {hashlib.sha256(it.read_bytes()).hexdigest()}" for it in files]
@@ -121,7 +122,7 @@ def is_proved(name):
 
 
 def words_of_check(name, crates, jobs):
-    """The words for `rattle` that have a crate checked over the libraries below it."""
+    """The arguments for `rattle` that check a crate over the libraries below it."""
     words = ["--crate-name", name, f"src/{'main' if name == PROGRAM else 'lib'}.rt", "--jobs", str(jobs)]
     words += ["--antt-project", kit() / "rattle/logic/antt-project.json", "--logic-built", kit() / "logic_built"]
     words += ["-L", f"dependency={kit() / 'rlibs'}"]
@@ -133,7 +134,7 @@ def words_of_check(name, crates, jobs):
 
 
 def commands_for(name, crates, jobs):
-    """What has a crate proved and its library written, or the program built: it shows its help at the end."""
+    """The commands that prove a crate and write its library, or build the program and try its help."""
     check = [kit() / "bin/rattle", "build", *words_of_check(name, crates, jobs)]
     if name != PROGRAM:
         return [[*check, "--statements", "-o", library(name)]]
@@ -147,11 +148,11 @@ def commands_for(name, crates, jobs):
 
 
 class Run:
-    """A crate that is being proved: the commands that are still to be called, and what runs now."""
+    """A crate that is being proved: the commands left to run, and the one that runs."""
 
     def __init__(self, name, commands, jobs, sum_before):
         self.name, self.commands, self.jobs = name, commands, jobs
-        # The sum of the crate when the build began.
+        # The crate's checksum when the build began.
         self.sum = sum_before
         self.said = tempfile.TemporaryFile("w+", errors="replace")
         self.call()
@@ -161,7 +162,7 @@ class Run:
         self.process = subprocess.Popen(self.commands.pop(0), start_new_session=True, **how)
 
     def poll(self):
-        """Goes on with the next command, and answers the status once the last one, or one that failed, has ended."""
+        """Starts the next command if one has ended. Returns the status once the last one, or a failed one, has ended."""
         status = self.process.poll()
         if status == 0 and self.commands:
             self.call()
@@ -169,7 +170,7 @@ class Run:
         return status
 
     def keep(self):
-        """Keeps what was made, for later builds too if no file has changed since this one began."""
+        """Keeps the result, for later builds too if no file has changed since this one began."""
         if self.name == PROGRAM:
             BUILT.with_suffix(".new").rename(BUILT)
         sum_of.cache_clear()
@@ -181,7 +182,7 @@ class Run:
         return self.said.read().splitlines()
 
     def end(self):
-        """Breaks it off, with the processes that it started."""
+        """Ends it and the processes that it started."""
         with contextlib.suppress(ProcessLookupError):
             os.killpg(self.process.pid, signal.SIGTERM)
         self.process.wait()
@@ -191,7 +192,7 @@ class Run:
 
 
 class Progress:
-    """What is being proved: on one line of a terminal, else on a line for each change."""
+    """Shows what is being proved: on one line of a terminal, else on a line for each change."""
 
     def __init__(self, crates):
         self.of, self.began, self.shown = crates, time.monotonic(), None
@@ -222,13 +223,13 @@ class Build:
     cores: int
     memory: int
     progress: Progress
-    # For each crate the lines of the longest chain of crates from it to the program.
+    # For each crate the number of lines in the longest chain of crates from it to the program.
     chain: dict
     running: dict = field(default_factory=dict)
     done: set = field(default_factory=set)
-    # Of each crate the sum when the build began.
+    # Each crate's checksum when the build began.
     sums: dict = field(default_factory=dict)
-    # The number of the signal that breaks the build off.
+    # The number of the signal that interrupts the build.
     signal: int = 0
 
     def start(self, name, jobs, behind):
@@ -238,8 +239,8 @@ class Build:
         self.running[name] = Run(name, commands, jobs, self.sums[name])
 
     def start_all(self, ready):
-        """Starts the crates that there is room for. Of those that run, the one with the longest chain of crates above it gets as many jobs as
-        cores and memory allow; the others get one, behind it."""
+        """Starts the crates that there is room for. The one with the longest chain of crates above it gets as many jobs as cores and memory
+        allow; the others get one each, at a lower priority."""
         for name in ready:
             room = self.memory - sum(it.memory() for it in self.running.values())
             if self.running and (room < MEMORY or len(self.running) == self.cores):
@@ -249,7 +250,7 @@ class Build:
             self.start(name, most if is_longest else 1, [] if is_longest else BEHIND)
 
     def end(self, name, status):
-        """Takes in a crate that is proved, or says why it isn't and answers False."""
+        """Records a proved crate, or prints why it isn't proved and returns False."""
         run = self.running.pop(name)
         if status == 0:
             run.keep()
@@ -262,7 +263,7 @@ class Build:
         return False
 
     def run(self):
-        """Proves the crates that are not, and answers whether all are."""
+        """Proves the crates that are not yet proved. Returns whether all are."""
         self.sums = {name: sum_of(name) for name in self.crates}
         self.done.update(name for name in self.crates if is_proved(name))
         left = sorted(self.crates.keys() - self.done, key=lambda name: -self.chain[name])
@@ -280,13 +281,13 @@ class Build:
         return True
 
     def close(self):
-        """Breaks off what runs."""
+        """Ends what runs."""
         for run in self.running.values():
             run.end()
 
 
 def locked(folders):
-    """Keeps other builds and `rt` out of these folders, by the locks that `rt` takes, until this program ends."""
+    """Locks these folders, as `rt` does, so that other builds and `rt` wait until this program ends."""
     held = [os.open(it, os.O_RDONLY) for it in sorted(folders)]
     for it in held:
         try:
@@ -298,7 +299,7 @@ def locked(folders):
 
 
 def free_memory():
-    """The bytes of memory that are free, within the limit of a control group."""
+    """The free memory in bytes, within the limit of the control group."""
     found = [1024 * int(re.search(r"MemAvailable:\s+(\d+)", pathlib.Path("/proc/meminfo").read_text())[1])]
     group = pathlib.Path("/sys/fs/cgroup")
     try:
@@ -309,15 +310,15 @@ def free_memory():
 
 
 def main():
-    # Until there is something to break off, Ctrl-C just ends this program.
+    # Until a check runs, Ctrl-C just ends this program.
     signal.signal(signal.SIGINT, signal.SIG_DFL)
     began = time.time()
     crates = crates_below(PROGRAM)
     cores, memory, disk = len(os.sched_getaffinity(0)), free_memory(), shutil.disk_usage(ROOT).free
     print(
-        "lifebatch: the program is proved and built first, which takes some minutes\n"
-        f"lifebatch: it takes rt ({shutil.which('rt')}), {MEMORY // GIGABYTE} GB of memory or more ({memory // GIGABYTE} GB are free),"
-        f" {DISK // GIGABYTE} GB of disk ({disk // GIGABYTE} GB are free) and all cores ({cores})",
+        "lifebatch: proving and building the program first; this takes some minutes\n"
+        f"lifebatch: it needs rt ({shutil.which('rt')}), {MEMORY // GIGABYTE} GB of memory ({memory // GIGABYTE} GB free)"
+        f" and {DISK // GIGABYTE} GB of disk ({disk // GIGABYTE} GB free), and uses all cores ({cores})",
         file=sys.stderr,
         flush=True,
     )
@@ -332,7 +333,7 @@ def main():
     if is_built:
         BEGAN.touch()
         os.utime(BEGAN, (began, began))
-    what = "the build was broken off; the next call goes on with it" if build.signal else "the build failed"
+    what = "build interrupted; the next run resumes it" if build.signal else "the build failed"
     build.progress.tell(f"proved and built in {build.progress.clock()}" if is_built else what)
     return 0 if is_built else 128 + build.signal if build.signal else 2
 

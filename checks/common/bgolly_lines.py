@@ -1,11 +1,11 @@
-"""The lines of docs/from-bgolly.md: for each the words of both programs, and what has to hold of the two runs."""
+"""The lines of docs/from-bgolly.md: for each the arguments of both programs, and what has to hold of the two runs."""
 import re
 from collections.abc import Callable
 from dataclasses import dataclass
 
 from common.program import Ended
 
-# How long a run may take, and how long one is watched that goes on for ever.
+# How many seconds a run may take, and how many an endless one is watched.
 SECONDS, WATCHED = 60, 2
 
 FILES = {
@@ -18,12 +18,18 @@ FILES = {
     "glider.cells": "!Name: Glider\n.O.\n..O\nOOO\n",
     "states.rle": "x = 3, y = 1, rule = 345/2/4\n.AB!\n",
     "zero.rle": "x = 3, y = 1\n0b3o!\n",
+    "old.lif": "#Life 1.05\n#P 0 0\n***\n",
+    "glider.mcl": "#MCell 4.00\n#GAME Life\n#RULE 23/3\n#BOARD 40x40\n#L .A$..A$3A\n",
+    "states.mc": "[M2]\n#R 345/2/4\n1 0 1 2 0\n2 0 1 0 0\n3 0 2 0 0\n",
+    "script.txt": "show\n",
+    # A rule in a file, by which a cell is born beside one live cell, and none lives on.
+    "Lonely.rule": "@RULE Lonely\n@TABLE\nn_states:2\nneighborhood:Moore\nsymmetries:permute\n0,1,0,0,0,0,0,0,0,1\n1,0,0,0,0,0,0,0,0,0\n",
 }
 
 
 @dataclass(frozen=True)
 class Ran:
-    """A run of a program: its words, how it ended, and what it wrote to its file."""
+    """A run of a program: its arguments, how it ended, and what it wrote to its file."""
 
     words: list[str]
     ended: Ended
@@ -56,7 +62,7 @@ class Ran:
         return self.err.strip().rpartition(": ")[2]
 
     def shown(self) -> str:
-        """The words, the status and the first lines of what came of it."""
+        """The arguments, the status and the first lines of the output."""
         lines = [it for it in self.out.splitlines() if it != "- " + " ".join(self.words)]
         lines += self.err.splitlines() + self.file.splitlines()
         lines = [it if len(it) <= 60 else it[:57] + "..." for it in lines if it]
@@ -67,18 +73,18 @@ class Ran:
 
 @dataclass(frozen=True)
 class Line:
-    """A line of the page: the words of both programs, and what has to hold of the two runs."""
+    """A line of the page: the arguments of both programs, and what has to hold of the two runs."""
 
     says: str
     ours: str
     theirs: str
     holds: Callable[[Ran, Ran], bool]
-    # Whether bgolly goes on for ever.
+    # Whether bgolly never ends.
     is_endless: bool = False
 
 
 def not_here(text: str) -> Line:
-    """A line whose words bgolly takes, and lifebatch doesn't know."""
+    """A line with an option that bgolly takes, and that lifebatch does not have."""
     return Line(
         f"{text.split()[0]} isn't there",
         f"{text} -m 4 pentomino.rle",
@@ -108,7 +114,7 @@ def rows(text: str) -> str:
 
 
 LINES = [
-    # The words.
+    # Options.
     Line(
         "-m N is N generations on from the file's own; there it is the generation to stop at",
         "-m 50 later.rle",
@@ -147,6 +153,12 @@ LINES = [
         lambda ours, theirs: ours.out == "" and theirs.out.endswith("\n0\n20\n"),
     ),
     Line(
+        "-q may not be repeated; there it may",
+        "-q -q -m 20 pentomino.rle",
+        "-q -q -h -m 20 -i 20 pentomino.rle",
+        lambda ours, theirs: ours.status == 2 and theirs.status == 0 and theirs.report() == [],
+    ),
+    Line(
         "-r takes the place of the file's rule in both",
         "-r B36/S23 -m 40 pentomino.rle",
         "-r B36/S23 -h -m 40 -i 40 pentomino.rle",
@@ -159,7 +171,7 @@ LINES = [
         lambda ours, theirs: ours.status == theirs.status == 0 and rows(ours.file) == rows(theirs.file) != "",
     ),
     Line(
-        "-h shows the help; there it asks for HashLife, which is all that runs here",
+        "-h shows the help; there it asks for HashLife, which is always on here",
         "-h",
         "-h -m 0 pentomino.rle",
         lambda ours, theirs: "--generation" in ours.out and ours.status == theirs.status == 0 and theirs.last() == ("0", "5"),
@@ -193,6 +205,36 @@ LINES = [
         "-m 18446744073709551615 glider.rle",
         "-h -m 18446744073709551616 -i 18446744073709551616 glider.rle",
         lambda ours, theirs: ours.refusal() == "TooFar" and theirs.last() == ("18,446,744,073,709,551,616", "5"),
+    ),
+    Line(
+        "-m of 2^64 is a usage error; there it runs",
+        "-m 18446744073709551616 glider.rle",
+        "-h -m 18446744073709551616 -i 18446744073709551616 glider.rle",
+        lambda ours, theirs: ours.status == 2 and theirs.last() == ("18,446,744,073,709,551,616", "5"),
+    ),
+    Line(
+        "options may stand after the file; there they may not",
+        "pentomino.rle -m 4",
+        "-h pentomino.rle -m 4 -i 4",
+        lambda ours, theirs: ours.last() == ("4", "8") and theirs.status == 10,
+    ),
+    Line(
+        "a value may follow an option directly, or after =; there after a blank alone",
+        "-m=4 -i4 pentomino.rle",
+        "-m=4 -i4 -h pentomino.rle",
+        lambda ours, theirs: ours.last() == ("4", "8") and theirs.status == 10,
+    ),
+    Line(
+        "--workers is there; there it is not",
+        "--workers 2 -m 4 pentomino.rle",
+        "--workers 2 -h -m 4 -i 4 pentomino.rle",
+        lambda ours, theirs: ours.last() == ("4", "8") and theirs.status == 10,
+    ),
+    Line(
+        "--exec isn't there",
+        "--exec script.txt",
+        "--exec script.txt",
+        lambda ours, theirs: ours.status == 2 and "0: 0" in theirs.out,
     ),
     *map(not_here, ("-a HashLife", "-M 100", "-T 1", "-b", "-2", "-v", "-t", "-s .")),
     *map(not_here, ("--render", "--scale 1", "--autofit", "--progress", "--popcount")),
@@ -267,10 +309,13 @@ LINES = [
     ),
     # Files and rules.
     refused("a compressed file", "", "pentomino.rle.gz", "NotAPattern", ""),
-    refused("a Life 1.05 or 1.06 file", "", "cells.lif", "NotAPattern", ""),
+    refused("a Life file (1.06)", "", "cells.lif", "NotAPattern", ""),
+    refused("an old Life file (1.05)", "", "old.lif", "NotAPattern", ""),
+    refused("an MCell file (.mcl)", "", "glider.mcl", "NotAPattern", ""),
     refused("a picture of cells (.cells)", "", "glider.cells", "NotAPattern", ""),
     refused("any other text", "", "text.rle", "NotAPattern", ""),
     refused("a file of more than two states", "", "states.rle", "MoreStates", "-a Generations"),
+    refused("a macrocell file of more than two states", "", "states.mc", "BadNodeLine", "-a Generations"),
     refused("a timeline", "", "timeline.mc", "FramesNotRead", "-h"),
     refused("a count of 0", "", "zero.rle", "BadCount", ""),
     refused("a rule with Hensel's letters", "-r B2e3/S23", "pentomino.rle", "BadRule", "-r B2e3/S23"),
@@ -281,7 +326,14 @@ LINES = [
         "-a Generations -m 1 -i 1 states.rle",
         lambda ours, theirs: ours.refusal() == "BadRule" and theirs.status == 0,
     ),
-    refused("birth on zero neighbours", "-r B0/S23", "pentomino.rle", "BirthOnZero", "-r B0/S23"),
+    refused("a rule in a file", "-r Lonely", "pentomino.rle", "BadRule", "-s ./ -a RuleLoader -r Lonely"),
+    refused("birth on zero neighbours", "-r B0/S23", "pentomino.rle", "BirthOnZero", "-a QuickLife -r B0/S23"),
+    Line(
+        "HashLife refuses birth on zero neighbours in both",
+        "-r B0/S23 -m 1 pentomino.rle",
+        "-a HashLife -r B0/S23 -m 1 -i 1 pentomino.rle",
+        lambda ours, theirs: ours.refusal() == "BirthOnZero" and theirs.status == 10,
+    ),
     Line(
         "rules of four neighbours are the same",
         "-r B13/S012V -m 4 pentomino.rle",

@@ -1,6 +1,6 @@
 """Cells, generations and texts in plain Python, one cell after the other, as docs/formats.md has them.
 
-Nothing here comes from the program or is read by it: it is what the program is compared with.
+It shares nothing with the program, which is compared with it.
 """
 from collections import Counter
 from collections.abc import Collection, Iterable, Sequence

@@ -32,7 +32,7 @@ class Need:
 
 
 def tool(name: str, package: str) -> Need:
-    """A command that has to be on the path."""
+    """A command that has to be on the PATH."""
     return Need(name, f"apt-get install {package} brings it", lambda _: shutil.which(name) is not None)
 
 
@@ -50,6 +50,7 @@ BGOLLY = tool("bgolly", "golly")
 GOLLY_PATTERNS = Need("the folder of Golly's patterns", "apt-get install golly brings it", has_patterns)
 C_COMPILER = tool("cc", "gcc libc6-dev")
 PGREP = tool("pgrep", "procps")
+PARALLEL = tool("parallel", "parallel")
 
 
 def add_program(parser: argparse.ArgumentParser) -> None:
@@ -63,9 +64,9 @@ class Check:
     text: str
     needs: tuple[Need, ...]
     takes: str
-    # How one failure is run again.
+    # How to run one failure again.
     replay: str
-    # The options of a quick run where it has some, and how long that takes.
+    # The options of a quick run, if it has any, and how long that takes.
     quick: tuple[str, ...] = ()
     quickly: str = ""
 
@@ -90,7 +91,7 @@ class Check:
         return parser
 
     def options(self, parser: argparse.ArgumentParser) -> argparse.Namespace:
-        """The options of this call. All that the check needs is there."""
+        """The options of this call. Fails if something that the check needs is missing."""
         options = parser.parse_args()
         missing = [f"{it.name} is not there: {it.brings}" for it in self.missing(options)]
         if missing:
@@ -108,13 +109,13 @@ def status_of(compared: int, differing: int) -> int:
 
 
 def end(main: Callable[[], int]) -> None:
-    """Calls a script's main function, and ends with its status. A script that fails itself has not run."""
+    """Calls a script's main function, and ends with its status. If the script itself fails, the status is that of a check that could not run."""
     try:
         sys.exit(main())
     except CannotRun as reason:
         print(f"cannot run: {reason}", file=sys.stderr)
     except BrokenPipeError:
-        # Nobody reads what it prints.
+        # The reader of its output is gone.
         os.dup2(os.open(os.devnull, os.O_WRONLY), sys.stdout.fileno())
     except Exception:
         traceback.print_exc()

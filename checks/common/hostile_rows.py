@@ -1,4 +1,4 @@
-"""Files that are made to be hard to read, and what docs/formats.md says comes of them."""
+"""Files that are hard to read, and their results by docs/formats.md."""
 from collections.abc import Callable, Iterator
 from dataclasses import dataclass
 

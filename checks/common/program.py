@@ -9,7 +9,7 @@ from dataclasses import dataclass
 ROOT = pathlib.Path(__file__).resolve().parent.parent.parent
 PROGRAM = ROOT / "crates" / "lifebatch" / "out" / "lifebatch"
 
-# Where Golly's packages put its patterns.
+# The folders in which packages of Golly put its patterns.
 PLACES = [pathlib.Path(it) / "Patterns" for it in ("/usr/share/golly", "/usr/local/share/golly", "/usr/lib/golly")]
 PATTERNS = next((it for it in PLACES if it.is_dir()), PLACES[0])
 
@@ -18,7 +18,7 @@ REFUSED = re.compile(r"lifebatch: refused \d+(?: at \d+)?: (\w+)\n")
 
 @dataclass(frozen=True)
 class Ended:
-    """How a run ended: its status, or None where it took too long, and what it printed."""
+    """How a run ended: its status, or None if it took too long, and its output."""
 
     status: int | None
     report: str
@@ -34,7 +34,7 @@ def text_of(printed: bytes | None) -> str:
 
 
 def run(words: Sequence[str], folder: pathlib.Path, seconds: float) -> Ended:
-    """Runs a program without input, and ends it where it takes too long."""
+    """Runs a program without input, and ends it if it takes too long."""
     try:
         ran = subprocess.run(words, cwd=folder, stdin=subprocess.DEVNULL, capture_output=True, timeout=seconds)
     except subprocess.TimeoutExpired as late:
@@ -43,7 +43,7 @@ def run(words: Sequence[str], folder: pathlib.Path, seconds: float) -> Ended:
 
 
 def refusal(ended: Ended) -> str | None:
-    """The name by which lifebatch refuses a run, or None where it ends in another way."""
+    """The name by which lifebatch refuses a run, or None if it ends in another way."""
     line = REFUSED.fullmatch(ended.message)
     return line[1] if line and ended.status == 1 else None
 

@@ -1,4 +1,4 @@
-"""Files that say the same in odd forms, and files with a fault, as docs/formats.md allows and refuses them."""
+"""Files in odd spellings, and files with a fault, as docs/formats.md allows and refuses them."""
 from collections.abc import Sequence
 from random import Random
 

@@ -1,0 +1,197 @@
+#!/usr/bin/env python3
+"""Runs the commands of docs/many-patterns.md on a folder of patterns, kills them in the middle, and resumes them.
+
+    checks/many_patterns.py
+    checks/many_patterns.py --patterns 50    fewer patterns
+
+The script takes the commands from the page. It makes 200 patterns, of which one has a fault and one fills small tables, and runs each by itself.
+Then it runs the page's commands: it kills the first with all runs that it started, and repeats it. A script takes the place of ssh, and the
+array job of Slurm runs by its number alone. Each report and each pattern has to be the same as that of the plain run.
+"""
+import os
+import pathlib
+import random
+import re
+import signal
+import subprocess
+import tempfile
+import time
+
+from common.check import BUILT, PARALLEL, CannotRun, Check, end, status_of
+from common.program import ROOT
+
+CHECK = Check(
+    text=__doc__,
+    needs=(BUILT, PARALLEL),
+    takes="a minute",
+    quick=("--patterns", "40"),
+    quickly="15 s",
+    replay="run it again; it makes the same patterns each time.",
+)
+
+PAGE = ROOT / "docs" / "many-patterns.md"
+BLOCK = re.compile(r"^```sh\n(.*?)^```$", re.MULTILINE | re.DOTALL)
+# How many seconds a command may take.
+SECONDS = 300
+# The check replaces the page's numbers: tables that one pattern fills, and then enough for it.
+SMALL, ENOUGH = 65536, 4194304
+GENERATIONS = 300
+SSH = """#!/bin/sh
+while [ "$1" != -- ]; do shift; done
+shift
+exec sh -c "$*"
+"""
+
+
+def soup(side: int, seed: int) -> str:
+    """A square of cells, each live or dead alike at every call."""
+    coin = random.Random(seed)
+    rows = ("".join("bo"[coin.random() < 0.4] for _ in range(side)) for _ in range(side))
+    return f"x = {side}, y = {side}, rule = B3/S23\n" + "$\n".join(rows) + "!\n"
+
+
+class Folder:
+    """The folder in which the page's commands run, with a number of patterns."""
+
+    def __init__(self, path: pathlib.Path, program: pathlib.Path, count: int):
+        self.path, self.program, self.differences = path, program, 0
+        (path / "patterns").mkdir()
+        (path / "bin").mkdir()
+        (path / "bin" / "lifebatch").symlink_to(program)
+        (path / "bin" / "ssh").write_text(SSH)
+        (path / "bin" / "ssh").chmod(0o755)
+        texts = {f"soup {number}": soup(16 + number % 48, number) for number in range(count - 2)}
+        self.texts = texts | {"faulty": "x = 3, y = 1\n0b3o!\n", "large": soup(1280, count)}
+        for name, text in self.texts.items():
+            (path / "patterns" / f"{name}.rle").write_text(text)
+
+    def start(self, block: str) -> subprocess.Popen:
+        settings = {**os.environ, "PATH": f"{self.path / 'bin'}:{os.environ['PATH']}", "PARALLEL_SSH": str(self.path / "bin" / "ssh")}
+        settings |= {"GENERATIONS": str(GENERATIONS), "NODES": str(SMALL), "HOME": str(self.path)}
+        how = {"stdin": subprocess.DEVNULL, "stdout": subprocess.PIPE, "stderr": subprocess.STDOUT, "start_new_session": True}
+        return subprocess.Popen(["sh", "-c", block], cwd=self.path, env=settings, text=True, **how)
+
+    def run(self, block: str) -> str:
+        """The output of a command of the page."""
+        ran = self.start(block)
+        try:
+            return ran.communicate(timeout=SECONDS)[0]
+        except subprocess.TimeoutExpired as late:
+            kill_session(ran.pid)
+            raise CannotRun(f"a command takes more than {SECONDS} s") from late
+
+    def logged(self) -> list[str]:
+        """The lines of the runs that ended."""
+        log = self.path / "runs.log"
+        return log.read_text().splitlines()[1:] if log.exists() else []
+
+    def clear(self) -> None:
+        (self.path / "runs.log").unlink(missing_ok=True)
+        for it in (self.path / "out").glob("*"):
+            it.unlink()
+
+    def plain(self, nodes: int) -> dict[str, tuple[bytes, bytes, bytes]]:
+        """The result of each pattern, run by itself: its file, its report and its message."""
+        return {name: self.plain_run(name, nodes) for name in self.texts}
+
+    def plain_run(self, name: str, nodes: int) -> tuple[bytes, bytes, bytes]:
+        file = self.path / "plain.rle"
+        file.unlink(missing_ok=True)
+        words = [self.program, "-m", str(GENERATIONS), "--nodes", str(nodes), "-o", file, self.path / "patterns" / f"{name}.rle"]
+        ran = subprocess.run(words, stdin=subprocess.DEVNULL, capture_output=True, timeout=SECONDS)
+        return (file.read_bytes() if file.exists() else b"", ran.stdout, ran.stderr)
+
+    def written(self, name: str) -> tuple[bytes, ...]:
+        files = [self.path / "out" / f"{name}.{ending}" for ending in ("rle", "txt", "err")]
+        return tuple(it.read_bytes() if it.exists() else b"" for it in files)
+
+    def unlike(self, plain: dict[str, tuple[bytes, bytes, bytes]]) -> list[str]:
+        """The patterns of which something else was written."""
+        return [name for name in plain if self.written(name) != plain[name]]
+
+    def tell(self, says: str, holds: bool) -> None:
+        print(f"{'holds  ' if holds else 'differs'}  {says}", flush=True)
+        self.differences += not holds
+
+
+def kill_session(leader: int) -> None:
+    """Kills the processes of a session that this script started."""
+    for it in pathlib.Path("/proc").glob("[0-9]*"):
+        try:
+            # The session is the fourth field behind the name in brackets.
+            session = int((it / "stat").read_text().rpartition(")")[2].split()[3])
+            if session == leader:
+                os.kill(int(it.name), signal.SIGKILL)
+        except (OSError, ValueError):
+            pass
+
+
+def killed_in_the_middle(folder: Folder, block: str) -> bool:
+    """Starts a command, and kills it once a third of the runs have ended."""
+    ran, began = folder.start(block), time.monotonic()
+    while len(folder.logged()) < len(folder.texts) // 3 and ran.poll() is None and time.monotonic() - began < SECONDS:
+        time.sleep(0.01)
+    kill_session(ran.pid)
+    ran.communicate()
+    return 0 < len(folder.logged()) < len(folder.texts)
+
+
+def page_blocks() -> list[str]:
+    """The commands of the page: for a folder, for failures, with larger tables, on several machines, and for Slurm."""
+    blocks = BLOCK.findall(PAGE.read_text())
+    if len(blocks) != 5:
+        raise CannotRun(f"{PAGE.name} has {len(blocks)} blocks of commands, not five")
+    return blocks
+
+
+def in_place_of(old: str, new: str, block: str) -> str:
+    if old not in block:
+        raise CannotRun(f"{PAGE.name} has no '{old}' where it is looked for")
+    return block.replace(old, new)
+
+
+def try_page(folder: Folder) -> None:
+    one_folder, failures, larger, machines, task = page_blocks()
+    one_folder = in_place_of("GENERATIONS=1000 NODES=4194304", f"GENERATIONS={GENERATIONS} NODES={SMALL}", one_folder)
+    larger = in_place_of("NODES=67108864", f"NODES={ENOUGH}", larger)
+    plain, whole = folder.plain(SMALL), folder.plain(ENOUGH)
+
+    folder.tell("the command for a folder is killed in the middle", killed_in_the_middle(folder, one_folder))
+    ended = folder.logged()
+    folder.run(one_folder)
+    is_resumed = folder.logged()[: len(ended)] == ended and len(folder.logged()) == len(plain)
+    folder.tell("repeated, it runs all that had not ended, and nothing twice", is_resumed)
+    folder.tell("each file is that of a plain run", folder.unlike(plain) == [])
+    failed = folder.run(failures).splitlines()
+    is_listed = len(failed) == 2 and all(any(f"patterns/{it}.rle" in line for line in failed) for it in ("faulty", "large"))
+    folder.tell("the two runs that failed are listed", is_listed and b"NodesFull" in plain["large"][2])
+    folder.run(larger)
+    folder.tell("larger tables are enough for the one that filled them", whole["large"][2] == b"" and folder.unlike(whole) == [])
+
+    folder.clear()
+    folder.run(machines)
+    hosts = {line.split("\t")[1] for line in folder.logged()}
+    folder.tell("two machines share the runs", hosts == {"alpha", "beta"} and folder.unlike(plain) == [])
+
+    folder.clear()
+    names = sorted(folder.texts)[:5]
+    (folder.path / "patterns.txt").write_text("".join(f"patterns/{it}.rle\n" for it in names))
+    (folder.path / "task.sh").write_text(in_place_of("-m 1000", f"-m {GENERATIONS} --nodes {SMALL}", task))
+    for number in range(len(names)):
+        folder.run(f"SLURM_ARRAY_TASK_ID={number + 1} sh task.sh")
+    folder.tell("an array job runs the pattern of its number", all(folder.written(it) == plain[it] for it in names))
+
+
+def main() -> int:
+    parser = CHECK.parser()
+    parser.add_argument("--patterns", type=int, default=200, help="how many patterns (200)")
+    options = CHECK.options(parser)
+    with tempfile.TemporaryDirectory() as name:
+        folder = Folder(pathlib.Path(name), options.program.resolve(), options.patterns)
+        try_page(folder)
+    print(f"{options.patterns} patterns; {folder.differences} rows differ")
+    return status_of(7, folder.differences)
+
+
+if __name__ == "__main__":
+    end(main)

@@ -1,0 +1,62 @@
+#!/usr/bin/env python3
+"""Tests whether crates/ takes anything without proof: unsafe code, foreign functions, axioms or postulates.
+
+    checks/no_axioms.py
+    checks/no_axioms.py --root FOLDER    the crates of another copy
+
+The script searches each .rt and .antt file of src/, specs/ and proofs/, including comments and texts, for the words that declare such a thing.
+It also looks for files of C. It reads no proof: `rt ci` shows that the rest is proved.
+"""
+import pathlib
+import re
+
+from common.check import Check, end, status_of
+from common.program import ROOT
+
+CHECK = Check(
+    text=__doc__,
+    needs=(),
+    takes="1 s",
+    replay="run it again; the file and the line are printed.",
+)
+
+WORDS = {
+    ".rt": re.compile(r"\b(unsafe|extern|no_mangle|sorry)\b"),
+    ".antt": re.compile(r"\b(axiom|Axiom|postulate|sorry)\b"),
+}
+C_FILES = {".c", ".h", ".o", ".a", ".so"}
+
+
+def sources(root: pathlib.Path) -> list[pathlib.Path]:
+    """The files of all crates, without what was built."""
+    files = (it for it in (root / "crates").rglob("*") if it.is_file())
+    return sorted(it for it in files if "out" not in it.relative_to(root).parts)
+
+
+def findings(file: pathlib.Path) -> list[str]:
+    """What a file has that would be taken without proof, each with its line."""
+    if file.suffix in C_FILES:
+        return ["a file of C"]
+    words = WORDS.get(file.suffix)
+    if words is None:
+        return []
+    lines = enumerate(file.read_text(encoding="utf-8").splitlines(), 1)
+    return [f"line {number}: {found}" for number, line in lines for found in words.findall(line)]
+
+
+def main() -> int:
+    parser = CHECK.parser()
+    parser.add_argument("--root", type=pathlib.Path, default=ROOT, help="the folder of crates/ (this repository)")
+    root = CHECK.options(parser).root.resolve()
+    read, found = 0, 0
+    for file in sources(root):
+        read += file.suffix in WORDS
+        for it in findings(file):
+            found += 1
+            print(f"differs: {file.relative_to(root)}, {it}")
+    print(f"{read} files read, {found} words or files that bring in something unproved")
+    return status_of(read, found)
+
+
+if __name__ == "__main__":
+    end(main)
