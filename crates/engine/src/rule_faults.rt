@@ -1,4 +1,4 @@
-//! The refusals of rules that are none.
+//! How the fault of a rule is refused.
 
 ghost use Rattle.std.specs.Prelude.{◌≡◌};
 ghost use Rattle.engine.specs.Judgement.{rule_refusal};

@@ -20,8 +20,8 @@ const BOUNDS_ROOM: usize = 192;
 
 const LINE_ROOM: usize = 320;
 
-/// Writes `lines` lines, for 1, 2, 4, 8, .. generations: the generation, its population and its bounding box. Each
-/// run has two workers. It refuses what `run` refuses.
+/// Writes `lines` lines, one each after 1, 2, 4, 8, .. generations: the generation, the population and the bounding
+/// box. Each run has two workers. It refuses what `run` refuses.
 pub(crate) fn census<R: Threads + Wait + Sync, W: Sink>(
     rt: &R,
     alloc: Global,

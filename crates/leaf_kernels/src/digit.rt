@@ -9,7 +9,7 @@ use crate::rows64::everywhere;
 use rule_text::Rule;
 use std::simd::prelude::*;
 
-/// A word of which all bits are live, or none.
+/// A word with all bits set if `live`, else with none.
 pub(crate) fn mask(live: bool) -> u64
     ensures { result ≡ mask_of live }
 {
@@ -26,7 +26,7 @@ pub(crate) struct Digit {
 }
 
 impl Digit {
-    /// What the rule makes of the cells with so many live neighbours.
+    /// The masks of the rule for cells with `count` live neighbours.
     pub(crate) fn new(rule: &Rule, count: u8) -> Digit
         ensures { IsDigit rule.now count result }
     {

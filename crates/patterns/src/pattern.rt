@@ -28,7 +28,7 @@ impl Pattern {
     ghost use Rattle.patterns.specs.Drawing.{picture_of};
     ghost use Rattle.std.specs.Io.KnownBytes.{Appends};
 
-    /// The live cells of a universe. Its tables are let go, but for the words that these cells need.
+    /// The live cells of a universe. Its tables are freed, except for the words that hold these cells.
     pub fn of(universe: Universe) -> Pattern
         ensures { IsSame (plane_of result) (live_cells universe) }
     {

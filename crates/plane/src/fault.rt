@@ -27,7 +27,7 @@ impl fmt::Display for Fault {
 
 impl Error for Fault {}
 
-/// A refusal that no line or item of a file is to blame for.
+/// A refusal without a place in the file.
 impl From<Refusal> for Fault {
     ghost from_gives = { λ refusal fault. fault ≡ record { refusal = refusal; place = None } };
 

@@ -98,7 +98,7 @@ impl fmt::Display for Refusal {
 
 impl Error for Refusal {}
 
-/// Want of memory is `NoMemory`.
+/// A failed allocation is `NoMemory`.
 impl From<AllocError> for Refusal {
     ghost from_gives = { λ _ refusal. refusal ≡ NoMemory };
 
@@ -107,7 +107,7 @@ impl From<AllocError> for Refusal {
     }
 }
 
-/// What found no room is let go, and the refusal is `NoMemory`.
+/// A failed allocation is `NoMemory`; the value that it was for is dropped.
 impl<T: Drop> From<AllocFailed<T>> for Refusal {
     ghost from_gives = { λ _ refusal. refusal ≡ NoMemory };
 

@@ -23,7 +23,7 @@ pub(crate) struct Body<'a> {
 }
 
 impl<'a> Body<'a> {
-    /// The body that begins, with a line of its own, at this place.
+    /// The body that begins at this place, which is the start of a line.
     pub(crate) fn new(source: &'a [u8], at: usize) -> Self
         requires { at ≤ length source.now }
         ensures source { result.source.now ≡ source.now }

@@ -20,7 +20,7 @@ pub(crate) fn table_for(generations: u64, exponent: u8) -> u8 {
     table
 }
 
-/// The digits, as exponents: falling where the cells are at the table of the highest one, else rising.
+/// The digits, as exponents: highest first if the cells are at the table of the highest one, else lowest first.
 pub(crate) fn digits_from(generations: u64, here: u8) -> ArrayVec<u8, 64>
     ensures { sum_by (λ exponent. 2 ^ exponent) result.items ≡ generations }
 {

@@ -6,19 +6,19 @@ use crate::sizes::{GrowthFactor, LARGE_BITS};
 use node_sweep::Finished;
 use worker_split::MOST_WORKERS;
 
-// After so many steps a large table that is full is swept before it grows.
+// A full large table that has taken this many steps is swept before it grows.
 const STEPS_BEFORE_SWEEP: u32 = 4;
 
-// After so many steps a table of the size before the large ones is.
+// The same for a full table that is one size smaller than the large ones.
 const STEPS_BEFORE_SMALLER_SWEEP: u32 = 256;
 
-// A table that has taken more steps than these has nearly as many slots as a step needs.
+// A table that has taken more steps than this has nearly as many slots as a step needs.
 const STEPS_OF_GROWTH: u32 = 4;
 
-// A step that expanded fewer squares than one for so many pair slots had too little room.
+// A step that expanded fewer squares than one for this many pair slots had too little room.
 const SLOTS_AN_EXPANSION: u64 = 16;
 
-// A step of at most so many expansions is short: threads would take more time to start than they save.
+// A step of at most this many expansions is short: threads would take more time to start than they save.
 const FEW_EXPANSIONS: u64 = 16384;
 
 /// What was collected from full tables for the step that comes next.
@@ -26,7 +26,7 @@ const FEW_EXPANSIONS: u64 = 16384;
 enum Collections {
     /// Nothing yet.
     None,
-    /// The squares worth keeping. So many were finished at the time.
+    /// The squares worth keeping, when this many were finished.
     Collected(Finished),
     /// All that may help the step.
     All,
@@ -70,8 +70,8 @@ impl TableHistory {
         }
     }
 
-    /// For a new table of 2^bits pair slots that takes over what was collected from this one, when so much was
-    /// finished.
+    /// For a new table of 2^bits pair slots that takes over what was collected from this one, when this much
+    /// was finished.
     pub(crate) fn for_collected_table(self, bits: u8, finished: Finished) -> TableHistory {
         TableHistory {
             collections: Collections::Collected(finished),

@@ -1,10 +1,10 @@
-//! Want of room in words or a table, apart from want of memory.
+//! A full table, told apart from a failed allocation.
 
 ghost use Rattle.std.specs.Prelude.{◌≡◌, Ok, Err, IfNone, IfOk, IfSome, IsOk, IsOkUnless};
 
 use plane::Refusal;
 
-/// What was made, or `None` where there was no room for it.
+/// What was made, or `None` if a table was full.
 pub(crate) fn unless_full<T>(made: Result<T, Refusal>) -> Result<Option<T>, Refusal>
     ensures some { IfOk result (λ found. IfSome found (λ value. made ≡ Ok value)) }
     ensures none { IfOk result (λ found. IfNone found (made ≡ Err Refusal.NodesFull)) }

@@ -28,8 +28,8 @@ pub trait Source {
     // How many calls have failed, or 2^64 - 1 for any more.
     ghost failure_count: { Self → ℕ };
 
-    /// Reads some bytes into the front of the buffer, and says how many: none only at the end, or
-    /// where the buffer has no room. A call that fails takes none from the device.
+    /// Reads some bytes into the front of the buffer, and answers how many: none only at the
+    /// end, or where the buffer is empty. A call that fails takes none from the device.
     fn read_some(&mut self, buffer: &mut [u8]) -> Result<usize, Failed>
         ensures bound { ReadsAtMost result buffer.new }
         ensures bytes { ReadConsumes (remaining self.old) (remaining self.new) result buffer.new }
@@ -48,8 +48,8 @@ pub trait Sink {
     // How many calls have failed, or 2^64 - 1 for any more.
     ghost failure_count: { Self → ℕ };
 
-    /// Takes some of the first bytes, at least one of some, and says how many. A call that fails
-    /// takes none.
+    /// Takes the first bytes, at least one unless there are none, and answers how many it took. A call
+    /// that fails takes none.
     fn write_some(&mut self, bytes: &[u8]) -> Result<usize, Failed>
         ensures bound { WritesAtMost result bytes.now }
         ensures progress { 0 < length bytes.now → IfOk result (λ count. 0 < count) }
