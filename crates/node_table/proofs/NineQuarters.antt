@@ -1,11 +1,11 @@
 -- The quarters of the nine overlapping squares.
-use Rattle.std.proofs.Common.{◌≡◌, ℕ, ◌+◌, ◌-◌, ◌^◌, true, false, List, [], ◌∷◌, sym, subst, arith, refl}
+use Rattle.std.proofs.Common.{◌≡◌, ℕ, ◌+◌, ◌-◌, ◌^◌, true, false, [], ◌∷◌, subst, arith, refl}
 use Rattle.plane.specs.Plane.{Plane}
 use Rattle.plane.specs.Square.{IsSame, IsSquare, cut, subsquare}
 use Rattle.plane.proofs.Cuts.{joined_nw, joined_ne, joined_sw, joined_se}
-use Rattle.plane.proofs.Same.{plane_equal, same_refl, same_trans}
+use Rattle.plane.proofs.Same.{plane_equal, same_refl}
 use Rattle.squares.specs.declared.sq.Sq.{Sq}
-use Rattle.squares.specs.Book.{Book, AreQuarters, IsBook, IsKnown, Shows, joined_squares, nth, numbered}
+use Rattle.squares.specs.Book.{Book, AreQuarters, IsBook, IsKnown, Shows, joined_squares, numbered}
 use Rattle.squares.proofs.NineSquares.{MakeSubsquare}
 
 -- four squares of one level are the quarters of what they are together

@@ -15,7 +15,7 @@ use Rattle.node_table.specs.Desks.{book_at}
 use Rattle.node_table.specs.Halves.{AreBeside, AreHalvesOfRows, IsHalfOf, LearnsBlocks, MakeSquare, squares_of}
 use Rattle.node_table.specs.Refusals.{HasNoRoom, HasNoRoomForOverlap, HasNoRoomForQuad, neighbours_at, word_of}
 use Rattle.node_table.proofs.Refusing.{no_upper_half, no_lower_half, no_whole}
-use Rattle.node_table.proofs.TwoHalves.{beside, book_kept, half_kept, half_of, half_shown, half_stays, joined_of, make_square}
+use Rattle.node_table.proofs.TwoHalves.{beside, book_kept, half_of, half_shown, half_stays, joined_of, make_square}
 
 pub beside_kept : {table : NodeTable} {old new : Desk} {left right : Sq} → LearnsBlocks table old new → AreBeside (book_at table old) left right → AreBeside (book_at table new) left right
 beside_kept learns are = record { fits = are.fits; left = known_kept (book_kept learns) are.left; right = known_kept (book_kept learns) are.right }

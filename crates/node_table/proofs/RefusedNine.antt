@@ -1,9 +1,7 @@
 -- Where one of the nine overlapping squares has no room.
-use Rattle.std.proofs.Common.{ℕ, ◌-◌, ◌<◌, ◌≤◌, List, [], ◌∷◌, arith}
+use Rattle.std.proofs.Common.{ℕ, ◌<◌, ◌≤◌, [], ◌∷◌, arith}
 use Rattle.plane.specs.Plane.{Plane}
-use Rattle.plane.specs.Square.{subsquare}
-use Rattle.squares.specs.declared.sq.Sq.{Sq}
-use Rattle.squares.specs.Book.{AreQuarters, IsBook}
+use Rattle.squares.specs.Book.{IsBook}
 use Rattle.squares.proofs.NineSquares.{make_upper, make_left, make_middle, make_right, make_lower}
 use Rattle.table_core.specs.declared.shape.Kind.TheVariants.{Pair}
 use Rattle.table_core.specs.Layout.{pair_of}

@@ -1,5 +1,10 @@
 //! Slots that are loaded before they are searched, so that searches for several words wait for memory together.
 
+ghost use Rattle.std.specs.Prelude.{◌<◌};
+ghost use Rattle.squares.specs.Book.{IsKnown};
+ghost use Rattle.node_table.specs.Desks.{IsDeskOf, book_at};
+
+use crate::desk::Desk;
 use crate::halves::Half;
 use crate::table::NodeTable;
 use squares::Sq;
@@ -19,6 +24,18 @@ impl NodeTable {
         self.table
             .shared
             .peek(self.key.shape.result_index(index) as usize);
+    }
+
+    // The result beside a square that the desk knows.
+    pub(crate) fn prefetch_result(&self, desk: &Desk, sq: Sq)
+        requires table { IsDeskOf self.now desk.now }
+        requires known { IsKnown (book_at self.now desk.now) sq.level sq }
+        requires level { 3 < sq.level }
+    {
+        if sq.num.0 != 0 {
+            let index = self.key.shape.result_index(sq.num.0);
+            self.table.shared.peek(index as usize);
+        }
     }
 
     fn prefetch(&self, first: u32, second: u32) {

@@ -15,7 +15,7 @@ use squares::Squares;
 use std::alloc::Global;
 use table_core::Key;
 
-/// A running table: words that threads share. Each thread has a desk of its own at it.
+/// An open table: words that threads share, each through a desk of its own.
 #[derive(Drop)]
 pub struct NodeTable {
     pub(crate) table: Table<(), View, Still, TableInvariant, Global>,
@@ -32,7 +32,7 @@ impl NodeTable {
 
     /// A running table of these words under a rule and an exponent, and its first desk, which knows
     /// all that the words then say. The results that are the same under both heads stay, and no
-    /// other. Where memory is wanting, the words come back as they were. Words under the table's own head stand
+    /// other. If an allocation fails, the words come back as they were. Words under the table's own head stand
     /// in memory twice at most meanwhile, and others three times.
     pub fn open(
         alloc: Global,
