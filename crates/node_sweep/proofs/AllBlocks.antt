@@ -21,7 +21,7 @@ use Rattle.node_sweep.proofs.SameBlocks.{block_some, copy_none, same_copy}
 use Rattle.node_sweep.proofs.Futures.{copy_at}
 use Rattle.node_sweep.proofs.Swept.{kind_of_block}
 
-leaf_at : (bits : ℕ) (words : Words) (n : ℕ) → n ≢ 0 → n < start bits Pair → words n ≢ 0 → IsBlock bits words 0 n
+pub leaf_at : (bits : ℕ) (words : Words) (n : ℕ) → n ≢ 0 → n < start bits Pair → words n ≢ 0 → IsBlock bits words 0 n
 leaf_at bits words zero some low there = absurd (some refl)
 leaf_at bits words (suc n) some low there = (record { from = omega arith; below = omega arith }, there)
 

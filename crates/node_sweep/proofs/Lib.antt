@@ -15,3 +15,9 @@ pub mod Ranked
 pub mod Ending
 pub mod Gathered
 pub mod Compacted
+pub mod Tallies
+pub mod Ordering
+pub mod SideBySide
+pub mod Marking
+pub mod Ordered
+pub mod Telling

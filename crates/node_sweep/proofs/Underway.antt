@@ -3,7 +3,7 @@ use Rattle.std.proofs.Common.{◌≡◌, ◌≢◌, ◌⊎◌, ℕ, ◌+◌, ◌
 use Rattle.std.specs.Prelude.{slice_index, slice_set}
 use Rattle.std.proofs.lemmas.List.{get_or-set_same}
 use Rattle.table_core.specs.declared.shape.Kind.{Kind}
-use Rattle.table_core.specs.Blocks.{IsBlock}
+use Rattle.table_core.specs.Blocks.{Words, IsBlock}
 use Rattle.table_core.specs.Good.{KeepsWords}
 use Rattle.table_core.proofs.Claims.{same_or_other}
 use Rattle.table_core.proofs.Lists.{length_set}
@@ -32,7 +32,6 @@ module _ (transfer : Transfer) (fresh : Fresh) (underway : IsUnderway transfer f
   pub block_inside : (height number : ℕ) → IsLowBlock (old_bits transfer) (old_words transfer) height number → number < length fresh.copies.items
   block_inside height number block =
       let below = block_below (old_bits transfer) (old_words transfer) block.0 number block.2 in
-      let all = transfer.good.long in
       let long = underway.long in
       omega arith
 
@@ -66,7 +65,6 @@ module _ (transfer : Transfer) (fresh : Fresh) (underway : IsUnderway transfer f
     inside : number < length fresh.copies.items
     inside =
         let below = number_inside transfer.from.now transfer.to (old_words transfer) (wants transfer) fresh.words.items transfer.good.good underway.copying.good kind number word some needed in
-        let all = transfer.good.long in
         let long = underway.long in
         omega arith
 
@@ -104,11 +102,15 @@ module _ (transfer : Transfer) (fresh later : Fresh) (before : IsUnderway transf
       λ z. some (sym m.1 ∙ ap (slice_index later.copies.items) same ∙ z)
 
   -- one more number has a copy
-  pub copied_on : (number index : ℕ) → AreCopied (old_words transfer) fresh.copies.items number → number ≢ 0 → IsLowBlock (old_bits transfer) (old_words transfer) 124 number →
-      IsCopyNoted transfer later number index → AreCopied (old_words transfer) later.copies.items (number + 1)
-  copied_on number index all some block noted = record {
-    copied = λ n nonzero below there. ⊎_elim
-        (λ e z. copy_some transfer later after number index block.0 noted block.2 some (ap (slice_index later.copies.items) (sym e) ∙ z))
-        (λ apart. noted_still n (all.copied n nonzero (omega arith) there))
+  pub copied_on : (there : Words) (number index rank : ℕ) → AreCopied there fresh.copies.items number → number ≢ 0 → IsBlock (old_bits transfer) (old_words transfer) rank number →
+      IsCopyNoted transfer later number index → AreCopied there later.copies.items (number + 1)
+  copied_on there number index rank all some block noted = record {
+    copied = λ n nonzero below has. ⊎_elim
+        (λ e z. copy_some transfer later after number index rank noted block some (ap (slice_index later.copies.items) (sym e) ∙ z))
+        (λ apart. noted_still n (all.copied n nonzero (omega arith) has))
         (same_or_other n number);
   }
+
+  -- what has copies keeps them
+  pub copied_later : (there : Words) (end : ℕ) → AreCopied there fresh.copies.items end → AreCopied there later.copies.items end
+  copied_later there end all = record { copied = λ n nonzero below has. noted_still n (all.copied n nonzero below has) }

@@ -22,3 +22,12 @@ pub record IsEndCopied (bits : ℕ) (words : Words) (low high : ℕ) (copies : L
 -- so it is with each pair before this slot
 pub record AreEndsCopied (bits : ℕ) (words : Words) (low high : ℕ) (copies : List ℕ) (done : ℕ) : Type 0 where
   pub copied : (pair : ℕ) → IsSlot bits Pair pair → pair < start bits Pair + done → IsEndCopied bits words low high copies pair
+
+-- the pair has at least the high rank, and this result
+pub record IsFinishedFrom (bits : ℕ) (words : Words) (high rank pair future : ℕ) : Type 0 where
+  pub finished : IsFinished bits words rank pair future
+  pub large : high ≤ rank
+
+-- it has no result, or a lower rank
+pub record IsUnfinished (bits : ℕ) (words : Words) (high pair : ℕ) : Type 0 where
+  pub none : (rank future : ℕ) → IsFinished bits words rank pair future → high ≤ rank → ⊥

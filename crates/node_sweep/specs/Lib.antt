@@ -1,3 +1,4 @@
+pub mod Blocks
 pub mod CollectedStills
 pub mod Collects
 pub mod Copies
@@ -6,6 +7,8 @@ pub mod Ends
 pub mod EnlargedStills
 pub mod Enlarges
 pub mod Keeping
+pub mod Marks
+pub mod Orders
 pub mod Placing
 pub mod Ranks
 pub mod Reaching

@@ -1,10 +1,10 @@
 -- What is copied into fresh words, while it is copied.
-use Rattle.std.specs.Prelude.{◌≡◌, ℕ, List, length, slice_index}
+use Rattle.std.specs.Prelude.{◌≡◌, ℕ, ◌+◌, ◌^◌, List, length, slice_index}
 use Rattle.plane.specs.declared.refusal.Refusal.{Refusal}
 use Rattle.plane.specs.declared.refusal.Refusal.TheVariants.{NodesFull}
 use Rattle.table_core.specs.declared.shape.Kind.{Kind}
 use Rattle.table_core.specs.declared.shape.Kind.TheVariants.{Pair}
-use Rattle.table_core.specs.Layout.{IsSlot}
+use Rattle.table_core.specs.Layout.{IsSlot, start}
 use Rattle.table_core.specs.Blocks.{Words, IsBlock}
 use Rattle.node_sweep.specs.Copies.{HasNoRoom, IsCopyOf, IsWordOf}
 use Rattle.node_sweep.specs.Copying.{IsCopying}
@@ -26,14 +26,18 @@ old_bits transfer = transfer.from.now.shape.bits
 abbrev pub new_bits : Transfer → ℕ
 new_bits transfer = transfer.to.shape.bits
 
+-- how many numbers the leaves and the pairs of the old words have, with 0
+abbrev pub number_count : Transfer → ℕ
+number_count transfer = start (old_bits transfer) Pair + 2 ^ old_bits transfer
+
 -- the number is to be copied
 abbrev pub wants : Transfer → ℕ → Type 0
 wants transfer = IsWanted (old_bits transfer) (old_words transfer) transfer.wish
 
--- the fresh words hold the copies that are noted, and nothing else; there is a note for each old number
+-- the fresh words hold the copies that are noted, and nothing else; there is a note for each old leaf and pair
 pub record IsUnderway (transfer : Transfer) (fresh : Fresh) : Type 0 where
   pub copying : IsCopying transfer.from.now transfer.to (old_words transfer) (wants transfer) fresh.words.items fresh.copies.items
-  pub long : length fresh.copies.items ≡ length transfer.old.now
+  pub long : length fresh.copies.items ≡ number_count transfer
 
 -- all is copied, and the results of so many pairs were gone through
 abbrev pub AreResultsKept : Transfer → List ℕ → List ℕ → ℕ → Type 0

@@ -5,12 +5,14 @@ ghost use Rattle.std.specs.Prelude.{◌≡◌, ◌^◌, length};
 use crate::transfer::{Ends, Transfer};
 use table_core::{Kind, LARGEST_RANK};
 
-// Of the pair slots: up to one in so many for small squares, and for large ones that have results. Pairs of
-// leaves that take more than one in so many leave too few leaf slots for other leaves.
+// Small squares take at most one pair slot in this many.
 const SMALL_SHARE: u32 = 4;
 
+// Large squares that have results take at most one pair slot in this many.
 const LARGE_SHARE: u32 = 128;
 
+// No small square is kept where pairs of leaves take more than one pair slot in this many: their leaves
+// would leave too few leaf slots for others.
 const LEAVES_SHARE: u32 = 16;
 
 /// How many pairs of each rank there are, and how many of them have results.

@@ -1,84 +1,59 @@
 //! Small squares, and large ones that have results, copied beside what the root reaches.
 
-ghost use Rattle.std.specs.Prelude.{◌≡◌, ◌⊎◌, ◌^◌, IfOk, IfErr, OnOk, length};
+ghost use Rattle.std.specs.Prelude.{◌≡◌, ◌≢◌, ◌⊎◌, ◌^◌, IfOk, IfErr, IsOkUnless, OnOk, length, slice_index};
 ghost use Rattle.table_core.specs.Blocks.{IsBlock};
-ghost use Rattle.table_core.specs.Good.{KeepsWords};
 ghost use Rattle.node_sweep.specs.Ranks.{AreAllRanks};
 
+use crate::order::Order;
 use crate::transfer::{Ends, Fresh, Transfer, Wish};
 use plane::Refusal;
 use std::alloc::Global;
-use table_core::{Kind, parts};
+
+// What a collection keeps: a mark for each number of it, and its pairs in the order of their ranks.
+#[derive(Drop)]
+struct Kept {
+    marks: Vec<u8>,
+    order: Order,
+}
 
 impl Transfer<'_> {
     ghost use Rattle.node_sweep.specs.Collects.{Collects};
-    ghost use Rattle.node_sweep.specs.Ends.{AreEndsCopied, IsEndCopied, IsFinishedCopied};
+    ghost use Rattle.node_sweep.specs.Ends.{AreEndsCopied};
+    ghost use Rattle.node_sweep.specs.Marks.{AreKept};
     ghost use Rattle.node_sweep.specs.Reaching.{IsCollected};
-    ghost use Rattle.node_sweep.specs.Transfers.{IsCopyMade, IsOldPair, IsUnderway, SaysNoRoom, fresh_words, old_bits, old_words};
+    ghost use Rattle.node_sweep.specs.Transfers.{IsCopyMade, IsUnderway, SaysNoRoom, old_bits, old_words};
 
-    // Copies a pair of this rank with its result, if it is large and has one.
-    fn copy_finished(
-        &self,
-        fresh: &mut Fresh,
-        ends: Ends,
-        pair: u32,
-        rank: u8,
-    ) -> Result<(), Refusal>
+    // Marks what is wanted, and orders the pairs of it.
+    fn kept(&self, alloc: Global, ends: Ends, ranks: Vec<u8>, rank: u8) -> Result<Kept, Refusal>
         requires wish { self.now.wish ≡ Wish.Collected ends }
-        requires underway { IsUnderway self.now fresh.old }
-        requires pair { IsOldPair self.now rank pair }
-        ensures underway { IsUnderway self.now fresh.new }
-        ensures keeps { KeepsWords (fresh_words fresh.old) (fresh_words fresh.new) }
-        ensures copied { OnOk result (IsFinishedCopied (old_bits self.now) (old_words self.now) ends.high fresh.new.copies.items pair) }
-        ensures full { IfErr result (SaysNoRoom self.now) }
+        requires ranks { AreAllRanks (old_bits self.now) (old_words self.now) ranks.items (2 ^ old_bits self.now) }
+        requires each { length ranks.items ≡ 2 ^ old_bits self.now }
+        requires block { IsBlock (old_bits self.now) (old_words self.now) rank ends.root }
+        ensures ok { IfOk result (λ kept. AreKept self.now ends.root ends.low ends.high kept.marks.items kept.order.slots.items kept.order.ends) }
+        ensures memory { IsOkUnless result Refusal.NoMemory }
     {
-        if rank < ends.high {
-            return Ok(());
-        }
-        let result = self.old.word(self.from.shape.result_index(pair) as usize);
-        if result == 0 {
-            return Ok(());
-        }
-        let (_, future) = parts(result);
-        self.copy(fresh, pair, rank)?;
-        self.copy(fresh, future, rank)?;
-        Ok(())
+        let mut ranks = ranks;
+        let all = Order::of_ranks(alloc, ranks.as_slice())?;
+        let marks = self.marks(alloc, ends, &all)?;
+        drop(all);
+        self.keep_marked(ranks.as_mut_slice(), marks.as_slice());
+        let order = Order::of_ranks(alloc, ranks.as_slice())?;
+        Ok(Kept { marks, order })
     }
 
-    // Copies a pair of this rank if it is small, and with its result if it is large and has one.
-    fn copy_end(&self, fresh: &mut Fresh, ends: Ends, pair: u32, rank: u8) -> Result<(), Refusal>
-        requires wish { self.now.wish ≡ Wish.Collected ends }
+    // Copies what is kept. The marks are dropped before the pairs are copied.
+    fn copy_kept(&self, fresh: &mut Fresh, ends: Ends, kept: Kept) -> Result<(), Refusal>
         requires underway { IsUnderway self.now fresh.old }
-        requires pair { IsOldPair self.now rank pair }
+        requires kept { AreKept self.now ends.root ends.low ends.high kept.marks.items kept.order.slots.items kept.order.ends }
         ensures underway { IsUnderway self.now fresh.new }
-        ensures keeps { KeepsWords (fresh_words fresh.old) (fresh_words fresh.new) }
-        ensures copied { OnOk result (IsEndCopied (old_bits self.now) (old_words self.now) ends.low ends.high fresh.new.copies.items pair) }
+        ensures root { OnOk result ((ends.root ≡ 0) ⊎ (slice_index fresh.new.copies.items ends.root ≢ 0)) }
+        ensures ends { OnOk result (AreEndsCopied (old_bits self.now) (old_words self.now) ends.low ends.high fresh.new.copies.items (2 ^ old_bits self.now)) }
         ensures full { IfErr result (SaysNoRoom self.now) }
     {
-        if rank <= ends.low {
-            self.copy(fresh, pair, rank)?;
-        }
-        self.copy_finished(fresh, ends, pair, rank)?;
-        Ok(())
-    }
-
-    // Copies each pair that is small, and each with its result that is large and has one.
-    fn copy_ends(&self, fresh: &mut Fresh, ends: Ends, ranks: &[u8]) -> Result<(), Refusal>
-        requires wish { self.now.wish ≡ Wish.Collected ends }
-        requires underway { IsUnderway self.now fresh.old }
-        requires ranks { AreAllRanks (old_bits self.now) (old_words self.now) ranks.now (2 ^ old_bits self.now) }
-        requires each { length ranks.now ≡ 2 ^ old_bits self.now }
-        ensures underway { IsUnderway self.now fresh.new }
-        ensures copied { OnOk result (AreEndsCopied (old_bits self.now) (old_words self.now) ends.low ends.high fresh.new.copies.items (2 ^ old_bits self.now)) }
-        ensures full { IfErr result (SaysNoRoom self.now) }
-    {
-        for slot in 0..self.from.shape.slot_count(Kind::Pair) {
-            let rank = ranks[slot as usize];
-            if rank != 0 {
-                let pair = self.from.shape.index(Kind::Pair, slot);
-                self.copy_end(fresh, ends, pair, rank)?;
-            }
-        }
+        let Kept { marks, order } = kept;
+        self.copy_marked_leaves(fresh, marks.as_slice())?;
+        drop(marks);
+        self.copy_ranks(fresh, &order)?;
         Ok(())
     }
 
@@ -87,20 +62,22 @@ impl Transfer<'_> {
         &self,
         alloc: Global,
         ends: Ends,
-        ranks: &[u8],
+        ranks: Vec<u8>,
         rank: u8,
     ) -> Result<(Vec<u64>, u32), Refusal>
         requires wish { self.now.wish ≡ Wish.Collected ends }
-        requires ranks { AreAllRanks (old_bits self.now) (old_words self.now) ranks.now (2 ^ old_bits self.now) }
-        requires each { length ranks.now ≡ 2 ^ old_bits self.now }
+        requires ranks { AreAllRanks (old_bits self.now) (old_words self.now) ranks.items (2 ^ old_bits self.now) }
+        requires each { length ranks.items ≡ 2 ^ old_bits self.now }
         requires block { IsBlock (old_bits self.now) (old_words self.now) rank ends.root }
         ensures ok { IfOk result (λ made. Collects self.now.from.now self.now.to (old_words self.now) (IsCollected (old_bits self.now) (old_words self.now) ends.root ends.low ends.high) made.0.items) }
         ensures root { IfOk result (λ made. IsCopyMade self.now made.0.items ends.root made.1) }
         ensures refusal { IfErr result (λ refusal. (refusal ≡ Refusal.NoMemory) ⊎ SaysNoRoom self.now refusal) }
     {
+        let kept = self.kept(alloc, ends, ranks, rank)?;
         let mut fresh = self.begin(alloc)?;
-        self.copy_ends(&mut fresh, ends, ranks)?;
-        let number = self.copy(&mut fresh, ends.root, rank)?;
+        self.copy_kept(&mut fresh, ends, kept)?;
+        let root = ends.root;
+        let number = fresh.copies[root as usize];
         let words = self.with_results(fresh);
         Ok((words, number))
     }

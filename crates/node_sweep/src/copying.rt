@@ -1,32 +1,38 @@
-//! Leaves and pairs, copied after their parts, each once.
+//! What one number reaches, copied: leaves, and pairs after their parts, each once.
 
-ghost use Rattle.std.specs.Prelude.{◌≡◌, ◌≢◌, ◌+◌, ◌^◌, IfOk, IfErr};
-ghost use Rattle.table_core.specs.declared.shape.Kind.TheVariants.{Pair};
+ghost use Rattle.std.specs.Prelude.{◌≢◌, IfOk, IfErr};
 ghost use Rattle.table_core.specs.Good.{KeepsWords};
-ghost use Rattle.table_core.specs.Layout.{start};
 ghost use Rattle.node_sweep.specs.Copies.{IsLowBlock};
+ghost use Rattle.node_sweep.specs.Placing.{IsSought};
 
 use crate::placing::place;
-use crate::transfer::{Fresh, Transfer, Wish};
+use crate::transfer::{Fresh, Transfer};
 use plane::Refusal;
-use table_core::{Kind, LARGEST_RANK, pair_word, parts};
+use table_core::{Kind, pair_word, parts};
 
 impl Transfer<'_> {
-    ghost use Rattle.node_sweep.specs.Copying.{AreCopied};
-    ghost use Rattle.node_sweep.specs.Transfers.{IsCopyNoted, IsUnderway, IsWordNeeded, SaysNoRoom, fresh_words, old_bits, old_words, wants};
+    ghost use Rattle.node_sweep.specs.Transfers.{IsCopyNoted, IsUnderway, IsWordNeeded, SaysNoRoom, fresh_words, new_bits, old_bits, old_words, wants};
 
-    // The copy of a number that is wanted, by its word.
-    fn note(&self, fresh: &mut Fresh, number: u32, kind: Kind, word: u64) -> Result<u32, Refusal>
+    // The copy of a number that is wanted, by its word, of whose way so many places were tried.
+    pub(crate) fn note(
+        &self,
+        fresh: &mut Fresh,
+        number: u32,
+        kind: Kind,
+        word: u64,
+        tried: u32,
+    ) -> Result<u32, Refusal>
         requires underway { IsUnderway self.now fresh.old }
         requires some { number ≢ 0 }
         requires wanted { wants self.now number }
         requires word { IsWordNeeded self.now fresh.old.words.items kind number word }
+        requires tried { IsSought (new_bits self.now) fresh.old.words.items kind word tried }
         ensures underway { IsUnderway self.now fresh.new }
         ensures keeps { KeepsWords (fresh_words fresh.old) (fresh_words fresh.new) }
         ensures ok { IfOk result (IsCopyNoted self.now fresh.new number) }
         ensures full { IfErr result (SaysNoRoom self.now) }
     {
-        let Some(index) = place(self.to, fresh.words.as_mut_slice(), kind, word) else {
+        let Some(index) = place(self.to, fresh.words.as_mut_slice(), kind, word, tried) else {
             return Err(Refusal::NodesFull);
         };
         fresh.copies[number as usize] = index;
@@ -52,29 +58,12 @@ impl Transfer<'_> {
         }
         let word = self.old.word(number as usize);
         if number < self.from.shape.index(Kind::Pair, 0) {
-            return self.note(fresh, number, Kind::Leaf, word);
+            return self.note(fresh, number, Kind::Leaf, word, 0);
         }
         let (first, second) = parts(word);
         let first = self.copy(fresh, first, height - 1)?;
         let second = self.copy(fresh, second, height - 1)?;
         let word = pair_word(first, second);
-        self.note(fresh, number, Kind::Pair, word)
-    }
-
-    // Copies every block.
-    pub(crate) fn copy_all(&self, fresh: &mut Fresh) -> Result<(), Refusal>
-        requires all { self.now.wish ≡ Wish.Everything }
-        requires underway { IsUnderway self.now fresh.old }
-        ensures underway { IsUnderway self.now fresh.new }
-        ensures all { IfOk result (λ done. AreCopied (old_words self.now) fresh.new.copies.items (start (old_bits self.now) Pair + 2 ^ old_bits self.now)) }
-        ensures full { IfErr result (SaysNoRoom self.now) }
-    {
-        let end = self.from.shape.index(Kind::Pair, 0) + self.from.shape.slot_count(Kind::Pair);
-        for number in 1..end {
-            if self.old.word(number as usize) != 0 {
-                self.copy(fresh, number, LARGEST_RANK)?;
-            }
-        }
-        Ok(())
+        self.note(fresh, number, Kind::Pair, word, 0)
     }
 }

@@ -1,18 +1,30 @@
 //! Fresh words, filled with what one number reaches or with everything.
 
-ghost use Rattle.std.specs.Prelude.{◌≡◌, ◌<◌, ◌⊎◌, IfOk, IfErr, IsOkUnless, length};
+ghost use Rattle.std.specs.Prelude.{◌≡◌, ◌<◌, ◌⊎◌, IfOk, IfErr, IsOkUnless};
 ghost use Rattle.table_core.specs.Blocks.{IsBlock};
 
+use crate::order::Order;
 use crate::transfer::{Fresh, Transfer, Wish};
 use plane::Refusal;
 use std::alloc::Global;
+use table_core::Kind;
 
 impl Transfer<'_> {
     ghost use Rattle.node_sweep.specs.Enlarges.{Enlarges};
+    ghost use Rattle.node_sweep.specs.Orders.{IsOrderOf};
+    ghost use Rattle.node_sweep.specs.Reaching.{IsAny};
     ghost use Rattle.node_sweep.specs.Sweeps.{Sweeps};
-    ghost use Rattle.node_sweep.specs.Transfers.{IsCopyMade, IsUnderway, SaysNoRoom, old_bits, old_words};
+    ghost use Rattle.node_sweep.specs.Transfers.{IsCopyMade, IsUnderway, SaysNoRoom, number_count, old_bits, old_words};
 
-    // Fresh words without a square, and a note for each old number, that it has no copy.
+    // How many numbers the leaves and the pairs of the old words have, with 0.
+    pub(crate) fn number_count(&self) -> usize
+        ensures { result ≡ number_count self.now }
+    {
+        let shape = self.from.shape;
+        (shape.index(Kind::Pair, 0) + shape.slot_count(Kind::Pair)) as usize
+    }
+
+    // Fresh words without a square, and a note for each old leaf and pair, that it has no copy.
     pub(crate) fn begin(&self, alloc: Global) -> Result<Fresh, Refusal>
         ensures underway { IfOk result (IsUnderway self.now) }
         ensures memory { IsOkUnless result Refusal.NoMemory }
@@ -20,7 +32,7 @@ impl Transfer<'_> {
         let Ok(mut words) = vec![in alloc; 0; self.to.shape.word_count() as usize] else {
             return Err(Refusal::NoMemory);
         };
-        let Ok(copies) = vec![in alloc; 0; self.old.len()] else {
+        let Ok(copies) = vec![in alloc; 0; self.number_count()] else {
             return Err(Refusal::NoMemory);
         };
         words[0] = self.to.head();
@@ -45,16 +57,28 @@ impl Transfer<'_> {
         Ok((words, number))
     }
 
+    // All pairs in the order of their ranks.
+    fn ordered(&self, alloc: Global) -> Result<Order, Refusal>
+        ensures ok { IfOk result (λ order. IsOrderOf (old_bits self.now) (old_words self.now) IsAny order.slots.items order.ends) }
+        ensures memory { IsOkUnless result Refusal.NoMemory }
+    {
+        let ranks = self.ranks(alloc)?;
+        Ok(Order::of_ranks(alloc, ranks.as_slice())?)
+    }
+
     // Fresh words with all that the old ones show and all results, and the number of the copy of one.
     pub(crate) fn enlarged(&self, alloc: Global, root: u32) -> Result<(Vec<u64>, u32), Refusal>
         requires all { self.now.wish ≡ Wish.Everything }
-        requires inside { root < length self.now.old.now }
+        requires inside { root < number_count self.now }
         ensures ok { IfOk result (λ made. Enlarges self.now.from.now self.now.to (old_words self.now) made.0.items) }
         ensures root { IfOk result (λ made. IsCopyMade self.now made.0.items root made.1) }
         ensures refusal { IfErr result (λ refusal. (refusal ≡ Refusal.NoMemory) ⊎ SaysNoRoom self.now refusal) }
     {
+        let order = self.ordered(alloc)?;
         let mut fresh = self.begin(alloc)?;
-        self.copy_all(&mut fresh)?;
+        self.copy_leaves(&mut fresh)?;
+        self.copy_ranks(&mut fresh, &order)?;
+        drop(order);
         let copy = fresh.copies[root as usize];
         let words = self.with_results(fresh);
         Ok((words, copy))

@@ -2,10 +2,14 @@
 //! collection keeps small squares and finished large ones too, and enlarging keeps all that there is.
 #![tactic(auto)]
 
+mod blocks;
 mod census;
 mod collecting;
 mod copying;
 mod filling;
+mod leaves;
+mod marks;
+mod order;
 mod placing;
 mod ranks;
 mod results;

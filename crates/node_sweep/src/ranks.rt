@@ -1,9 +1,8 @@
 //! The rank of each pair of the old words.
 
-ghost use Rattle.std.specs.Prelude.{◌≡◌, ◌≢◌, ◌≤◌, ◌^◌, length, IfOk, IsOkUnless};
-ghost use Rattle.table_core.specs.Blocks.{IsBlock};
-ghost use Rattle.node_sweep.specs.Copies.{IsLowBlock};
-ghost use Rattle.node_sweep.specs.Ranks.{AreAllRanks, AreRanks, IsPart, KeepsRanks, RankOf};
+ghost use Rattle.std.specs.Prelude.{◌≡◌, ◌≢◌, ◌^◌, length, IfOk, IfSome, IsOkUnless};
+ghost use Rattle.node_sweep.specs.Copies.{IsLowBlock, IsSomeBlock};
+ghost use Rattle.node_sweep.specs.Ranks.{AreAllRanks, AreBlockParts, AreLowParts, AreRanks, IsPart, IsRankOf, IsRankOfPart, KeepsRanks, RankOf};
 
 use crate::transfer::Transfer;
 use plane::Refusal;
@@ -26,7 +25,43 @@ fn some_part(word: u64) -> u32
 impl Transfer<'_> {
     ghost use Rattle.node_sweep.specs.Transfers.{old_bits, old_words};
 
+    // The rank of a part of a pair, if that isn't 0 and its rank is known.
+    fn known(&self, ranks: &[u8], number: u32) -> Option<u8>
+        requires ranks { AreRanks (old_bits self.now) (old_words self.now) ranks.now }
+        requires long { length ranks.now ≡ 2 ^ old_bits self.now }
+        requires block { IsSomeBlock (old_bits self.now) (old_words self.now) number }
+        ensures { IfSome result (IsRankOf (old_bits self.now) (old_words self.now) number) }
+    {
+        if number == 0 {
+            return None;
+        }
+        let first_pair = self.from.shape.index(Kind::Pair, 0);
+        if number < first_pair {
+            return Some(0);
+        }
+        let rank = ranks[(number - first_pair) as usize];
+        if rank == 0 {
+            return None;
+        }
+        Some(rank)
+    }
+
+    // The rank of one part of a pair, if that is known.
+    fn known_below(&self, ranks: &[u8], word: u64) -> Option<u8>
+        requires ranks { AreRanks (old_bits self.now) (old_words self.now) ranks.now }
+        requires long { length ranks.now ≡ 2 ^ old_bits self.now }
+        requires parts { AreBlockParts (old_bits self.now) (old_words self.now) word }
+        ensures { IfSome result (IsRankOfPart (old_bits self.now) (old_words self.now) word) }
+    {
+        let (first, second) = parts(word);
+        match self.known(ranks, first) {
+            Some(rank) => Some(rank),
+            None => self.known(ranks, second),
+        }
+    }
+
     // The rank of a block of at most this height. That of a pair stands at its slot in `ranks` from then on.
+    #[cycle(rank)]
     fn rank(&self, ranks: &mut [u8], number: u32, height: u8) -> u8
         requires ranks { AreRanks (old_bits self.now) (old_words self.now) ranks.old }
         requires long { length ranks.old ≡ 2 ^ old_bits self.now }
@@ -45,10 +80,27 @@ impl Transfer<'_> {
         if known != 0 {
             return known;
         }
-        let part = some_part(self.old.word(number as usize));
-        let rank = 1 + self.rank(ranks, part, height - 1);
+        let word = self.old.word(number as usize);
+        let rank = 1 + self.rank_of_parts(ranks, word, height - 1);
         ranks[slot] = rank;
         rank
+    }
+
+    // The rank of the parts of a pair, which are blocks of at most this height.
+    #[cycle(rank)]
+    fn rank_of_parts(&self, ranks: &mut [u8], word: u64, height: u8) -> u8
+        requires ranks { AreRanks (old_bits self.now) (old_words self.now) ranks.old }
+        requires long { length ranks.old ≡ 2 ^ old_bits self.now }
+        requires some { word ≢ 0 }
+        requires parts { AreLowParts (old_bits self.now) (old_words self.now) height word }
+        ensures ranks { AreRanks (old_bits self.now) (old_words self.now) ranks.new }
+        ensures keeps { KeepsRanks ranks.old ranks.new }
+        ensures part { IsRankOfPart (old_bits self.now) (old_words self.now) word result }
+    {
+        match self.known_below(ranks, word) {
+            Some(rank) => rank,
+            None => self.rank(ranks, some_part(word), height),
+        }
     }
 
     // The rank of each pair, at its slot; 0 stands at a free slot.

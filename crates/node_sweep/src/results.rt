@@ -1,37 +1,82 @@
 //! Results, copied after the pairs beside which they stand.
 
-ghost use Rattle.std.specs.Prelude.{◌≡◌, ◌+◌, ◌^◌, length};
+ghost use Rattle.std.specs.Prelude.{◌≡◌, ◌+◌, ◌^◌, ◌≤◌, length};
 ghost use Rattle.table_core.specs.declared.shape.Kind.TheVariants.{Pair};
 ghost use Rattle.table_core.specs.Layout.{IsSlot, start};
+ghost use Rattle.node_sweep.specs.Keeping.{AreResultWords, IsResultWord};
 
 use crate::transfer::{Fresh, Transfer};
 use table_core::{Kind, parts, result_word};
 
-impl Transfer<'_> {
-    ghost use Rattle.node_sweep.specs.Transfers.{AreResultsKept, IsUnderway, old_bits};
+// How many results are read, and then told, side by side, so that they wait for memory together.
+const BLOCK_LEN: u32 = 64;
 
-    // Keeps the result of a pair beside its copy, where both have one.
-    fn keep_result(&self, words: &mut [u64], copies: &[u32], slot: u32, pair: u32)
-        requires long { length copies.now ≡ length self.now.old.now }
-        requires kept { AreResultsKept self.now copies.now words.old slot }
+impl Transfer<'_> {
+    ghost use Rattle.node_sweep.specs.Transfers.{AreResultsKept, IsUnderway, number_count, old_bits, old_words};
+
+    // The word to stand beside the copy of a pair: that of the copy of its result, and 0 where one of both has no copy.
+    fn kept_result(&self, copies: &[u32], pair: u32) -> u64
+        requires long { length copies.now ≡ number_count self.now }
         requires pair { IsSlot (old_bits self.now) Pair pair }
-        requires at { pair ≡ start (old_bits self.now) Pair + slot }
-        ensures { AreResultsKept self.now copies.now words.new (slot + 1) }
+        ensures { IsResultWord (old_bits self.now) (old_words self.now) copies.now pair result }
     {
-        let copy = copies[pair as usize];
-        if copy == 0 {
-            return;
+        if copies[pair as usize] == 0 {
+            return 0;
         }
         let result = self.old.word(self.from.shape.result_index(pair) as usize);
         if result == 0 {
-            return;
+            return 0;
         }
         let (_, future) = parts(result);
         let number = copies[future as usize];
         if number == 0 && future != 0 {
+            return 0;
+        }
+        result_word(number)
+    }
+
+    // These words of pairs at some slots from one on.
+    fn kept_results(&self, copies: &[u32], from: u32, told: &mut [u64])
+        requires long { length copies.now ≡ number_count self.now }
+        requires few { length told.old ≡ 64 }
+        requires inside { from + 64 ≤ 2 ^ old_bits self.now }
+        ensures { AreResultWords (old_bits self.now) (old_words self.now) copies.now told.new from 64 }
+    {
+        for i in 0..BLOCK_LEN {
+            let pair = self.from.shape.index(Kind::Pair, from + i);
+            told[i as usize] = self.kept_result(copies, pair);
+        }
+    }
+
+    // Places such a word beside the copy of the pair at this slot.
+    fn tell_result(&self, words: &mut [u64], copies: &[u32], slot: u32, pair: u32, word: u64)
+        requires long { length copies.now ≡ number_count self.now }
+        requires pair { IsSlot (old_bits self.now) Pair pair }
+        requires at { pair ≡ start (old_bits self.now) Pair + slot }
+        requires word { IsResultWord (old_bits self.now) (old_words self.now) copies.now pair word }
+        requires kept { AreResultsKept self.now copies.now words.old slot }
+        ensures { AreResultsKept self.now copies.now words.new (slot + 1) }
+    {
+        if word == 0 {
             return;
         }
-        words[self.to.shape.result_index(copy) as usize] = result_word(number);
+        let copy = copies[pair as usize];
+        words[self.to.shape.result_index(copy) as usize] = word;
+    }
+
+    // Places the words of pairs at some slots from one on.
+    fn tell_results(&self, words: &mut [u64], copies: &[u32], from: u32, told: &[u64])
+        requires long { length copies.now ≡ number_count self.now }
+        requires few { length told.now ≡ 64 }
+        requires inside { from + 64 ≤ 2 ^ old_bits self.now }
+        requires told { AreResultWords (old_bits self.now) (old_words self.now) copies.now told.now from 64 }
+        requires kept { AreResultsKept self.now copies.now words.old from }
+        ensures { AreResultsKept self.now copies.now words.new (from + 64) }
+    {
+        for i in 0..BLOCK_LEN {
+            let pair = self.from.shape.index(Kind::Pair, from + i);
+            self.tell_result(words, copies, from + i, pair, told[i as usize]);
+        }
     }
 
     // The fresh words, with the result of each pair beside its copy, where both have one.
@@ -40,9 +85,12 @@ impl Transfer<'_> {
         ensures { AreResultsKept self.now fresh.copies.items result.items (2 ^ old_bits self.now) }
     {
         let Fresh { mut words, copies } = fresh;
-        for slot in 0..self.from.shape.slot_count(Kind::Pair) {
-            let pair = self.from.shape.index(Kind::Pair, slot);
-            self.keep_result(words.as_mut_slice(), copies.as_slice(), slot, pair);
+        let mut told = [0u64; BLOCK_LEN as usize];
+        let count = self.from.shape.slot_count(Kind::Pair);
+        for block in 0..count / BLOCK_LEN {
+            let from = BLOCK_LEN * block;
+            self.kept_results(copies.as_slice(), from, &mut told);
+            self.tell_results(words.as_mut_slice(), copies.as_slice(), from, &told);
         }
         words
     }

@@ -44,12 +44,12 @@ impl<'a> Transfer<'a> {
     }
 }
 
-/// Copies the square and all that it reaches into fresh words of so many pair slots, under the same
+/// Copies the square and all that it reaches into fresh words of `pairs` pair slots, under the same
 /// rule and exponent. The result of a square stays where it is the empty square or is reached too, and
 /// no other does. The old words stay as they are.
 ///
-/// It refuses `NoMemory`, and `NodesFull` where the words of so many slots have no room for some of the
-/// squares beside others: never for a square that reaches at most 256 leaves and 256 pairs.
+/// It refuses `NoMemory`, and `NodesFull` if that many slots have no room for some of these squares beside
+/// the others: never for a square that reaches at most 256 leaves and 256 pairs.
 pub fn sweep(alloc: Global, still: &Still, root: Sq, pairs: u32) -> Result<(Still, Sq), Refusal>
     requires known { IsKnown (book_in still.now) root.level root }
     requires pairs { IsPairCount pairs }
@@ -70,11 +70,11 @@ pub fn sweep(alloc: Global, still: &Still, root: Sq, pairs: u32) -> Result<(Stil
     ))
 }
 
-/// Copies all squares and their results into fresh words of so many pair slots, under the same rule
-/// and exponent, and says which square is now this one. The old words stay as they are.
+/// Copies all squares and their results into fresh words of `pairs` pair slots, under the same rule
+/// and exponent, and answers the root's square in them. The old words stay as they are.
 ///
-/// It refuses `NoMemory`, and `NodesFull` where the words of so many slots have no room for some of the
-/// squares beside others.
+/// It refuses `NoMemory`, and `NodesFull` if that many slots have no room for some of these squares beside
+/// the others.
 pub fn enlarge(alloc: Global, still: &Still, root: Sq, pairs: u32) -> Result<(Still, Sq), Refusal>
     requires known { IsKnown (book_in still.now) root.level root }
     requires pairs { IsPairCount pairs }
@@ -104,13 +104,13 @@ pub struct Collected {
     pub finished: Finished,
 }
 
-/// Copies into fresh words of so many pair slots, under the same rule and exponent, the square and all that
+/// Copies into fresh words of `pairs` pair slots, under the same rule and exponent, the square and all that
 /// it reaches; all squares and halves up to some size; the squares from some larger size on that have a result, and
 /// this result; and all that these reach. The result of a square stays where it is the empty square or is copied
 /// too, and no other does. The old words stay as they are.
 ///
-/// It refuses `NoMemory`, and `NodesFull` where the words of so many slots have no room for some of the
-/// squares beside others.
+/// It refuses `NoMemory`, and `NodesFull` if that many slots have no room for some of these squares beside
+/// the others.
 pub fn collect(alloc: Global, still: &Still, root: Sq, pairs: u32) -> Result<Collected, Refusal>
     requires known { IsKnown (book_in still.now) root.level root }
     requires pairs { IsPairCount pairs }
@@ -124,7 +124,7 @@ pub fn collect(alloc: Global, still: &Still, root: Sq, pairs: u32) -> Result<Col
     let census = scan.census(ranks.as_slice());
     let ends = census.ends(root.num.0, pairs);
     let transfer = Transfer::of_still(still, Wish::Collected(ends), pairs);
-    let (words, number) = transfer.collected(alloc, ends, ranks.as_slice(), square_rank(level))?;
+    let (words, number) = transfer.collected(alloc, ends, ranks, square_rank(level))?;
     Ok(Collected {
         still: Still::of_words(transfer.to, words),
         root: Sq {

@@ -1,7 +1,9 @@
-use Rattle.std.proofs.Common.{◌≡◌, ◌<◌, ◌⊎◌, length, refl, rules}
+use Rattle.std.proofs.Common.{◌≡◌, ◌+◌, ◌<◌, ◌^◌, ◌⊎◌, refl, rules}
 use Rattle.std.specs.Prelude.{slice_index, IfErr}
 use Rattle.plane.specs.declared.refusal.Refusal.TheVariants.{NodesFull, NoMemory}
 use Rattle.squares.specs.Book.{numbered}
+use Rattle.table_core.specs.declared.shape.Kind.TheVariants.{Pair}
+use Rattle.table_core.specs.Layout.{start}
 use Rattle.node_sweep.specs.Copies.{IsCopyOf}
 use Rattle.node_sweep.specs.Enlarges.{Enlarges}
 use Rattle.node_sweep.specs.EnlargedStills.{HasNoRoomForAll}
@@ -14,7 +16,7 @@ use Rattle.node_sweep.proofs.stills.enlarge.Goals as goal
 pub enlarged-requires-clause-inside : goal.enlarged-requires-clause-inside
 enlarged-requires-clause-inside c =
     at_transfer c.args.still.now Everything c.args.pairs c.of_still-transfer.result c.of_still-transfer.ensures
-    (λ key words root. c.args.root.num.0 < length words) (known_inside c.args.still.now c.args.root c.requires.known)
+    (λ key words root. c.args.root.num.0 < start key.shape.bits Pair + 2 ^ key.shape.bits) (known_inside c.args.still.now c.args.root c.requires.known)
 
 pub returns-in_err-words-clause-refusal : goal.returns-in_err-words-clause-refusal
 returns-in_err-words-clause-refusal c =

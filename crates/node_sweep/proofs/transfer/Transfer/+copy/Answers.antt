@@ -8,6 +8,7 @@ use Rattle.node_sweep.specs.Copies.{IsCopy}
 use Rattle.node_sweep.specs.Transfers.{fresh_words, old_bits, old_words}
 use Rattle.node_sweep.proofs.SameBlocks.{copy_later, block_parts}
 use Rattle.node_sweep.proofs.Futures.{block_below}
+use Rattle.node_sweep.proofs.Places.{sought_start}
 use Rattle.node_sweep.proofs.Recursing.{IsPairOf, copy_as, leaf_below, as_pair, higher, first_low, second_low, first_wanted, second_wanted}
 use Rattle.node_sweep.proofs.Underway.{already_noted, block_inside, empty_noted}
 use Rattle.node_sweep.proofs.transfer.Transfer.+copy.Goals as goal
@@ -103,3 +104,9 @@ word-word-requires t c =
     let below = block_below (old_bits c.args.self.now) (old_words c.args.self.now) c.requires.block.0 c.args.number c.requires.block.2 in
     let long = c.args.self.now.good.long in
     omega arith
+
+pub note-requires-clause-tried : goal.note-requires-clause-tried
+note-requires-clause-tried t c = sought_start _ _ _ _
+
+pub note-requires-2-clause-tried : goal.note-requires-2-clause-tried
+note-requires-2-clause-tried t c = sought_start _ _ _ _

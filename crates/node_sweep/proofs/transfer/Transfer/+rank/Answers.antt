@@ -1,79 +1,64 @@
-use Rattle.std.proofs.Common.{◌≡◌, ◌≤◌, ◌+◌, ◌-◌, ◌<◌, length, subst, arith, refl}
+use Rattle.std.proofs.Common.{◌≡◌, ◌+◌, ◌-◌, ◌∙◌, arith, refl, subst, sym}
 use Rattle.table_core.specs.declared.shape.Kind.TheVariants.{Pair}
 use Rattle.table_core.specs.Layout.{start}
-use Rattle.node_sweep.specs.Ranks.{IsPart}
+use Rattle.node_sweep.specs.Ranks.{AreLowParts}
 use Rattle.node_sweep.specs.Transfers.{old_bits, old_words}
-use Rattle.node_sweep.proofs.Ranked.{noted_rank, part_low, rank_above, ranked_now, ranks_still}
-use Rattle.node_sweep.proofs.Recursing.{IsPairOf, as_pair, higher}
+use Rattle.node_sweep.proofs.Ranked.{next_low, next_noted, next_rank, noted_rank, parts_low, slot_there, some_parts, tall, word_there}
 use Rattle.node_sweep.proofs.transfer.Transfer.+rank.Goals as goal
 
-pub returns-then-known-ne0-clause-rank : goal.returns-then-known-ne0-clause-rank
-returns-then-known-ne0-clause-rank t c =
+pub rank-returns-then-known-ne0-clause-rank : goal.rank-returns-then-known-ne0-clause-rank
+rank-returns-then-known-ne0-clause-rank t c =
     let first : c.index-first_pair.result ≡ start (old_bits c.args.self.now) Pair + 0 = c.index-first_pair.ensures.index in
     let not_low = c.if-number-first_pair.false in
     noted_rank (old_bits c.args.self.now) (old_words c.args.self.now) c.args.ranks.now c.args.number c.args.height (c.args.number - c.index-first_pair.result) c.requires.ranks c.requires.some c.requires.block (omega arith) c.if-known-ne0.true
 
-pub rank-rank-requires : goal.rank-rank-requires
-rank-rank-requires t c =
+pub rank-rank_of_parts-rank-requires : goal.rank-rank_of_parts-rank-requires
+rank-rank_of_parts-rank-requires t c =
     let bits = old_bits c.args.self.now in
     let old = old_words c.args.self.now in
+    let number = c.args.number in
+    let height = c.args.height in
+    let some = c.requires.some in
+    let block = c.requires.block in
     let first : c.index-first_pair.result ≡ start bits Pair + 0 = c.index-first_pair.ensures.index in
     let not_low = c.if-number-first_pair.false in
-    let high : start bits Pair ≤ c.args.number = omega arith in
-    let above = higher bits old c.args.height c.args.number c.requires.some high c.requires.block in (
+    let one = tall bits old number height some (omega arith) block in (
       omega arith,
       (
         c.requires.ranks,
         (
           c.requires.long,
           (
-            c.some_part-part.ensures.some,
-            part_low bits old c.args.number c.args.height c.requires.some high c.requires.block c.some_part-part.result (subst (λ word. IsPart word c.some_part-part.result) c.word.ensures c.some_part-part.ensures.part),
+            subst (λ word. word ≡ 0 → ⊥) (sym c.word-word.ensures) (word_there bits old number height some (omega arith) block),
+            subst (AreLowParts bits old (height - 1)) (sym c.word-word.ensures) (parts_low bits old number height some (omega arith) block),
           ),
         ),
       ),
     )
 
-pub bounds-ranks-slot-2 : goal.bounds-ranks-slot-2
-bounds-ranks-slot-2 t c =
-    let bits = old_bits c.args.self.now in
-    let first : c.index-first_pair.result ≡ start bits Pair + 0 = c.index-first_pair.ensures.index in
-    let not_low = c.if-number-first_pair.false in
-    let high : start bits Pair ≤ c.args.number = omega arith in
-    let p : IsPairOf bits (old_words c.args.self.now) c.args.height c.args.number = as_pair bits (old_words c.args.self.now) c.args.height c.args.number c.requires.some high c.requires.block in
-    let below = p.slot.below in
-    let same = c.rank-rank.auto.ranks in
-    let long = c.requires.long in
+pub rank-overflow_add-rank : goal.rank-overflow_add-rank
+rank-overflow_add-rank t c =
+    let low = next_low (old_bits c.args.self.now) (old_words c.args.self.now) c.rank_of_parts-rank.new.ranks c.args.number c.args.height c.index-first_pair.result c.rank_of_parts-rank.result
+    c.requires.some c.index-first_pair.ensures.index (λ less. let not_low = c.if-number-first_pair.false in absurd (omega arith)) c.requires.block (c.rank_of_parts-rank.auto.ranks ∙ c.requires.long) c.word-word.result c.word-word.ensures c.rank_of_parts-rank.ensures.part in
+    let fits = c.ranges.height.fits in
     omega arith
 
-pub returns-clause-ranks : goal.returns-clause-ranks
-returns-clause-ranks t c =
-    let bits = old_bits c.args.self.now in
-    let old = old_words c.args.self.now in
-    let first : c.index-first_pair.result ≡ start bits Pair + 0 = c.index-first_pair.ensures.index in
-    let not_low = c.if-number-first_pair.false in
-    let high : start bits Pair ≤ c.args.number = omega arith in
-    let p : IsPairOf bits old c.args.height c.args.number = as_pair bits old c.args.height c.args.number c.requires.some high c.requires.block in
-    let below = p.slot.below in
-    let same = c.rank-rank.auto.ranks in
-    let long = c.requires.long in
-    let inside : c.args.number - c.index-first_pair.result < length c.rank-rank.new.ranks = omega arith in
-    let above = rank_above bits old c.args.number c.args.height c.requires.some high c.requires.block c.some_part-part.result c.rank-rank.result (1 + c.rank-rank.result) (subst (λ word. IsPart word c.some_part-part.result) c.word.ensures c.some_part-part.ensures.part) c.some_part-part.ensures.some
-    c.rank-rank.ensures.rank.block refl in
-    ranks_still bits old c.rank-rank.new.ranks _ c.args.number (c.args.number - c.index-first_pair.result) (1 + c.rank-rank.result) (λ z. absurd (omega arith)) c.rank-rank.ensures.ranks (omega arith) inside above.0 refl
+pub rank-bounds-ranks-slot-2 : goal.rank-bounds-ranks-slot-2
+rank-bounds-ranks-slot-2 t c =
+    slot_there (old_bits c.args.self.now) (old_words c.args.self.now) c.rank_of_parts-rank.new.ranks c.args.number c.args.height c.index-first_pair.result c.rank_of_parts-rank.result
+    c.requires.some c.index-first_pair.ensures.index (λ less. let not_low = c.if-number-first_pair.false in absurd (omega arith)) c.requires.block (c.rank_of_parts-rank.auto.ranks ∙ c.requires.long) c.word-word.result c.word-word.ensures c.rank_of_parts-rank.ensures.part
 
-pub returns-clause-rank : goal.returns-clause-rank
-returns-clause-rank t c =
-    let bits = old_bits c.args.self.now in
-    let old = old_words c.args.self.now in
-    let first : c.index-first_pair.result ≡ start bits Pair + 0 = c.index-first_pair.ensures.index in
-    let not_low = c.if-number-first_pair.false in
-    let high : start bits Pair ≤ c.args.number = omega arith in
-    let p : IsPairOf bits old c.args.height c.args.number = as_pair bits old c.args.height c.args.number c.requires.some high c.requires.block in
-    let below = p.slot.below in
-    let same = c.rank-rank.auto.ranks in
-    let long = c.requires.long in
-    let inside : c.args.number - c.index-first_pair.result < length c.rank-rank.new.ranks = omega arith in
-    let above = rank_above bits old c.args.number c.args.height c.requires.some high c.requires.block c.some_part-part.result c.rank-rank.result (1 + c.rank-rank.result) (subst (λ word. IsPart word c.some_part-part.result) c.word.ensures c.some_part-part.ensures.part) c.some_part-part.ensures.some
-    c.rank-rank.ensures.rank.block refl in
-    ranked_now bits old c.rank-rank.new.ranks _ c.args.number (c.args.number - c.index-first_pair.result) (1 + c.rank-rank.result) (λ z. absurd (omega arith)) c.rank-rank.ensures.ranks (omega arith) inside above.0 refl c.args.height above.1
+pub rank-returns-clause-ranks : goal.rank-returns-clause-ranks
+rank-returns-clause-ranks t c =
+    next_noted (old_bits c.args.self.now) (old_words c.args.self.now) c.rank_of_parts-rank.new.ranks c.args.number c.args.height c.index-first_pair.result c.rank_of_parts-rank.result
+    c.requires.some c.index-first_pair.ensures.index (λ less. let not_low = c.if-number-first_pair.false in absurd (omega arith)) c.requires.block (c.rank_of_parts-rank.auto.ranks ∙ c.requires.long) c.word-word.result c.word-word.ensures c.rank_of_parts-rank.ensures.part
+    _ c.rank_of_parts-rank.ensures.ranks refl
+
+pub rank-returns-clause-rank : goal.rank-returns-clause-rank
+rank-returns-clause-rank t c =
+    next_rank (old_bits c.args.self.now) (old_words c.args.self.now) c.rank_of_parts-rank.new.ranks c.args.number c.args.height c.index-first_pair.result c.rank_of_parts-rank.result
+    c.requires.some c.index-first_pair.ensures.index (λ less. let not_low = c.if-number-first_pair.false in absurd (omega arith)) c.requires.block (c.rank_of_parts-rank.auto.ranks ∙ c.requires.long) c.word-word.result c.word-word.ensures c.rank_of_parts-rank.ensures.part
+    _ c.rank_of_parts-rank.ensures.ranks refl
+
+pub rank_of_parts-known_below-requires-clause-parts : goal.rank_of_parts-known_below-requires-clause-parts
+rank_of_parts-known_below-requires-clause-parts t c = some_parts (old_bits c.args.self.now) (old_words c.args.self.now) c.args.height c.args.word c.requires.parts

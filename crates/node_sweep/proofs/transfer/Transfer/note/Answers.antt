@@ -2,6 +2,7 @@ use Rattle.std.proofs.Common.{◌∙◌, List, ℕ, sym, subst, refl}
 use Rattle.std.specs.Prelude.{slice_index}
 use Rattle.std.proofs.lemmas.List.{with_items_is}
 use Rattle.table_core.specs.Good.{PartsStand}
+use Rattle.node_sweep.specs.Placing.{IsSought}
 use Rattle.node_sweep.specs.Transfers.{new_bits, old_words, wants}
 use Rattle.node_sweep.proofs.Notes.{parts_stand, word_nonzero}
 use Rattle.node_sweep.proofs.Underway.{now_noted, still_underway}
@@ -29,3 +30,7 @@ returns-clause-ok c =
     now_noted c.args.self.now c.args.fresh.now c.requires.underway _ c.args.kind c.args.number c.args.word c.in-Some.index c.requires.some c.requires.wanted c.requires.word
     c.as_mut_slice.result.now c.place.new.words c.in-Some.ensures.some c.as_mut_slice.ensures.value
     (with_items_is c.args.fresh.now.words c.place.new.words (c.place.auto.words ∙ c.as_mut_slice.ensures.len)) refl
+
+pub place-requires-clause-tried : goal.place-requires-clause-tried
+place-requires-clause-tried c =
+    subst (λ (ws : List ℕ). IsSought (new_bits c.args.self.now) ws c.args.kind c.args.word c.args.tried) (sym c.as_mut_slice.ensures.value) c.requires.tried

@@ -1,0 +1,66 @@
+-- Marks of the numbers that a collection copies.
+use Rattle.std.specs.Prelude.{◌≡◌, ◌≢◌, ℕ, ◌+◌, ◌-◌, ◌<◌, ◌≤◌, ◌⊎◌, List, length, slice_index}
+use Rattle.table_core.specs.declared.shape.Kind.TheVariants.{Pair}
+use Rattle.table_core.specs.Layout.{IsSlot, start}
+use Rattle.table_core.specs.Blocks.{Words, IsBlock}
+use Rattle.node_sweep.specs.Copies.{IsLowBlock, IsSomeBlock}
+use Rattle.node_sweep.specs.Ends.{IsEndCopied}
+use Rattle.node_sweep.specs.Orders.{IsOrderOf}
+use Rattle.node_sweep.specs.Ranks.{IsPart}
+use Rattle.node_sweep.specs.Transfers.{number_count, old_bits, old_words, wants}
+use Rattle.node_sweep.specs.declared.transfer.Transfer.{Transfer}
+
+-- the number has a mark
+abbrev pub IsMarked : List ℕ → ℕ → Type 0
+IsMarked marks number = slice_index marks number ≢ 0
+
+-- the number has a mark now, and nothing else has changed
+pub record IsMarkSet (old new : List ℕ) (number : ℕ) : Type 0 where
+  pub long : length new ≡ length old
+  pub now : IsMarked new number
+  pub others : (other : ℕ) → other ≢ number → slice_index new other ≡ slice_index old other
+
+-- no mark is gone
+pub record KeepsMarks (old new : List ℕ) : Type 0 where
+  pub kept : (number : ℕ) → IsMarked old number → IsMarked new number
+
+-- there is room for a mark of each leaf and pair, and what has one is a block and wanted
+pub record AreMarks (transfer : Transfer) (marks : List ℕ) : Type 0 where
+  pub long : length marks ≡ number_count transfer
+  pub blocks : (number : ℕ) → IsMarked marks number → IsSomeBlock (old_bits transfer) (old_words transfer) number
+  pub wanted : (number : ℕ) → IsMarked marks number → wants transfer number
+
+-- both parts of the pair have marks, if it has one
+pub record ArePartsMarked (words : Words) (marks : List ℕ) (pair : ℕ) : Type 0 where
+  pub marked : (part : ℕ) → IsMarked marks pair → IsPart (words pair) part → IsMarked marks part
+
+-- the pair has a mark if it is small, and with its result if it is large and has one; both parts have marks if it has one
+pub record IsVisited (bits : ℕ) (words : Words) (low high : ℕ) (marks : List ℕ) (pair : ℕ) : Type 0 where
+  pub end : IsEndCopied bits words low high marks pair
+  pub parts : ArePartsMarked words marks pair
+
+-- so it is with each pair above this rank
+pub record AreVisited (bits : ℕ) (words : Words) (low high : ℕ) (marks : List ℕ) (rank : ℕ) : Type 0 where
+  pub above : (other pair : ℕ) → rank < other → IsSlot bits Pair pair → IsBlock bits words other pair → IsVisited bits words low high marks pair
+
+-- and with the pairs of this rank at places from the one on to the other
+pub record AreVisitedTo (bits : ℕ) (words : Words) (low high : ℕ) (slots marks : List ℕ) (from to : ℕ) : Type 0 where
+  pub here : (place : ℕ) → from ≤ place → place < to → IsVisited bits words low high marks (start bits Pair + slice_index slots place)
+
+-- no mark is gone; a new one is that of the pair or of a block of a lower rank
+pub record GetsMarks (bits : ℕ) (words : Words) (rank pair : ℕ) (old new : List ℕ) : Type 0 where
+  pub kept : (number : ℕ) → IsMarked old number → IsMarked new number
+  pub only : (number : ℕ) → IsMarked new number → IsMarked old number ⊎ ((number ≡ pair) ⊎ IsLowBlock bits words (rank - 1) number)
+
+-- only the ranks of marked pairs are left
+pub record KeepsMarked (bits : ℕ) (marks old new : List ℕ) (slots : ℕ) : Type 0 where
+  pub marked : (slot : ℕ) → slot < slots → IsMarked marks (start bits Pair + slot) → slice_index new slot ≡ slice_index old slot
+  pub gone : (slot : ℕ) → slot < slots → slice_index marks (start bits Pair + slot) ≡ 0 → slice_index new slot ≡ 0
+  pub rest : (slot : ℕ) → slots ≤ slot → slice_index new slot ≡ slice_index old slot
+
+-- what is wanted beside what others reach has marks, with all parts, and of the pairs that have marks this is the order
+pub record AreKept (transfer : Transfer) (root low high : ℕ) (marks slots ends : List ℕ) : Type 0 where
+  pub are_marks : AreMarks transfer marks
+  pub root_marked : IsMarked marks root
+  pub visited : AreVisited (old_bits transfer) (old_words transfer) low high marks 0
+  pub order : IsOrderOf (old_bits transfer) (old_words transfer) (IsMarked marks) slots ends
