@@ -16,7 +16,7 @@ use Rattle.plane.proofs.Cells.{at}
 use Rattle.viewport.specs.Population.{cell_count}
 
 -- how many of so many bits are set, from this place on
-bits_from : ℕ → ℕ → ℕ → ℕ
+pub bits_from : ℕ → ℕ → ℕ → ℕ
 bits_from word i zero = 0
 bits_from word i (suc n) = bit_at word i + bits_from word (suc i) n
 
@@ -32,7 +32,7 @@ bits_from-add word i (suc a) b =
 halved : (word i : ℕ) → word / 2 ^ i / 2 ≡ word / 2 ^ suc i
 halved word i = div-div-eq-div-mul word (2 ^ i) 2 ∙ ap (λ n. word / n) (sym (pow-suc 2 i))
 
-ones_from : (word i n : ℕ) → count_ones (word / 2 ^ i) ≡ bits_from word i n + count_ones (word / 2 ^ (i + n))
+pub ones_from : (word i n : ℕ) → count_ones (word / 2 ^ i) ≡ bits_from word i n + count_ones (word / 2 ^ (i + n))
 unfolding bits_from
 ones_from word i zero = let f : i + zero ≡ i = omega arith in let there = ap (λ k. count_ones (word / 2 ^ k)) f in omega (arith, there)
 ones_from word i (suc n) =
@@ -53,7 +53,7 @@ all_ones word low =
     let whole = ones_from word 0 64 in let end = ap count_ones (gone word low) in
     let from = ap count_ones start in omega (arith, whole, end, from, no_ones)
 
-abbrev live : ℕ → Cell → Bool
+abbrev pub live : ℕ → Cell → Bool
 live word cell = bits_plane word cell.x cell.y
 
 pub in_leaf : (n : ℕ) → n < 8 → spans 8 (pos n) ≡ true
@@ -69,7 +69,7 @@ one_or_none zero c cs low = let e : zero + length cs ≡ length cs = omega arith
 one_or_none (suc zero) c cs low = let e : suc zero + length cs ≡ suc (length cs) = omega arith in sym e
 one_or_none (suc (suc b)) c cs low = absurd (omega arith)
 
-row_count : (word x y wide : ℕ) → x + wide ≤ 8 → y < 8 → length (filter (live word) (row_places (pos x) (pos y) wide)) ≡ bits_from word (8 * y + x) wide
+pub row_count : (word x y wide : ℕ) → x + wide ≤ 8 → y < 8 → length (filter (live word) (row_places (pos x) (pos y) wide)) ≡ bits_from word (8 * y + x) wide
 unfolding row_places bits_from
 row_count word x y zero fits tall = refl
 row_count word x y (suc wide) fits tall =

@@ -1,3 +1,4 @@
+pub mod Blocks
 pub mod BoundingBox
 pub mod Halves
 pub mod Picture
@@ -5,3 +6,4 @@ pub mod Places
 pub mod Population
 pub mod RowRuns
 pub mod Rows
+pub mod Strips

@@ -1,9 +1,11 @@
 //! What a square shows, over any book that can be read: how many live cells it has, the smallest
-//! box round them, the runs of a row, the first row with a live cell, and the picture of a window. A
-//! square of level k covers -2^(k-1) to 2^(k-1)-1 in both directions, so (0,0) lies at its centre.
-//! Squares that share their quarters are no slower for it, however many cells they have.
+//! box round them, the runs of a row, the first row with a live cell, the picture of a window, and
+//! the shades of blocks of cells. A square of level k covers -2^(k-1) to 2^(k-1)-1 in both
+//! directions, so (0,0) lies at its centre. Squares that share their quarters are no slower for it,
+//! however many cells they have.
 #![tactic(auto)]
 
+mod blocks;
 mod boxes;
 mod halves;
 mod laws;
@@ -11,8 +13,11 @@ mod pictures;
 mod populations;
 mod rows;
 mod runs;
+mod shades;
 mod sides;
+mod strips;
 
+pub use blocks::{Blocks, block_shades};
 pub use boxes::bounds;
 pub use laws::one_list_of_runs;
 pub use pictures::picture;

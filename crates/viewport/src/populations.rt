@@ -12,7 +12,7 @@ use std::alloc::Global;
 use std::collections::HashMap;
 
 // The numbers of live cells of squares, by level and number.
-type Counts = HashMap<(u8, u32), u128>;
+pub type Counts = HashMap<(u8, u32), u128>;
 
 // The lowest level of which counts are noted. Counting a lower square again costs no more than its note.
 const LOWEST_NOTED: u8 = 6;
@@ -45,7 +45,7 @@ pub fn population_at<S: Squares>(alloc: Global, book: &mut S, sq: Sq) -> Result<
 
 // How many live cells the square has, by the counts that are known; it adds what it finds to them.
 #[cycle(count)]
-fn count<R: Reading>(from: &mut R, sq: Sq, counts: &mut Counts) -> Result<u128, Refusal>
+pub fn count<R: Reading>(from: &mut R, sq: Sq, counts: &mut Counts) -> Result<u128, Refusal>
     requires known { IsKnown (R.book from.old) sq.level sq }
     requires level { sq.level ≤ 63 }
     requires counted { AreCounts (R.book from.old) counts.old }

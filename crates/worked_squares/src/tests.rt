@@ -8,6 +8,7 @@ mod numbered_squares;
 mod orders;
 mod places;
 mod rows;
+mod shades;
 mod soup_futures;
 mod soups;
 mod table_words;

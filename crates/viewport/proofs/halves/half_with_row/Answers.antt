@@ -1,22 +1,17 @@
 use Rattle.std.proofs.Common.{◌+◌, ◌<◌, sym, arith}
 use Rattle.plane.proofs.Paddings.{twice_half}
+use Rattle.viewport.proofs.HalvesOfSquares.{picked_half, row_of_half}
 use Rattle.viewport.proofs.Quarters.{quartered_by}
-use Rattle.viewport.proofs.RowsOfSquares.{under_row, upper_row}
 use Rattle.viewport.proofs.halves.half_with_row.Goals as goal
 
-pub returns-then-y-half-clause-row : goal.returns-then-y-half-clause-row
-returns-then-y-half-clause-row g c =
+pub returns-clause-row : goal.returns-clause-row
+returns-clause-row g c =
     let book = g.B.Look.book c.args.book.now in
-    let quarters = quartered_by book c.args.sq c.parts.result _ (g.met.B.Look.is_book c.args.book.now) c.requires.known c.requires.low c.parts.ensures c.side-half.ensures.side in
-    rw (sym c.side-half.ensures.side) (upper_row c.side-half.result (book.cells c.args.sq) _ _ _ _ quarters c.args.y c.if-y-half.true)
-
-pub returns-else-y-half-clause-row : goal.returns-else-y-half-clause-row
-returns-else-y-half-clause-row g c =
-    let book = g.B.Look.book c.args.book.now in
-    let quarters = quartered_by book c.args.sq c.parts.result _ (g.met.B.Look.is_book c.args.book.now) c.requires.known c.requires.low c.parts.ensures c.side-half.ensures.side in
+    let quarters = quartered_by book c.args.sq c.parts.result _ (g.met.B.Look.is_book c.args.book.now) c.requires.known c.requires.low c.parts.ensures c.side.ensures.side in
     let low = c.requires.low in
     let twice = twice_half c.args.sq.level (omega (arith, low)) in
-    let side = c.side-half.ensures.side in
+    let side = c.side.ensures.side in
     let row = c.requires.row in
-    let inside : c.args.y < c.side-half.result + c.side-half.result = omega (arith, twice, side, row) in
-    rw (sym c.side-half.ensures.side) (under_row c.side-half.result (book.cells c.args.sq) _ _ _ _ quarters c.args.y c.if-y-half.false inside)
+    let inside : c.args.y < c.side.result + c.side.result = omega (arith, twice, side, row) in
+    rw (sym side)
+    (row_of_half _ _ _ _ _ _ (picked_half c.side.result c.side.result (book.cells c.args.sq) book.cells c.parts.result c.args.y c.half_of.result inside quarters c.half_of.ensures.upper c.half_of.ensures.lower))

@@ -1,0 +1,94 @@
+use Rattle.std.proofs.Common.{◌≡◌, ◌-◌, ◌^◌, ◌++◌, sym, subst, ◌∙◌, ap, arith, rules}
+use Rattle.std.proofs.lemmas.Result.{on_ok_weaker}
+use Rattle.plane.specs.Plane.{Plane}
+use Rattle.plane.proofs.Same.{plane_equal}
+use Rattle.squares.proofs.Kept.{keeps_trans, known_kept}
+use Rattle.viewport.specs.Strips.{IsInBlocks, strip_counts}
+use Rattle.viewport.proofs.Counts.{zero_is_empty}
+use Rattle.viewport.proofs.CountsLater.{kept_counts}
+use Rattle.viewport.proofs.Quarters.{own_level}
+use Rattle.viewport.proofs.StripCounts.{blocks_of_half, empty_blocks, joined_on, no_blocks, parts_of, right_in_blocks, strip_in_halves, whole_block}
+use Rattle.viewport.proofs.strips.+count_strip.Goals as goal
+
+pub returns-then-strip-clause-ok : goal.returns-then-strip-clause-ok
+returns-then-strip-clause-ok g t c = no_blocks _ _ c.args.strip _ c.if-strip.true
+
+pub returns-then-sq-eq0-clause-ok : goal.returns-then-sq-eq0-clause-ok
+returns-then-sq-eq0-clause-ok g t c =
+    let book = g.R.Reading.book c.args.from.now in
+    c.in_ok-add_dead.ensures.ok
+    ∙ ap (λ l. c.args.found.now.items ++ l) (sym (empty_blocks (book.cells c.args.sq) c.args.exponent c.args.strip (zero_is_empty book c.args.sq (g.met.R.Reading.is_book c.args.from.now) c.if-sq-eq0.true)))
+
+pub returns-then-sq-exponent-clause-ok : goal.returns-then-sq-exponent-clause-ok
+returns-then-sq-exponent-clause-ok g t c =
+    let book = g.R.Reading.book c.args.from.now in
+    c.in_ok-push.ensures.items
+    ∙ ap (λ l. c.args.found.now.items ++ l)
+    (sym (whole_block (book.cells c.args.sq) c.args.sq.level c.args.exponent c.args.strip _ c.if-sq-exponent.true c.requires.strip c.if-strip.false c.in_ok-count.ensures.ok.cells))
+
+pub returns-in_err-count_leaf_strip-clause-counted : goal.returns-in_err-count_leaf_strip-clause-counted
+returns-in_err-count_leaf_strip-clause-counted g t c =
+    kept_counts (g.R.Reading.book c.args.from.now) (g.R.Reading.book c.cells_of.new.self) c.args.counts.now c.cells_of.ensures.keeps c.requires.counted
+
+pub returns-then-sq-eq3-clause-counted : goal.returns-then-sq-eq3-clause-counted
+returns-then-sq-eq3-clause-counted g t c =
+    kept_counts (g.R.Reading.book c.args.from.now) (g.R.Reading.book c.cells_of.new.self) c.args.counts.now c.cells_of.ensures.keeps c.requires.counted
+
+pub half_with_blocks-row-requires-clause-row : goal.half_with_blocks-row-requires-clause-row
+half_with_blocks-row-requires-clause-row g t c =
+    let exponent = c.requires.exponent in
+    let other = c.if-sq-exponent.false in
+    let side = blocks_of_half c.args.sq.level c.args.exponent c.side-half.result (omega (arith, exponent, other)) c.side-half.ensures.side in
+    let row = c.requires.strip.row in omega (arith, side, row)
+
+pub count_strip-requires-2 : goal.count_strip-requires-2
+count_strip-requires-2 g t c κs within =
+    let exponent = c.requires.exponent in
+    let other = c.if-sq-exponent.false in
+    let half = c.half_with_blocks-row in
+    let keeps = c.in_ok-count_strip.ensures.keeps in
+    let at_level = half.ensures.second.at_level in
+    let side = c.side-half.ensures.side in
+    let blocks = blocks_of_half c.args.sq.level c.args.exponent c.side-half.result (omega (arith, exponent, other)) side in
+    let less : c.args.sq.level - 1 - c.args.exponent ≡ half.result.1.level - c.args.exponent = omega (arith, at_level) in (
+      search rules,
+      (
+        search rules,
+        (
+          own_level _ _ _ (known_kept keeps half.ensures.second),
+          (
+            omega (arith, at_level),
+            (
+              omega (arith, at_level, exponent, other),
+              (
+                subst (λ n. IsInBlocks n c.right_part.result) (side ∙ ap (λ n. 2 ^ n) less)
+                    (right_in_blocks c.side-half.result half.result.2 c.args.strip c.left_part.result c.right_part.result (subst (λ n. IsInBlocks n c.args.strip) blocks c.requires.strip) half.ensures.row.inside
+                    (parts_of c.side-half.result half.result.2 c.args.strip c.left_part.result c.right_part.result c.left_part.ensures.row c.left_part.ensures.from c.left_part.ensures.end c.right_part.ensures.row c.right_part.ensures.from c.right_part.ensures.end)),
+                c.in_ok-count_strip.ensures.counted,
+              ),
+            ),
+          ),
+        ),
+      ),
+    )
+
+pub returns-clause-ok : goal.returns-clause-ok
+returns-clause-ok g t c =
+    let old = g.R.Reading.book c.args.from.now in
+    let half = c.half_with_blocks-row in
+    let book = g.R.Reading.book half.new.from in
+    let later = g.R.Reading.book c.count_strip.new.from in
+    let exponent = c.requires.exponent in
+    let other = c.if-sq-exponent.false in
+    let left = strip_counts (book.cells half.result.0) c.args.exponent c.left_part.result in
+    let same : later.cells half.result.1 ≡ book.cells half.result.1 = plane_equal _ _ (c.in_ok-count_strip.ensures.keeps.cells half.result.1 half.ensures.second.known) in
+    let whole = strip_in_halves book c.args.sq.level c.args.exponent c.side-half.result half.result.2 (old.cells c.args.sq) half.result.0 half.result.1 c.args.strip c.left_part.result c.right_part.result
+    (g.met.R.Reading.is_book half.new.from) (omega (arith, exponent, other)) c.side-half.ensures.side c.requires.strip half.ensures.first half.ensures.second half.ensures.row
+    (parts_of c.side-half.result half.result.2 c.args.strip c.left_part.result c.right_part.result c.left_part.ensures.row c.left_part.ensures.from c.left_part.ensures.end c.right_part.ensures.row c.right_part.ensures.from c.right_part.ensures.end) in
+    on_ok_weaker c.count_strip-2.result
+    (λ e. joined_on c.args.found.now.items c.count_strip.new.found.items c.count_strip-2.new.found.items left _ _ c.in_ok-count_strip.ensures.ok
+    (e ∙ ap (λ (p : Plane). c.count_strip.new.found.items ++ strip_counts p c.args.exponent c.right_part.result) same) whole)
+    c.count_strip-2.ensures.ok
+
+pub returns-clause-keeps : goal.returns-clause-keeps
+returns-clause-keeps g t c = keeps_trans c.half_with_blocks-row.ensures.keeps (keeps_trans c.in_ok-count_strip.ensures.keeps c.count_strip-2.ensures.keeps)

@@ -1,0 +1,138 @@
+//! Shades of grey that show how many live cells blocks of cells have.
+
+ghost use Rattle.std.specs.Prelude.{◌≡◌, ◌≤◌, ◌<◌, ◌++◌, ◌^◌, pos, ◌≤ℤ◌, IfOk, IsOkUnless, OnOk};
+ghost use Rattle.plane.specs.Centred.{centred};
+ghost use Rattle.squares.specs.Book.{IsKnown, Keeps};
+ghost use Rattle.viewport.specs.Blocks.{IsBlockRange, block_counts, block_shades};
+ghost use Rattle.viewport.specs.Population.{AreCounts};
+ghost use Rattle.viewport.specs.Strips.{AreBeside, IsNearRange};
+
+use crate::populations::Counts;
+use crate::shades::add_shades;
+use crate::sides::{half_side, place};
+use crate::strips::{Strip, add_dead, count_strip};
+use plane::Refusal;
+use squares::{Look, Looked, Reading, Sq};
+use std::alloc::Global;
+use std::collections::HashMap;
+
+/// A rectangle of blocks of 2^exponent by 2^exponent cells. Block (i, j) holds the cells (x, y) with
+/// floor(x / 2^exponent) = i and floor(y / 2^exponent) = j.
+#[derive(Clone, Copy, Debug, PartialEq, Eq)]
+pub struct Blocks {
+    /// Up to 62.
+    pub exponent: u8,
+    /// The i of the first column.
+    pub left: i64,
+    /// The j of the first row.
+    pub top: i64,
+    /// How many columns of blocks there are.
+    pub width: u32,
+    /// How many rows of blocks there are.
+    pub height: u32,
+}
+
+/// The shades of blocks of a square of a level from 4 to 63, row by row from the upper left one: 255
+/// (white) for a block without live cells. Where a block is one cell (exponent 0), 0 (black) for a
+/// live one; else 160 - floor(160 b / (2 exponent)) for one with p live cells, b = floor(log2 p), so
+/// that a single cell is seen and a full block is black. What lies outside the square is dead. Each
+/// number above level 5 is counted once. `NoMemory` where there is no room for the shades or for one
+/// more count.
+pub fn block_shades<L: Look>(
+    alloc: Global,
+    look: &L,
+    sq: Sq,
+    blocks: Blocks,
+) -> Result<Vec<u8>, Refusal>
+    requires known { IsKnown (L.book look.now) sq.level sq }
+    requires low { 3 < sq.level }
+    requires level { sq.level ≤ 63 }
+    requires exponent { blocks.exponent ≤ 62 }
+    requires columns { IsBlockRange blocks.exponent blocks.left blocks.width }
+    requires rows { IsBlockRange blocks.exponent blocks.top blocks.height }
+    ensures ok { IfOk result (λ shades. shades.items ≡ block_shades (centred sq.level ((L.book look.now).cells sq)) blocks) }
+    ensures memory { IsOkUnless result Refusal.NoMemory }
+{
+    let mut from = Looked(look);
+    let mut counts = HashMap::new(alloc);
+    let mut row = Vec::new(alloc);
+    let mut shades = Vec::new(alloc);
+    for step in 0..blocks.height {
+        row.clear();
+        count_row(
+            &mut from,
+            sq,
+            &blocks,
+            blocks.top + i64::from(step),
+            &mut counts,
+            &mut row,
+        )?;
+        add_shades(blocks.exponent, &row, &mut shades)?;
+    }
+    Ok(shades)
+}
+
+// Adds how many live cells each block of row j of the rectangle has, by the counts that are known; it
+// adds what it finds to them. A block that is larger than a quarter of the square shows that quarter.
+// The book goes on knowing what it knew.
+fn count_row<R: Reading>(
+    from: &mut R,
+    sq: Sq,
+    blocks: &Blocks,
+    j: i64,
+    counts: &mut Counts,
+    found: &mut Vec<u128>,
+) -> Result<(), Refusal>
+    requires known { IsKnown (R.book from.old) sq.level sq }
+    requires low { 3 < sq.level }
+    requires level { sq.level ≤ 63 }
+    requires columns { IsNearRange blocks.now.left blocks.now.width }
+    requires counted { AreCounts (R.book from.old) counts.old }
+    ensures ok { OnOk result (found.new.items ≡ found.old.items ++ block_counts (centred sq.level ((R.book from.old).cells sq)) blocks.now.exponent j blocks.now.left blocks.now.width) }
+    ensures counted { AreCounts (R.book from.new) counts.new }
+    ensures memory { IsOkUnless result Refusal.NoMemory }
+    ensures keeps { Keeps (R.book from.old) (R.book from.new) }
+{
+    let exponent = blocks.exponent.min(sq.level - 1);
+    let level = sq.level - exponent;
+    let Some(row) = place(j, level) else {
+        add_dead(u64::from(blocks.width), found)?;
+        return Ok(());
+    };
+    let columns = columns_beside(blocks.left, blocks.width, half_side(level));
+    let strip = Strip {
+        row,
+        from: columns.from,
+        end: columns.end,
+    };
+    add_dead(columns.before, found)?;
+    count_strip(from, sq, exponent, strip, counts, found)?;
+    add_dead(columns.behind, found)?;
+    Ok(())
+}
+
+// How columns lie beside a square: how many of them lie left of it, from which to before which of its
+// own columns they go on, counted from its left side, and how many lie right of it.
+#[derive(Clone, Copy)]
+struct Columns {
+    before: u64,
+    from: u64,
+    end: u64,
+    behind: u64,
+}
+
+// How so many columns from left on lie beside a square that has those from -half to before half.
+fn columns_beside(left: i64, width: u32, half: i64) -> Columns
+    requires near { IsNearRange left width }
+    requires low { pos 0 ≤ℤ half }
+    requires high { half ≤ℤ pos (2 ^ 62) }
+    ensures { AreBeside left width half result }
+{
+    let end = left + i64::from(width);
+    Columns {
+        before: left.min(-half).abs_diff(end.min(-half)),
+        from: left.clamp(-half, half).abs_diff(-half),
+        end: end.clamp(-half, half).abs_diff(-half),
+        behind: left.max(half).abs_diff(end.max(half)),
+    }
+}

@@ -1,0 +1,149 @@
+//! How many live cells neighbouring blocks of a square have.
+
+ghost use Rattle.std.specs.Prelude.{◌≡◌, ◌≤◌, ◌<◌, ◌-◌, ◌^◌, ◌++◌, pos, min, replicate, OnOk, IsOkUnless};
+ghost use Rattle.plane.specs.Square.{bits_plane};
+ghost use Rattle.squares.specs.Book.{IsKnown, Keeps};
+ghost use Rattle.viewport.specs.Blocks.{block_count};
+ghost use Rattle.viewport.specs.Population.{AreCounts};
+ghost use Rattle.viewport.specs.Strips.{IsInBlocks, strip_counts};
+
+use crate::halves::half_with_blocks;
+use crate::populations::{Counts, count};
+use crate::sides::side;
+use plane::Refusal;
+use squares::{Reading, Sq};
+use std::alloc::AllocError;
+
+// Neighbouring blocks of a row of a square: how many rows lie above it, and its columns from one to
+// before another, counted from the left side.
+#[derive(Clone, Copy)]
+pub struct Strip {
+    pub row: u64,
+    pub from: u64,
+    pub end: u64,
+}
+
+// Adds how many live cells each block of the strip has, by the counts that are known; it adds what it
+// finds to them. A block has 2^exponent cells a side. The book goes on knowing what it knew.
+pub fn count_strip<R: Reading>(
+    from: &mut R,
+    sq: Sq,
+    exponent: u8,
+    strip: Strip,
+    counts: &mut Counts,
+    found: &mut Vec<u128>,
+) -> Result<(), Refusal>
+    requires known { IsKnown (R.book from.old) sq.level sq }
+    requires level { sq.level ≤ 63 }
+    requires exponent { exponent ≤ sq.level }
+    requires strip { IsInBlocks (2 ^ (sq.level - exponent)) strip }
+    requires counted { AreCounts (R.book from.old) counts.old }
+    ensures ok { OnOk result (found.new.items ≡ found.old.items ++ strip_counts ((R.book from.old).cells sq) exponent strip) }
+    ensures counted { AreCounts (R.book from.new) counts.new }
+    ensures memory { IsOkUnless result Refusal.NoMemory }
+    ensures keeps { Keeps (R.book from.old) (R.book from.new) }
+{
+    if strip.from == strip.end {
+        return Ok(());
+    }
+    if sq.num.0 == 0 {
+        add_dead(strip.end - strip.from, found)?;
+        return Ok(());
+    }
+    if sq.level == exponent {
+        found.push(count(from, sq, counts)?)?;
+        return Ok(());
+    }
+    if sq.level == 3 {
+        count_leaf_strip(from.cells_of(sq), exponent, strip, found)?;
+        return Ok(());
+    }
+    let half = side(sq.level - 1 - exponent);
+    let (first, second, row) = half_with_blocks(from, sq, strip.row, half);
+    count_strip(
+        from,
+        first,
+        exponent,
+        left_part(strip, row, half),
+        counts,
+        found,
+    )?;
+    count_strip(
+        from,
+        second,
+        exponent,
+        right_part(strip, row, half),
+        counts,
+        found,
+    )
+}
+
+// The part of the strip in the left one of two squares that have so many blocks a side, in their row.
+fn left_part(strip: Strip, row: u64, half: u64) -> Strip
+    ensures row { result.row ≡ row }
+    ensures from { result.from ≡ min strip.from half }
+    ensures end { result.end ≡ min strip.end half }
+{
+    Strip {
+        row,
+        from: strip.from.min(half),
+        end: strip.end.min(half),
+    }
+}
+
+// The part of the strip in the right one of two squares that have so many blocks a side, in their row.
+fn right_part(strip: Strip, row: u64, half: u64) -> Strip
+    ensures row { result.row ≡ row }
+    ensures from { result.from ≡ strip.from - half }
+    ensures end { result.end ≡ strip.end - half }
+{
+    Strip {
+        row,
+        from: strip.from.saturating_sub(half),
+        end: strip.end.saturating_sub(half),
+    }
+}
+
+// Adds how many live cells each block of a strip of a leaf has; the leaf is larger than a block.
+fn count_leaf_strip(
+    word: u64,
+    exponent: u8,
+    strip: Strip,
+    found: &mut Vec<u128>,
+) -> Result<(), AllocError>
+    requires exponent { exponent < 3 }
+    requires strip { IsInBlocks (2 ^ (3 - exponent)) strip }
+    ensures ok { OnOk result (found.new.items ≡ found.old.items ++ strip_counts (bits_plane word) exponent strip) }
+{
+    for column in strip.from..strip.end {
+        found.push(u128::from(count_in_leaf(word, exponent, column, strip.row)))?;
+    }
+    Ok(())
+}
+
+// How many live cells a block of a leaf has.
+fn count_in_leaf(word: u64, exponent: u8, column: u64, row: u64) -> u32
+    requires exponent { exponent < 3 }
+    requires column { column < 2 ^ (3 - exponent) }
+    requires row { row < 2 ^ (3 - exponent) }
+    ensures { result ≡ block_count (bits_plane word) exponent (pos column) (pos row) }
+{
+    let side = side(exponent);
+    let mask = (1 << side) - 1;
+    let mut sum = 0;
+    for step in 0..side {
+        let first = 8 * (row * side + step) + column * side;
+        sum += ((word >> first) & mask).count_ones();
+    }
+    sum
+}
+
+// Adds so many blocks without live cells.
+pub fn add_dead(blocks: u64, found: &mut Vec<u128>) -> Result<(), AllocError>
+    ensures ok { OnOk result (found.new.items ≡ found.old.items ++ replicate blocks 0) }
+{
+    for _ in 0..blocks {
+        found.push(0)?;
+    }
+    Ok(())
+}
