@@ -1,0 +1,4 @@
+pub mod Blocks
+pub mod Chunks
+pub mod Rows
+mod Vectors
