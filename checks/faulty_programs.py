@@ -4,8 +4,8 @@
     checks/faulty_programs.py
     checks/faulty_programs.py --only golly_patterns    the rows with this text in them
 
-A check has to end with status 1 for a program that crashes, hangs, writes one cell less, prints another population or refuses with another
-status, and for a page with a dead link. It has to end with status 2 if the program or a tool is missing, or if nothing is chosen or compared.
+A check has to end with status 1 for a program that crashes, hangs, writes one cell less, prints another population, errs in small tables or refuses
+with another status, and for a page with a dead link. It has to end with status 2 if the program or a tool is missing, or if nothing is chosen or compared.
 With the right program and the same options the status has to be 0.
 """
 import os
@@ -35,6 +35,7 @@ PROGRAMS = {
     "prints nothing": "exit 0",
     "writes one cell less": 'REAL "$@" || exit; for it in o*.*; do [ -f "$it" ] && sed -i "/^[^#x]/s/o/b/;/^[^#x]/s/[*]/./" "$it"; done; exit 0',
     "prints another population": 'REAL "$@" | sed "s/: [0-9]*$/: 1/"',
+    "errs in small tables": 'REAL "$@" | case "$*" in *"--nodes 4194304"*) cat;; *) sed "s/: [0-9]*$/: 1/";; esac',
     "refuses all": 'echo "lifebatch: refused 3 at 0: BadRule" >&2; exit 1',
     "refuses with status 3": 'echo "lifebatch: refused 3 at 0: BadRule" >&2; exit 3',
     "refuses, and leaves a file": 'touch ours.rle; echo "lifebatch: refused 3 at 0: BadRule" >&2; exit 1',
@@ -80,6 +81,12 @@ ROWS = [
     *(Row("random_patterns", "--count 6 --seconds 1", it, DIFFERS) for it in PROGRAMS if it != "refuses, and leaves a file"),
     Row("random_patterns", "--count 2", "is missing", NOT_RUN),
     Row("random_patterns", "--count 0", RIGHT, NOT_RUN),
+    Row("small_tables", "--count 1", RIGHT, HOLDS),
+    Row("small_tables", "--count 1", "crashes", DIFFERS),
+    Row("small_tables", "--count 1", "errs in small tables", DIFFERS),
+    Row("small_tables", "--count 1 --seconds 0.1", "hangs", DIFFERS),
+    Row("small_tables", "--count 1", "is missing", NOT_RUN),
+    Row("small_tables", "--count 0", RIGHT, NOT_RUN),
     Row("from_bgolly_page", "--only commas", RIGHT, HOLDS),
     Row("from_bgolly_page", "--only commas", "crashes", DIFFERS),
     Row("from_bgolly_page", "--only commas", "prints another population", DIFFERS),

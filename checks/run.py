@@ -29,6 +29,7 @@ NAMES = [
     "failing_devices",
     "from_bgolly_page",
     "random_patterns",
+    "small_tables",
     "golly_patterns",
     "refused_memory",
     "hostile_files",
