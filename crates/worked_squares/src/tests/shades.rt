@@ -68,10 +68,13 @@ const ONE_TO_FOUR: &[Place] = &[
 fn counts_of_four(rt: HostRuntime) {
     let shades = shades_round(rt.alloc(), ONE_TO_FOUR, 1, 4);
     let white = 255;
-    assert!(rt; is_just(&shades, &[
-        white, white, white, white,
-        white, white, white, white,
-        160, 80, 80, 0,
-        white, white, white, white,
-    ]));
+    assert!(rt;
+        is_just(
+            &shades,
+            &[
+                white, white, white, white, white, white, white, white, 160, 80, 80, 0, white,
+                white, white, white,
+            ]
+        )
+    );
 }
