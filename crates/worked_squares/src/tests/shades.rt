@@ -1,52 +1,62 @@
 //! The shades of blocks of cells.
 
+ghost use Rattle.std.specs.Prelude.{◌≤◌, IfOk};
+ghost use Rattle.squares.specs.Book.{IsKnown};
+ghost use Rattle.viewport.specs.Blocks.{IsBlockRange};
+
 use crate::tests::books::{book_of, square_round};
 use crate::tests::places::{Place, cells_at};
+use crate::tests::views::shared;
 use plane::Refusal;
 use squares::{Sq, Squares};
 use std::alloc::Global;
 use viewport::{Blocks, block_shades};
 
-// The blocks of a square of so many columns and rows from (-left, -left) on.
-fn blocks_round(exponent: u8, side: u8) -> Blocks {
+const WHITE: u8 = 255;
+
+// The four blocks round (0,0).
+fn four_round(exponent: u8) -> Blocks
+    requires { exponent ≤ 62 }
+    ensures exponent { result.exponent ≤ 62 }
+    ensures columns { IsBlockRange result.exponent result.left result.width }
+    ensures rows { IsBlockRange result.exponent result.top result.height }
+{
     Blocks {
         exponent,
-        left: -i64::from(side / 2),
-        top: -i64::from(side / 2),
-        width: u32::from(side),
-        height: u32::from(side),
+        left: -1,
+        top: -1,
+        width: 2,
+        height: 2,
     }
 }
 
-// The shades of blocks round (0,0) where these cells live.
-fn shades_round(
-    alloc: Global,
-    places: &[Place],
-    exponent: u8,
-    side: u8,
-) -> Result<Vec<u8>, Refusal> {
+// The shades of blocks of the square round (0,0) that has these cells.
+fn shades_round(alloc: Global, places: &[Place], blocks: Blocks) -> Result<Vec<u8>, Refusal>
+    requires exponent { blocks.exponent ≤ 62 }
+    requires columns { IsBlockRange blocks.exponent blocks.left blocks.width }
+    requires rows { IsBlockRange blocks.exponent blocks.top blocks.height }
+{
     let mut book = book_of(alloc, "B3/S23", 0)?;
     let cells = cells_at(alloc, places)?;
     let sq = square_round(alloc, &mut book, &cells)?;
-    block_shades(alloc, &book, sq, blocks_round(exponent, side))
-}
-
-// A single cell is black where a block is one cell, and light where it is larger; the blocks of
-// exponents 3 to 5 are as large as the square's quarters, or larger.
-#[test]
-fn single_cells(rt: HostRuntime) {
-    let alloc = rt.alloc();
-    for exponent in 0..6u8 {
-        let shade = if exponent == 0 { 0 } else { 160 };
-        let shades = shades_round(alloc, &[(0, 0), (-1, -1)], exponent, 2);
-        assert!(rt; is_just(&shades, &[shade, 255, 255, shade]));
-    }
+    block_shades(alloc, &book, sq, blocks)
 }
 
 fn is_just(shades: &Result<Vec<u8>, Refusal>, expected: &[u8]) -> bool {
     match shades {
         Ok(shades) => shades.as_slice() == expected,
         Err(_) => false,
+    }
+}
+
+// A single cell is black where a block is one cell, and light where it is larger. Blocks of exponents
+// 3 to 5 are as large as the square's quarters, or larger.
+#[test]
+fn single_cells(rt: HostRuntime) {
+    for exponent in 0..6u8 {
+        let shade = if exponent == 0 { 0 } else { 160 };
+        let shades = shades_round(rt.alloc(), &[(0, 0), (-1, -1)], four_round(exponent));
+        assert!(rt; is_just(&shades, &[shade, WHITE, WHITE, shade]));
     }
 }
 
@@ -63,18 +73,47 @@ const ONE_TO_FOUR: &[Place] = &[
     (3, 1),
 ];
 
-// Blocks with 1, 2, 3 and 4 of their four cells, and others without.
+// Blocks with one to four of their four cells, and the last one of a row outside the square.
 #[test]
-fn counts_of_four(rt: HostRuntime) {
-    let shades = shades_round(rt.alloc(), ONE_TO_FOUR, 1, 4);
-    let white = 255;
-    assert!(rt;
-        is_just(
-            &shades,
-            &[
-                white, white, white, white, white, white, white, white, 160, 80, 80, 0, white,
-                white, white, white,
-            ]
-        )
-    );
+fn one_to_four_cells_of_four(rt: HostRuntime) {
+    let blocks = Blocks {
+        exponent: 1,
+        left: -2,
+        top: -1,
+        width: 7,
+        height: 2,
+    };
+    let shades = shades_round(rt.alloc(), ONE_TO_FOUR, blocks);
+    let expected = [
+        WHITE, WHITE, WHITE, WHITE, WHITE, WHITE, WHITE, 160, 80, 80, 0, WHITE, WHITE, WHITE,
+    ];
+    assert!(rt; is_just(&shades, &expected));
+}
+
+// The square of level 12 whose lower right quarter is full.
+fn full_quarter<S: Squares>(book: &mut S) -> Result<Sq, Refusal>
+    ensures { IfOk result (IsKnown (S.book book.new) 12) }
+{
+    let empty = shared(book, 0, 11)?;
+    let full = shared(book, u64::MAX, 11)?;
+    book.quad([empty, empty, empty, full])
+}
+
+// The shades of the four blocks round (0,0), where all cells from 0 to 2047 live.
+fn full_shades(alloc: Global, exponent: u8) -> Result<Vec<u8>, Refusal> {
+    if exponent > 62 {
+        return Err(Refusal::OutOfRange);
+    }
+    let mut book = book_of(alloc, "B3/S23", 0)?;
+    let sq = full_quarter(&mut book)?;
+    block_shades(alloc, &book, sq, four_round(exponent))
+}
+
+// Full blocks are black; in larger ones the same 2^22 cells are lighter.
+#[test]
+fn full_squares(rt: HostRuntime) {
+    for (exponent, shade) in [(0, 0), (2, 0), (7, 0), (11, 0), (12, 14), (62, 132)] {
+        let shades = full_shades(rt.alloc(), exponent);
+        assert!(rt; is_just(&shades, &[WHITE, WHITE, WHITE, shade]));
+    }
 }
