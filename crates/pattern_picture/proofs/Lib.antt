@@ -1,0 +1,4 @@
+pub mod Floors
+pub mod OneScale
+pub mod RowsOfBlocks
+pub mod Zooms

@@ -1,0 +1,3 @@
+pub mod Drawn
+pub mod Pixels
+pub mod Scale

@@ -1,0 +1,49 @@
+//! The picture of a rectangle of cells.
+
+ghost use Rattle.std.specs.Prelude.{◌≡◌, ◌≤◌, ◌<◌, IfOk, IsOkUnless};
+ghost use Rattle.plane.specs.Centred.{centred};
+ghost use Rattle.squares.specs.Book.{IsKnown};
+ghost use Rattle.pattern_picture.specs.Drawn.{IsPictureOf};
+ghost use Rattle.pattern_picture.specs.Scale.{IsShown, IsSize};
+
+use crate::pixels::zoomed;
+use crate::scale::Scale;
+use plane::{Bounds, Refusal};
+use png_writer::Image;
+use squares::{Look, Sq};
+use std::alloc::Global;
+use viewport::block_shades;
+
+/// Draws a rectangle of the cells of a square of a level from 4 to 63, as large as can be with at most `size` pixels
+/// on each side, 16 to 4096. The rectangle's sides lie from -2^62 to 2^62.
+///
+/// Where there is a pixel for each cell, a cell is a square of up to 16 by 16 pixels, black for a live one. Else a pixel
+/// is a block of 2^k by 2^k cells with the smallest k that will do, and its shade tells how many of them live; cells of
+/// these blocks beyond the rectangle count too. `NoMemory` if there is no room for the shades, for a count or for the
+/// picture.
+pub fn picture<L: Look>(
+    alloc: Global,
+    look: &L,
+    sq: Sq,
+    shown: Bounds,
+    size: u32,
+) -> Result<Image, Refusal>
+    requires known { IsKnown (L.book look.now) sq.level sq }
+    requires low { 3 < sq.level }
+    requires level { sq.level ≤ 63 }
+    requires shown { IsShown shown }
+    requires size { IsSize size }
+    ensures drawn { IfOk result (IsPictureOf (centred sq.level ((L.book look.now).cells sq)) shown size) }
+    ensures memory { IsOkUnless result Refusal.NoMemory }
+{
+    let scale = Scale::of(shown, size);
+    let blocks = scale.blocks(shown);
+    let shades = block_shades(alloc, look, sq, blocks)?;
+    zoomed(
+        alloc,
+        shades.as_slice(),
+        blocks.width,
+        blocks.height,
+        scale.zoom,
+    )
+}
