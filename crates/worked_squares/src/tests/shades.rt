@@ -90,30 +90,29 @@ fn one_to_four_cells_of_four(rt: HostRuntime) {
     assert!(rt; is_just(&shades, &expected));
 }
 
-// The square of level 12 whose lower right quarter is full.
-fn full_quarter<S: Squares>(book: &mut S) -> Result<Sq, Refusal>
-    ensures { IfOk result (IsKnown (S.book book.new) 12) }
+// The square of level 12 where all cells live, from -2048 to 2047.
+fn full_square<S: Squares>(book: &mut S) -> Result<Sq, Refusal>
+    ensures known { IfOk result (λ sq. IsKnown (S.book book.new) sq.level sq) }
+    ensures level { IfOk result (λ sq. (4 ≤ sq.level) × (sq.level ≤ 63)) }
 {
-    let empty = shared(book, 0, 11)?;
-    let full = shared(book, u64::MAX, 11)?;
-    book.quad([empty, empty, empty, full])
+    shared(book, u64::MAX, 12)
 }
 
-// The shades of the four blocks round (0,0), where all cells from 0 to 2047 live.
+// The shades of the four blocks round (0,0) of the full square.
 fn full_shades(alloc: Global, exponent: u8) -> Result<Vec<u8>, Refusal> {
     if exponent > 62 {
         return Err(Refusal::OutOfRange);
     }
     let mut book = book_of(alloc, "B3/S23", 0)?;
-    let sq = full_quarter(&mut book)?;
+    let sq = full_square(&mut book)?;
     block_shades(alloc, &book, sq, four_round(exponent))
 }
 
-// Full blocks are black; in larger ones the same 2^22 cells are lighter.
+// Full blocks are black. Larger ones, which have the 2^22 cells of a quarter, are lighter.
 #[test]
 fn full_squares(rt: HostRuntime) {
     for (exponent, shade) in [(0, 0), (2, 0), (7, 0), (11, 0), (12, 14), (62, 132)] {
         let shades = full_shades(rt.alloc(), exponent);
-        assert!(rt; is_just(&shades, &[WHITE, WHITE, WHITE, shade]));
+        assert!(rt; is_just(&shades, &[shade; 4]));
     }
 }

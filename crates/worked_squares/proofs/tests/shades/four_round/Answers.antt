@@ -1,4 +1,4 @@
-use Rattle.std.proofs.Common.{◌^◌, ◌≤◌, pos, ◌+ℤ◌, ◌-ℤ◌, pow_mono, arith}
+use Rattle.std.proofs.Common.{◌^◌, ◌≤◌, pow_mono, arith}
 use Rattle.std.proofs.lemmas.Int.{ints}
 use Rattle.worked_squares.proofs.tests.shades.four_round.Goals as goal
 
