@@ -12,8 +12,8 @@
     bench/compare.py --json FILE --svg FILE    the table as JSON too, and the ratios as a bar chart
 
 In a round each program runs once, one after the other, so that load affects both equally. A ratio is the time of lifebatch divided by that of
-bgolly: below 1 lifebatch is faster. "Memory" is the same ratio of the peaks of memory, where bgolly takes 30 MB or more. lifebatch runs in large
-pages, as ./lifebatch asks for them. --aims shows an aim for the mean only if all rows have the same aims. A row differs if the programs report
+bgolly: below 1 lifebatch is faster. "Memory" is the same ratio of the peaks of memory, where bgolly takes 30 MB or more. lifebatch runs with
+the setting of malloc that ./lifebatch gives it. --aims shows an aim for the mean only if all rows have the same aims. A row differs if the programs report
 different populations, or if lifebatch fails.
 """
 import argparse
@@ -41,6 +41,9 @@ CHECK = Check(
     takes="a minute for the sets runs and steps by one worker, and four minutes for a round of the set long, on a machine that does nothing else",
     replay="give the name of the row, or a part of it, to --rows.",
 )
+
+# What ./lifebatch asks of malloc.
+LAUNCHER_SETTING = "glibc.malloc.hugetlb=1:glibc.malloc.mmap_threshold=1048576"
 
 # Memory is compared if bgolly takes as many megabytes or more.
 COUNTED_MEGABYTES = 30
@@ -105,7 +108,7 @@ def result(name: str, row: Row, options: argparse.Namespace, folder: pathlib.Pat
     if path is None:
         return Result(name, row, {}, "Golly's patterns are not installed")
     program = [str(options.program.resolve()), *options.words.split(), "--workers"]
-    settings = {"GLIBC_TUNABLES": "glibc.malloc.hugetlb=1"}
+    settings = {"GLIBC_TUNABLES": LAUNCHER_SETTING}
     commands = [Command([*program, str(workers), *row.words(path)], settings) for workers in options.workers]
     commands.append(Command([shutil.which("bgolly"), "-a", "HashLife", *row.words(path)]))
     *ours, theirs = best_of_rounds(commands, options.rounds, folder)

@@ -23,7 +23,7 @@ from common.program import run
 CHECK = Check(
     text=__doc__,
     needs=(BUILT,),
-    takes="4 minutes for 100 soups, which are 2600 runs in small tables",
+    takes="3 minutes for 100 soups, which are 2600 runs in small tables",
     quick=("--count", "10"),
     quickly="20 s",
     replay="give the --seed and the --only that are printed, and the same --workers. The soup stays at the path that is printed.",
