@@ -10,7 +10,7 @@ use Rattle.table_core.specs.declared.shape.Shape.{Shape}
 use Rattle.node_table.specs.declared.desk.Desk.{Desk}
 use Rattle.node_table.specs.declared.table.NodeTable.{NodeTable}
 use Rattle.node_table.specs.Books.{book_of}
-use Rattle.node_table.specs.Desks.{IsDeskOf, numbers_of, store_of, work_at}
+use Rattle.node_table.specs.Desks.{IsDeskOf, numbers_of, store_of, work_at, work_store}
 
 in_range_prop : (bits : ℕ) → IsProp ((10 ≤ bits) × (bits ≤ 28))
 in_range_prop bits = hlevel props
@@ -32,15 +32,19 @@ same_id m n a b e = λ i. record {
   slot_names = drop 7 (e i);
 }
 
-pub returned : (number : ℕ) (here table : NodeTable) (first desk : Desk) → IsDeskOf here desk → Keeps (work_at first.expansions table first) (work_at number here desk) →
-    IsDeskOf table desk × (work_at first.expansions table desk ≡ work_at number here desk) × (number ≡ first.expansions)
-returned number here table first desk d keeps =
-    let count : number ≡ first.expansions = ap (λ xs. slice_index xs 0) keeps.store in
-    let store : store_of here ≡ store_of table = ap (drop 1) keeps.store in
+-- a desk of one table is one of another that has the same rule, exponent and store
+pub moved : (number count : ℕ) (here table : NodeTable) (desk : Desk) → IsDeskOf here desk → here.key.rule ≡ table.key.rule → here.key.exponent ≡ table.key.exponent →
+    work_store number here ≡ work_store count table → IsDeskOf table desk × (work_at count table desk ≡ work_at number here desk) × (number ≡ count)
+moved number count here table desk d rule exponent stores =
+    let store : store_of here ≡ store_of table = ap (drop 1) stores in
     let bits : here.key.shape.bits ≡ table.key.shape.bits = ap (λ xs. slice_index xs 0) store in
-    let key : here.key ≡ table.key = same_key here.key table.key bits keeps.rule keeps.exponent in
+    let key : here.key ≡ table.key = same_key here.key table.key bits rule exponent in
     let id : here.table.shared.table_id ≡ table.table.shared.table_id = same_id here.key.shape.bits table.key.shape.bits here.table.shared.table_id table.table.shared.table_id store in (
       record { same_table = d.same_table ∙ id; same_key = d.same_key ∙ ap (λ (k : Key). Some k) key },
-      λ i. book_of (sym keeps.store i) (sym key i) desk.seat.me.0.known,
-      count,
+      λ i. book_of (sym stores i) (sym key i) desk.seat.me.0.known,
+      ap (λ xs. slice_index xs 0) stores,
     )
+
+pub returned : (number : ℕ) (here table : NodeTable) (first desk : Desk) → IsDeskOf here desk → Keeps (work_at first.expansions table first) (work_at number here desk) →
+    IsDeskOf table desk × (work_at first.expansions table desk ≡ work_at number here desk) × (number ≡ first.expansions)
+returned number here table first desk d keeps = moved number first.expansions here table desk d keeps.rule keeps.exponent keeps.store

@@ -22,3 +22,4 @@ pub mod SameStill
 pub mod Closing
 mod Working
 pub mod AtWork
+pub mod OneTable

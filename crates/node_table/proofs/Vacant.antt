@@ -1,36 +1,14 @@
 -- The words of a table without a square.
 use Rattle.std.proofs.Common.{◌≡◌, ℕ, zero, suc, ◌+◌, ◌*◌, ◌^◌, ◌<◌, List, [], ◌∷◌, length, sym, ◌∙◌, ap, subst, arith, refl, Ok}
 use Rattle.std.specs.Prelude.{Result, replicate, slice_index}
-use Rattle.rule_text.specs.CountRule.{CountRule, IsRule, rising, counts}
+use Rattle.rule_text.specs.CountRule.{CountRule, dead}
 use Rattle.rule_text.specs.RuleCode.{code_of}
-use Rattle.rule_text.specs.RuleText.{Reads}
-use Rattle.rule_text.specs.declared.fault.RuleFault.{RuleFault}
-use Rattle.rule_text.specs.declared.neighbourhood.Neighbourhood.TheVariants.{Moore}
-use Rattle.rule_text.proofs.Canonical.{reads-canonical_text}
-use Rattle.rule_text.proofs.Readings.{one_reading}
 use Rattle.table_core.specs.declared.key.Key.{Key}
 use Rattle.table_core.specs.declared.shape.Shape.{Shape}
 use Rattle.table_core.specs.Good.{AreGoodWords, head}
 use Rattle.table_core.specs.Layout.{size}
 use Rattle.table_core.specs.Opening.{IsFresh}
 use Rattle.table_core.proofs.Reopenings.{every_fresh_table}
-
--- the rule by which no cell lives
-abbrev pub dead : CountRule
-dead = record { neighbourhood = Moore; birth = []; survival = [] }
-
-dead_is_rule : IsRule dead
-unfolding rising counts
-dead_is_rule = record { birth_fits = λ k d less. absurd (omega arith); survival_fits = λ k d less. absurd (omega arith); birth_rises = refl; survival_rises = refl; no_birth_on_zero = refl }
-
-pub read_dead : (result : Result CountRule RuleFault) → Reads (66 ∷ 47 ∷ 83 ∷ []) result → result ≡ Ok dead
-read_dead result h = one_reading (66 ∷ 47 ∷ 83 ∷ []) result (Ok dead) h (reads-canonical_text dead dead_is_rule)
-
-pub rule_dead : (result : Result CountRule RuleFault) (rule : CountRule) → result ≡ Ok rule → Reads (66 ∷ 47 ∷ 83 ∷ []) result → rule ≡ dead
-rule_dead result rule e h = same rule dead (sym e ∙ read_dead result h)
-  where
-    same : (a b : CountRule) → ◌≡◌ {A = Result CountRule RuleFault} (Ok a) (Ok b) → a ≡ b
-    same a b f = cc
 
 zero_code : code_of dead + 2 ^ 20 * 0 ≡ 0
 zero_code = refl

@@ -8,5 +8,6 @@ pub mod Numbers
 pub mod Rule
 pub mod Shared
 pub mod Stills
+pub mod Teams
 pub mod Openings
 pub mod Refusals

@@ -24,6 +24,7 @@ mod shared;
 mod still;
 mod subsquares;
 mod table;
+mod teams;
 mod view;
 
 pub use at::At;

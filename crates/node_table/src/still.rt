@@ -36,12 +36,9 @@ impl Still {
         ensures ok { IfOk result (λ still. IsVacant still pairs) }
         ensures memory { IsOkUnless result Refusal.NoMemory }
     {
-        let Ok(rule) = Rule::read(b"B/S") else {
-            unreachable!()
-        };
         let key = Key {
             shape: Shape::new(pairs),
-            rule,
+            rule: Rule::dead(),
             exponent: 0,
         };
         match vec![in alloc; 0; key.shape.word_count() as usize] {

@@ -5,7 +5,7 @@ ghost use Rattle.table_core.specs.Layout.{size};
 use crate::at::At;
 use crate::desk::Desk;
 use crate::held::Held;
-use crate::rules::{JoinedView, LoadNode, SplitView, TableInvariant};
+use crate::rules::TableInvariant;
 use crate::still::Still;
 use crate::view::View;
 use atomic_table::Table;
@@ -29,6 +29,13 @@ impl NodeTable {
     ghost use Rattle.squares.specs.Book.{Keeps};
     ghost use Rattle.node_table.specs.Desks.{IsDeskOf, book_at, work_at, expansions_of};
     ghost use Rattle.node_table.specs.Openings.{Opens, Closes, StartsFrom};
+
+    /// The shape, the rule and the exponent of the table.
+    pub fn key(&self) -> &Key
+        ensures { result.now ≡ self.now.key }
+    {
+        &self.key
+    }
 
     /// A running table of these words under a rule and an exponent, and its first desk, which knows
     /// all that the words then say. The results that are the same under both heads stay, and no
@@ -133,18 +140,9 @@ impl NodeTable {
         ensures books { (book_at self.now result.0 ≡ book_at self.now desk) × (book_at self.now result.1 ≡ book_at self.now desk) }
         ensures expansions { (expansions_of result.0 ≡ expansions_of desk) × (expansions_of result.1 ≡ 0) }
     {
-        let Desk {
-            mut seat,
-            expansions,
-        } = desk;
-        let other = self.table.shared.split_seat::<SplitView>(&mut seat);
-        (
-            Desk { seat, expansions },
-            Desk {
-                seat: other,
-                expansions: 0,
-            },
-        )
+        let mut desk = desk;
+        let other = desk.split_off(self);
+        (desk, other)
     }
 
     /// One desk that knows what either knew: a square has one number then. Their numbers of
@@ -157,20 +155,8 @@ impl NodeTable {
         ensures second { Keeps (book_at self.now second) (book_at self.now result) }
         ensures expansions { expansions_of result ≡ min u64.MAX (expansions_of first + expansions_of second) }
     {
-        let Desk {
-            mut seat,
-            expansions,
-        } = first;
-        let Desk {
-            seat: other,
-            expansions: others,
-        } = second;
-        self.table.shared.join_seat::<JoinedView>(&mut seat, other);
-        // A step, at which the rule of the words holds, tells that what the joined view says is true.
-        self.table.shared.load::<LoadNode>(&mut seat, 0);
-        Desk {
-            seat,
-            expansions: expansions.saturating_add(others),
-        }
+        let mut desk = first;
+        desk.join(self, second);
+        desk
     }
 }

@@ -8,3 +8,4 @@ pub mod Marks
 pub mod Readings
 pub mod RisingDigits
 pub mod Spelled
+pub mod DeadRule

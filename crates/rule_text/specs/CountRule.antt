@@ -2,6 +2,7 @@ use Rattle.std.specs.Prelude.{◌≡◌, ℕ, ◌≤◌, ◌==◌, Bool, false, 
 use Rattle.std.specs.List.{list_any}
 use Rattle.rule_text.specs.Neighbourhood.{neighbour_count}
 use Rattle.rule_text.specs.declared.neighbourhood.Neighbourhood.{Neighbourhood}
+use Rattle.rule_text.specs.declared.neighbourhood.Neighbourhood.TheVariants.{Moore}
 
 -- the counts that a digit can name
 unfoldable pub counts : List ℕ
@@ -32,6 +33,10 @@ pub record IsRule (rule : CountRule) : Type 0 where
   pub birth_rises : rule.birth ≡ rising rule.birth
   pub survival_rises : rule.survival ≡ rising rule.survival
   pub no_birth_on_zero : has rule.birth 0 ≡ false
+
+-- the rule by which no cell lives
+abbrev pub dead : CountRule
+dead = record { neighbourhood = Moore; birth = []; survival = [] }
 
 -- whether a cell that is alive or dead, with so many live neighbours, lives in the next generation
 abbrev pub lives : CountRule → Bool → ℕ → Bool

@@ -1,7 +1,7 @@
 //! Rules that count live neighbours, and their texts.
 
 ghost use Rattle.std.specs.Prelude.{◌≡◌, ◌^◌, ◌<◌, IfOk};
-ghost use Rattle.rule_text.specs.CountRule.{IsRule, lives};
+ghost use Rattle.rule_text.specs.CountRule.{IsRule, dead, lives};
 ghost use Rattle.rule_text.specs.RuleCode.{code_of};
 ghost use Rattle.rule_text.specs.RuleText.{Reads, canonical_text};
 
@@ -35,6 +35,18 @@ impl Model for Rule {
 }
 
 impl Rule {
+    /// The rule by which no cell lives, `B/S`.
+    pub fn dead() -> Rule
+        ensures dead { result ≡ dead }
+        ensures rule { IsRule result }
+    {
+        Rule {
+            neighbourhood: Neighbourhood::Moore,
+            birth: Digits::new(),
+            survival: Digits::new(),
+        }
+    }
+
     /// Reads a rule's text: the digits of birth and of survival as `B3/S23`, `S23/B3`, `B3S23`,
     /// `S23B3` or, survival first, `23/3`, and then the letter `V` or `H` of a neighbourhood other
     /// than Moore's, or `M`. Letters stand in either case, digits in any order, also repeated, and
