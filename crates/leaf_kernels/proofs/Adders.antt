@@ -1,7 +1,7 @@
 -- Cells added as numbers: what half adders and full adders of rows show at each cell.
 use mir.Syntax.{Width}
 use mir.Val.{bits}
-use Rattle.std.proofs.Common.{◌≡◌, ℕ, ◌+◌, ◌*◌, ℤ, Bool, true, false, cond, List, length, refl, ◌∙◌, ap, arith, bit_and, bit_or}
+use Rattle.std.proofs.Common.{◌≡◌, ℕ, ◌+◌, ◌*◌, ℤ, Bool, true, false, List, length, refl, ◌∙◌, ap, arith, bit_and, bit_or}
 use Rattle.std.specs.Prelude.{bit_xor, ◌&&◌, ◌||◌}
 use lib.Lanes.{zip2}
 use Rattle.leaf_kernels.specs.Rows.{cells_of_rows}
@@ -24,11 +24,6 @@ add_three false true true = refl
 add_three false true false = refl
 add_three false false true = refl
 add_three false false false = refl
-
--- two bits of a number, each moved from the same cell
-pub moved_sum : (s p q a b : Bool) → a ≡ (s && p) → b ≡ (s && q) → number a + 2 * number b ≡ cond s (number p + 2 * number q) 0
-moved_sum true p q a b e f = ap (λ t. number t + 2 * number b) e ∙ ap (λ t. number p + 2 * number t) f
-moved_sum false p q a b e f = ap (λ t. number t + 2 * number b) e ∙ ap (λ t. 0 + 2 * number t) f
 
 -- carries added on: each power of two from the one below
 pub carried_on : (a b c d e f one one' two two' carried carried' high high' : ℕ) → one + 2 * one' ≡ a + b + c → two + 2 * two' ≡ d + e + f →

@@ -1,11 +1,11 @@
 -- The bits of numbers, as tests.
-use mir.Syntax.{Width, w8, w16, w32, w64, w128}
+use mir.Syntax.{Width}
 use mir.Val.{bits}
-use Rattle.std.proofs.Common.{◌≡◌, ℕ, zero, suc, ◌+◌, ◌-◌, ◌*◌, ◌/◌, ◌%◌, ◌^◌, ◌<◌, ◌≤◌, min, max, Bool, true, false, not, refl, sym, ◌∙◌, ap, arith, bit_and, bit_or}
+use Rattle.std.proofs.Common.{◌≡◌, ℕ, zero, suc, ◌+◌, ◌-◌, ◌*◌, ◌/◌, ◌%◌, ◌^◌, ◌<◌, ◌≤◌, min, max, Bool, true, false, not, refl, sym, ◌∙◌, ap, add-zero, arith, bit_and, bit_or}
 use Rattle.std.specs.Prelude.{bit_xor, ◌==◌, ◌&&◌, ◌||◌}
 use Rattle.std.specs.Int.{bit_at, bit_not}
-use Rattle.std.proofs.lemmas.Nat.{shr-shr, shr_split}
-use Rattle.std.proofs.lemmas.Nat.Bits.{bit_at-lt, bit_at_and, bit_at_or, bit_at_xor, bit_at_not, bit_at-suc, bit_at-zero, bit_at_lowest, bit_at_ones, bit_at_cat_low, bit_at_above}
+use Rattle.std.proofs.lemmas.Nat.{shr-shr, shr_split, pow_pos}
+use Rattle.std.proofs.lemmas.Nat.Bits.{bit_at-lt, bit_at_and, bit_at_or, bit_at_xor, bit_at_not, bit_at-zero, bit_at_ones, bit_at_cat_low, bit_at_cat_high, bit_at_above}
 use Rattle.plane.specs.Square.{bit}
 
 -- a law of two tests that holds of 0 and 1
@@ -46,35 +46,28 @@ bit-shr n k i = ap (λ m. m % 2 == 1) (shr-shr n k i)
 pub bit-low : (n k i : ℕ) → i < k → bit (n % 2 ^ k) i ≡ bit n i
 bit-low n k i h = ap (λ m. m == 1) (sym (bit_at_cat_low (n / 2 ^ k) k (n % 2 ^ k) i h) ∙ ap (λ m. bit_at m i) (shr_split n k))
 
--- a shift to the left by one
-twice_half : (n : ℕ) → n * 2 / 2 ≡ n
-twice_half n = omega arith
-
-twice_even : (n : ℕ) → n * 2 % 2 ≡ 0
-twice_even n = omega arith
-
 pub bit-above : (n k i : ℕ) → n < 2 ^ k → k ≤ i → bit n i ≡ false
 bit-above n k i h le = ap (λ m. m == 1) (bit_at_above n k i h le)
 
 pub bit-none : (i : ℕ) → bit 0 i ≡ false
 bit-none i = ap (λ m. m == 1) (bit_at-zero i)
 
-pub some_bits : (w : Width) → 0 < bits w
-some_bits w8 = omega arith
-some_bits w16 = omega arith
-some_bits w32 = omega arith
-some_bits w64 = omega arith
-some_bits w128 = omega arith
-
 module _ (w : Width) where
   pub bit-not : (a i : ℕ) → a < 2 ^ bits w → i < bits w → bit (bit_not w a) i ≡ not (bit a i)
   bit-not a i h k = ap (λ n. n == 1) (bit_at_not w a i h k) ∙ less_one (bit_at a i) (bit_at-lt a i)
 
-  pub bit-shl_first : (n : ℕ) → bit (n * 2 % 2 ^ bits w) 0 ≡ false
-  bit-shl_first n = bit-low (n * 2) (bits w) 0 (some_bits w) ∙ ap (λ m. m == 1) (bit_at_lowest (n * 2) ∙ twice_even n)
+  -- a shift to the left
+  pub bit-shl_below : (n k i : ℕ) → i < k → i < bits w → bit (n * 2 ^ k % 2 ^ bits w) i ≡ false
+  bit-shl_below n k i h room =
+      bit-low (n * 2 ^ k) (bits w) i room ∙ ap (λ m. bit m i) (sym (add-zero (n * 2 ^ k))) ∙ ap (λ m. m == 1) (bit_at_cat_low n k 0 i h ∙ bit_at-zero i)
 
-  pub bit-shl : (n i : ℕ) → suc i < bits w → bit (n * 2 % 2 ^ bits w) (suc i) ≡ bit n i
-  bit-shl n i h = bit-low (n * 2) (bits w) (suc i) h ∙ ap (λ m. m == 1) (bit_at-suc (n * 2) i) ∙ ap (λ m. bit m i) (twice_half n)
+  pub bit-shl : (n k i place : ℕ) → place ≡ k + i → place < bits w → bit (n * 2 ^ k % 2 ^ bits w) place ≡ bit n i
+  bit-shl n k i place e room =
+      bit-low (n * 2 ^ k) (bits w) place room ∙ ap (λ m. bit m place) (sym (add-zero (n * 2 ^ k)))
+      ∙ ap (λ m. m == 1) (bit_at_cat_high n k 0 place (pow_pos k) (omega arith) ∙ ap (bit_at n) (back place e))
+    where
+      back : (place : ℕ) → place ≡ k + i → place - k ≡ i
+      back place e = omega arith
 
   pub bit-ones : (i : ℕ) → i < bits w → bit (2 ^ bits w - 1) i ≡ true
   bit-ones i h = ap (λ m. m == 1) (bit_at_ones (bits w) i h)

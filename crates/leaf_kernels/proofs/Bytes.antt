@@ -1,22 +1,22 @@
 -- The bits of numbers made of bytes.
-use Rattle.std.proofs.Common.{◌≡◌, ℕ, zero, suc, ◌+◌, ◌-◌, ◌*◌, ◌/◌, ◌%◌, ◌^◌, ◌<◌, List, [], ◌∷◌, length, get_or, take, refl, sym, ◌∙◌, ap, arith}
+use Rattle.std.proofs.Common.{◌≡◌, ℕ, zero, suc, ◌+◌, ◌-◌, ◌*◌, ◌/◌, ◌%◌, ◌^◌, ◌<◌, List, [], ◌∷◌, length, get_or, refl, sym, ◌∙◌, ap, arith}
 use Rattle.std.specs.Prelude.{◌==◌}
 use Rattle.std.specs.Int.{bit_at}
-use Rattle.std.proofs.Common.{drop-cons, zero-add, add-one}
+use Rattle.std.proofs.Common.{zero-add}
 use Rattle.std.proofs.Math.Nat.{pow-suc}
 use Rattle.std.proofs.lemmas.Nat.{pow-add}
 use Rattle.std.proofs.lemmas.Nat.Bits.{bit_at_cat_low, bit_at_cat_high}
-use lib.Lanes.{Each1, number_l, chunk}
+use lib.Lanes.{Each1, number_l}
 use Rattle.plane.specs.Square.{bit}
 use Rattle.leaf_kernels.proofs.Bits.{bit-shr, bit-low}
 
 swapped : (u v : ℕ) → u + 256 * v ≡ v * 2 ^ 8 + u
 swapped u v = omega arith
 
-pub bit-first_byte : (u v i : ℕ) → i < 8 → bit (u + 256 * v) i ≡ bit u i
+bit-first_byte : (u v i : ℕ) → i < 8 → bit (u + 256 * v) i ≡ bit u i
 bit-first_byte u v i h = ap (λ n. bit n i) (swapped u v) ∙ ap (λ n. n == 1) (bit_at_cat_low v 8 u i h)
 
-pub bit-next_bytes : (u v i : ℕ) → u < 256 → bit (u + 256 * v) (8 + i) ≡ bit v i
+bit-next_bytes : (u v i : ℕ) → u < 256 → bit (u + 256 * v) (8 + i) ≡ bit v i
 bit-next_bytes u v i h = ap (λ n. bit n (8 + i)) (swapped u v) ∙ ap (λ n. n == 1) (bit_at_cat_high v 8 u (8 + i) h (omega arith) ∙ ap (bit_at v) (back i))
   where
     back : (i : ℕ) → 8 + i - 8 ≡ i
@@ -42,14 +42,6 @@ bit-number [] k i small within h = absurd (omega arith)
 bit-number (b ∷ bytes) zero i small within h = ap (bit (b + 256 * number_l 256 bytes)) (zero-add i) ∙ bit-first_byte b (number_l 256 bytes) i h
 bit-number (b ∷ bytes) (suc k) i small within h =
     ap (bit (b + 256 * number_l 256 bytes)) (next_place k i) ∙ bit-next_bytes b (number_l 256 bytes) (8 * k + i) small.0 ∙ bit-number bytes k i small.1 (omega arith) h
-
-pub two_bytes : (bytes : List ℕ) (i : ℕ) → i + 1 < length bytes → number_l 256 (chunk i 2 bytes) ≡ get_or bytes i 0 + 256 * get_or bytes (i + 1) 0
-two_bytes bytes i room =
-    ap (λ l. number_l 256 (take 2 l)) (drop-cons bytes i 0 (omega arith)) ∙ ap (λ l. get_or bytes i 0 + 256 * number_l 256 (take 1 l)) (drop-cons bytes (suc i) 0 (omega arith))
-    ∙ ap (λ n. get_or bytes i 0 + 256 * n) (no_more (get_or bytes (suc i) 0)) ∙ ap (λ k. get_or bytes i 0 + 256 * get_or bytes k 0) (sym (add-one i))
-  where
-    no_more : (b : ℕ) → b + 256 * 0 ≡ b
-    no_more b = omega arith
 
 -- eight equations one by one
 pub each_of_eight : (f g : ℕ → ℕ) → f 0 ≡ g 0 → f 1 ≡ g 1 → f 2 ≡ g 2 → f 3 ≡ g 3 → f 4 ≡ g 4 → f 5 ≡ g 5 → f 6 ≡ g 6 → f 7 ≡ g 7 → (k : ℕ) → k < 8 → f k ≡ g k

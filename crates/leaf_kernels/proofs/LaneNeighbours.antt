@@ -72,13 +72,6 @@ masked_count neighbourhood above here below x lane ul ur l r ll lr count upper b
     (sum_three lower _ _ _ _ _ is_lower (masked_cell (spans 64 x) (spans 4 lane) _ _ ll inside is_ll) (masked_cell (spans 64 x) (spans 4 lane) _ _ lr inside is_lr))
     ∙ masked neighbourhood (lane_plane above here below lane) x (pos 0)
 
--- the sum of three cells beside one another
-pub three_count : (rows : List ℕ) (x lane : ℤ) (l r : Bool) (sum : ℕ) → spans 64 x ≡ true →
-    l ≡ (spans 64 x && four_rows_plane rows (x -ℤ pos 1) lane) → r ≡ (spans 64 x && four_rows_plane rows (x +ℤ pos 1) lane) →
-    sum ≡ number l + number (four_rows_plane rows x lane) + number r →
-    sum ≡ number (four_rows_plane rows (x -ℤ pos 1) lane) + number (four_rows_plane rows x lane) + number (four_rows_plane rows (x +ℤ pos 1) lane)
-three_count rows x lane l r sum inside is_l is_r is = sum_three sum _ _ _ _ _ is (within (spans 64 x) _ l inside is_l) (within (spans 64 x) _ r inside is_r)
-
 carried : (a d b e c f o k t q : ℕ) → o + 2 * k ≡ a + b + c → t + 2 * q ≡ d + e + f → (o + 2 * k) + 2 * (t + 2 * q) ≡ (a + 2 * d) + (b + 2 * e) + (c + 2 * f)
 carried a d b e c f o k t q g h = omega arith
 

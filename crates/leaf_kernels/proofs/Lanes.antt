@@ -1,7 +1,7 @@
 -- What operations on the lanes do to the cells.
 use mir.Syntax.{Width}
 use mir.Val.{bits}
-use Rattle.std.proofs.Common.{◌≡◌, ℕ, ◌-◌, ◌^◌, ◌<◌, ℤ, pos, Bool, true, false, not, cond, List, length, get_or, map, replicate, refl, sym, ◌∙◌, ap, arith, bit_and, bit_or, Fits}
+use Rattle.std.proofs.Common.{◌≡◌, ℕ, ◌-◌, ◌^◌, ◌<◌, ℤ, pos, Bool, true, false, not, List, length, get_or, map, replicate, refl, sym, ◌∙◌, ap, arith, bit_and, bit_or, Fits}
 use Rattle.std.specs.Prelude.{bit_xor, ◌&&◌, ◌||◌, unsigned_abs}
 use Rattle.std.specs.Int.{bit_not}
 use Rattle.std.proofs.lemmas.List.{get_or-map}
@@ -87,45 +87,3 @@ module _ (w : Width) (n : ℕ) where
       let lane : Fits w (get_or rows j 0) = Each1-get_or (Fits w) rows j 0 (omega arith) fits in
       ap (λ r. bit r i) (get_or-map (bit_not w) rows j 0 0 (omega arith)) ∙ bit-not w (get_or rows j 0) i lane.fits h ∙ ap not (sym (cell_in rows i j h k)))
       x y
-
-  -- the cells by their own state: all, the live ones, the dead ones, or none
-  module _ (result rows : List ℕ) (live dead : Bool) where
-    pub state_all : result ≡ replicate n (2 ^ bits w - 1) → live ≡ true → dead ≡ true → (x y : ℤ) → cells_of_rows (bits w) n result x y ≡ ((spans (bits w) x && spans n y) && cond (cells_of_rows (bits w) n rows x y) live dead)
-    state_all is one other x y =
-        ap (λ l. cells_of_rows (bits w) n l x y) is ∙ cells-all x y ∙ always (spans (bits w) x && spans n y) (cells_of_rows (bits w) n rows x y)
-        ∙ ap (λ t. (spans (bits w) x && spans n y) && cond (cells_of_rows (bits w) n rows x y) t true) (sym one) ∙ ap (λ t. (spans (bits w) x && spans n y) && cond (cells_of_rows (bits w) n rows x y) live t) (sym other)
-      where
-        always : (g p : Bool) → g ≡ (g && cond p true true)
-        always true true = refl
-        always true false = refl
-        always false p = refl
-
-    pub state_live : result ≡ rows → live ≡ true → dead ≡ false → (x y : ℤ) → cells_of_rows (bits w) n result x y ≡ ((spans (bits w) x && spans n y) && cond (cells_of_rows (bits w) n rows x y) live dead)
-    state_live is one other x y =
-        ap (λ l. cells_of_rows (bits w) n l x y) is ∙ itself (spans (bits w) x && spans n y) (bit (get_or rows (unsigned_abs y) 0) (unsigned_abs x))
-        ∙ ap (λ t. (spans (bits w) x && spans n y) && cond (cells_of_rows (bits w) n rows x y) t false) (sym one) ∙ ap (λ t. (spans (bits w) x && spans n y) && cond (cells_of_rows (bits w) n rows x y) live t) (sym other)
-      where
-        itself : (g p : Bool) → (g && p) ≡ (g && cond (g && p) true false)
-        itself true true = refl
-        itself true false = refl
-        itself false p = refl
-
-    pub state_dead : length rows ≡ n → Each1 (Fits w) rows → result ≡ map (bit_not w) rows → live ≡ false → dead ≡ true →
-        (x y : ℤ) → cells_of_rows (bits w) n result x y ≡ ((spans (bits w) x && spans n y) && cond (cells_of_rows (bits w) n rows x y) live dead)
-    state_dead long fits is one other x y =
-        ap (λ l. cells_of_rows (bits w) n l x y) is ∙ cells-not rows long fits x y ∙ ap (λ t. (spans (bits w) x && spans n y) && t) (opposite (cells_of_rows (bits w) n rows x y))
-        ∙ ap (λ t. (spans (bits w) x && spans n y) && cond (cells_of_rows (bits w) n rows x y) t true) (sym one) ∙ ap (λ t. (spans (bits w) x && spans n y) && cond (cells_of_rows (bits w) n rows x y) live t) (sym other)
-      where
-        opposite : (p : Bool) → not p ≡ cond p false true
-        opposite true = refl
-        opposite false = refl
-
-    pub state_none : result ≡ replicate n 0 → live ≡ false → dead ≡ false → (x y : ℤ) → cells_of_rows (bits w) n result x y ≡ ((spans (bits w) x && spans n y) && cond (cells_of_rows (bits w) n rows x y) live dead)
-    state_none is one other x y =
-        ap (λ l. cells_of_rows (bits w) n l x y) is ∙ cells-none x y ∙ never (spans (bits w) x && spans n y) (cells_of_rows (bits w) n rows x y)
-        ∙ ap (λ t. (spans (bits w) x && spans n y) && cond (cells_of_rows (bits w) n rows x y) t false) (sym one) ∙ ap (λ t. (spans (bits w) x && spans n y) && cond (cells_of_rows (bits w) n rows x y) live t) (sym other)
-      where
-        never : (g p : Bool) → false ≡ (g && cond p false false)
-        never true true = refl
-        never true false = refl
-        never false p = refl

@@ -12,7 +12,7 @@ use Rattle.std.proofs.lemmas.Simd.{get_or-zip2, get_or-replicate, Each1-get_or, 
 use lib.Lanes.{zip2, Each1, pick_l}
 use Rattle.plane.specs.Square.{spans, bit}
 use Rattle.leaf_kernels.specs.Rows.{cells_of_rows}
-use Rattle.leaf_kernels.proofs.Bits.{bit-shr, bit-shl, bit-shl_first, bit-above, bit-none}
+use Rattle.leaf_kernels.proofs.Bits.{bit-shr, bit-shl, bit-shl_below, bit-above, bit-none}
 use Rattle.leaf_kernels.proofs.Lanes.{cell_in, rows_show}
 
 one_on : (i : ℕ) → pos (suc i) -ℤ pos 1 ≡ pos i
@@ -36,21 +36,21 @@ guard_rows true u t p = refl
 guard_rows false u true p = refl
 guard_rows false u false p = refl
 
-abbrev pub shr : ℕ → ℕ → ℕ
+abbrev shr : ℕ → ℕ → ℕ
 shr a b = a / 2 ^ b
 
 module _ (w : Width) (n : ℕ) where
   -- a lane after an operation with the same number at each lane
-  pub with_each : (f : ℕ → ℕ → ℕ) (rows : List ℕ) (s j : ℕ) → length rows ≡ n → j < n → get_or (zip2 f rows (replicate n s)) j 0 ≡ f (get_or rows j 0) s
+  with_each : (f : ℕ → ℕ → ℕ) (rows : List ℕ) (s j : ℕ) → length rows ≡ n → j < n → get_or (zip2 f rows (replicate n s)) j 0 ≡ f (get_or rows j 0) s
   with_each f rows s j long k = get_or-zip2 f rows (replicate n s) j 0 0 0 (omega arith) (omega (arith, length-replicate {A = ℕ} n s)) ∙ ap (f (get_or rows j 0)) (get_or-replicate n j s 0 k)
 
-  abbrev pub shl : ℕ → ℕ → ℕ
+  abbrev shl : ℕ → ℕ → ℕ
   shl a b = a * 2 ^ b % 2 ^ bits w
 
   left_cell : (rows : List ℕ) → length rows ≡ n → (i j : ℕ) → i < bits w → j < n → bit (get_or (zip2 shl rows (replicate n 1)) j 0) i ≡ cells_of_rows (bits w) n rows (pos i -ℤ pos 1) (pos j)
-  left_cell rows long zero j h k = ap (λ r. bit r 0) (with_each shl rows 1 j long k) ∙ bit-shl_first w (get_or rows j 0)
+  left_cell rows long zero j h k = ap (λ r. bit r 0) (with_each shl rows 1 j long k) ∙ bit-shl_below w (get_or rows j 0) 1 0 (omega arith) h
   left_cell rows long (suc i) j h k =
-      ap (λ r. bit r (suc i)) (with_each shl rows 1 j long k) ∙ bit-shl w (get_or rows j 0) i h
+      ap (λ r. bit r (suc i)) (with_each shl rows 1 j long k) ∙ bit-shl w (get_or rows j 0) 1 i (suc i) (omega arith) h
       ∙ sym (cell_in w n rows i j (omega arith) k) ∙ ap (λ z. cells_of_rows (bits w) n rows z (pos j)) (sym (one_on i))
 
   -- each cell as its left neighbour

@@ -7,10 +7,6 @@ use Rattle.plane.specs.Square.{spans, bit, bits_plane, joined}
 abbrev pub cells_of_rows : ℕ → ℕ → List ℕ → Plane
 cells_of_rows width height rows x y = (spans width x && spans height y) && bit (slice_index rows (unsigned_abs y)) (unsigned_abs x)
 
--- the cells of sixteen rows of sixteen cells
-abbrev pub rows_plane : List ℕ → Plane
-rows_plane = cells_of_rows 16 16
-
 -- the cells of four rows of sixty-four cells
 abbrev pub four_rows_plane : List ℕ → Plane
 four_rows_plane = cells_of_rows 64 4
@@ -20,8 +16,8 @@ abbrev pub row_at : List (List ℕ) → ℕ → ℕ
 row_at vectors y = slice_index (slice_index_or vectors (y % 16) []) (y / 16)
 
 -- the cells of sixty-four rows of sixty-four cells in sixteen vectors
-abbrev pub rows64_plane : List (List ℕ) → Plane
-rows64_plane vectors x y = (spans 64 x && spans 64 y) && bit (row_at vectors (unsigned_abs y)) (unsigned_abs x)
+abbrev pub rows_plane : List (List ℕ) → Plane
+rows_plane vectors x y = (spans 64 x && spans 64 y) && bit (row_at vectors (unsigned_abs y)) (unsigned_abs x)
 
 -- the rows in one lane of three vectors, one above the other: the middle one is row 0
 abbrev pub lane_plane : List ℕ → List ℕ → List ℕ → ℤ → Plane

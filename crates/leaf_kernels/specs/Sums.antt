@@ -1,10 +1,8 @@
 -- Numbers at the cells of rows: a vector of rows for each power of two.
 use Rattle.std.specs.Prelude.{ℕ, ℤ, ◌+◌, ◌*◌, Bool, if◌then◌else◌}
-use Rattle.leaf_kernels.specs.Rows.{rows_plane, four_rows_plane}
+use Rattle.leaf_kernels.specs.Rows.{four_rows_plane}
 use Rattle.leaf_kernels.specs.declared.sum.Sum.{Sum}
 use Rattle.leaf_kernels.specs.declared.count.Count.{Count}
-use Rattle.leaf_kernels.specs.declared.sum64.Sum64.{Sum64}
-use Rattle.leaf_kernels.specs.declared.count64.Count64.{Count64}
 
 -- 1 for a live cell, 0 for a dead one
 abbrev pub number : Bool → ℕ
@@ -12,15 +10,9 @@ number alive = if alive then 1 else 0
 
 -- the number that a sum has at a cell
 abbrev pub sum_at : Sum → ℤ → ℤ → ℕ
-sum_at sum x y = number (rows_plane sum.ones x y) + 2 * number (rows_plane sum.twos x y)
-
-abbrev pub sum64_at : Sum64 → ℤ → ℤ → ℕ
-sum64_at sum x y = number (four_rows_plane sum.ones x y) + 2 * number (four_rows_plane sum.twos x y)
+sum_at sum x y = number (four_rows_plane sum.ones x y) + 2 * number (four_rows_plane sum.twos x y)
 
 -- the number that a count has at a cell
 abbrev pub count_at : Count → ℤ → ℤ → ℕ
-count_at count x y = number (rows_plane count.ones x y) + 2 * number (rows_plane count.twos x y) + 4 * number (rows_plane count.fours x y) + 8 * number (rows_plane count.eights x y)
-
-abbrev pub count64_at : Count64 → ℤ → ℤ → ℕ
-count64_at count x y =
+count_at count x y =
     number (four_rows_plane count.ones x y) + 2 * number (four_rows_plane count.twos x y) + 4 * number (four_rows_plane count.fours x y) + 8 * number (four_rows_plane count.eights x y)

@@ -5,7 +5,7 @@ ghost use Rattle.plane.specs.Square.{spans};
 ghost use Rattle.leaf_kernels.specs.Masks.{IsDigit, mask_of};
 ghost use Rattle.leaf_kernels.specs.Rows.{four_rows_plane};
 
-use crate::rows64::everywhere;
+use crate::rows::everywhere;
 use rule_text::Rule;
 use std::simd::prelude::*;
 

@@ -1,27 +1,47 @@
-//! The next generation of sixteen rows of sixteen cells.
-ghost use Rattle.plane.specs.Plane.{next};
-ghost use Rattle.plane.specs.Square.{IsSame, cut};
-ghost use Rattle.leaf_kernels.specs.Rows.{rows_plane};
+//! The next generation of sixty-four rows, by anything that makes that of four rows from the rows above and below.
+ghost use Rattle.std.specs.Prelude.{◌≡◌, ℤ, pos, ◌&&◌, true};
+ghost use Rattle.rule_text.specs.CountRule.{CountRule, lives};
+ghost use Rattle.plane.specs.Plane.{live_neighbours, next};
+ghost use Rattle.plane.specs.Square.{IsSame, cut, spans};
+ghost use Rattle.leaf_kernels.specs.Rows.{four_rows_plane, lane_plane, rows_plane};
 
-use crate::count::Count;
-use crate::rows::by_state;
-use rule_text::Rule;
+use crate::rows::{from_lane_before, from_lane_behind};
 use std::simd::prelude::*;
 
-/// The next generation of sixteen rows: lane `y` is row `y`, bit `x` of it the cell `(x, y)`. Cells
-/// outside the 16 by 16 are taken as dead, and those that would become live there are left out.
-#[inline]
-pub fn next_rows(rule: &Rule, rows: u16x16) -> u16x16
-    ensures { IsSame (rows_plane result) (cut 16 0 0 (next rule.now (rows_plane rows))) }
+/// What makes the next generation of cells from their rows and the rows above and below.
+pub(crate) trait NextCells {
+    // The rule by which it makes them.
+    ghost rule: { Self → CountRule };
+
+    /// The next generation of the middle rows.
+    fn next_cells(&self, above: u64x4, here: u64x4, below: u64x4) -> u64x4
+        ensures { (x lane : ℤ) → (spans 64 x && spans 4 lane) ≡ true
+            → four_rows_plane result x lane ≡ lives (rule self.now) (four_rows_plane here x lane) (live_neighbours (rule self.now).neighbourhood (lane_plane above here below lane) x (pos 0)) };
+}
+
+/// Puts their next generation in the place of sixty-four rows. Cells outside the 64 by 64 are taken as dead, and those that
+/// would become live there are left out.
+#[inline(always)]
+pub(crate) fn next_rows<N: NextCells>(kernel: &N, rows: &mut [u64x4; 16])
+    ensures { IsSame (rows_plane rows.new) (cut 64 0 0 (next (N.rule kernel.now) (rows_plane rows.old))) }
 {
-    let counts = Count::of_neighbours(rule.neighbourhood(), rows);
-    let mut next = u16x16::splat(0);
-    for number in 0..9 {
-        let survives = rule.lives(true, number);
-        let is_born = rule.lives(false, number);
-        if survives || is_born {
-            next |= counts.equal_to(number) & by_state(rows, survives, is_born);
-        }
-    }
-    next
+    let [a, b, c, d, e, f, g, h, i, j, k, l, m, n, o, p] = *rows;
+    *rows = [
+        kernel.next_cells(from_lane_before(p), a, b),
+        kernel.next_cells(a, b, c),
+        kernel.next_cells(b, c, d),
+        kernel.next_cells(c, d, e),
+        kernel.next_cells(d, e, f),
+        kernel.next_cells(e, f, g),
+        kernel.next_cells(f, g, h),
+        kernel.next_cells(g, h, i),
+        kernel.next_cells(h, i, j),
+        kernel.next_cells(i, j, k),
+        kernel.next_cells(j, k, l),
+        kernel.next_cells(k, l, m),
+        kernel.next_cells(l, m, n),
+        kernel.next_cells(m, n, o),
+        kernel.next_cells(n, o, p),
+        kernel.next_cells(o, p, from_lane_behind(a)),
+    ];
 }

@@ -1,78 +1,140 @@
-//! The leaves of a square of 16 by 16 cells and its rows, each from the other.
-ghost use Rattle.std.specs.Prelude.{◌≡◌, ℕ, ◌+◌, ◌*◌, ◌/◌, ◌%◌, ◌^◌, ◌<◌, slice_index};
-ghost use Rattle.plane.specs.Square.{IsSame, bit, bits_plane, centre_of};
-ghost use Rattle.leaf_kernels.specs.Rows.{leaves_plane, rows_plane};
+//! The leaves of a square of 64 by 64 cells and its rows, each from the other.
+ghost use Rattle.std.specs.Prelude.{◌≡◌, ℕ, ◌+◌, ◌*◌, ◌/◌, ◌%◌, ◌^◌, ◌<◌, [], slice_index, slice_index_or};
+ghost use Rattle.plane.specs.Square.{IsSame, bit, centre_of};
+ghost use Rattle.leaf_kernels.specs.Rows.{four_fours_plane, four_sixteens_plane, rows_plane};
 
 use std::simd::prelude::*;
 
-/// The rows of the square that four leaves make.
+/// The rows of the square that four squares of sixteen leaves make.
 #[inline(always)]
-pub(crate) fn rows_of(leaves: [u64; 4]) -> u16x16
-    ensures { IsSame (rows_plane result) (leaves_plane leaves) }
+pub(crate) fn rows_of(quarters: [[u64; 16]; 4]) -> [u64x4; 16]
+    ensures { IsSame (rows_plane result) (four_sixteens_plane quarters) }
 {
-    rows_of_bytes(beside(bytes_of_words(u64x4::from_array(leaves))))
+    let [upper_left, upper_right, lower_left, lower_right] = quarters;
+    let [first, second, third, fourth] = bands(upper_left, upper_right);
+    let [fifth, sixth, seventh, eighth] = bands(lower_left, lower_right);
+    let [a, b, c, d, e, f, g, h] = by_lane([first, third, fifth, seventh]);
+    let [i, j, k, l, m, n, o, p] = by_lane([second, fourth, sixth, eighth]);
+    [a, b, c, d, e, f, g, h, i, j, k, l, m, n, o, p]
 }
 
-/// The 8 by 8 cells in the middle of sixteen rows.
+/// The leaves in the middle of sixty-four rows, quarter by quarter.
 #[inline(always)]
-pub(crate) fn centre_of(rows: u16x16) -> u64
-    ensures { IsSame (bits_plane result) (centre_of 4 (rows_plane rows)) }
+pub(crate) fn middle_of(rows: [u64x4; 16]) -> [[u64; 4]; 4]
+    ensures { IsSame (four_fours_plane result) (centre_of 6 (rows_plane rows)) }
 {
-    word_of_bytes(middle(bytes_of_rows(rows >> u16x16::splat(4))))
+    let [a, b, c, d, e, f, g, h, i, j, k, l, m, n, o, p] = rows;
+    let [first, third] = middle_lanes([a, b, c, d, e, f, g, h]);
+    let [second, fourth] = middle_lanes([i, j, k, l, m, n, o, p]);
+    let first = transposed(first).to_array();
+    let second = transposed(second).to_array();
+    let third = transposed(third).to_array();
+    let fourth = transposed(fourth).to_array();
+    [
+        [first[2], first[3], second[2], second[3]],
+        [first[4], first[5], second[4], second[5]],
+        [third[2], third[3], fourth[2], fourth[3]],
+        [third[4], third[5], fourth[4], fourth[5]],
+    ]
 }
 
-/// The bytes of four words, the lowest byte of each first.
+/// Four times eight rows, from the top, of two squares of sixteen leaves beside each other.
 #[inline(always)]
-pub(crate) fn bytes_of_words(words: u64x4) -> u8x32
-    ensures { (word place : ℕ) → word < 4 → place < 8
+fn bands(left: [u64; 16], right: [u64; 16]) -> [u64x8; 4]
+    ensures left { (four column place row : ℕ) → four < 4 → column < 4 → place < 8 → row < 8
+        → bit (slice_index (slice_index_or result four []) row) (8 * column + place) ≡ bit (slice_index left (4 * four + column)) (8 * row + place) }
+    ensures right { (four column place row : ℕ) → four < 4 → column < 4 → place < 8 → row < 8
+        → bit (slice_index (slice_index_or result four []) row) (8 * (4 + column) + place) ≡ bit (slice_index right (4 * four + column)) (8 * row + place) }
+{
+    let [a, b, c, d, e, f, g, h, i, j, k, l, m, n, o, p] = left;
+    let [q, r, s, t, u, v, w, x, y, z, aa, bb, cc, dd, ee, ff] = right;
+    [
+        transposed(u64x8::from_array([a, b, c, d, q, r, s, t])),
+        transposed(u64x8::from_array([e, f, g, h, u, v, w, x])),
+        transposed(u64x8::from_array([i, j, k, l, y, z, aa, bb])),
+        transposed(u64x8::from_array([m, n, o, p, cc, dd, ee, ff])),
+    ]
+}
+
+/// Four vectors of eight as eight of four: lane `y` of vector `x` is lane `x` of vector `y`.
+#[inline(always)]
+fn by_lane(bands: [u64x8; 4]) -> [u64x4; 8]
+    ensures { (row lane : ℕ) → row < 8 → lane < 4
+        → slice_index (slice_index_or result row []) lane ≡ slice_index (slice_index_or bands lane []) row }
+{
+    let [first, second, third, fourth] = bands;
+    let [a, b, c, d, e, f, g, h] = first.to_array();
+    let [i, j, k, l, m, n, o, p] = second.to_array();
+    let [q, r, s, t, u, v, w, x] = third.to_array();
+    let [y, z, aa, bb, cc, dd, ee, ff] = fourth.to_array();
+    [
+        u64x4::from_array([a, i, q, y]),
+        u64x4::from_array([b, j, r, z]),
+        u64x4::from_array([c, k, s, aa]),
+        u64x4::from_array([d, l, t, bb]),
+        u64x4::from_array([e, m, u, cc]),
+        u64x4::from_array([f, n, v, dd]),
+        u64x4::from_array([g, o, w, ee]),
+        u64x4::from_array([h, p, x, ff]),
+    ]
+}
+
+/// The lanes 1 and 2 of eight vectors.
+#[inline(always)]
+fn middle_lanes(rows: [u64x4; 8]) -> [u64x8; 2]
+    ensures { (row lane : ℕ) → row < 8 → lane < 2
+        → slice_index (slice_index_or result lane []) row ≡ slice_index (slice_index_or rows row []) (1 + lane) }
+{
+    let [a, b, c, d, e, f, g, h] = rows;
+    let [_, a1, a2, _] = a.to_array();
+    let [_, b1, b2, _] = b.to_array();
+    let [_, c1, c2, _] = c.to_array();
+    let [_, d1, d2, _] = d.to_array();
+    let [_, e1, e2, _] = e.to_array();
+    let [_, f1, f2, _] = f.to_array();
+    let [_, g1, g2, _] = g.to_array();
+    let [_, h1, h2, _] = h.to_array();
+    [
+        u64x8::from_array([a1, b1, c1, d1, e1, f1, g1, h1]),
+        u64x8::from_array([a2, b2, c2, d2, e2, f2, g2, h2]),
+    ]
+}
+
+/// Eight leaves beside each other as eight rows, and eight rows as the eight leaves.
+#[inline(always)]
+fn transposed(words: u64x8) -> u64x8
+    ensures { (column place row : ℕ) → column < 8 → place < 8 → row < 8
+        → bit (slice_index result row) (8 * column + place) ≡ bit (slice_index words column) (8 * row + place) }
+{
+    words_of_bytes(woven(bytes_of_words(words)))
+}
+
+/// The bytes of eight words, the lowest byte of each first.
+#[inline(always)]
+fn bytes_of_words(words: u64x8) -> u8x64
+    ensures { (word place : ℕ) → word < 8 → place < 8
         → slice_index result (8 * word + place) ≡ slice_index words word / 256 ^ place % 256 }
 {
     words.to_le_bytes()
 }
 
-/// Beside each byte of the first and the third word the one at the same place of the next word.
+/// The bytes of eight words in turn, the first byte of each first.
 #[inline(always)]
-fn beside(bytes: u8x32) -> u8x32
-    ensures upper_left { (place : ℕ) → place < 8 → slice_index result (2 * place) ≡ slice_index bytes place }
-    ensures upper_right { (place : ℕ) → place < 8 → slice_index result (2 * place + 1) ≡ slice_index bytes (8 + place) }
-    ensures lower_left { (place : ℕ) → place < 8 → slice_index result (16 + 2 * place) ≡ slice_index bytes (16 + place) }
-    ensures lower_right { (place : ℕ) → place < 8 → slice_index result (16 + 2 * place + 1) ≡ slice_index bytes (24 + place) }
+fn woven(bytes: u8x64) -> u8x64
+    ensures { (word place : ℕ) → word < 8 → place < 8 → slice_index result (8 * place + word) ≡ slice_index bytes (8 * word + place) }
 {
     bytes.swizzle([
-        0, 8, 1, 9, 2, 10, 3, 11, 4, 12, 5, 13, 6, 14, 7, 15, 16, 24, 17, 25, 18, 26, 19, 27, 20,
-        28, 21, 29, 22, 30, 23, 31,
+        0, 8, 16, 24, 32, 40, 48, 56, 1, 9, 17, 25, 33, 41, 49, 57, 2, 10, 18, 26, 34, 42, 50, 58,
+        3, 11, 19, 27, 35, 43, 51, 59, 4, 12, 20, 28, 36, 44, 52, 60, 5, 13, 21, 29, 37, 45, 53,
+        61, 6, 14, 22, 30, 38, 46, 54, 62, 7, 15, 23, 31, 39, 47, 55, 63,
     ])
 }
 
-/// Rows of two bytes each, the left one first.
+/// Words of eight bytes each, the lowest first.
 #[inline(always)]
-fn rows_of_bytes(bytes: u8x32) -> u16x16
-    ensures { (row : ℕ) → row < 16
-        → slice_index result row ≡ slice_index bytes (2 * row) + 256 * slice_index bytes (2 * row + 1) }
+fn words_of_bytes(bytes: u8x64) -> u64x8
+    ensures { (column place row : ℕ) → column < 8 → place < 8 → row < 8
+        → bit (slice_index result row) (8 * column + place) ≡ bit (slice_index bytes (8 * row + column)) place }
 {
-    u16x16::from_le_bytes(bytes)
-}
-
-/// The two bytes of each row, the left one first.
-#[inline(always)]
-fn bytes_of_rows(rows: u16x16) -> u8x32
-    ensures { (row : ℕ) → row < 16 → slice_index result (2 * row) ≡ slice_index rows row % 256 }
-{
-    rows.to_le_bytes()
-}
-
-/// The left bytes of the rows 4 to 11.
-#[inline(always)]
-fn middle(bytes: u8x32) -> u8x8
-    ensures { (row : ℕ) → row < 8 → slice_index result row ≡ slice_index bytes (2 * (4 + row)) }
-{
-    bytes.swizzle([8, 10, 12, 14, 16, 18, 20, 22])
-}
-
-/// The word of eight bytes, the lowest first.
-#[inline(always)]
-pub(crate) fn word_of_bytes(bytes: u8x8) -> u64
-    ensures { (place row : ℕ) → place < 8 → row < 8 → bit result (8 * row + place) ≡ bit (slice_index bytes row) place }
-{
-    u64x1::from_le_bytes(bytes).to_array()[0]
+    u64x8::from_le_bytes(bytes)
 }

@@ -3,11 +3,11 @@ ghost use Rattle.std.specs.Prelude.{◌≡◌, ◌↔◌, ℤ, pos, ◌+◌, ◌
 ghost use Rattle.plane.specs.Square.{spans};
 ghost use Rattle.leaf_kernels.specs.Life.{life};
 ghost use Rattle.leaf_kernels.specs.Rows.{four_rows_plane};
-ghost use Rattle.leaf_kernels.specs.Sums.{number, sum64_at};
+ghost use Rattle.leaf_kernels.specs.Sums.{number, sum_at};
 
-use crate::cells64::NextCells;
-use crate::rows64::{dead_cells, from_left, from_right};
-use crate::sum64::Sum64;
+use crate::generation::NextCells;
+use crate::rows::{dead_cells, from_left, from_right};
+use crate::sum::Sum;
 use rule_text::Rule;
 use std::simd::prelude::*;
 
@@ -27,11 +27,11 @@ pub(crate) struct Life;
 
 // The cell and the two beside it.
 #[inline(always)]
-fn three(rows: u64x4) -> Sum64
-    ensures { (x lane : ℤ) → spans 64 x ≡ true → sum64_at result x lane
+fn three(rows: u64x4) -> Sum
+    ensures { (x lane : ℤ) → spans 64 x ≡ true → sum_at result x lane
         ≡ number (four_rows_plane rows (x -ℤ pos 1) lane) + number (four_rows_plane rows x lane) + number (four_rows_plane rows (x +ℤ pos 1) lane) }
 {
-    Sum64::of_three(from_left(rows), rows, from_right(rows))
+    Sum::of_three(from_left(rows), rows, from_right(rows))
 }
 
 impl NextCells for Life {
@@ -41,10 +41,10 @@ impl NextCells for Life {
     #[inline(always)]
     fn next_cells(&self, above: u64x4, here: u64x4, below: u64x4) -> u64x4 {
         let upper = three(above);
-        let beside = Sum64::of_two(from_left(here), from_right(here));
+        let beside = Sum::of_two(from_left(here), from_right(here));
         let lower = three(below);
-        let ones = Sum64::of_three(upper.ones, beside.ones, lower.ones);
-        let twos = Sum64::of_three(upper.twos, beside.twos, lower.twos);
+        let ones = Sum::of_three(upper.ones, beside.ones, lower.ones);
+        let twos = Sum::of_three(upper.twos, beside.twos, lower.twos);
         (ones.twos ^ twos.ones) & dead_cells(twos.twos) & (ones.ones | here)
     }
 }

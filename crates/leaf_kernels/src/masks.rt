@@ -5,13 +5,13 @@ ghost use Rattle.plane.specs.Plane.{live_neighbours};
 ghost use Rattle.plane.specs.Square.{spans};
 ghost use Rattle.leaf_kernels.specs.Masks.{AreDiagonals, AreDigits};
 ghost use Rattle.leaf_kernels.specs.Rows.{four_rows_plane, lane_plane};
-ghost use Rattle.leaf_kernels.specs.Sums.{count64_at};
+ghost use Rattle.leaf_kernels.specs.Sums.{count_at};
 
-use crate::cells64::NextCells;
-use crate::count64::Count64;
+use crate::count::Count;
 use crate::digit::{Digit, mask};
-use crate::rows64::{choose, everywhere, from_left, from_right};
-use crate::sum64::Sum64;
+use crate::generation::NextCells;
+use crate::rows::{choose, everywhere, from_left, from_right};
+use crate::sum::Sum;
 use rule_text::{Neighbourhood, Rule};
 use std::simd::prelude::*;
 
@@ -60,31 +60,31 @@ impl Masks {
 
     // How many of its neighbours among three rows are live, for each cell of the middle ones.
     #[inline(always)]
-    fn count(&self, above: u64x4, here: u64x4, below: u64x4) -> Count64
+    fn count(&self, above: u64x4, here: u64x4, below: u64x4) -> Count
         ensures { (x lane : ℤ) → (spans 64 x && spans 4 lane) ≡ true
-            → count64_at result x lane ≡ live_neighbours self.now.rule.neighbourhood (lane_plane above here below lane) x (pos 0) }
+            → count_at result x lane ≡ live_neighbours self.now.rule.neighbourhood (lane_plane above here below lane) x (pos 0) }
     {
         let falling = everywhere(self.falling);
         let rising = everywhere(self.rising);
-        let upper = Sum64::of_three(
+        let upper = Sum::of_three(
             falling & from_left(above),
             above,
             rising & from_right(above),
         );
-        let beside = Sum64::of_two(from_left(here), from_right(here));
-        let lower = Sum64::of_three(
+        let beside = Sum::of_two(from_left(here), from_right(here));
+        let lower = Sum::of_three(
             rising & from_left(below),
             below,
             falling & from_right(below),
         );
-        Count64::of_sums(upper, beside, lower)
+        Count::of_sums(upper, beside, lower)
     }
 
     // The cells in the next generation, by their numbers of live neighbours, which are at most 8.
     #[inline(always)]
-    fn by_count(&self, cells: u64x4, count: Count64) -> u64x4
-        ensures { (x lane : ℤ) → (spans 64 x && spans 4 lane) ≡ true → count64_at count x lane ≤ 8
-            → four_rows_plane result x lane ≡ lives self.now.rule (four_rows_plane cells x lane) (count64_at count x lane) }
+    fn by_count(&self, cells: u64x4, count: Count) -> u64x4
+        ensures { (x lane : ℤ) → (spans 64 x && spans 4 lane) ≡ true → count_at count x lane ≤ 8
+            → four_rows_plane result x lane ≡ lives self.now.rule (four_rows_plane cells x lane) (count_at count x lane) }
     {
         let [zero, one, two, three, four, five, six, seven, eight] = &self.digits;
         let low = choose(

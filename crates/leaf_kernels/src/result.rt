@@ -1,13 +1,13 @@
 //! The middle of a square, some generations on.
 ghost use Rattle.std.specs.Prelude.{◌<◌};
-ghost use Rattle.plane.specs.Square.{IsSame, bits_plane, centre_of, future};
+ghost use Rattle.plane.specs.Square.{IsSame, bits_plane, future};
 ghost use Rattle.leaf_kernels.specs.Rows.{four_fours_plane, four_sixteens_plane, leaves_plane};
 
-use crate::cells64::{NextCells, next_rows64};
-use crate::generation::next_rows;
+use crate::four_leaves::{centre16, innermost, surrounded};
+use crate::generation::{NextCells, next_rows};
+use crate::leaves;
 use crate::life::{Life, is_life};
 use crate::masks::Masks;
-use crate::{leaves, leaves64};
 use rule_text::Rule;
 
 /// The 8 by 8 cells in the middle of a square of four leaves, 2^`exp` generations on, where all
@@ -17,11 +17,8 @@ pub fn result16(rule: &Rule, leaves: [u64; 4], exp: u8) -> u64
     requires { exp < 3 }
     ensures { IsSame (bits_plane result) (future rule.now exp 4 (leaves_plane leaves)) }
 {
-    let mut rows = leaves::rows_of(leaves);
-    for _ in 0..1u8 << exp {
-        rows = next_rows(rule, rows);
-    }
-    leaves::centre_of(rows)
+    let middle = result64(rule, surrounded(leaves), exp);
+    centre16(innermost(middle))
 }
 
 /// The cells in the middle of a square of 64 by 64 cells, 2^`exp` generations on, where all cells outside the
@@ -43,17 +40,10 @@ fn middle_after<N: NextCells>(kernel: &N, quarters: [[u64; 16]; 4], exp: u8) -> 
     requires { exp < 5 }
     ensures { IsSame (four_fours_plane result) (future (N.rule kernel.now) exp 6 (four_sixteens_plane quarters)) }
 {
-    let mut rows = leaves64::rows_of(quarters);
+    let mut rows = leaves::rows_of(quarters);
     let generations = 1u8 << exp;
     for _ in 0..generations {
-        next_rows64(kernel, &mut rows);
+        next_rows(kernel, &mut rows);
     }
-    leaves64::middle_of(rows)
-}
-
-/// The 8 by 8 cells in the middle of a square of four leaves.
-pub fn centre16(leaves: [u64; 4]) -> u64
-    ensures { IsSame (bits_plane result) (centre_of 4 (leaves_plane leaves)) }
-{
-    leaves::centre_of(leaves::rows_of(leaves))
+    leaves::middle_of(rows)
 }

@@ -1,59 +1,65 @@
-//! Sixteen rows of sixteen cells, a lane of a vector for each: moved by one cell, and chosen by state.
-ghost use Rattle.std.specs.Prelude.{◌≡◌, ℤ, pos, ◌+ℤ◌, ◌-ℤ◌, ◌&&◌, if◌then◌else◌};
+//! Sixty-four rows of sixty-four cells in sixteen vectors of four rows: row `y` is lane `y / 16` of the vector
+//! `y % 16`, bit `x` of it the cell `(x, y)`. So the rows above and below those of a vector are those of the
+//! vectors beside it.
+ghost use Rattle.std.specs.Prelude.{◌≡◌, ℤ, Bool, pos, ◌+ℤ◌, ◌-ℤ◌, ◌&&◌, if◌then◌else◌, not};
 ghost use Rattle.plane.specs.Square.{spans};
-ghost use Rattle.leaf_kernels.specs.Rows.{rows_plane};
+ghost use Rattle.leaf_kernels.specs.Masks.{mask_of};
+ghost use Rattle.leaf_kernels.specs.Rows.{four_rows_plane};
 
 use std::simd::prelude::*;
 
 /// Each cell as its left neighbour; the first column is dead.
 #[inline(always)]
-pub(crate) fn from_left(rows: u16x16) -> u16x16
-    ensures { (x y : ℤ) → rows_plane result x y ≡ (spans 16 x && rows_plane rows (x -ℤ pos 1) y) }
+pub(crate) fn from_left(rows: u64x4) -> u64x4
+    ensures { (x lane : ℤ) → four_rows_plane result x lane ≡ (spans 64 x && four_rows_plane rows (x -ℤ pos 1) lane) }
 {
-    rows << u16x16::splat(1)
+    rows << u64x4::splat(1)
 }
 
 /// Each cell as its right neighbour; the last column is dead.
 #[inline(always)]
-pub(crate) fn from_right(rows: u16x16) -> u16x16
-    ensures { (x y : ℤ) → rows_plane result x y ≡ (spans 16 x && rows_plane rows (x +ℤ pos 1) y) }
+pub(crate) fn from_right(rows: u64x4) -> u64x4
+    ensures { (x lane : ℤ) → four_rows_plane result x lane ≡ (spans 64 x && four_rows_plane rows (x +ℤ pos 1) lane) }
 {
-    rows >> u16x16::splat(1)
+    rows >> u64x4::splat(1)
 }
 
-/// Each cell as its upper neighbour; the first row is dead.
+/// Each lane as the one before it; the first lane is dead.
 #[inline(always)]
-pub(crate) fn from_above(rows: u16x16) -> u16x16
-    ensures { (x y : ℤ) → rows_plane result x y ≡ (spans 16 y && rows_plane rows x (y -ℤ pos 1)) }
+pub(crate) fn from_lane_before(rows: u64x4) -> u64x4
+    ensures { (x lane : ℤ) → four_rows_plane result x lane ≡ (spans 4 lane && four_rows_plane rows x (lane -ℤ pos 1)) }
 {
-    u16x16::splat(0).shuffle(
-        rows,
-        [
-            15, 16, 17, 18, 19, 20, 21, 22, 23, 24, 25, 26, 27, 28, 29, 30,
-        ],
-    )
+    u64x4::splat(0).shuffle(rows, [3, 4, 5, 6])
 }
 
-/// Each cell as its lower neighbour; the last row is dead.
+/// Each lane as the one behind it; the last lane is dead.
 #[inline(always)]
-pub(crate) fn from_below(rows: u16x16) -> u16x16
-    ensures { (x y : ℤ) → rows_plane result x y ≡ (spans 16 y && rows_plane rows x (y +ℤ pos 1)) }
+pub(crate) fn from_lane_behind(rows: u64x4) -> u64x4
+    ensures { (x lane : ℤ) → four_rows_plane result x lane ≡ (spans 4 lane && four_rows_plane rows x (lane +ℤ pos 1)) }
 {
-    rows.shuffle(
-        u16x16::splat(0),
-        [1, 2, 3, 4, 5, 6, 7, 8, 9, 10, 11, 12, 13, 14, 15, 16],
-    )
+    rows.shuffle(u64x4::splat(0), [1, 2, 3, 4])
 }
 
-/// Cells by their state: the live ones are kept if `live`, and the dead ones are made live if `dead`.
+/// The dead cells.
 #[inline(always)]
-pub(crate) fn by_state(rows: u16x16, live: bool, dead: bool) -> u16x16
-    ensures { (x y : ℤ) → rows_plane result x y ≡ ((spans 16 x && spans 16 y) && (if rows_plane rows x y then live else dead)) }
+pub(crate) fn dead_cells(rows: u64x4) -> u64x4
+    ensures { (x lane : ℤ) → four_rows_plane result x lane ≡ ((spans 64 x && spans 4 lane) && not (four_rows_plane rows x lane)) }
 {
-    match (live, dead) {
-        (true, true) => u16x16::splat(u16::MAX),
-        (true, false) => rows,
-        (false, true) => !rows,
-        (false, false) => u16x16::splat(0),
-    }
+    !rows
+}
+
+/// All cells or none, by a word of which all bits are live or none.
+#[inline(always)]
+pub(crate) fn everywhere(mask: u64) -> u64x4
+    ensures { (live : Bool) → mask ≡ mask_of live → (x lane : ℤ) → four_rows_plane result x lane ≡ ((spans 64 x && spans 4 lane) && live) }
+{
+    u64x4::splat(mask)
+}
+
+/// The one's cells where `bit` is dead, the other's where it is live.
+#[inline(always)]
+pub(crate) fn choose(bit: u64x4, dead: u64x4, live: u64x4) -> u64x4
+    ensures { (x lane : ℤ) → four_rows_plane result x lane ≡ (if four_rows_plane bit x lane then four_rows_plane live x lane else four_rows_plane dead x lane) }
+{
+    dead ^ ((dead ^ live) & bit)
 }

@@ -7,7 +7,7 @@ use Rattle.plane.proofs.Cuts.{and_left}
 use Rattle.leaf_kernels.specs.Life.{life}
 use Rattle.leaf_kernels.specs.Rows.{four_rows_plane, lane_plane}
 use Rattle.leaf_kernels.specs.Sums.{number}
-use Rattle.leaf_kernels.proofs.Births.{few_counted}
+use Rattle.leaf_kernels.proofs.Neighbours.{few_counted}
 use Rattle.leaf_kernels.proofs.LaneNeighbours.{eight_count}
 use Rattle.leaf_kernels.proofs.LifeCells.{life_cell, life_rows}
 use Rattle.leaf_kernels.proofs.life.LifeNextCells.next_cells.Goals as goal

@@ -1,7 +1,7 @@
 use Rattle.std.proofs.Common.{◌∙◌, ap, pos}
 use Rattle.rule_text.specs.CountRule.{lives}
 use Rattle.leaf_kernels.specs.Rows.{four_rows_plane, lane_plane}
-use Rattle.leaf_kernels.proofs.Births.{few_counted}
+use Rattle.leaf_kernels.proofs.Neighbours.{few_counted}
 use Rattle.leaf_kernels.proofs.masks.MasksNextCells.next_cells.Goals as goal
 
 pub returns : goal.returns

@@ -1,6 +1,0 @@
-use Rattle.std.proofs.Common.{w16}
-use Rattle.leaf_kernels.proofs.Moves.{from_above_cells}
-use Rattle.leaf_kernels.proofs.rows.from_above.Goals as goal
-
-pub returns : goal.returns
-returns c = from_above_cells w16 16 c.args.rows c.fits-rows.0

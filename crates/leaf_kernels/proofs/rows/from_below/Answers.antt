@@ -1,6 +1,0 @@
-use Rattle.std.proofs.Common.{w16}
-use Rattle.leaf_kernels.proofs.Moves.{from_below_cells}
-use Rattle.leaf_kernels.proofs.rows.from_below.Goals as goal
-
-pub returns : goal.returns
-returns c = from_below_cells w16 16 c.args.rows c.fits-rows.0

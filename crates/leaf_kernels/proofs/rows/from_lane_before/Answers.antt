@@ -1,0 +1,6 @@
+use Rattle.std.proofs.Common.{w64}
+use Rattle.leaf_kernels.proofs.Moves.{from_above_cells}
+use Rattle.leaf_kernels.proofs.rows.from_lane_before.Goals as goal
+
+pub returns : goal.returns
+returns c = from_above_cells w64 4 c.args.rows c.fits-rows.0

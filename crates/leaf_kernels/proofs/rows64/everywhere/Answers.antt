@@ -1,5 +1,0 @@
-use Rattle.leaf_kernels.proofs.Choices.{everywhere_cells}
-use Rattle.leaf_kernels.proofs.rows64.everywhere.Goals as goal
-
-pub returns : goal.returns
-returns c = everywhere_cells c.args.mask

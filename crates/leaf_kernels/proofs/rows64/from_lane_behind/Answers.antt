@@ -1,6 +1,0 @@
-use Rattle.std.proofs.Common.{w64}
-use Rattle.leaf_kernels.proofs.Moves.{from_below_cells}
-use Rattle.leaf_kernels.proofs.rows64.from_lane_behind.Goals as goal
-
-pub returns : goal.returns
-returns c = from_below_cells w64 4 c.args.rows c.fits-rows.0
