@@ -15,12 +15,12 @@ fn leaf_centres<S: Squares>(book: &mut S, nine: [Sq; 9]) -> Result<[Sq; 4], Refu
     ensures keeps { Keeps (S.book book.old) (S.book book.new) }
     ensures results { KeepsResults (S.book book.old) (S.book book.new) }
 {
-    let [a, b, c, d, e, f, g, h, i] = nine;
-    let nw = leaf_centre(book, [a, b, d, e])?;
-    let ne = leaf_centre(book, [b, c, e, f])?;
-    let sw = leaf_centre(book, [d, e, g, h])?;
-    let se = leaf_centre(book, [e, f, h, i])?;
-    Ok([nw, ne, sw, se])
+    let [nw, upper, ne, left, middle, right, sw, lower, se] = nine;
+    let upper_left = leaf_centre(book, [nw, upper, left, middle])?;
+    let upper_right = leaf_centre(book, [upper, ne, middle, right])?;
+    let lower_left = leaf_centre(book, [left, middle, sw, lower])?;
+    let lower_right = leaf_centre(book, [middle, right, lower, se])?;
+    Ok([upper_left, upper_right, lower_left, lower_right])
 }
 
 // The quarters of each of three squares.
@@ -47,11 +47,11 @@ fn read_nine<S: Squares>(book: &mut S, level: u8, nine: [Sq; 9]) -> [[Sq; 4]; 9]
     ensures keeps { Keeps (S.book book.old) (S.book book.new) }
     ensures results { KeepsResults (S.book book.old) (S.book book.new) }
 {
-    let [a, b, c, d, e, f, g, h, i] = nine;
-    let [a, b, c] = read_row(book, level, [a, b, c]);
-    let [d, e, f] = read_row(book, level, [d, e, f]);
-    let [g, h, i] = read_row(book, level, [g, h, i]);
-    [a, b, c, d, e, f, g, h, i]
+    let [nw, upper, ne, left, middle, right, sw, lower, se] = nine;
+    let [nw, upper, ne] = read_row(book, level, [nw, upper, ne]);
+    let [left, middle, right] = read_row(book, level, [left, middle, right]);
+    let [sw, lower, se] = read_row(book, level, [sw, lower, se]);
+    [nw, upper, ne, left, middle, right, sw, lower, se]
 }
 
 /// Of nine squares in three rows, the centres of the four that neighbours make.
@@ -70,10 +70,10 @@ pub(crate) fn four_centres<S: Squares>(
         return leaf_centres(book, nine);
     }
     // A centre is made of the quarters where its four squares meet.
-    let [a, b, c, d, e, f, g, h, i] = read_nine(book, level, nine);
-    let nw = book.quad([a[3], b[2], d[1], e[0]])?;
-    let ne = book.quad([b[3], c[2], e[1], f[0]])?;
-    let sw = book.quad([d[3], e[2], g[1], h[0]])?;
-    let se = book.quad([e[3], f[2], h[1], i[0]])?;
-    Ok([nw, ne, sw, se])
+    let [nw, upper, ne, left, middle, right, sw, lower, se] = read_nine(book, level, nine);
+    let upper_left = book.quad([nw[3], upper[2], left[1], middle[0]])?;
+    let upper_right = book.quad([upper[3], ne[2], middle[1], right[0]])?;
+    let lower_left = book.quad([left[3], middle[2], sw[1], lower[0]])?;
+    let lower_right = book.quad([middle[3], right[2], lower[1], se[0]])?;
+    Ok([upper_left, upper_right, lower_left, lower_right])
 }

@@ -107,7 +107,7 @@ impl From<AllocError> for Refusal {
     }
 }
 
-/// A failed allocation is `NoMemory`; the value that it was for is dropped.
+/// A failed allocation is `NoMemory`. The value that was to be stored is dropped.
 impl<T: Drop> From<AllocFailed<T>> for Refusal {
     ghost from_gives = { λ _ refusal. refusal ≡ NoMemory };
 

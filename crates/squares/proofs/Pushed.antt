@@ -52,9 +52,6 @@ popped records last pushed rest number len items is size taken =
     let before : length records ≡ number - 1 = omega arith in
     taken ∙ ap (λ n. take (n - 1) pushed) size ∙ ap (take (number - 1)) items ∙ take_at records _ (number - 1) before
 
-fresh : Node → Record
-fresh node = record { node = node; future = None }
-
 module _ (rule : CountRule) (exponent : ℕ) (records : List Record) (node : Node) (good : IsGood (nodes_of records)) where
   pub pushed_results : KeepsResults (plain_book rule exponent records) (plain_book rule exponent (records ++ record { node = node; future = None } ∷ []))
   pushed_results = record { results = push_results 0 records (record { node = node; future = None }) refl; learned = refl }

@@ -97,9 +97,6 @@ fitting_held level runs least all = record {
 
 -- a square that has the ends of a run has the run
 module _ (half : ℕ) where
-  spans_both : ℤ → ℤ → Bool
-  spans_both x y = spans (half + half) (x +ℤ pos half) && spans (half + half) (y +ℤ pos half)
-
   first_in_run : (run : Cell × ℕ) → 0 < run.1 → is_in_run run.0.x run.0.y run ≡ true
   first_in_run run some = grind (arith, ints)
 

@@ -1,6 +1,6 @@
 -- The cells of spans.
 use Rattle.std.proofs.Common.{◌≡◌, ℕ, zero, suc, ◌+◌, ◌-◌, ◌*◌, ◌%◌, ◌^◌, ◌<◌, ◌≤◌, ◌≢◌, ℤ, pos, negsuc, ◌+ℤ◌, Bool, true, false, List, [], ◌∷◌, ◌++◌, take, get_or, length, sym, ◌∙◌, ap, arith, refl, ⊎_elim}
-use Rattle.std.specs.Prelude.{◌&&◌, ◌||◌, ◌==◌, nat_le, nat_lt, int_le, unsigned_abs, bit_or, min, max}
+use Rattle.std.specs.Prelude.{◌&&◌, ◌||◌, ◌==◌, nat_le, nat_lt, int_le, bit_or, min, max}
 use Rattle.std.specs.Int.{bit_at}
 use Rattle.std.specs.List.{list_any}
 use Rattle.std.proofs.lemmas.Bool.{cases_lt}
@@ -10,7 +10,7 @@ use Rattle.std.proofs.lemmas.List.Folds.{list_any-append, list_any_more}
 use Rattle.std.proofs.lemmas.Nat.{one_shl, shl_whole}
 use Rattle.std.proofs.lemmas.Nat.Bits.{bit_at_or, bit_at-lt, bit_at-zero, bit_at_cat_low, bit_at_cat_high, bit_at_ones, bit_at_ones_above}
 use Rattle.std.proofs.Math.Pow.{pow_mono}
-use Rattle.plane.specs.Square.{IsSame, spans, cut, bit, bits_plane}
+use Rattle.plane.specs.Square.{IsSame, spans, cut, bit}
 use Rattle.plane.proofs.Cuts.{and_case, and_left, and_right}
 use Rattle.squares.specs.Spans.{in_span, in_spans, marked}
 use Rattle.squares.specs.declared.spans.Span.{Span}
@@ -124,14 +124,6 @@ cut_marked side left top f g h = record { same = λ x y. and_case (spans side x 
         ∙ h a b (in_pos side a hx) (in_pos side b hy) ∙ sym (marked_moved g a b left top)
     inside (pos a) (negsuc b) hx hy = absurd (left_of side b hy)
     inside (negsuc a) y hx hy = absurd (left_of side a hx)
-
-pub leaf_marked : (word : ℕ) (f : ℕ → ℕ → Bool) → ((x y : ℕ) → x < 8 → y < 8 → bit word (8 * y + x) ≡ f x y) → IsSame (bits_plane word) (cut 8 0 0 (marked f))
-leaf_marked word f h = record { same = λ x y. and_case (spans 8 x && spans 8 y) _ _ (λ e. inside x y (and_left _ _ e) (and_right _ _ e)) }
-  where
-    inside : (x y : ℤ) → spans 8 x ≡ true → spans 8 y ≡ true → bit word (8 * unsigned_abs y + unsigned_abs x) ≡ marked f (x +ℤ pos 0) (y +ℤ pos 0)
-    inside (pos a) (pos b) hx hy = h a b (in_pos 8 a hx) (in_pos 8 b hy) ∙ ap (λ n. f n b) (let e : a ≡ a + 0 = omega arith in e) ∙ ap (f (a + 0)) (let e : b ≡ b + 0 = omega arith in e) ∙ sym (marked_moved f a b 0 0)
-    inside (pos a) (negsuc b) hx hy = absurd (left_of 8 b hy)
-    inside (negsuc a) y hx hy = absurd (left_of 8 a hx)
 
 -- what is marked at a place of the square
 pub marked_inside : (side : ℕ) (f : ℕ → ℕ → Bool) (a b : ℕ) → spans side (pos a) ≡ true → spans side (pos b) ≡ true → cut side 0 0 (marked f) (pos a) (pos b) ≡ f a b

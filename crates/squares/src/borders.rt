@@ -23,10 +23,5 @@ pub fn has_empty_border(nw: [Sq; 4], ne: [Sq; 4], sw: [Sq; 4], se: [Sq; 4]) -> b
 fn are_empty(squares: &[Sq]) -> bool
     ensures { IsTrue result ↔ All IsEmpty squares.now }
 {
-    for sq in squares {
-        if sq.num.0 != 0 {
-            return false;
-        }
-    }
-    true
+    squares.iter().all(|sq| sq.is_empty())
 }

@@ -46,7 +46,7 @@ fn copy_read<A: Reading, B: Squares>(
     ensures results { KeepsResults (B.book to.old) (B.book to.new) }
 {
     let level = sq.level;
-    if sq.num.0 == 0 {
+    if sq.is_empty() {
         return Ok(sq);
     }
     if level == 3 {

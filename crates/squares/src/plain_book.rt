@@ -31,12 +31,6 @@ pub struct PlainBook {
     ghost is_book: { IsBook (plain_book rule exponent records.items) },
 }
 
-fn empty_square(level: u8) -> Sq
-    ensures { result ≡ numbered level 0 }
-{
-    Sq { level, num: Num(0) }
-}
-
 // Gives the node the next number.
 fn push_node(records: &mut Vec<Record>, node: Node) -> Result<Num, Refusal>
     ensures number { IfOk result (λ num. num.0 ≡ suc (length records.old.items)) }
@@ -103,7 +97,7 @@ impl Look for PlainBook {
     ghost book = { λ s. plain_book s.rule s.exponent s.records.items };
 
     fn bits(&self, sq: Sq) -> u64 {
-        if sq.num.0 == 0 {
+        if sq.is_empty() {
             return 0;
         }
         match self.record(sq.num).node {
@@ -114,8 +108,8 @@ impl Look for PlainBook {
 
     fn parts(&self, sq: Sq) -> [Sq; 4] {
         let level = sq.level - 1;
-        if sq.num.0 == 0 {
-            return [empty_square(level); 4];
+        if sq.is_empty() {
+            return [Sq::empty(level); 4];
         }
         match self.record(sq.num).node {
             Node::Leaf(_) => unreachable!(),
@@ -164,7 +158,7 @@ impl Squares for PlainBook {
 
     fn leaf(&mut self, word: u64) -> Result<Sq, Refusal> {
         if word == 0 {
-            return Ok(empty_square(3));
+            return Ok(Sq::empty(3));
         }
         if let Some(num) = self.leaves.get(&word) {
             return Ok(Sq {
@@ -180,7 +174,7 @@ impl Squares for PlainBook {
         let node = Quarters::of(quarters);
         let level = node.level;
         if node.are_empty() {
-            return Ok(empty_square(level));
+            return Ok(Sq::empty(level));
         }
         if let Some(num) = self.inner.get(&node) {
             return Ok(Sq { level, num: *num });
@@ -214,15 +208,15 @@ impl Squares for PlainBook {
 
     fn recall(&mut self, sq: Sq) -> Option<Sq> {
         let level = sq.level - 1;
-        if sq.num.0 == 0 {
-            return Some(empty_square(level));
+        if sq.is_empty() {
+            return Some(Sq::empty(level));
         }
         let num = self.record(sq.num).future?;
         Some(Sq { level, num })
     }
 
     fn keep(&mut self, sq: Sq, future: Sq) -> Result<(), Refusal> {
-        if sq.num.0 != 0 {
+        if !sq.is_empty() {
             self.records[sq.num.0 as usize - 1].future = Some(future.num);
         }
         Ok(())

@@ -13,7 +13,7 @@ ghost use Rattle.squares.specs.Spans.{FitsRound, in_spans, marked, single_run};
 
 use crate::book::Squares;
 use crate::spans::{Span, distance, half_side, leaf_bits, quartered, spans_of};
-use crate::sq::{Num, Sq};
+use crate::sq::Sq;
 use plane::{Cell, CellSet, Refusal};
 use std::alloc::Global;
 
@@ -73,7 +73,7 @@ fn spans_to_square<S: Squares>(
     ensures results { KeepsResults (S.book book.old) (S.book book.new) }
 {
     if spans.is_empty() {
-        return Ok(Sq { level, num: Num(0) });
+        return Ok(Sq::empty(level));
     }
     if level == 3 {
         return book.leaf(leaf_bits(&spans));

@@ -12,6 +12,9 @@ pub const LARGEST_PAIR_COUNT: u32 = 1 << 28;
 /// How many slots a shard has, so how many places the way of a word has.
 pub const SHARD_LEN: u32 = 256;
 
+// 2^64 divided by the golden ratio: the upper bits of a product by it depend on all bits of the word.
+const SPREADING_FACTOR: u64 = 0x9E37_79B9_7F4A_7C15;
+
 /// What a slot is for.
 #[derive(Clone, Copy, Debug, PartialEq, Eq)]
 pub enum Kind {
@@ -92,7 +95,7 @@ impl Shape {
         ensures slot { result ≡ first (slot_bits self.bits kind) word }
         ensures range { result < 2 ^ slot_bits self.bits kind }
     {
-        (word.wrapping_mul(0x9E37_79B9_7F4A_7C15) >> (64 - self.slot_bits(kind))) as u32
+        (word.wrapping_mul(SPREADING_FACTOR) >> (64 - self.slot_bits(kind))) as u32
     }
 
     /// The slot at this place of a word's way: from the first slot on to the end of its shard, and

@@ -10,14 +10,14 @@ read_nine-requires-clause-low g c =
     let known = c.requires.known 0 (numbered 0 0) (omega arith) in
     let low = known.low in let other = c.if-level-eq3.false in omega arith
 
-pub returns-in_err-ne-clause-keeps : goal.returns-in_err-ne-clause-keeps
-returns-in_err-ne-clause-keeps g c = keeps_trans c.read_nine.ensures.keeps (keeps_trans c.quad.ensures.keeps c.quad-2.ensures.keeps)
+pub returns-in_err-upper_right-clause-keeps : goal.returns-in_err-upper_right-clause-keeps
+returns-in_err-upper_right-clause-keeps g c = keeps_trans c.read_nine.ensures.keeps (keeps_trans c.quad.ensures.keeps c.quad-2.ensures.keeps)
 
-pub returns-in_err-sw-clause-keeps : goal.returns-in_err-sw-clause-keeps
-returns-in_err-sw-clause-keeps g c = keeps_trans c.read_nine.ensures.keeps (keeps_trans c.quad.ensures.keeps (keeps_trans c.quad-2.ensures.keeps c.quad-3.ensures.keeps))
+pub returns-in_err-lower_left-clause-keeps : goal.returns-in_err-lower_left-clause-keeps
+returns-in_err-lower_left-clause-keeps g c = keeps_trans c.read_nine.ensures.keeps (keeps_trans c.quad.ensures.keeps (keeps_trans c.quad-2.ensures.keeps c.quad-3.ensures.keeps))
 
-pub returns-in_err-se-clause-keeps : goal.returns-in_err-se-clause-keeps
-returns-in_err-se-clause-keeps g c = keeps_trans c.read_nine.ensures.keeps (keeps_trans c.quad.ensures.keeps (keeps_trans c.quad-2.ensures.keeps (keeps_trans c.quad-3.ensures.keeps c.quad-4.ensures.keeps)))
+pub returns-in_err-lower_right-clause-keeps : goal.returns-in_err-lower_right-clause-keeps
+returns-in_err-lower_right-clause-keeps g c = keeps_trans c.read_nine.ensures.keeps (keeps_trans c.quad.ensures.keeps (keeps_trans c.quad-2.ensures.keeps (keeps_trans c.quad-3.ensures.keeps c.quad-4.ensures.keeps)))
 
 pub quad-requires-clause-known : goal.quad-requires-clause-known
 quad-requires-clause-known g c =
@@ -45,10 +45,10 @@ returns-clause-ok g c =
     let laws = g.met.S.Squares.is_book c.args.book.now in
     let k0 = c.read_nine.ensures.keeps in let k1 = c.quad.ensures.keeps in let k2 = c.quad-2.ensures.keeps in let k3 = c.quad-3.ensures.keeps in let k4 = c.quad-4.ensures.keeps in
     record {
-      nw = middle_shown _ _ _ c.args.nine c.read_nine.result c.requires.known c.read_nine.ensures.value _ _ _ 0 _ laws (omega arith) k0 (keeps_none _) k1 (keeps_trans k2 (keeps_trans k3 k4)) c.in_ok-nw.ensures.ok;
-      ne = middle_shown _ _ _ c.args.nine c.read_nine.result c.requires.known c.read_nine.ensures.value _ _ _ 1 _ laws (omega arith) k0 k1 k2 (keeps_trans k3 k4) c.in_ok-ne.ensures.ok;
-      sw = middle_shown _ _ _ c.args.nine c.read_nine.result c.requires.known c.read_nine.ensures.value _ _ _ 3 _ laws (omega arith) k0 (keeps_trans k1 k2) k3 k4 c.in_ok-sw.ensures.ok;
-      se = middle_shown _ _ _ c.args.nine c.read_nine.result c.requires.known c.read_nine.ensures.value _ _ _ 4 _ laws (omega arith) k0 (keeps_trans k1 (keeps_trans k2 k3)) k4 (keeps_none _) c.in_ok-se.ensures.ok;
+      nw = middle_shown _ _ _ c.args.nine c.read_nine.result c.requires.known c.read_nine.ensures.value _ _ _ 0 _ laws (omega arith) k0 (keeps_none _) k1 (keeps_trans k2 (keeps_trans k3 k4)) c.in_ok-upper_left.ensures.ok;
+      ne = middle_shown _ _ _ c.args.nine c.read_nine.result c.requires.known c.read_nine.ensures.value _ _ _ 1 _ laws (omega arith) k0 k1 k2 (keeps_trans k3 k4) c.in_ok-upper_right.ensures.ok;
+      sw = middle_shown _ _ _ c.args.nine c.read_nine.result c.requires.known c.read_nine.ensures.value _ _ _ 3 _ laws (omega arith) k0 (keeps_trans k1 k2) k3 k4 c.in_ok-lower_left.ensures.ok;
+      se = middle_shown _ _ _ c.args.nine c.read_nine.result c.requires.known c.read_nine.ensures.value _ _ _ 4 _ laws (omega arith) k0 (keeps_trans k1 (keeps_trans k2 k3)) k4 (keeps_none _) c.in_ok-lower_right.ensures.ok;
     }
 
 pub returns-clause-keeps : goal.returns-clause-keeps

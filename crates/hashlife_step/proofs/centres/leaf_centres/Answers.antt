@@ -6,8 +6,8 @@ use Rattle.squares.proofs.FourKnown.{each_known}
 use Rattle.hashlife_step.proofs.FourCentres.{middle_later}
 use Rattle.hashlife_step.proofs.centres.leaf_centres.Goals as goal
 
-pub returns-in_err-se-clause-keeps : goal.returns-in_err-se-clause-keeps
-returns-in_err-se-clause-keeps g c = keeps_trans c.leaf_centre.ensures.keeps (keeps_trans c.leaf_centre-2.ensures.keeps (keeps_trans c.leaf_centre-3.ensures.keeps c.leaf_centre-4.ensures.keeps))
+pub returns-in_err-lower_right-clause-keeps : goal.returns-in_err-lower_right-clause-keeps
+returns-in_err-lower_right-clause-keeps g c = keeps_trans c.leaf_centre.ensures.keeps (keeps_trans c.leaf_centre-2.ensures.keeps (keeps_trans c.leaf_centre-3.ensures.keeps c.leaf_centre-4.ensures.keeps))
 
 pub leaf_centre-requires : goal.leaf_centre-requires
 leaf_centre-requires g c =
@@ -39,10 +39,10 @@ returns-clause-ok g c =
     let k1 = c.leaf_centre.ensures.keeps in let k2 = c.leaf_centre-2.ensures.keeps in let k3 = c.leaf_centre-3.ensures.keeps in let k4 = c.leaf_centre-4.ensures.keeps in
     let known = λ (b : Book) (keeps : Keeps (book c.args.book.now) b) (i : ℕ) (d : Sq) (less : i < length c.args.nine). known_kept keeps (c.requires.known i d less) in
     record {
-      nw = middle_later _ _ _ 3 0 c.args.nine _ c.requires.known (omega arith) k1 (keeps_trans k2 (keeps_trans k3 k4)) c.in_ok-nw.ensures.ok;
-      ne = middle_later _ _ _ 3 1 c.args.nine _ (known _ k1) (omega arith) k2 (keeps_trans k3 k4) c.in_ok-ne.ensures.ok;
-      sw = middle_later _ _ _ 3 3 c.args.nine _ (known _ (keeps_trans k1 k2)) (omega arith) k3 k4 c.in_ok-sw.ensures.ok;
-      se = middle_later _ _ _ 3 4 c.args.nine _ (known _ (keeps_trans k1 (keeps_trans k2 k3))) (omega arith) k4 (keeps_none _) c.in_ok-se.ensures.ok;
+      nw = middle_later _ _ _ 3 0 c.args.nine _ c.requires.known (omega arith) k1 (keeps_trans k2 (keeps_trans k3 k4)) c.in_ok-upper_left.ensures.ok;
+      ne = middle_later _ _ _ 3 1 c.args.nine _ (known _ k1) (omega arith) k2 (keeps_trans k3 k4) c.in_ok-upper_right.ensures.ok;
+      sw = middle_later _ _ _ 3 3 c.args.nine _ (known _ (keeps_trans k1 k2)) (omega arith) k3 k4 c.in_ok-lower_left.ensures.ok;
+      se = middle_later _ _ _ 3 4 c.args.nine _ (known _ (keeps_trans k1 (keeps_trans k2 k3))) (omega arith) k4 (keeps_none _) c.in_ok-lower_right.ensures.ok;
     }
 
 pub returns-clause-keeps : goal.returns-clause-keeps

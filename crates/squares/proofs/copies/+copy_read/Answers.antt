@@ -8,9 +8,9 @@ use Rattle.squares.proofs.Kept.{keeps_none, keeps_trans, known_kept, results_non
 use Rattle.squares.proofs.KnownCopies.{kept_copies, noted_known_copies, shown_before, shown_later}
 use Rattle.squares.proofs.copies.+copy_read.Goals as goal
 
-pub returns-then-sq-eq0-clause-ok : goal.returns-then-sq-eq0-clause-ok
-returns-then-sq-eq0-clause-ok g t c =
-    empty_copied (g.A.Reading.book c.args.from.now) (g.B.Squares.book c.args.to.now) c.args.sq (g.met.A.Reading.is_book c.args.from.now) (g.met.B.Squares.is_book c.args.to.now) c.requires.known c.if-sq-eq0.true
+pub returns-then-is_empty-clause-ok : goal.returns-then-is_empty-clause-ok
+returns-then-is_empty-clause-ok g t c =
+    empty_copied (g.A.Reading.book c.args.from.now) (g.B.Squares.book c.args.to.now) c.args.sq (g.met.A.Reading.is_book c.args.from.now) (g.met.B.Squares.is_book c.args.to.now) c.requires.known (c.is_empty.ensures.0 c.if-is_empty.true)
 
 pub returns-in-Some-clause-ok : goal.returns-in-Some-clause-ok
 returns-in-Some-clause-ok g t c = c.requires.copies.same.same c.args.sq c.in-Some.num.now (sym c.in-Some.ensures.value)

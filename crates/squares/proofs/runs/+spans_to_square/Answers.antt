@@ -1,7 +1,10 @@
-use Rattle.std.proofs.Common.{◌≡◌, ◌-◌, rules, arith, sym, vec_len, []}
+use Rattle.std.proofs.Common.{◌≡◌, ◌-◌, ◌^◌, rules, arith, subst, sym, vec_len, []}
 use Rattle.std.proofs.lemmas.Bool.{eqb-true}
 use Rattle.std.proofs.lemmas.List.{nil_from_length}
 use Rattle.std.proofs.lemmas.Result.{IfOk-weaker}
+use Rattle.plane.specs.Square.{cut}
+use Rattle.squares.specs.Book.{Shows}
+use Rattle.squares.specs.Spans.{in_spans, marked}
 use Rattle.squares.specs.declared.sq.Sq.{Sq}
 use Rattle.squares.proofs.Kept.{keeps_trans, known_kept, results_trans, shows_kept}
 use Rattle.squares.proofs.KnownQuarters.{quarters_of_level}
@@ -14,7 +17,9 @@ returns-then-is_empty-clause-ok g t c =
     let none : c.args.spans.items ≡ [] = nil_from_length c.args.spans.items (search (rules, size)) in
     let low = c.requires.level.0 in
     let high = c.requires.level.1 in
-    no_spans (g.S.Squares.book c.args.book.now) c.args.level c.args.spans.items (g.met.S.Squares.is_book c.args.book.now) low (omega arith) none
+    let marks = marked (in_spans c.args.spans.items) in
+    subst (Shows (g.S.Squares.book c.args.book.now) c.args.level (cut (2 ^ c.args.level) 0 0 marks)) (sym c.empty.ensures)
+    (no_spans (g.S.Squares.book c.args.book.now) c.args.level c.args.spans.items (g.met.S.Squares.is_book c.args.book.now) low (omega arith) none)
 
 pub returns-clause-ok : goal.returns-clause-ok
 returns-clause-ok g t c =

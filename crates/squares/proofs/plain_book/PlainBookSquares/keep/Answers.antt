@@ -1,6 +1,7 @@
-use Rattle.std.proofs.Common.{◌-◌, inl, refl, rules, subst, sym}
+use Rattle.std.proofs.Common.{◌∙◌, ◌-◌, inl, refl, rules, subst, sym}
 use Rattle.std.proofs.lemmas.Option.{slice_get_within}
 use Rattle.std.specs.Ordering.{nat_cmp}
+use Rattle.std.proofs.lemmas.Bool.{false≢true}
 use Rattle.squares.specs.Book.{IsFuture}
 use Rattle.squares.specs.Nodes.{plain_book, quarters_order, HasNumbers}
 use Rattle.squares.specs.declared.node.Node.TheVariants.{Leaf, Inner}
@@ -16,9 +17,9 @@ invariant_of-self c =
     let num = c.args.future.num in
     let book = plain_book at.rule at.exponent at.records.items in
     let future : IsFuture book sq (record { level = sq.level - 1; num = num }) = subst (λ l. IsFuture book sq (record { level = l; num = num })) c.requires.future.known.at_level c.requires.future in
-    let nodes = kept_nodes at.rule at.exponent at.records.items c.args.sq c.index_mut.result.now c.args.future.num at.good c.if-sq-ne0.true c.requires.known.known c.index_mut.ensures.value in
-    let good = kept_good at.rule at.exponent at.records.items c.args.sq c.index_mut.result.now c.args.future.num at.good c.if-sq-ne0.true c.requires.known.known c.index_mut.ensures.value in
-    let futures = kept_futures at.rule at.exponent at.records.items c.args.sq c.index_mut.result.now c.args.future.num at.good c.if-sq-ne0.true c.requires.known.known c.index_mut.ensures.value c.requires.known c.requires.level future at.futures in
+    let nodes = kept_nodes at.rule at.exponent at.records.items c.args.sq c.index_mut.result.now c.args.future.num at.good (λ e. false≢true (sym c.if-not-is_empty.true ∙ c.is_empty.ensures.1 e)) c.requires.known.known c.index_mut.ensures.value in
+    let good = kept_good at.rule at.exponent at.records.items c.args.sq c.index_mut.result.now c.args.future.num at.good (λ e. false≢true (sym c.if-not-is_empty.true ∙ c.is_empty.ensures.1 e)) c.requires.known.known c.index_mut.ensures.value in
+    let futures = kept_futures at.rule at.exponent at.records.items c.args.sq c.index_mut.result.now c.args.future.num at.good (λ e. false≢true (sym c.if-not-is_empty.true ∙ c.is_empty.ensures.1 e)) c.requires.known.known c.index_mut.ensures.value c.requires.known c.requires.level future at.futures in
     record {
       good = good;
       leaves_listed = subst (λ ns. HasNumbers nat_cmp Leaf ns at.leaves) (sym nodes) at.leaves_listed;
@@ -27,25 +28,25 @@ invariant_of-self c =
       is_book = book_good at.rule at.exponent _ at.is_book.rule good futures;
     }
 
-pub returns-then-sq-ne0-clause-ok : goal.returns-then-sq-ne0-clause-ok
-returns-then-sq-ne0-clause-ok c =
+pub returns-then-not-is_empty-clause-ok : goal.returns-then-not-is_empty-clause-ok
+returns-then-not-is_empty-clause-ok c =
     let at = c.args.self.now in
-    kept_adds at.rule at.exponent at.records.items c.args.sq c.index_mut.result.now c.args.future.num at.good c.if-sq-ne0.true c.requires.known.known c.index_mut.ensures.value
+    kept_adds at.rule at.exponent at.records.items c.args.sq c.index_mut.result.now c.args.future.num at.good (λ e. false≢true (sym c.if-not-is_empty.true ∙ c.is_empty.ensures.1 e)) c.requires.known.known c.index_mut.ensures.value
 
-pub returns-then-sq-ne0-clause-keeps : goal.returns-then-sq-ne0-clause-keeps
-returns-then-sq-ne0-clause-keeps c =
+pub returns-then-not-is_empty-clause-keeps : goal.returns-then-not-is_empty-clause-keeps
+returns-then-not-is_empty-clause-keeps c =
     let at = c.args.self.now in
-    kept_keeps at.rule at.exponent at.records.items c.args.sq c.index_mut.result.now c.args.future.num at.good c.if-sq-ne0.true c.requires.known.known c.index_mut.ensures.value
+    kept_keeps at.rule at.exponent at.records.items c.args.sq c.index_mut.result.now c.args.future.num at.good (λ e. false≢true (sym c.if-not-is_empty.true ∙ c.is_empty.ensures.1 e)) c.requires.known.known c.index_mut.ensures.value
 
 pub index_mut-requires : goal.index_mut-requires
 index_mut-requires c =
     let items = c.args.self.now.records.items in
-    let found = record_of_square items c.args.sq.level c.args.sq.num.0 c.requires.known.known c.if-sq-ne0.true in
+    let found = record_of_square items c.args.sq.level c.args.sq.num.0 c.requires.known.known (λ e. false≢true (sym c.if-not-is_empty.true ∙ c.is_empty.ensures.1 e)) in
     let within = slice_get_within items (c.args.sq.num.0 - 1) found.0 found.1 in
     search (rules, within)
 
-pub returns-else-sq-ne0-clause-ok : goal.returns-else-sq-ne0-clause-ok
-returns-else-sq-ne0-clause-ok c = record { known = inl c.if-sq-ne0.false; learned = refl; results = inl refl }
+pub returns-else-not-is_empty-clause-ok : goal.returns-else-not-is_empty-clause-ok
+returns-else-not-is_empty-clause-ok c = record { known = inl (c.is_empty.ensures.0 c.if-not-is_empty.false); learned = refl; results = inl refl }
 
-pub returns-else-sq-ne0-clause-keeps : goal.returns-else-sq-ne0-clause-keeps
-returns-else-sq-ne0-clause-keeps c = keeps_none _
+pub returns-else-not-is_empty-clause-keeps : goal.returns-else-not-is_empty-clause-keeps
+returns-else-not-is_empty-clause-keeps c = keeps_none _

@@ -28,7 +28,7 @@ returns-then-are_empty-clause-ok c =
     let book = plain_book at.rule at.exponent at.records.items in
     let none : (nth squares 0).num.0 + (nth squares 1).num.0 + (nth squares 2).num.0 + (nth squares 3).num.0 ≡ 0 =
     ap (λ (p : Quarters). p.nw.0 + p.ne.0 + p.sw.0 + p.se.0) (sym c.of-node.ensures) ∙ c.are_empty.ensures.0 c.if-are_empty.true in
-    subst (Shows book ((nth squares 0).level + 1) (joined_squares book (nth squares 0).level squares)) (sym (c.empty_square.ensures ∙ ap (λ (p : Quarters). numbered p.level 0) c.of-node.ensures))
+    subst (Shows book ((nth squares 0).level + 1) (joined_squares book (nth squares 0).level squares)) (sym (c.empty.ensures ∙ ap (λ (p : Quarters). numbered p.level 0) c.of-node.ensures))
     (empty_shows at.rule at.exponent at.records.items squares (search rules) c.requires.known at.good c.requires.level none)
 
 pub returns-in_err-num-clause-empty : goal.returns-in_err-num-clause-empty
