@@ -1,18 +1,29 @@
--- What desks know stays known, and how many expansions they count.
-use Rattle.std.proofs.Common.{◌≡◌, ◌<◌, ◌≤◌, ℕ, zero, suc, ◌+◌, ◌*◌, ◌-◌, ◌^◌, List, length, min, sym, refl, ap, ◌∙◌, subst, inl, inr, ⊎_elim, All, arith}
+-- What books know stays known, and how many expansions are counted.
+use Rattle.std.proofs.Common.{Ok, Err, ◌≡◌, ◌≤◌, ℕ, zero, suc, ◌+◌, ◌*◌, ◌-◌, ◌^◌, List, length, min, refl, ap, ◌∙◌, subst, sym, inl, inr, ⊎_elim, All, arith}
+use Rattle.std.proofs.lemmas.Bool.{false≢true}
+use Rattle.std.specs.Prelude.{IfOk, IfErr}
+use Rattle.std.specs.declared.result.Result.{Result}
+use Rattle.plane.specs.declared.refusal.Refusal.{Refusal}
 use Rattle.squares.specs.declared.sq.Sq.{Sq}
-use Rattle.squares.specs.Book.{Book, IsBook, IsKnown, HasResult, Keeps}
-use Rattle.squares.proofs.Kept.{keeps_trans, keeps_none, known_kept}
+use Rattle.squares.specs.Book.{Book, IsBook, IsKnown, HasResult, Keeps, MayRefuse}
+use Rattle.squares.proofs.Kept.{keeps_trans, known_kept}
 use Rattle.squares.proofs.Results.{future_kept}
+use Rattle.hashlife_step.specs.FoundFutures.{FindsFuture}
+use Rattle.hashlife_step.specs.Tallies.{Tallies, counted}
+use Rattle.node_table.specs.declared.at.At.{At}
 use Rattle.node_table.specs.declared.desk.Desk.{Desk}
 use Rattle.node_table.specs.declared.table.NodeTable.{NodeTable}
-use Rattle.node_table.specs.Desks.{IsDeskOf, store_of, book_at, expansions_of}
-use Rattle.worker_split.specs.Jobs.{ComesBack, IsJob, HasFuture}
-use Rattle.worker_split.specs.Rounds.{Works, Continues}
+use Rattle.node_table.specs.Desks.{IsDeskOf, store_of, book_at, work_store}
+use Rattle.node_table.specs.DesksAtWork.{book_here}
+use Rattle.worker_split.specs.Jobs.{IsJob, HasFuture, RefusesFull}
+use Rattle.worker_split.specs.Work.{Works}
 use Rattle.worker_split.proofs.Counting.{has, contains, fewer}
 
 pub desk_book : (table : NodeTable) (desk : Desk) → IsDeskOf table desk → IsBook (book_at table desk)
 desk_book table desk d = (desk.sound table.key d.same_key).book (store_of table)
+
+pub here_book : (at : At) → IsBook (book_here at)
+here_book at = (at.desk.sound at.table.now.key at.of_table.same_key).book (work_store at.expansions at.table.now)
 
 pub more_results : (old new : Book) → IsBook old → Keeps old new → length old.results ≤ length new.results
 more_results old new book keeps = fewer old.results new.results book.results_once (λ i sq e. has new.results sq (keeps.results sq (contains old.results sq i e)))
@@ -28,6 +39,12 @@ result_kept old new sq keeps h = ⊎_elim (λ e. inl e) (λ t. inr (keeps.result
 
 pub has_future_kept : (old new : Book) (sq future : Sq) → Keeps old new → IsJob old sq → HasFuture old sq future → HasFuture new sq future
 has_future_kept old new sq future keeps job h = record { is = future_kept old new sq future keeps job.known h.is; known = result_kept old new sq keeps h.known }
+
+pub all_known_kept : (old new : Book) (level : ℕ) (squares : List Sq) → Keeps old new → All (IsKnown old level) squares → All (IsKnown new level) squares
+all_known_kept old new level squares keeps all k d less = known_kept keeps (all k d less)
+
+pub own_known : (book : Book) (level : ℕ) (sq : Sq) → IsKnown book level sq → IsKnown book sq.level sq
+own_known book level sq h = record { known = h.known; at_level = refl; low = subst (λ l. 3 ≤ l) (sym h.at_level) h.low; high = subst (λ l. l ≤ 65) (sym h.at_level) h.high }
 
 pub times_more : (u a b : ℕ) → a ≤ b → u * a ≤ u * b
 times_more zero a b h = omega arith
@@ -46,40 +63,6 @@ raised v w a b x y le ab h =
     let g : w * b ≡ u * b + v * b = ap (λ n. n * b) e ∙ split_times u v b in
     omega (arith, m, f, g, h)
 
-pub works_none : (table : NodeTable) (desk : Desk) (times : ℕ) → IsDeskOf table desk → Continues table times desk desk
-works_none table desk times d = record { of_table = d; keeps = keeps_none (book_at table desk); rises = omega arith; count = omega arith }
-
-pub works_more : (table : NodeTable) (v w before : ℕ) (base : Book) (desk : Desk) → v ≤ w → IsBook base → Works table v before base desk → Works table w before base desk
-works_more table v w before base desk le book h = record {
-  of_table = h.of_table;
-  keeps = h.keeps;
-  rises = h.rises;
-  count = raised v w (length base.results) (length (book_at table desk).results) before (expansions_of desk) le (more_results base (book_at table desk) book h.keeps) h.count;
-}
-
-pub works_trans : (table : NodeTable) (v w before : ℕ) (base : Book) (old new : Desk) → v ≤ w → Works table w before base old → Continues table v old new → Works table w before base new
-works_trans table v w before base old new le h k =
-    let m = works_more table v w (expansions_of old) (book_at table old) new le (desk_book table old h.of_table) k in
-    record { of_table = k.of_table; keeps = keeps_trans h.keeps k.keeps; rises = (let a = h.rises in let b = k.rises in omega (arith, a, b)); count = (let a = h.count in let b = m.count in omega (arith, a, b)) }
-
--- a worker's desk is joined: all that it counted is of results that are new to the base
-pub works_join : (table : NodeTable) (joined before : ℕ) (base : Book) (mine theirs new : Desk) → Works table joined before base mine → Works table 1 0 base theirs → IsDeskOf table new →
-    Keeps (book_at table mine) (book_at table new) → Keeps (book_at table theirs) (book_at table new) → expansions_of new ≡ min (2 ^ 64 - 1) (expansions_of mine + expansions_of theirs) →
-    Works table (joined + 1) before base new
-works_join table joined before base mine theirs new h k d first second sum =
-    let rb = length base.results in
-    let rm = length (book_at table mine).results in
-    let rt = length (book_at table theirs).results in
-    let rn = length (book_at table new).results in
-    let a : rm ≤ rn = more_results (book_at table mine) (book_at table new) (desk_book table mine h.of_table) first in
-    let b : rt ≤ rn = more_results (book_at table theirs) (book_at table new) (desk_book table theirs k.of_table) second in
-    let m = times_more joined rm rn a in
-    let hc = h.count in
-    let kc = k.count in
-    let e : (joined + 1) * rb ≡ joined * rb + 1 * rb = split_times joined 1 rb in
-    let f : (joined + 1) * rn ≡ joined * rn + 1 * rn = split_times joined 1 rn in
-    record { of_table = d; keeps = keeps_trans h.keeps first; rises = (let least = h.rises in omega (arith, least, sum)); count = omega (arith, a, b, m, hc, kc, e, f, sum) }
-
 factor_times : (w a b : ℕ) → w * (a + b) ≡ w * a + w * b
 factor_times zero a b = omega arith
 factor_times (suc w) a b =
@@ -89,57 +72,78 @@ factor_times (suc w) a b =
     let g : suc w * b ≡ b + w * b = omega arith in
     omega (arith, t, e, f, g)
 
-bound : (w a b x y : ℕ) → a ≤ b → y + w * a ≤ x + w * b → y ≤ x + w * (b - a)
-bound w a b x y le h =
+-- the old and the new together are all
+pub times_whole : (w a b : ℕ) → a ≤ b → w * b ≡ w * (b - a) + w * a
+times_whole w a b le =
     let e : b ≡ (b - a) + a = omega (arith, le) in
-    let f : w * b ≡ w * (b - a) + w * a = ap (λ n. w * n) e ∙ factor_times w (b - a) a in
-    omega (arith, h, f)
+    ap (λ n. w * n) e ∙ factor_times w (b - a) a
 
--- a bound by the results that are new
-pub comes_back : (table : NodeTable) (workers : ℕ) (old new : Desk) → IsDeskOf table old → expansions_of old < 2 ^ 64 → Continues table workers old new → ComesBack table workers old new
-comes_back table workers old new d fits h =
-    let least = h.rises in
-    record {
-      of_table = h.of_table;
-      keeps = h.keeps;
-      rises = omega (arith, least, fits);
-      expansions = bound workers (length (book_at table old).results) (length (book_at table new).results) (expansions_of old) (expansions_of new)
-          (more_results (book_at table old) (book_at table new) (desk_book table old d) h.keeps) h.count;
-    }
+-- nothing was counted
+pub works_kept : {old new : Book} (times n : ℕ) → IsBook old → Keeps old new → Works times old new n n
+works_kept {old} {new} times n book keeps =
+    let more = times_more times (length old.results) (length new.results) (more_results old new book keeps) in
+    record { keeps = keeps; rises = omega arith; count = omega (arith, more) }
 
--- the same since a desk that knew the same, and had counted as much
-pub works_from : (table : NodeTable) (times : ℕ) (first old new : Desk) → book_at table old ≡ book_at table first → expansions_of old ≡ expansions_of first → Continues table times old new → Continues table times first new
-works_from table times first old new book count h = subst (λ (p : Book × ℕ). Works table times p.1 p.0 new) (λ i. (book i, count i)) h
+pub works_more : {v w k n : ℕ} {old new : Book} → v ≤ w → IsBook old → Works v old new k n → Works w old new k n
+works_more {v} {w} {k} {n} {old} {new} le book h =
+    record { keeps = h.keeps; rises = h.rises; count = raised v w (length old.results) (length new.results) k n le (more_results old new book h.keeps) h.count }
 
-pub works_on : (table : NodeTable) (first old new : Desk) → Continues table 1 first old → Continues table 1 old new → Continues table 1 first new
-works_on table first old new h k = works_trans table 1 1 (expansions_of first) (book_at table first) old new (omega arith) h k
+pub works_then : {times k m n : ℕ} {a b c : Book} → Works times a b k m → Works times b c m n → Works times a c k n
+works_then h i =
+    let r = h.rises in
+    let s = i.rises in
+    let t = h.count in
+    let u = i.count in
+    record { keeps = keeps_trans h.keeps i.keeps; rises = omega (arith, r, s); count = omega (arith, t, u) }
 
-pub all_known_kept : (old new : Book) (level : ℕ) (squares : List Sq) → Keeps old new → All (IsKnown old level) squares → All (IsKnown new level) squares
-all_known_kept old new level squares keeps all k d less = known_kept keeps (all k d less)
+-- then one desk went on alone
+pub works_one : {times k m n : ℕ} {a b c : Book} → 1 ≤ times → IsBook b → Works times a b k m → Works 1 b c m n → Works times a c k n
+works_one some book h i = works_then h (works_more some book i)
 
-pub own_known : (book : Book) (level : ℕ) (sq : Sq) → IsKnown book level sq → IsKnown book sq.level sq
-own_known book level sq h = record { known = h.known; at_level = refl; low = subst (λ l. 3 ≤ l) (sym h.at_level) h.low; high = subst (λ l. l ≤ 65) (sym h.at_level) h.high }
+-- a worker that found nothing
+pub works_idle : {joined before k : ℕ} {base own : Book} → IsBook base → Works joined base own before k → Works (joined + 1) base own before k
+works_idle book h = works_more (omega arith) book h
 
-pub known_job : (book : Book) (level : ℕ) (sq : Sq) → 3 < level → IsKnown book level sq → IsJob book sq
-known_job book level sq low h = record { known = own_known book level sq h; above = subst (λ l. 3 < l) (sym h.at_level) low }
+-- a worker's desk is joined: all that it counted is of results that are new to the base
+pub works_join : {joined before k m sum : ℕ} {base own theirs new : Book} → IsBook own → IsBook theirs → Works joined base own before k → Works 1 base theirs 0 m →
+    Keeps own new → Keeps theirs new → sum ≡ min (k + m) (2 ^ 64 - 1) → Works (joined + 1) base new before sum
+works_join {joined} {before} {k} {m} {sum} {base} {own} {theirs} {new} book other h i first second is =
+    let rb = length base.results in
+    let ro = length own.results in
+    let rt = length theirs.results in
+    let rn = length new.results in
+    let a : ro ≤ rn = more_results own new book first in
+    let b : rt ≤ rn = more_results theirs new other second in
+    let t = times_more joined ro rn a in
+    let hc = h.count in
+    let ic = i.count in
+    let e : (joined + 1) * rb ≡ joined * rb + 1 * rb = split_times joined 1 rb in
+    let f : (joined + 1) * rn ≡ joined * rn + 1 * rn = split_times joined 1 rn in
+    record { keeps = keeps_trans h.keeps first; rises = (let least = h.rises in omega (arith, least, is)); count = omega (arith, a, b, t, hc, ic, e, f, is) }
 
--- the bound says how many were counted
-pub back_works : (table : NodeTable) (workers : ℕ) (old new : Desk) → IsDeskOf table old → ComesBack table workers old new → Continues table workers old new
-back_works table workers old new d h =
-    let a = length (book_at table old).results in
-    let b = length (book_at table new).results in
-    let le : a ≤ b = more_results (book_at table old) (book_at table new) (desk_book table old d) h.keeps in
-    let whole : b ≡ (b - a) + a = omega (arith, le) in
-    let f : workers * b ≡ workers * (b - a) + workers * a = ap (λ n. workers * n) whole ∙ factor_times workers (b - a) a in
-    let least = h.rises in
-    let most = h.expansions in
-    record { of_table = h.of_table; keeps = h.keeps; rises = omega (arith, least); count = omega (arith, most, f) }
+counted_most : (before more : ℕ) → counted before more ≤ before + more
+counted_most before zero = omega arith
+counted_most before (suc more) = let t = counted_most before more in omega (arith, t)
 
-pub works_many : (table : NodeTable) (times : ℕ) (old new : Desk) → 1 ≤ times → IsDeskOf table old → Continues table 1 old new → Continues table times old new
-works_many table times old new some d h = works_more table 1 times (expansions_of old) (book_at table old) new some (desk_book table old d) h
+counted_least : (before more : ℕ) → min (2 ^ 64 - 1) before ≤ counted before more
+counted_least before zero = omega arith
+counted_least before (suc more) = let t = counted_least before more in omega (arith, t)
 
-pub works_then : (table : NodeTable) (times : ℕ) (first old new : Desk) → Continues table times first old → Continues table times old new → Continues table times first new
-works_then table times first old new h k = works_trans table times times (expansions_of first) (book_at table first) old new (omega arith) h k
+-- one desk counts each result that it made once
+pub tallied : {old new : Book} {level before after : ℕ} → Keeps old new → Tallies old new level before after → Works 1 old new before after
+tallied {old} {new} {level} {before} {after} keeps tallies =
+    let most = counted_most before tallies.made in
+    let least = counted_least before tallies.made in
+    let count = tallies.accounts.count in
+    let told = tallies.told in
+    let adds = tallies.count in
+    record { keeps = keeps; rises = omega (arith, least, adds); count = omega (arith, most, count, told, adds) }
 
-pub works_one : (table : NodeTable) (times : ℕ) (first old new : Desk) → 1 ≤ times → Continues table times first old → Continues table 1 old new → Continues table times first new
-works_one table times first old new some h k = works_trans table 1 times (expansions_of first) (book_at table first) old new some h k
+pub found_future : {old new : Book} {sq : Sq} {before after : ℕ} (r : Result Sq Refusal) → FindsFuture old new sq before after r → IfOk r (HasFuture new sq)
+found_future (Ok future) h = record { is = h.ok; known = h.kept }
+found_future (Err refusal) h = tt
+
+-- a desk at work takes no memory
+pub refuses_full : {X : Type 0} (at : At) (r : Result X Refusal) → IfErr r (MayRefuse (book_here at)) → IfErr r (RefusesFull (book_here at))
+refuses_full at (Ok x) h = tt
+refuses_full at (Err refusal) h = ⊎_elim (λ none. absurd (false≢true none.1)) (λ full. full) h

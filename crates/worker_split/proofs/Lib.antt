@@ -1,9 +1,9 @@
-mod AtWork
+mod Back
 mod Books
 mod Counting
 mod Cutting
-mod Padded
 mod Pieces
 mod Places
 mod Slots
+mod Stepped
 mod Workers

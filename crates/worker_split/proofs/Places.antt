@@ -86,6 +86,3 @@ never (suc n) (suc place) future e = never n place future e
 
 pub none_placed : (jobs : List Sq) (book : Book) (places : List (Option (Result Sq Refusal))) (n : ℕ) → places ≡ replicate n None → PlacesFit jobs book places
 none_placed jobs book places n is place future e = absurd (never n place future (subst (λ (xs : List (Option (Result Sq Refusal))). slice_get xs place ≡ Some (Some future)) is e))
-
-pub ok_is : {X : Type 0} (r : Result X Refusal) (x : X) (P : X → Type 0) → r ≡ Ok x → IfOk r P → P x
-ok_is r x P is h = subst (λ s. IfOk s P) is h

@@ -1,5 +1,7 @@
 -- What a job is, what came of it, and what is counted.
-use Rattle.std.specs.Prelude.{◌≡◌, ◌+◌, ◌-◌, ◌*◌, ◌<◌, ◌≤◌, ◌⊎◌, ℕ, IsTrue, length}
+use Rattle.std.specs.Prelude.{◌≡◌, ◌+◌, ◌-◌, ◌*◌, ◌<◌, ◌≤◌, ◌⊎◌, ℕ, All, IsTrue, List, Vec, length}
+use Rattle.std.specs.List.{AllZip}
+use Rattle.std.specs.declared.alloc.Global.{Global}
 use Rattle.plane.specs.declared.refusal.Refusal.{Refusal}
 use Rattle.plane.specs.declared.refusal.Refusal.TheVariants.{NoMemory, NodesFull}
 use Rattle.squares.specs.declared.sq.Sq.{Sq}
@@ -7,6 +9,10 @@ use Rattle.squares.specs.Book.{Book, IsKnown, IsFuture, HasResult, Keeps}
 use Rattle.node_table.specs.declared.desk.Desk.{Desk}
 use Rattle.node_table.specs.declared.table.NodeTable.{NodeTable}
 use Rattle.node_table.specs.Desks.{IsDeskOf, book_at, expansions_of}
+
+-- known squares of this level
+abbrev pub AreKnown : Book → ℕ → List Sq → Type 0
+AreKnown book level squares = All (IsKnown book level) squares
 
 -- a known square that has a future
 pub record IsJob (book : Book) (sq : Sq) : Type 0 where
@@ -17,6 +23,10 @@ pub record IsJob (book : Book) (sq : Sq) : Type 0 where
 pub record HasFuture (book : Book) (sq future : Sq) : Type 0 where
   pub is : IsFuture book sq future
   pub known : HasResult book sq
+
+-- at each job's place stands its future
+abbrev pub HaveFutures : Book → List Sq → Vec Sq Global → Type 0
+HaveFutures book jobs futures = AllZip (HasFuture book) jobs futures.items
 
 -- how many results are new
 abbrev pub new_results : Book → Book → ℕ
@@ -30,6 +40,10 @@ pub record ComesBack (table : NodeTable) (workers : ℕ) (old new : Desk) : Type
   pub rises : expansions_of old ≤ expansions_of new
   pub expansions : expansions_of new ≤ expansions_of old + workers * new_results (book_at table old) (book_at table new)
 
+-- the book is full
+abbrev pub RefusesFull : Book → Refusal → Type 0
+RefusesFull book refusal = (refusal ≡ NodesFull) × IsTrue book.is_full
+
 -- memory ran out, or the book is full
 abbrev pub Refuses : Book → Refusal → Type 0
-Refuses book refusal = (refusal ≡ NoMemory) ⊎ ((refusal ≡ NodesFull) × IsTrue book.is_full)
+Refuses book refusal = (refusal ≡ NoMemory) ⊎ RefusesFull book refusal

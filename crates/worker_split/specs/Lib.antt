@@ -1,7 +1,7 @@
-pub mod Batches
 pub mod Expansions
 pub mod Jobs
 pub mod Queues
 pub mod Rounds
 pub mod Shares
 pub mod Steps
+pub mod Work

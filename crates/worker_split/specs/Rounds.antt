@@ -1,32 +1,20 @@
 -- What the workers of a round are given, know and hold.
-use Rattle.std.specs.Prelude.{◌≡◌, ◌+◌, ◌*◌, ◌-◌, ◌<◌, ◌≤◌, ◌^◌, ℕ, min, IfOk, IfErr, List, length, All, Option, Some, None, [], replicate, vec_capacity, IfSome, IsTrue, slice_get}
+use Rattle.std.specs.Prelude.{◌≡◌, ◌<◌, ◌≤◌, ℕ, IfOk, IfErr, List, length, All, Option, Some, None, [], replicate, vec_capacity, IfSome, slice_get}
 use Rattle.std.specs.declared.result.Result.{Result}
 use Rattle.plane.specs.declared.refusal.Refusal.{Refusal}
-use Rattle.plane.specs.declared.refusal.Refusal.TheVariants.{NodesFull}
 use Rattle.squares.specs.declared.sq.Sq.{Sq}
 use Rattle.squares.specs.Book.{Book, Keeps}
-use Rattle.node_table.specs.declared.desk.Desk.{Desk}
-use Rattle.node_table.specs.declared.table.NodeTable.{NodeTable}
-use Rattle.node_table.specs.Desks.{IsDeskOf, book_at, expansions_of}
-use Rattle.worker_split.specs.Jobs.{HasFuture, IsJob}
+use Rattle.node_table.specs.declared.at.At.{At}
+use Rattle.node_table.specs.DesksAtWork.{book_here}
+use Rattle.worker_split.specs.Jobs.{HasFuture, IsJob, RefusesFull}
 use Rattle.worker_split.specs.declared.members.Answer.{Answer}
 use Rattle.worker_split.specs.declared.members.Member.{Member}
 use Rattle.worker_split.specs.declared.members.Solver.{Solver}
 use Rattle.worker_split.specs.declared.recruiting.Room.{Room}
 use Rattle.worker_split.specs.Shares.{AreShares, shares_of}
+use Rattle.worker_split.specs.Work.{Works}
 
--- the desk is one of the table, knows all that this book knew, and since then so many times the number of new results were counted, or less
-pub record Works (table : NodeTable) (times before : ℕ) (base : Book) (desk : Desk) : Type 0 where
-  pub of_table : IsDeskOf table desk
-  pub keeps : Keeps base (book_at table desk)
-  pub rises : min (2 ^ 64 - 1) before ≤ expansions_of desk
-  pub count : expansions_of desk + times * length base.results ≤ before + times * length (book_at table desk).results
-
--- the same since it was another desk
-abbrev pub Continues : NodeTable → ℕ → Desk → Desk → Type 0
-Continues table times old new = Works table times (expansions_of old) (book_at table old) new
-
--- the desk knows the future of the job at a place
+-- the book knows the future of the job at a place
 pub record IsAnswerAt (jobs : List Sq) (book : Book) (place : ℕ) (future : Sq) : Type 0 where
   pub job : Sq
   pub at : slice_get jobs place ≡ Some job
@@ -37,17 +25,22 @@ pub record IsAnswerAt (jobs : List Sq) (book : Book) (place : ℕ) (future : Sq)
 pub record IsSettled (jobs : List Sq) (book : Book) (place : ℕ) (future : Result Sq Refusal) : Type 0 where
   pub within : place < length jobs
   pub ok : IfOk future (IsAnswerAt jobs book place)
-  pub refusal : IfErr future (λ r. (r ≡ NodesFull) × IsTrue book.is_full)
+  pub refusal : IfErr future (RefusesFull book)
 
 -- each answer is that of the job which it names
 pub record AreSettled (jobs : List Sq) (book : Book) (answers : List Answer) : Type 0 where
   pub each : All (λ (a : Answer). IsSettled jobs book a.place a.future) answers
 
+-- the queues of a worker are of a round of so many jobs
+pub record HasQueues (count : ℕ) (member : Member) : Type 0 where
+  pub own : member.own.count ≡ count
+  pub others : All (λ other. other.count ≡ count) member.others.items
+
 -- a worker for a round of so many jobs, to whom no desk was given yet
 pub record IsIdle (count : ℕ) (member : Member) : Type 0 where
-  pub own : member.own.count ≡ count
-  pub others : All (λ r. r.count ≡ count) member.others.items
-  pub desk : member.solver.desk ≡ None
+  pub queues : HasQueues count member
+  pub at : member.at ≡ None
+  pub counted : member.solver.tally.expansions ≡ 0
   pub answers : member.solver.answers.items ≡ []
 
 -- so many idle workers that share all jobs, an empty place for each job, and room for a future of each
@@ -59,28 +52,52 @@ pub record HasRoom (count workers : ℕ) (room : Room) : Type 0 where
   pub futures : room.futures.items ≡ []
   pub reserved : count ≤ vec_capacity room.futures
 
--- a worker of a round that began with this book, at which no expansion was counted for the worker
-pub record IsMember (table : NodeTable) (base : Book) (jobs : List Sq) (member : Member) : Type 0 where
-  pub own : member.own.count ≡ length jobs
-  pub others : All (λ r. r.count ≡ length jobs) member.others.items
-  pub desk : IfSome member.solver.desk (Works table 1 0 base)
-  pub answers : IfSome member.solver.desk (λ desk. AreSettled jobs (book_at table desk) member.solver.answers.items)
-
--- a desk that knows the jobs, and the answers that were found
-pub record CanSolve (table : NodeTable) (jobs : List Sq) (solver : Solver) : Type 0 where
-  pub desk : IfSome solver.desk (IsDeskOf table)
-  pub known : IfSome solver.desk (λ desk. All (IsJob (book_at table desk)) jobs)
-  pub answers : IfSome solver.desk (λ desk. AreSettled jobs (book_at table desk) solver.answers.items)
+-- a desk at work that knows the jobs, and the answers that were found
+pub record CanSolve (jobs : List Sq) (at : At) (solver : Solver) : Type 0 where
+  pub known : All (IsJob (book_here at)) jobs
+  pub answers : AreSettled jobs (book_here at) solver.answers.items
 
 -- a worker that can solve the jobs of a round
-pub record IsReady (table : NodeTable) (jobs : List Sq) (member : Member) : Type 0 where
-  pub own : member.own.count ≡ length jobs
-  pub others : All (λ r. r.count ≡ length jobs) member.others.items
-  pub solver : CanSolve table jobs member.solver
+pub record IsReady (jobs : List Sq) (member : Member) : Type 0 where
+  pub queues : HasQueues (length jobs) member
+  pub solver : IfSome member.at (λ at. CanSolve jobs at member.solver)
 
--- the desk, if there is one, is the same one, later
-pub record IsLater (table : NodeTable) (old new : Solver) : Type 0 where
-  pub desk : IfSome new.desk (λ desk. (first : Desk) × (old.desk ≡ Some first) × Continues table 1 first desk)
+-- a desk at work that goes on from this book with the answers that were found
+pub record HasFound (base : Book) (jobs : List Sq) (at : At) (solver : Solver) : Type 0 where
+  pub works : Works 1 base (book_here at) 0 solver.tally.expansions
+  pub answers : AreSettled jobs (book_here at) solver.answers.items
+
+-- a worker of a round that began with this book
+pub record IsMember (base : Book) (jobs : List Sq) (member : Member) : Type 0 where
+  pub queues : HasQueues (length jobs) member
+  pub found : IfSome member.at (λ at. HasFound base jobs at member.solver)
+
+-- the worker stays one of the same round
+abbrev pub StaysMember : Member → Member → Type 0
+StaysMember old new = (base : Book) (jobs : List Sq) → IsMember base jobs old → IsMember base jobs new
+
+-- what the worker found goes on from what it had found
+pub record FindsMore (jobs : List Sq) (old new : Member) : Type 0 where
+  pub found : (base : Book) → IsMember base jobs old → IfSome new.at (λ at. HasFound base jobs at new.solver)
+
+-- the worker has run
+pub record HasRun (jobs : List Sq) (old new : Member) : Type 0 where
+  pub queues : HasQueues (length jobs) new
+  pub found : FindsMore jobs old new
+
+-- a worker of a round of so many jobs that began with less than what this book knows
+pub record CanBeGathered (book : Book) (count : ℕ) (member : Member) : Type 0 where
+  pub base : Book
+  pub jobs : List Sq
+  pub is : IsMember base jobs member
+  pub keeps : Keeps base book
+  pub len : count ≡ length jobs
+
+-- workers of a round of so many jobs that began with this book
+pub record AreMembers (base : Book) (count : ℕ) (members : List Member) : Type 0 where
+  pub jobs : List Sq
+  pub are : All (IsMember base jobs) members
+  pub len : count ≡ length jobs
 
 -- each place that is not empty has the future of its job, or its refusal
 abbrev pub PlacesFit : List Sq → Book → List (Option (Result Sq Refusal)) → Type 0

@@ -1,108 +1,149 @@
 //! The future of one square, by whole batches of the squares that it takes.
 ghost use Rattle.std.specs.Prelude.{◌<◌, ◌≤◌, IfOk, IfErr};
+ghost use Rattle.squares.specs.Book.{Keeps};
 ghost use Rattle.node_table.specs.Desks.{IsDeskOf, book_at};
-ghost use Rattle.worker_split.specs.Batches.{AreKnown};
-ghost use Rattle.worker_split.specs.Jobs.{ComesBack, HasFuture, IsJob, Refuses};
-ghost use Rattle.worker_split.specs.Rounds.{Continues};
+ghost use Rattle.node_table.specs.DesksAtWork.{book_here};
+ghost use Rattle.worker_split.specs.Jobs.{AreKnown, ComesBack, HasFuture, IsJob, Refuses};
+ghost use Rattle.worker_split.specs.Work.{Continues};
 
 use crate::gate::Gate;
-use crate::jobs::future_at;
-use crate::rounds::round;
-use crate::stages::{exponent_at, finds_result, overlaps_at, subsquares_at, unknown_of};
+use crate::jobs::future_of;
+use crate::leaving::leave;
+use crate::recruiting::room_for;
+use crate::rounds::carry_out;
 use crate::team::Team;
-use node_table::{Desk, NodeTable};
+use hashlife_step::{Tally, replace_by_futures};
+use node_table::{At, Desk, NodeTable};
 use plane::Refusal;
-use squares::Sq;
+use squares::{Sq, Squares};
+use std::alloc::{AllocError, Global};
+use std::collections::BTreeSet;
 use std::sync::Wait;
 use std::thread::Threads;
 
 // The lowest level of the squares that are expanded.
 const LOWEST: u8 = 8;
 
-// Lets the desk know the results of squares of one level, by a round of those that it doesn't know.
+// Those of the squares whose result isn't found, each once.
+fn unknown_of(
+    alloc: Global,
+    at: &mut At<'_>,
+    level: u8,
+    squares: &[Sq],
+) -> Result<Vec<Sq>, AllocError>
+    requires known { AreKnown (book_here at.old) level squares.now }
+    requires low { 3 < level }
+    ensures ok { IfOk result (λ unknown. AreKnown (book_here at.new) level unknown.items) }
+    ensures keeps { Keeps (book_here at.old) (book_here at.new) }
+{
+    let mut seen = BTreeSet::new(alloc);
+    let mut unknown = Vec::new(alloc);
+    for k in 0..squares.len() {
+        let sq = squares[k];
+        if at.recall(sq).is_none() && seen.insert(sq)? {
+            unknown.push(sq)?;
+        }
+    }
+    Ok(unknown)
+}
+
+// Finds the results of squares of one level, by a round of those that aren't known.
 fn batch<R: Threads + Wait + Sync, G: Gate>(
     team: &Team<'_, R, G>,
-    table: &NodeTable,
-    desk: Desk,
-    squares: &[Sq],
+    at: &mut At<'_>,
     level: u8,
-) -> (Desk, Result<(), Refusal>)
-    requires desk { IsDeskOf table.now desk }
-    requires known { AreKnown (book_at table.now desk) level squares.now }
+    squares: &[Sq],
+    tally: &mut Tally,
+) -> Result<(), Refusal>
+    requires known { AreKnown (book_here at.old) level squares.now }
     requires low { 3 < level }
-    ensures desk { Continues table.now team.now.workers desk result.0 }
-    ensures refusal { IfErr result.1 (Refuses (book_at table.now result.0)) }
+    ensures refusal { IfErr result (Refuses (book_here at.new)) }
+    ensures continues { Continues team.now.workers at.old at.new tally.old tally.new }
 {
-    let (desk, unknown) = unknown_of(team.alloc, table, desk, squares, level);
-    let unknown = match unknown {
-        Ok(unknown) => unknown,
-        Err(refusal) => return (desk, Err(refusal)),
-    };
+    let unknown = unknown_of(team.alloc, at, level, squares)?;
     if unknown.is_empty() {
-        return (desk, Ok(()));
+        return Ok(());
     }
-    let (desk, futures) = round(team, table, desk, unknown.as_slice());
-    match futures {
-        Ok(_) => (desk, Ok(())),
-        Err(refusal) => (desk, Err(refusal)),
-    }
+    let room = room_for(team.alloc, unknown.len(), team.workers)?;
+    carry_out(team, at, unknown.as_slice(), room, tally)?;
+    Ok(())
 }
 
-// Lets the desk know the results of the squares, one level lower, that the future of a square takes.
+// Of nine squares in three rows, the four that the futures of neighbours make.
+fn overlaps_of_futures(
+    at: &mut At<'_>,
+    level: u8,
+    nine: [Sq; 9],
+    tally: &mut Tally,
+) -> Result<[Sq; 4], Refusal>
+    requires known { AreKnown (book_here at.old) level nine }
+    requires low { 3 < level }
+    ensures ok { IfOk result (AreKnown (book_here at.new) level) }
+    ensures refusal { IfErr result (Refuses (book_here at.new)) }
+    ensures continues { Continues 1 at.old at.new tally.old tally.new }
+{
+    let mut futures = nine;
+    replace_by_futures(at, level, &mut futures, 0, tally)?;
+    at.overlaps(level - 1, futures)
+}
+
+// Finds the results of the squares, one level lower, that the future of a square takes.
 fn expand<R: Threads + Wait + Sync, G: Gate>(
     team: &Team<'_, R, G>,
-    table: &NodeTable,
-    desk: Desk,
+    at: &mut At<'_>,
     sq: Sq,
-) -> (Desk, Result<(), Refusal>)
-    requires desk { IsDeskOf table.now desk }
-    requires sq { IsJob (book_at table.now desk) sq }
+    tally: &mut Tally,
+) -> Result<(), Refusal>
+    requires sq { IsJob (book_here at.old) sq }
     requires low { 8 ≤ sq.level }
-    ensures desk { Continues table.now team.now.workers desk result.0 }
-    ensures refusal { IfErr result.1 (Refuses (book_at table.now result.0)) }
+    ensures refusal { IfErr result (Refuses (book_here at.new)) }
+    ensures continues { Continues team.now.workers at.old at.new tally.old tally.new }
 {
     let level = sq.level - 1;
-    let (desk, subsquares) = subsquares_at(table, desk, sq);
-    let nine = match subsquares {
-        Ok(nine) => nine,
-        Err(refusal) => return (desk, Err(refusal)),
-    };
-    let (desk, done) = batch(team, table, desk, &nine, level);
-    if let Err(refusal) = done {
-        return (desk, Err(refusal));
-    }
-    let (desk, exponent) = exponent_at(table, desk);
+    let nine = at.nine(sq)?;
+    batch(team, at, level, &nine, tally)?;
     // Then the four in the middle only give their centres.
-    if exponent < level - 1 {
-        return (desk, Ok(()));
+    if at.exponent() < level - 1 {
+        return Ok(());
     }
-    let (desk, overlaps) = overlaps_at(table, desk, level, nine);
-    match overlaps {
-        Ok(four) => batch(team, table, desk, &four, level),
-        Err(refusal) => (desk, Err(refusal)),
-    }
+    let four = overlaps_of_futures(at, level, nine, tally)?;
+    batch(team, at, level, &four, tally)
 }
 
-// Lets the desk know the results that the future of a square takes, or, of a low one, its own.
+// Finds the results that the future of a square takes, or, of a low one, its own.
 fn prepare<R: Threads + Wait + Sync, G: Gate>(
     team: &Team<'_, R, G>,
-    table: &NodeTable,
-    desk: Desk,
+    at: &mut At<'_>,
     sq: Sq,
-) -> (Desk, Result<(), Refusal>)
-    requires desk { IsDeskOf table.now desk }
-    requires sq { IsJob (book_at table.now desk) sq }
-    ensures desk { Continues table.now team.now.workers desk result.0 }
-    ensures refusal { IfErr result.1 (Refuses (book_at table.now result.0)) }
+    tally: &mut Tally,
+) -> Result<(), Refusal>
+    requires sq { IsJob (book_here at.old) sq }
+    ensures refusal { IfErr result (Refuses (book_here at.new)) }
+    ensures continues { Continues team.now.workers at.old at.new tally.old tally.new }
 {
-    let (desk, found) = finds_result(table, desk, sq);
-    if found {
-        return (desk, Ok(()));
+    if at.recall(sq).is_some() {
+        return Ok(());
     }
     if sq.level >= LOWEST {
-        return expand(team, table, desk, sq);
+        return expand(team, at, sq, tally);
     }
-    batch(team, table, desk, &[sq], sq.level)
+    batch(team, at, sq.level, &[sq], tally)
+}
+
+/// The future of a square, by a team, at a desk that is at work.
+pub(crate) fn team_future<R: Threads + Wait + Sync, G: Gate>(
+    team: &Team<'_, R, G>,
+    at: &mut At<'_>,
+    sq: Sq,
+    tally: &mut Tally,
+) -> Result<Sq, Refusal>
+    requires sq { IsJob (book_here at.old) sq }
+    ensures ok { IfOk result (HasFuture (book_here at.new) sq) }
+    ensures refusal { IfErr result (Refuses (book_here at.new)) }
+    ensures continues { Continues team.now.workers at.old at.new tally.old tally.new }
+{
+    prepare(team, at, sq, tally)?;
+    future_of(at, sq, 0, tally)
 }
 
 /// The future of a square, by a team, and the desk that comes back with all that the team found out.
@@ -125,9 +166,8 @@ pub fn batch_future<R: Threads + Wait + Sync, G: Gate>(
     // new results times that of workers.
     ensures desk { ComesBack table.now team.now.workers desk result.0 }
 {
-    let (desk, done) = prepare(team, table, desk, sq);
-    if let Err(refusal) = done {
-        return (desk, Err(refusal));
-    }
-    future_at(table, desk, sq, 0)
+    let mut at = table.at(desk);
+    let mut tally = Tally { expansions: 0 };
+    let made = team_future(team, &mut at, sq, &mut tally);
+    (leave(at, &tally), made)
 }

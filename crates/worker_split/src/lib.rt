@@ -9,12 +9,12 @@ mod gathering;
 mod helping;
 mod jobs;
 mod laws;
+mod leaving;
 mod members;
 mod queues;
 mod recruiting;
 mod rounds;
 mod serving;
-mod stages;
 mod steps;
 mod team;
 

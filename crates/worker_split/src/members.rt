@@ -1,10 +1,11 @@
 //! A worker of a round, as a state.
-ghost use Rattle.std.specs.Prelude.{◌≡◌, ℕ, IfOk, Some};
+ghost use Rattle.std.specs.Prelude.{◌≡◌, ℕ, IfOk};
 ghost use Rattle.worker_split.specs.Rounds.{IsIdle};
 ghost use Rattle.worker_split.specs.Shares.{share_in};
 
 use crate::queues::{JobQueue, JobStealer};
-use node_table::Desk;
+use hashlife_step::Tally;
+use node_table::At;
 use plane::Refusal;
 use squares::Sq;
 use std::alloc::AllocError;
@@ -16,26 +17,28 @@ pub(crate) struct Answer {
     pub(crate) future: Result<Sq, Refusal>,
 }
 
-/// What a worker solves jobs with: its desk while no function has it in hand, the order in which it asks for
-/// the futures of smaller squares, and the answers that it found.
+/// What a worker solves jobs with: the order in which it asks for the futures of smaller squares, the
+/// expansions that it counted, and the answers that it found.
 #[derive(Drop)]
 pub(crate) struct Solver {
-    pub(crate) desk: Option<Desk>,
     pub(crate) order: u8,
+    pub(crate) tally: Tally,
     pub(crate) answers: Vec<Answer>,
 }
 
-/// A worker: its own queue and its ends of the others', and what it solves jobs with.
+/// A worker: its own queue and its ends of the others', what it solves jobs with, and its desk at work.
 #[derive(Drop)]
-pub(crate) struct Member {
+pub(crate) struct Member<'t> {
     pub(crate) own: JobQueue,
     pub(crate) others: Vec<JobStealer>,
     // The job at which it begins to help.
     pub(crate) start: usize,
     pub(crate) solver: Solver,
+    // None before the round, and while it works.
+    pub(crate) at: Option<At<'t>>,
 }
 
-impl Member {
+impl Member<'_> {
     /// Another worker's end of this worker's queue.
     pub(crate) fn stealer(&mut self) -> Result<JobStealer, AllocError>
         ensures idle { (count : ℕ) → IsIdle count self.old → IsIdle count self.new }
@@ -52,15 +55,5 @@ impl Member {
     {
         self.others.push(stealer)?;
         Ok(())
-    }
-
-    /// The worker has this desk now.
-    pub(crate) fn receive(&mut self, desk: Desk)
-        ensures own { self.new.own ≡ self.old.own }
-        ensures others { self.new.others ≡ self.old.others }
-        ensures desk { self.new.solver.desk ≡ Some desk }
-        ensures answers { self.new.solver.answers ≡ self.old.solver.answers }
-    {
-        self.solver.desk = Some(desk);
     }
 }

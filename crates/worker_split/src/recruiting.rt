@@ -5,26 +5,27 @@ ghost use Rattle.worker_split.specs.Shares.{AreShares, jobs_between, share_in, s
 
 use crate::members::{Member, Solver};
 use crate::queues::JobQueue;
+use hashlife_step::Tally;
 use plane::Refusal;
 use squares::Sq;
 use std::alloc::{AllocError, Global};
 
 /// The workers of a round, each with its share of the jobs, and room for what they find.
 #[derive(Drop)]
-pub(crate) struct Room {
-    pub(crate) members: Vec<Member>,
+pub(crate) struct Room<'t> {
+    pub(crate) members: Vec<Member<'t>>,
     pub(crate) places: Vec<Option<Result<Sq, Refusal>>>,
     pub(crate) futures: Vec<Sq>,
 }
 
 // A worker with the jobs from `low` to before `high` of `count`.
-fn member(
+fn member<'t>(
     alloc: Global,
     low: usize,
     high: usize,
     count: usize,
     order: u8,
-) -> Result<Member, AllocError>
+) -> Result<Member<'t>, AllocError>
     requires { (low ≤ high) × (high ≤ count) }
     ensures idle { IfOk result (IsIdle count) }
     ensures share { IfOk result (λ member. share_in member.own ≡ jobs_between low high) }
@@ -36,10 +37,11 @@ fn member(
         others: Vec::new(alloc),
         start: high,
         solver: Solver {
-            desk: None,
             order,
+            tally: Tally { expansions: 0 },
             answers,
         },
+        at: None,
     })
 }
 
@@ -53,7 +55,7 @@ fn share_end(low: usize, count: usize, rest: usize) -> usize
 }
 
 // The workers, each with a contiguous share of the jobs. The lengths of the shares differ by at most one.
-fn members(alloc: Global, count: usize, workers: usize) -> Result<Vec<Member>, AllocError>
+fn members<'t>(alloc: Global, count: usize, workers: usize) -> Result<Vec<Member<'t>>, AllocError>
     requires { workers ≤ 64 }
     ensures len { IfOk result (λ members. length members.items ≡ workers) }
     ensures idle { IfOk result (λ members. All (IsIdle count) members.items) }
@@ -70,7 +72,7 @@ fn members(alloc: Global, count: usize, workers: usize) -> Result<Vec<Member>, A
 }
 
 // Worker i can steal from worker j.
-fn link(members: &mut [Member], i: usize, j: usize) -> Result<(), AllocError>
+fn link(members: &mut [Member<'_>], i: usize, j: usize) -> Result<(), AllocError>
     requires { (i < length members.old) × (j < length members.old) }
     ensures idle { (count : ℕ) → All (IsIdle count) members.old → All (IsIdle count) members.new }
     ensures shares { shares_of members.new ≡ shares_of members.old }
@@ -81,7 +83,7 @@ fn link(members: &mut [Member], i: usize, j: usize) -> Result<(), AllocError>
 }
 
 // Each worker can steal from each other one, and begins with the next one.
-fn link_all(members: &mut [Member]) -> Result<(), AllocError>
+fn link_all(members: &mut [Member<'_>]) -> Result<(), AllocError>
     ensures idle { (count : ℕ) → All (IsIdle count) members.old → All (IsIdle count) members.new }
     ensures shares { shares_of members.new ≡ shares_of members.old }
     ensures len { length members.new ≡ length members.old }
@@ -99,7 +101,11 @@ fn link_all(members: &mut [Member]) -> Result<(), AllocError>
 }
 
 /// All the memory that a round of `count` jobs takes.
-pub(crate) fn room_for(alloc: Global, count: usize, workers: usize) -> Result<Room, AllocError>
+pub(crate) fn room_for<'t>(
+    alloc: Global,
+    count: usize,
+    workers: usize,
+) -> Result<Room<'t>, AllocError>
     requires { workers ≤ 64 }
     ensures { IfOk result (HasRoom count workers) }
 {

@@ -1,44 +1,54 @@
 //! A round: all jobs, by a team.
-ghost use Rattle.std.specs.Prelude.{◌≡◌, ◌<◌, ◌≤◌, ◌⊎◌, All, IfOk, IfErr, IsTrue, [], length, vec_capacity};
+ghost use Rattle.std.specs.Prelude.{◌≡◌, ◌<◌, ◌⊎◌, All, IfOk, IfErr, IsTrue, length};
 ghost use Rattle.std.specs.List.{AllZip};
 ghost use Rattle.plane.specs.declared.refusal.Refusal.TheVariants.{NoMemory, NodesFull};
 ghost use Rattle.squares.specs.Book.{Book};
 ghost use Rattle.node_table.specs.Desks.{IsDeskOf, book_at};
-ghost use Rattle.worker_split.specs.Jobs.{ComesBack, HasFuture, IsJob};
-ghost use Rattle.worker_split.specs.Rounds.{Continues, IsIdle, IsLater, IsMember, IsReady, PlacesFit};
+ghost use Rattle.node_table.specs.DesksAtWork.{book_here};
+ghost use Rattle.worker_split.specs.Jobs.{ComesBack, HasFuture, HaveFutures, IsJob, RefusesFull};
+ghost use Rattle.worker_split.specs.Rounds.{FindsMore, HasQueues, HasRoom, HasRun, IsMember, IsReady};
+ghost use Rattle.worker_split.specs.Work.{Continues};
 
 use crate::filling::fill;
 use crate::gate::Gate;
 use crate::gathering::{gather, hand_out};
-use crate::helping::help_others;
+use crate::helping::help;
 use crate::jobs::Shared;
+use crate::leaving::leave;
 use crate::members::Member;
 use crate::recruiting::{Room, room_for};
-use crate::serving::serve;
+use crate::serving::{other_shares, own_share};
 use crate::team::Team;
-use node_table::{Desk, NodeTable};
+use hashlife_step::Tally;
+use node_table::{At, Desk, NodeTable};
 use plane::Refusal;
 use squares::Sq;
 use std::sync::Wait;
 use std::thread;
 use std::thread::Threads;
 
-// Runs a worker until it finds no job left, and then lets it help.
-fn run<R: Wait, G: Gate>(shared: &Shared<'_, R, G>, member: &mut Member)
-    requires { IsReady shared.now.table.now shared.now.jobs.now member.old }
-    ensures ready { IsReady shared.now.table.now shared.now.jobs.now member.new }
-    ensures later { IsLater shared.now.table.now member.old.solver member.new.solver }
+// Runs a worker until its own queue and then each other one was found empty, and then lets it help.
+fn run<R: Wait, G: Gate>(shared: &Shared<'_, R, G>, member: &mut Member<'_>)
+    requires { IsReady shared.now.jobs.now member.old }
+    ensures queues { HasQueues (length shared.now.jobs.now) member.new }
+    ensures found { FindsMore shared.now.jobs.now member.old member.new }
 {
-    serve(shared, member);
-    help_others(shared, member);
+    let Some(mut at) = member.at.take() else {
+        return;
+    };
+    let solver = &mut member.solver;
+    own_share(shared, &mut at, &mut member.own, solver);
+    other_shares(shared, &mut at, member.others.as_mut_slice(), solver);
+    help(&mut at, shared.jobs, member.start, solver);
+    member.at = Some(at);
 }
 
-// Runs all workers. They stay workers of a round that began with the same book.
-fn run_all<R: Threads + Wait + Sync, G: Gate>(shared: &Shared<'_, R, G>, members: &mut [Member])
+// Runs all workers.
+fn run_all<R: Threads + Wait + Sync, G: Gate>(shared: &Shared<'_, R, G>, members: &mut [Member<'_>])
     requires some { 0 < length members.old }
-    requires ready { All (IsReady shared.now.table.now shared.now.jobs.now) members.old }
-    ensures members { (base : Book) → All (IsMember shared.now.table.now base shared.now.jobs.now) members.old
-        → All (IsMember shared.now.table.now base shared.now.jobs.now) members.new }
+    requires ready { All (IsReady shared.now.jobs.now) members.old }
+    ensures members { (base : Book) → All (IsMember base shared.now.jobs.now) members.old
+        → All (IsMember base shared.now.jobs.now) members.new }
     ensures len { length members.new ≡ length members.old }
 {
     let workers = members.len();
@@ -47,36 +57,42 @@ fn run_all<R: Threads + Wait + Sync, G: Gate>(shared: &Shared<'_, R, G>, members
         members,
         workers,
         &|_, member: &mut Member|
-            requires { IsReady shared.now.table.now shared.now.jobs.now member.now }
-            ensures { IsReady shared.entry.now.table.now shared.entry.now.jobs.now member.exit.now × IsLater shared.entry.now.table.now member.entry.now.solver member.exit.now.solver }
+            requires { IsReady shared.now.jobs.now member.now }
+            ensures { HasRun shared.entry.now.jobs.now member.entry.now member.exit.now }
         { run(shared, member) },
     );
 }
 
-// The work of a round, for which all memory was taken.
-fn carry_out<R: Threads + Wait + Sync, G: Gate>(
-    shared: &Shared<'_, R, G>,
-    desk: Desk,
-    members: &mut [Member],
-    places: &mut [Option<Result<Sq, Refusal>>],
-    futures: Vec<Sq>,
-) -> (Desk, Result<Vec<Sq>, Refusal>)
-    requires desk { IsDeskOf shared.now.table.now desk }
-    requires jobs { All (IsJob (book_at shared.now.table.now desk)) shared.now.jobs.now }
-    requires idle { All (IsIdle (length shared.now.jobs.now)) members.old }
-    requires some { 0 < length members.old }
-    requires len { length places.old ≡ length shared.now.jobs.now }
-    requires places { PlacesFit shared.now.jobs.now (book_at shared.now.table.now desk) places.old }
-    requires none { futures.items ≡ [] }
-    requires room { length shared.now.jobs.now ≤ vec_capacity futures }
-    ensures desk { Continues shared.now.table.now (length members.old) desk result.0 }
-    ensures ok { IfOk result.1 (λ futures. AllZip (HasFuture (book_at shared.now.table.now result.0)) shared.now.jobs.now futures.items) }
-    ensures refusal { IfErr result.1 (λ refusal. (refusal ≡ NodesFull) × IsTrue (book_at shared.now.table.now result.0).is_full) }
+/// The futures of all jobs, by a team, at a desk that is at work. All memory was taken.
+pub(crate) fn carry_out<'t, R: Threads + Wait + Sync, G: Gate>(
+    team: &Team<'_, R, G>,
+    at: &mut At<'t>,
+    jobs: &[Sq],
+    room: Room<'t>,
+    tally: &mut Tally,
+) -> Result<Vec<Sq>, Refusal>
+    requires jobs { All (IsJob (book_here at.old)) jobs.now }
+    requires room { HasRoom (length jobs.now) team.now.workers room }
+    ensures ok { IfOk result (HaveFutures (book_here at.new) jobs.now) }
+    ensures refusal { IfErr result (RefusesFull (book_here at.new)) }
+    ensures continues { Continues team.now.workers at.old at.new tally.old tally.new }
 {
-    let home = hand_out(shared, desk, members);
-    run_all(shared, members);
-    let desk = gather(shared, home, members, places);
-    fill(shared, desk, places, futures)
+    let Room {
+        mut members,
+        mut places,
+        futures,
+    } = room;
+    let members = members.as_mut_slice();
+    let places = places.as_mut_slice();
+    let shared = Shared {
+        runtime: team.runtime,
+        jobs,
+        gate: team.gate,
+    };
+    hand_out(at, members);
+    run_all(&shared, members);
+    gather(at, members, places, tally);
+    fill(&shared, at, places, futures, tally)
 }
 
 /// The futures of all jobs, by a team, and the desk that comes back with all that the team found out.
@@ -103,22 +119,8 @@ pub fn round<R: Threads + Wait + Sync, G: Gate>(
     let Ok(room) = room_for(team.alloc, jobs.len(), team.workers) else {
         return (desk, Err(Refusal::NoMemory));
     };
-    let Room {
-        mut members,
-        mut places,
-        futures,
-    } = room;
-    let shared = Shared {
-        runtime: team.runtime,
-        table,
-        jobs,
-        gate: team.gate,
-    };
-    carry_out(
-        &shared,
-        desk,
-        members.as_mut_slice(),
-        places.as_mut_slice(),
-        futures,
-    )
+    let mut at = table.at(desk);
+    let mut tally = Tally { expansions: 0 };
+    let futures = carry_out(team, &mut at, jobs, room, &mut tally);
+    (leave(at, &tally), futures)
 }

@@ -5,66 +5,43 @@ ghost use Rattle.plane.specs.Plane.{after};
 ghost use Rattle.squares.specs.Book.{IsKnown};
 ghost use Rattle.squares.specs.Rounds.{IsRound};
 ghost use Rattle.node_table.specs.Desks.{IsDeskOf, book_at};
-ghost use Rattle.worker_split.specs.Jobs.{ComesBack, HasFuture, IsJob, Refuses};
-ghost use Rattle.worker_split.specs.Rounds.{Continues};
-ghost use Rattle.worker_split.specs.Steps.{IsPadded};
+ghost use Rattle.node_table.specs.DesksAtWork.{book_here};
+ghost use Rattle.worker_split.specs.Jobs.{ComesBack, Refuses};
+ghost use Rattle.worker_split.specs.Steps.{IsStepOf};
+ghost use Rattle.worker_split.specs.Work.{Continues};
 
-use crate::batches::batch_future;
+use crate::batches::team_future;
 use crate::gate::Gate;
-use crate::jobs::future_at;
+use crate::leaving::leave;
 use crate::team::Team;
-use hashlife_step::{pad, trim};
-use node_table::{Desk, NodeTable};
+use hashlife_step::{Tally, pad, trim};
+use node_table::{At, Desk, NodeTable};
 use plane::Refusal;
 use squares::{Sq, Squares};
 use std::sync::Wait;
 use std::thread::Threads;
 
-// The square with empty squares round it, so that a step of the table has room.
-fn padded_at(table: &NodeTable, desk: Desk, root: Sq) -> (Desk, Result<Sq, Refusal>)
-    requires desk { IsDeskOf table.now desk }
-    requires known { IsKnown (book_at table.now desk) root.level root }
-    requires high { max (root.level + 2) ((book_at table.now desk).exponent + 3) ≤ 65 }
-    ensures desk { Continues table.now 1 desk result.0 }
-    ensures ok { IfOk result.1 (IsPadded (book_at table.now result.0) (centred root.level ((book_at table.now desk).cells root))) }
-    ensures refusal { IfErr result.1 (Refuses (book_at table.now result.0)) }
-{
-    let mut at = table.at(desk);
-    let exponent = at.exponent();
-    let padded = pad(&mut at, root, exponent);
-    (at.leave(), padded)
-}
-
-// The smallest square with the same cells round its centre.
-fn trimmed_at(table: &NodeTable, desk: Desk, sq: Sq) -> (Desk, Result<Sq, Refusal>)
-    requires desk { IsDeskOf table.now desk }
-    requires known { IsKnown (book_at table.now desk) sq.level sq }
-    ensures desk { Continues table.now 1 desk result.0 }
-    ensures ok { IfOk result.1 (IsRound (book_at table.now result.0) (centred sq.level ((book_at table.now desk).cells sq))) }
-    ensures refusal { IfErr result.1 (Refuses (book_at table.now result.0)) }
-{
-    let mut at = table.at(desk);
-    let trimmed = trim(&mut at, sq);
-    (at.leave(), trimmed)
-}
-
-// The future of a square. One worker alone takes it at the desk.
-fn team_future<R: Threads + Wait + Sync, G: Gate>(
+// One step, at a desk that is at work.
+fn advance<R: Threads + Wait + Sync, G: Gate>(
     team: &Team<'_, R, G>,
-    table: &NodeTable,
-    desk: Desk,
-    sq: Sq,
-) -> (Desk, Result<Sq, Refusal>)
-    requires desk { IsDeskOf table.now desk }
-    requires sq { IsJob (book_at table.now desk) sq }
-    ensures desk { Continues table.now team.now.workers desk result.0 }
-    ensures ok { IfOk result.1 (HasFuture (book_at table.now result.0) sq) }
-    ensures refusal { IfErr result.1 (Refuses (book_at table.now result.0)) }
+    at: &mut At<'_>,
+    root: Sq,
+    tally: &mut Tally,
+) -> Result<Sq, Refusal>
+    requires known { IsKnown (book_here at.old) root.level root }
+    requires high { max (root.level + 2) ((book_here at.old).exponent + 3) ≤ 65 }
+    ensures ok { IfOk result (IsStepOf (book_here at.old) (book_here at.new) root) }
+    ensures refusal { IfErr result (Refuses (book_here at.new)) }
+    ensures continues { Continues team.now.workers at.old at.new tally.old tally.new }
 {
+    // One worker alone starts no round.
     if team.workers == 1 {
-        return future_at(table, desk, sq, 0);
+        return hashlife_step::step(at, root, tally);
     }
-    batch_future(team, table, desk, sq)
+    let exponent = at.exponent();
+    let padded = pad(at, root, exponent)?;
+    let next = team_future(team, at, padded, tally)?;
+    trim(at, next)
 }
 
 /// One step of 2^exponent generations, by the table's exponent, by a team: the root is padded, its future
@@ -88,14 +65,8 @@ pub fn step<R: Threads + Wait + Sync, G: Gate>(
     // new results times that of workers.
     ensures desk { ComesBack table.now team.now.workers desk result.0 }
 {
-    let (desk, padded) = padded_at(table, desk, root);
-    let padded = match padded {
-        Ok(padded) => padded,
-        Err(refusal) => return (desk, Err(refusal)),
-    };
-    let (desk, next) = team_future(team, table, desk, padded);
-    match next {
-        Ok(next) => trimmed_at(table, desk, next),
-        Err(refusal) => (desk, Err(refusal)),
-    }
+    let mut at = table.at(desk);
+    let mut tally = Tally { expansions: 0 };
+    let next = advance(team, &mut at, root, &mut tally);
+    (leave(at, &tally), next)
 }

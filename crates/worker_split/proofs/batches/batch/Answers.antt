@@ -1,18 +1,17 @@
-use Rattle.worker_split.proofs.Books.{back_works, works_many, works_then}
+use Rattle.worker_split.proofs.Books.{here_book, works_kept, works_then}
 use Rattle.worker_split.proofs.batches.batch.Goals as goal
 
-pub returns-in-Err-clause-desk : goal.returns-in-Err-clause-desk
-returns-in-Err-clause-desk g c =
-    works_many c.args.table.now c.args.team.now.workers c.args.desk c.unknown_of-desk.result.0 c.args.team.now.some c.requires.desk c.unknown_of-desk.ensures.desk
+pub returns-in_err-unknown-clause-continues : goal.returns-in_err-unknown-clause-continues
+returns-in_err-unknown-clause-continues g c = works_kept c.args.team.now.workers _ (here_book c.args.at.now) c.unknown_of.ensures.keeps
 
-pub returns-then-is_empty-clause-desk : goal.returns-then-is_empty-clause-desk
-returns-then-is_empty-clause-desk g c =
-    works_many c.args.table.now c.args.team.now.workers c.args.desk c.unknown_of-desk.result.0 c.args.team.now.some c.requires.desk c.unknown_of-desk.ensures.desk
+pub returns-then-is_empty-clause-continues : goal.returns-then-is_empty-clause-continues
+returns-then-is_empty-clause-continues g c = works_kept c.args.team.now.workers _ (here_book c.args.at.now) c.unknown_of.ensures.keeps
 
-pub returns-in-Ok-futures-clause-desk : goal.returns-in-Ok-futures-clause-desk
-returns-in-Ok-futures-clause-desk g c =
-    works_then c.args.table.now c.args.team.now.workers c.args.desk c.unknown_of-desk.result.0 c.round-desk.result.0 (works_many c.args.table.now c.args.team.now.workers c.args.desk c.unknown_of-desk.result.0 c.args.team.now.some c.requires.desk c.unknown_of-desk.ensures.desk) (back_works c.args.table.now c.args.team.now.workers c.unknown_of-desk.result.0 c.round-desk.result.0 c.unknown_of-desk.ensures.desk.of_table c.round-desk.ensures.desk)
+pub returns-in_err-room-clause-continues : goal.returns-in_err-room-clause-continues
+returns-in_err-room-clause-continues g c = works_kept c.args.team.now.workers _ (here_book c.args.at.now) c.unknown_of.ensures.keeps
 
-pub returns-clause-desk : goal.returns-clause-desk
-returns-clause-desk g c =
-    works_then c.args.table.now c.args.team.now.workers c.args.desk c.unknown_of-desk.result.0 c.round-desk.result.0 (works_many c.args.table.now c.args.team.now.workers c.args.desk c.unknown_of-desk.result.0 c.args.team.now.some c.requires.desk c.unknown_of-desk.ensures.desk) (back_works c.args.table.now c.args.team.now.workers c.unknown_of-desk.result.0 c.round-desk.result.0 c.unknown_of-desk.ensures.desk.of_table c.round-desk.ensures.desk)
+pub returns-in_err-carry_out-clause-continues : goal.returns-in_err-carry_out-clause-continues
+returns-in_err-carry_out-clause-continues g c = works_then (works_kept c.args.team.now.workers _ (here_book c.args.at.now) c.unknown_of.ensures.keeps) c.carry_out.ensures.continues
+
+pub returns-clause-continues : goal.returns-clause-continues
+returns-clause-continues g c = works_then (works_kept c.args.team.now.workers _ (here_book c.args.at.now) c.unknown_of.ensures.keeps) c.carry_out.ensures.continues

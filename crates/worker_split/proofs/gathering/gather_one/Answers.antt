@@ -1,38 +1,42 @@
-use Rattle.std.proofs.Common.{All, ◌+◌, ◌<◌, length, sym, subst, ◌∙◌, arith, IfSome}
-use Rattle.node_table.specs.Desks.{book_at, expansions_of}
+use Rattle.std.proofs.Common.{All, ◌<◌, length, sym, subst, ◌∙◌, IfSome}
+use Rattle.squares.proofs.Kept.{keeps_none}
+use Rattle.node_table.specs.DesksAtWork.{book_here}
 use Rattle.worker_split.specs.declared.members.Answer.{Answer}
-use Rattle.worker_split.specs.Rounds.{AreSettled, Works}
-use Rattle.worker_split.proofs.Books.{desk_book, works_join, works_more}
-use Rattle.worker_split.proofs.Places.{places_kept, places_within, answers_kept}
+use Rattle.worker_split.specs.Rounds.{AreSettled, HasFound}
+use Rattle.worker_split.proofs.Books.{here_book, works_idle, works_join}
+use Rattle.worker_split.proofs.Places.{answers_kept, places_kept, places_within}
+use Rattle.worker_split.proofs.Workers.{one_table}
 use Rattle.worker_split.proofs.gathering.gather_one.Goals as goal
 
+pub join-requires : goal.join-requires
+join-requires c =
+    let is = c.requires.is in
+    let found = subst (λ o. IfSome o (λ at. HasFound c.requires.base c.requires.jobs at c.args.member.now.solver)) (sym c.take.ensures.value ∙ c.in-Some.is) is.found in
+    one_table c.requires.keeps found.works.keeps
+
 pub place_all-requires : goal.place_all-requires
-place_all-requires g c =
-    let table = c.args.shared.now.table.now in
-    let jobs = c.args.shared.now.jobs.now in
+place_all-requires c =
+    let jobs = c.requires.jobs in
     let answers = c.args.member.now.solver.answers.items in
-    let are : AreSettled jobs (book_at table c.in-Some.theirs) answers = subst (λ o. IfSome o (λ desk. AreSettled jobs (book_at table desk) answers)) (sym c.take.ensures.value ∙ c.in-Some.is) c.requires.1.1.1.1.0.answers in
-    subst (All (λ (a : Answer). a.place < length c.args.places.now)) (sym c.as_slice.ensures.value) (places_within jobs (book_at table c.in-Some.theirs) answers (length c.args.places.now) c.requires.1.1.1.1.1.0 are)
+    let found = subst (λ o. IfSome o (λ at. HasFound c.requires.base jobs at c.args.member.now.solver)) (sym c.take.ensures.value ∙ c.in-Some.is) c.requires.is.found in
+    subst (All (λ (a : Answer). a.place < length c.args.places.now)) (sym c.as_slice.ensures.value)
+    (places_within jobs (book_here c.in-Some.theirs) answers (length c.args.places.now) c.requires.len found.answers)
+
+pub returns-in_default-clause-keeps : goal.returns-in_default-clause-keeps
+returns-in_default-clause-keeps c = keeps_none _
+
+pub returns-in_default-clause-works : goal.returns-in_default-clause-works
+returns-in_default-clause-works c base jobs joined before book is works = works_idle book works
 
 pub returns-clause-places : goal.returns-clause-places
-returns-clause-places g c =
-    let table = c.args.shared.now.table.now in
-    let jobs = c.args.shared.now.jobs.now in
-    let new = book_at table c.join-desk.result in
+returns-clause-places c base jobs is fit =
+    let new = book_here c.join.new.self in
     let answers = c.args.member.now.solver.answers.items in
-    let are : AreSettled jobs (book_at table c.in-Some.theirs) answers = subst (λ o. IfSome o (λ desk. AreSettled jobs (book_at table desk) answers)) (sym c.take.ensures.value ∙ c.in-Some.is) c.requires.1.1.1.1.0.answers in
-    c.place_all.ensures.places jobs new (subst (AreSettled jobs new) (sym c.as_slice.ensures.value) (answers_kept jobs (book_at table c.in-Some.theirs) new answers c.join-desk.ensures.second are))
-    (places_kept jobs (book_at table c.args.desk) new c.args.places.now c.join-desk.ensures.first c.requires.1.1.1.1.1.1)
+    let found = subst (λ o. IfSome o (λ at. HasFound base jobs at c.args.member.now.solver)) (sym c.take.ensures.value ∙ c.in-Some.is) is.found in
+    c.place_all.ensures.places jobs new (subst (AreSettled jobs new) (sym c.as_slice.ensures.value) (answers_kept jobs (book_here c.in-Some.theirs) new answers c.join.ensures.other found.answers))
+    (places_kept jobs (book_here c.args.at.now) new c.args.places.now c.join.ensures.own fit)
 
-pub returns-clause-desk : goal.returns-clause-desk
-returns-clause-desk g c joined works =
-    let table = c.args.shared.now.table.now in
-    let base = book_at table g.start in
-    let theirs : Works table 1 0 base c.in-Some.theirs = subst (λ o. IfSome o (Works table 1 0 base)) (sym c.take.ensures.value ∙ c.in-Some.is) c.requires.1.1.1.1.0.desk in
-    let join = c.join-desk.ensures in
-    works_join table joined (expansions_of g.start) base c.args.desk c.in-Some.theirs c.join-desk.result works theirs join.table join.first join.second join.expansions
-
-pub returns-in_default-clause-desk : goal.returns-in_default-clause-desk
-returns-in_default-clause-desk g c joined works =
-    let table = c.args.shared.now.table.now in
-    works_more table joined (joined + 1) (expansions_of g.start) (book_at table g.start) c.args.desk (omega arith) (desk_book table g.start c.requires.1.1.0) works
+pub returns-clause-works : goal.returns-clause-works
+returns-clause-works c base jobs joined before book is works =
+    let found = subst (λ o. IfSome o (λ at. HasFound base jobs at c.args.member.now.solver)) (sym c.take.ensures.value ∙ c.in-Some.is) is.found in
+    works_join (here_book c.args.at.now) (here_book c.in-Some.theirs) works found.works c.join.ensures.own c.join.ensures.other c.saturating_add-tally.ensures

@@ -1,10 +1,11 @@
 use Rattle.std.proofs.lemmas.Option.{slice_get-get_or}
-use Rattle.node_table.specs.Desks.{book_at}
+use Rattle.node_table.specs.DesksAtWork.{book_here}
 use Rattle.worker_split.proofs.Places.{settled}
 use Rattle.worker_split.proofs.jobs.settle.Goals as goal
 
 pub returns-clause-settled : goal.returns-clause-settled
 returns-clause-settled g c =
-    let new = c.future_at-desk.result.0 in
-    let ok = c.future_at-desk.ensures.ok in
-    settled c.args.shared.now.jobs.now (book_at c.args.shared.now.table.now c.args.desk) (book_at c.args.shared.now.table.now new) c.args.job c.future_at-desk.result.1 _ c.requires.job (slice_get-get_or c.args.shared.now.jobs.now c.args.job _ c.requires.job) (c.requires.jobs c.args.job _ c.requires.job) c.future_at-desk.ensures.desk.keeps ok c.future_at-desk.ensures.refusal
+    let jobs = c.args.shared.now.jobs.now in
+    let made = c.future_of-future.ensures in
+    settled jobs (book_here c.args.at.now) (book_here c.future_of-future.new.at) c.args.job c.future_of-future.result _ c.requires.job (slice_get-get_or jobs c.args.job _ c.requires.job)
+    (c.requires.jobs c.args.job _ c.requires.job) made.continues.keeps made.ok made.refusal

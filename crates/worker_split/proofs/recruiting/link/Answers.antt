@@ -20,7 +20,7 @@ returns-clause-idle c count all =
     let mid = set old c.args.j c.stealer.new.self in
     let one = all c.args.j _ c.requires.1 in
     let first = All-set P old c.args.j c.stealer.new.self (c.stealer.ensures.idle count one) all in
-    All-set P mid c.args.i c.add.new.self (c.add.ensures.idle count (c.in_ok-stealer.ensures.stealer ∙ one.own) (first c.args.i _ (search rules))) first
+    All-set P mid c.args.i c.add.new.self (c.add.ensures.idle count (c.in_ok-stealer.ensures.stealer ∙ one.queues.own) (first c.args.i _ (search rules))) first
 
 pub returns-clause-shares : goal.returns-clause-shares
 returns-clause-shares c =

@@ -1,36 +1,48 @@
-use Rattle.std.proofs.Common.{All, length, subst, sym, rules}
+use Rattle.std.proofs.lemmas.List.{length-replicate}
+use Rattle.std.proofs.Common.{None, replicate, ◌∙◌, ap, ◌≡◌, All, length, subst, sym, ap, ◌∙◌, rules}
 use Rattle.squares.specs.Book.{Book}
-use Rattle.node_table.specs.Desks.{book_at, expansions_of}
+use Rattle.node_table.specs.DesksAtWork.{book_here}
 use Rattle.worker_split.specs.Jobs.{IsJob}
-use Rattle.worker_split.specs.Rounds.{IsMember, PlacesFit}
-use Rattle.worker_split.proofs.Books.{jobs_kept, works_from, works_none, works_trans}
+use Rattle.worker_split.specs.Rounds.{IsIdle, IsMember, PlacesFit}
+use Rattle.worker_split.specs.Work.{Works}
+use Rattle.worker_split.proofs.Books.{here_book, jobs_kept, works_one}
+use Rattle.worker_split.proofs.Places.{none_placed}
 use Rattle.worker_split.proofs.Workers.{all_ready}
 use Rattle.worker_split.proofs.rounds.carry_out.Goals as goal
 
 pub run_all-requires-clause-ready : goal.run_all-requires-clause-ready
 run_all-requires-clause-ready g c κs within =
-    all_ready c.args.shared.now.table.now (book_at c.args.shared.now.table.now c.args.desk) c.args.shared.now.jobs.now c.hand_out-home.new.members c.requires.jobs c.hand_out-home.ensures.members
+    let jobs = c.args.jobs.now in
+    let idle : All (IsIdle (length jobs)) c.as_mut_slice-members.result.now = search rules in
+    all_ready (book_here c.args.at.now) jobs c.hand_out.new.members c.requires.jobs (c.hand_out.ensures.members jobs idle)
 
-pub gather-desk-requires : goal.gather-desk-requires
-gather-desk-requires g c κs within =
-    let table = c.args.shared.now.table.now in
-    let jobs = c.args.shared.now.jobs.now in
-    let home = c.hand_out-home.result in
-    let works = works_none table home 0 c.hand_out-home.ensures.desk in
-    let fit = subst (λ (b : Book). PlacesFit jobs b c.args.places.now) (sym c.hand_out-home.ensures.book) c.requires.places in
-    let begun = subst (λ (b : Book). All (IsMember table b jobs) c.hand_out-home.new.members) (sym c.hand_out-home.ensures.book) c.hand_out-home.ensures.members in
-    (search rules, (search rules, (c.hand_out-home.ensures.desk, (works, (c.run_all.ensures.members (book_at table home) begun, (c.requires.len, fit))))))
+pub gather-requires : goal.gather-requires
+gather-requires g c =
+    let jobs = c.args.jobs.now in
+    let at = sym c.hand_out.ensures.at in
+    let idle : All (IsIdle (length jobs)) c.as_mut_slice-members.result.now = search rules in
+    let members = c.run_all.ensures.members (book_here c.args.at.now) (c.hand_out.ensures.members jobs idle) in
+    let places : c.as_mut_slice-places.result.now ≡ replicate (length jobs) None = search rules in
+    record { jobs = jobs; are = subst (λ (b : Book). All (IsMember b jobs) c.run_all.new.members) at members; len = ap length places ∙ length-replicate (length jobs) None }
+
+pub fill-requires-clause-places : goal.fill-requires-clause-places
+fill-requires-clause-places g c κs within =
+    let jobs = c.args.jobs.now in
+    let at = sym c.hand_out.ensures.at in
+    let idle : All (IsIdle (length jobs)) c.as_mut_slice-members.result.now = search rules in
+    let members = c.run_all.ensures.members (book_here c.args.at.now) (c.hand_out.ensures.members jobs idle) in
+    let places : PlacesFit jobs (book_here c.hand_out.new.at) c.as_mut_slice-places.result.now = none_placed jobs _ _ (length jobs) (search rules) in
+    c.gather.ensures.places jobs (subst (λ (b : Book). All (IsMember b jobs) c.run_all.new.members) at members) places
 
 pub fill-requires-clause-jobs : goal.fill-requires-clause-jobs
 fill-requires-clause-jobs g c κs within =
-    let table = c.args.shared.now.table.now in
-    let at_home = subst (λ (b : Book). All (IsJob b) c.args.shared.now.jobs.now) (sym c.hand_out-home.ensures.book) c.requires.jobs in
-    jobs_kept (book_at table c.hand_out-home.result) (book_at table c.gather-desk.result) c.args.shared.now.jobs.now c.gather-desk.ensures.desk.keeps at_home
+    let jobs = c.args.jobs.now in
+    jobs_kept (book_here c.hand_out.new.at) (book_here c.gather.new.at) jobs c.gather.ensures.continues.keeps (subst (λ (b : Book). All (IsJob b) jobs) (sym c.hand_out.ensures.at) c.requires.jobs)
 
-pub returns-clause-desk : goal.returns-clause-desk
-returns-clause-desk g c =
-    let table = c.args.shared.now.table.now in
-    let home = c.hand_out-home.result in
-    let workers = length c.args.members.now in
-    works_from table workers c.args.desk home c.fill.result.0 c.hand_out-home.ensures.book c.hand_out-home.ensures.expansions
-    (works_trans table 1 workers (expansions_of home) (book_at table home) c.gather-desk.result c.fill.result.0 c.requires.some (search rules) c.fill.ensures.desk)
+pub returns-clause-continues : goal.returns-clause-continues
+returns-clause-continues g c =
+    let workers = c.args.team.now.workers in
+    let len : length c.run_all.new.members ≡ workers = search rules in
+    let gathered = subst (λ (b : Book). Works (length c.run_all.new.members) b (book_here c.gather.new.at) c.args.tally.now.expansions c.gather.new.tally.expansions) c.hand_out.ensures.at c.gather.ensures.continues in
+    let all = subst (λ n. Works n (book_here c.args.at.now) (book_here c.gather.new.at) c.args.tally.now.expansions c.gather.new.tally.expansions) len gathered in
+    works_one c.args.team.now.some (here_book c.gather.new.at) all c.fill.ensures.continues

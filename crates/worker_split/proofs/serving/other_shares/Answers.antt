@@ -1,12 +1,13 @@
 use Rattle.std.proofs.Common.{◌≡◌, ◌∙◌, length, refl}
 use Rattle.std.proofs.lemmas.List.{length-set}
 use Rattle.std.proofs.lemmas.List.Elements.{All-set}
+use Rattle.squares.proofs.Kept.{keeps_none}
 use Rattle.worker_split.specs.declared.queues.JobStealer.{JobStealer}
-use Rattle.worker_split.proofs.Workers.{later_none, later_trans}
+use Rattle.worker_split.proofs.Books.{here_book, works_kept, works_then}
 use Rattle.worker_split.proofs.serving.other_shares.Goals as goal
 
 pub loop-k-init : goal.loop-k-init
-loop-k-init g c = (refl, c.requires.others, c.requires.solver, later_none c.args.shared.now.table.now c.args.shared.now.jobs.now c.args.solver.now c.requires.solver)
+loop-k-init g c = (refl, c.requires.others, c.requires.solver, works_kept 1 _ (here_book c.args.at.now) (keeps_none _))
 
 pub loop-k-preserved : goal.loop-k-preserved
 loop-k-preserved g c =
@@ -15,5 +16,5 @@ loop-k-preserved g c =
       length-set c.loop-k.others c.loop-k.k c.other_share.new.other ∙ was.0,
       All-set (λ (r : JobStealer). r.count ≡ length c.args.shared.now.jobs.now) c.loop-k.others c.loop-k.k c.other_share.new.other here.other was.1,
       here.solver,
-      later_trans c.args.shared.now.table.now c.args.solver.now c.loop-k.solver c.other_share.new.solver was.3 here.later,
+      works_then was.3 here.continues,
     )

@@ -1,6 +1,8 @@
 use Rattle.std.proofs.Common.{◌≡◌, length}
-use Rattle.worker_split.specs.Rounds.{CanSolve, IsLater}
+use Rattle.worker_split.specs.Rounds.{CanSolve}
+use Rattle.worker_split.specs.Work.{Continues}
 use Rattle.worker_split.proofs.serving.own_share.Given as goal
 
 abbrev pub invariant-loop : goal.invariant-loop
-invariant-loop g l = (l.own.count ≡ length l.shared.jobs.now) × CanSolve l.shared.table.now l.shared.jobs.now l.solver × IsLater l.shared.table.now l.initial.solver l.solver
+invariant-loop g l =
+    (l.own.count ≡ length l.shared.jobs.now) × CanSolve l.shared.jobs.now l.at l.solver × Continues 1 l.initial.at l.at l.initial.solver.tally l.solver.tally

@@ -1,0 +1,9 @@
+use Rattle.node_table.specs.DesksAtWork.{book_here}
+use Rattle.worker_split.proofs.Books.{here_book, job_kept, works_one}
+use Rattle.worker_split.proofs.batches.team_future.Goals as goal
+
+pub future_of-requires : goal.future_of-requires
+future_of-requires g c = job_kept (book_here c.args.at.now) (book_here c.prepare.new.at) c.args.sq c.prepare.ensures.continues.keeps c.requires.sq
+
+pub returns-clause-continues : goal.returns-clause-continues
+returns-clause-continues g c = works_one c.args.team.now.some (here_book c.prepare.new.at) c.prepare.ensures.continues c.future_of.ensures.continues
