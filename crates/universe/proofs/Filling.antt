@@ -1,11 +1,12 @@
 -- Tables that were opened and have become full.
-use Rattle.std.proofs.Common.{◌≡◌, ◌∙◌, ℕ, ◌^◌, inl, ap, sym, subst}
+use Rattle.std.proofs.Common.{◌≡◌, ◌⊎◌, ◌∙◌, ℕ, ◌^◌, inl, inr, ap, sym, subst}
 use Rattle.std.specs.Prelude.{IsTrue, Result, Ok, Err, IfOk}
 use Rattle.rule_text.specs.CountRule.{CountRule}
 use Rattle.plane.specs.declared.refusal.Refusal.{Refusal}
+use Rattle.plane.specs.declared.refusal.Refusal.TheVariants.{NodesFull, NoMemory}
 use Rattle.plane.specs.Square.{IsSame}
 use Rattle.plane.proofs.Same.{same_sym, same_trans}
-use Rattle.squares.specs.Book.{IsKnown, Keeps}
+use Rattle.squares.specs.Book.{Book, IsKnown, Keeps, MayRefuse}
 use Rattle.squares.specs.declared.sq.Sq.{Sq}
 use Rattle.table_core.specs.declared.key.Key.{Key}
 use Rattle.table_core.specs.declared.shape.Shape.{Shape}
@@ -15,22 +16,32 @@ use Rattle.node_table.specs.Desks.{book_at}
 use Rattle.node_table.specs.Openings.{Opens}
 use Rattle.node_table.specs.Stills.{IsVacant, book_in, key_of}
 use Rattle.node_sweep.specs.SweptStills.{IsSwept}
-use Rattle.universe.specs.Cells.{exponent_of, limit_of, live_cells, rule_of, square_plane}
+use Rattle.universe.specs.Cells.{exponent_of, limit_of, live_cells, root_of, rule_of, square_plane, still_of}
 use Rattle.universe.specs.Runs.{IsAttempt, IsFullAtLimit, IsFullFromAlone, IsFullInPlace, IsAtExponent}
-use Rattle.universe.specs.Tables.{HasFilledUp, IsFreshTable, IsOpened, StaysOpen, known_at}
+use Rattle.universe.specs.Stills.{IsOpenedAt, IsSweptFrom}
+use Rattle.universe.specs.Tables.{HasFilledUp, IsFreshTable, IsOpened, StaysOpen, key_at, known_at}
 use Rattle.universe.specs.declared.attempts.Attempt.{Attempt}
 use Rattle.universe.specs.declared.attempts.Attempt.TheVariants.{Done, Full}
+use Rattle.universe.specs.declared.other_tables.OtherTables.{OtherTables}
+use Rattle.universe.specs.declared.rooted_still.RootedStill.{RootedStill}
 use Rattle.universe.specs.declared.tables.OpenTable.{OpenTable}
 use Rattle.universe.specs.declared.universe.Universe.{Universe}
 
+-- a book whose squares were refused for want of room is full
+pub full_book : (book : Book) (refusal : Refusal) → (refusal ≡ NoMemory) ⊎ MayRefuse book refusal → refusal ≡ NodesFull → IsTrue book.is_full
+full_book book refusal (inl memory) full = absurd cc
+full_book book refusal (inr (inl no_memory)) full = let memory = no_memory.0 in absurd cc
+full_book book refusal (inr (inr no_room)) full = no_room.1
+
 -- words without a square, opened
 pub fresh_table : (still : Still) (rule : CountRule) (exponent slots pairs : ℕ) {opened : OpenTable} → slots ≡ pairs → IsVacant still slots → IsOpened still rule exponent opened → IsFreshTable rule exponent pairs opened
-fresh_table still rule exponent slots pairs same vacant is = record { still = still; vacant = subst (IsVacant still) same vacant; is = is }
-
--- words opened under their own rule and exponent
-pub opened_under : (still : Still) {opened : OpenTable} → opened.state.key ≡ key_of still → IsOpened still (key_of still).rule (key_of still).exponent opened →
-    IsOpened still opened.state.key.rule opened.state.key.exponent opened
-opened_under still {opened} key is = subst (λ (k : Key). IsOpened still k.rule k.exponent opened) (sym key) is
+fresh_table still rule exponent slots pairs same vacant is = record {
+  still = still;
+  vacant = subst (IsVacant still) same vacant;
+  is = is;
+  under = (ap (λ (k : Key). k.exponent) is.opens.key, ap (λ (k : Key). k.rule) is.opens.key);
+  size = ap (λ (k : Key). 2 ^ k.shape.bits) is.opens.key ∙ vacant.pair_count ∙ same;
+}
 
 -- a table that was opened from the words, and later is full
 pub filled_up : (still : Still) (rule : CountRule) (exponent : ℕ) {opened now : OpenTable} → IsOpened still rule exponent opened → StaysOpen opened now → IsTrue (known_at now).is_full → HasFilledUp still rule exponent now
@@ -46,25 +57,40 @@ pub record IsOpenedAlone (still : Still) (root : Sq) (universe : Universe) : Typ
   pub alone : Still
   pub copy : Sq
   pub swept : IsSwept still root (limit_of universe) alone copy
-  pub opened : IsOpened alone (rule_of universe) (exponent_of universe) universe.here.table
+  pub opened : IsOpened alone (rule_of universe) (exponent_of universe) universe.here
+
+-- words opened under some rule and exponent are opened under those of the table
+opened_under : (still : Still) (rule : CountRule) (exponent : ℕ) {opened : OpenTable} → IsOpened still rule exponent opened → IsOpened still (key_at opened).rule (key_at opened).exponent opened
+opened_under still rule exponent {opened} is =
+    subst (λ (e : ℕ). IsOpened still (key_at opened).rule e opened) (sym (ap (λ (k : Key). k.exponent) is.opens.key))
+    (subst (λ (r : CountRule). IsOpened still r exponent opened) (sym (ap (λ (k : Key). k.rule) is.opens.key)) is)
+
+pub opened_alone : (old fresh : RootedStill) (exponent : ℕ) (others : OtherTables) {universe : Universe} → IsSweptFrom old (limit_of universe) fresh → IsOpenedAt fresh exponent others universe →
+    IsOpenedAlone (still_of old) (root_of old) universe
+opened_alone old fresh exponent others {universe} swept now = record {
+  alone = still_of fresh;
+  copy = root_of fresh;
+  swept = swept;
+  opened = opened_under (still_of fresh) (key_of (still_of fresh)).rule exponent now.opened;
+}
 
 -- where it is full later, it is full from the cells alone
-pub full_from_alone : (still : Still) (root : Sq) (start same : Universe) → IsOpenedAlone still root start → IsAtExponent (exponent_of start) start same → StaysOpen start.here.table same.here.table →
-    IsTrue (known_at same.here.table).is_full → IsFullFromAlone still root same
+pub full_from_alone : (still : Still) (root : Sq) (start same : Universe) → IsOpenedAlone still root start → IsAtExponent (exponent_of start) start same → StaysOpen start.here same.here →
+    IsTrue (known_at same.here).is_full → IsFullFromAlone still root same
 full_from_alone still root start same alone at_exponent stays full =
     let limit : limit_of same ≡ limit_of start = ap (λ (shape : Shape). 2 ^ shape.bits) at_exponent.same.limit in
     record {
       alone = alone.alone;
       copy = alone.copy;
       swept = subst (λ (pairs : ℕ). IsSwept still root pairs alone.alone alone.copy) (sym limit) alone.swept;
-      size = ap (λ (k : Key). 2 ^ k.shape.bits) (stays.same_key ∙ alone.opened.same_key) ∙ alone.swept.resized.pair_count ∙ sym limit;
-      filled = subst (λ (e : ℕ). HasFilledUp alone.alone (rule_of same) e same.here.table) (sym at_exponent.exponent)
-          (subst (λ (r : CountRule). HasFilledUp alone.alone r (exponent_of start) same.here.table) (sym at_exponent.same.rule)
+      size = ap (λ (t : NodeTable). 2 ^ t.key.shape.bits) stays.same_table ∙ ap (λ (k : Key). 2 ^ k.shape.bits) alone.opened.opens.key ∙ alone.swept.resized.pair_count ∙ sym limit;
+      filled = subst (λ (e : ℕ). HasFilledUp alone.alone (rule_of same) e same.here) (sym at_exponent.exponent)
+          (subst (λ (r : CountRule). HasFilledUp alone.alone r (exponent_of start) same.here) (sym at_exponent.same.rule)
           (filled_up alone.alone (rule_of start) (exponent_of start) alone.opened stays full));
     }
 
 -- where a step that begins with the cells alone meets a full table of the largest size, there is no larger one
-pub full_at_limit : (still : Still) (root : Sq) (start : Universe) (attempt : Result Attempt Refusal) → IsKnown (book_in still) root.level root → IsSame (square_plane (book_in still) root) (live_cells start) → IsOpenedAlone still root start →
+pub full_at_limit : {E : Type 0} (still : Still) (root : Sq) (start : Universe) (attempt : Result Attempt E) → IsKnown (book_in still) root.level root → IsSame (square_plane (book_in still) root) (live_cells start) → IsOpenedAlone still root start →
     IfOk attempt (IsAttempt start) → IfOk attempt (IsFullInPlace start) → IfOk attempt IsFullAtLimit
 full_at_limit still root start (Ok (Done later)) known cells alone is full = tt
 full_at_limit still root start (Ok (Full same)) known cells alone at_exponent full = record {

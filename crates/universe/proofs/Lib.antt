@@ -7,3 +7,4 @@ pub mod Evicting
 pub mod Onward
 pub mod Copying
 pub mod Rounds
+pub mod Staying

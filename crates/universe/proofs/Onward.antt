@@ -1,7 +1,6 @@
 -- Universes some generations on, one after the other.
 use Rattle.std.proofs.Common.{◌≡◌, ◌≢◌, ℕ, ◌+◌, ◌-◌, ◌^◌, ◌<◌, ◌≤◌, sym, ◌∙◌, refl, subst, arith}
 use Rattle.std.specs.Prelude.{Result, Ok, Err, IfOk}
-use Rattle.plane.specs.declared.refusal.Refusal.{Refusal}
 use Rattle.rule_text.specs.CountRule.{CountRule}
 use Rattle.plane.specs.Centred.{Holds}
 use Rattle.plane.specs.Plane.{Plane, after}
@@ -63,10 +62,6 @@ same_exponent universe = record { same = same_universe universe; exponent = refl
 
 pub exponent_on : {first second third : Universe} {wanted : ℕ} → IsAtExponent wanted first second → IsAtExponent wanted second third → IsAtExponent wanted first third
 exponent_on before now = record { same = still_same before.same now.same; exponent = now.exponent }
-
--- so it stays, at the exponent that the table had
-pub stay_on : {first second third : Universe} → IsAtExponent (exponent_of first) first second → IsAtExponent (exponent_of second) second third → IsAtExponent (exponent_of first) first third
-stay_on before now = record { same = still_same before.same now.same; exponent = now.exponent ∙ before.exponent }
 
 pub held_again : (rule : CountRule) (plane other : Plane) (generations : ℕ) → IsSame other plane → Holds 63 (after rule plane generations) → Holds 63 (after rule other generations)
 held_again rule plane other generations same held =
@@ -130,6 +125,6 @@ stuck_at_once {first} {second} generations some same one exhausted = record {
   exhausted = exhausted;
 }
 
-pub result_again : {first second : Universe} → (exponent wanted : ℕ) (r : Result Attempt Refusal) → IfOk r (ReachesExponent exponent second) → IsSameUniverse first second → exponent ≡ wanted → IfOk r (ReachesExponent wanted first)
+pub result_again : {E : Type 0} {first second : Universe} → (exponent wanted : ℕ) (r : Result Attempt E) → IfOk r (ReachesExponent exponent second) → IsSameUniverse first second → exponent ≡ wanted → IfOk r (ReachesExponent wanted first)
 result_again exponent wanted (Ok attempt) turn same is = reaches_again exponent wanted attempt same is turn
 result_again exponent wanted (Err refusal) turn same is = tt

@@ -1,5 +1,5 @@
 -- Squares round (0,0).
-use Rattle.std.proofs.Common.{◌≡◌, ◌↔◌, eqb, IsTrue, ℕ, ◌-◌, ◌^◌, ◌≤◌, ℤ, ◌-ℤ◌, pos, ◌+ℤ◌, Bool, true, false, ◌&&◌, refl, sym, ◌∙◌, ap, subst, arith}
+use Rattle.std.proofs.Common.{◌≡◌, ◌↔◌, eqb, IsTrue, ℕ, ◌-◌, ◌^◌, ℤ, ◌-ℤ◌, pos, ◌+ℤ◌, Bool, true, false, ◌&&◌, refl, sym, ◌∙◌, ap, subst, arith}
 use Rattle.std.proofs.lemmas.Bool.{eqb-true}
 use Rattle.std.proofs.lemmas.Int.{ints}
 use Rattle.plane.specs.Centred.{Holds, centred}

@@ -2,16 +2,16 @@
 use Rattle.std.specs.Prelude.{ℕ, ◌+◌, ◌^◌}
 use Rattle.rule_text.specs.CountRule.{CountRule}
 use Rattle.plane.specs.Centred.{centred}
-use Rattle.plane.specs.Plane.{Plane}
+use Rattle.plane.specs.Plane.{Plane, after}
 use Rattle.node_table.specs.declared.still.Still.{Still}
 use Rattle.node_table.specs.Stills.{book_in}
 use Rattle.squares.specs.Book.{Book}
 use Rattle.squares.specs.declared.sq.Sq.{Sq}
 use Rattle.universe.specs.declared.rooted_still.RootedStill.{RootedStill}
-use Rattle.universe.specs.declared.rooted_table.RootedTable.{RootedTable}
+use Rattle.universe.specs.declared.tables.OpenTable.{OpenTable}
 use Rattle.universe.specs.declared.universe.Universe.{Universe}
 use Rattle.universe.specs.Sums.{pair_sum}
-use Rattle.universe.specs.Tables.{known_at, pairs_in}
+use Rattle.universe.specs.Tables.{key_at, known_at, pairs_in}
 
 -- the cells of a square of a book, round (0,0)
 abbrev pub square_plane : Book → Sq → Plane
@@ -27,15 +27,16 @@ root_of rooted = rooted.root
 abbrev pub still_cells : RootedStill → Plane
 still_cells rooted = square_plane (book_in (still_of rooted)) (root_of rooted)
 
-abbrev pub cells_of : RootedTable → Plane
-cells_of rooted = square_plane (known_at rooted.table) rooted.root
+-- the cells of a square at a table, one step later
+abbrev pub next_cells : OpenTable → Sq → Plane
+next_cells opened root = after (key_at opened).rule (square_plane (known_at opened) root) (2 ^ (key_at opened).exponent)
 
 abbrev pub live_cells : Universe → Plane
-live_cells universe = cells_of universe.here
+live_cells universe = square_plane (known_at universe.here) universe.root
 
 -- by which rule its generations follow one another
 abbrev pub rule_of : Universe → CountRule
-rule_of universe = universe.here.table.state.key.rule
+rule_of universe = (key_at universe.here).rule
 
 -- how many pair slots its tables may have together
 abbrev pub limit_of : Universe → ℕ
@@ -43,8 +44,8 @@ limit_of universe = 2 ^ universe.others.limit.bits
 
 -- how many pair slots its tables have together
 abbrev pub pairs_of : Universe → ℕ
-pairs_of universe = pairs_in universe.here.table + pair_sum universe.others.tables.items
+pairs_of universe = pairs_in universe.here + pair_sum universe.others.tables.items
 
 -- how many generations a step of the table with its square takes, as a power of two
 abbrev pub exponent_of : Universe → ℕ
-exponent_of universe = universe.here.table.state.key.exponent
+exponent_of universe = (key_at universe.here).exponent

@@ -1,6 +1,8 @@
 pub mod Cells
 pub mod Held
+pub mod Outcomes
+pub mod Retries
 pub mod Runs
-pub mod RootedTables
+pub mod Stills
 pub mod Sums
 pub mod Tables

@@ -49,15 +49,15 @@ ReachesExponent exponent start (Full same) = IsSameUniverse start same
 -- where the step was not taken, the table is the same, and full
 abbrev pub IsFullInPlace : Universe → Attempt → Type 0
 IsFullInPlace start (Done later) = Unit {0}
-IsFullInPlace start (Full same) = StaysOpen start.here.table same.here.table × IsTrue (known_at same.here.table).is_full
+IsFullInPlace start (Full same) = StaysOpen start.here same.here × IsTrue (known_at same.here).is_full
 
 -- the table has the largest size, was opened from words with what the root reaches and nothing else, and is full now
 pub record IsFullFromAlone (still : Still) (root : Sq) (universe : Universe) : Type 0 where
   pub alone : Still
   pub copy : Sq
   pub swept : IsSwept still root (limit_of universe) alone copy
-  pub size : pairs_in universe.here.table ≡ limit_of universe
-  pub filled : HasFilledUp alone (rule_of universe) (exponent_of universe) universe.here.table
+  pub size : pairs_in universe.here ≡ limit_of universe
+  pub filled : HasFilledUp alone (rule_of universe) (exponent_of universe) universe.here
 
 -- words know a square and show the cells by it; the table, which has the largest size and began with what this square needs
 -- and nothing else, is full, or that size has no room for what the square needs

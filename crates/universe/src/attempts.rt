@@ -1,19 +1,17 @@
 //! A step that is tried at one table after the other, until one has room for it.
 
-ghost use Rattle.std.specs.Prelude.{◌≡◌, ◌≤◌, ◌^◌, IfOk, IsOkUnless};
+ghost use Rattle.std.specs.Prelude.{◌≡◌, ◌≤◌, ◌^◌, IfOk};
 
+use crate::refusals::unless_full;
+use crate::retries::{Retry, RetryPlan};
 use crate::rooted_still::Keep;
-use crate::rooted_table::Stepped;
-use crate::sizes::{larger, pair_count};
+use crate::sizes::pair_count;
 use crate::universe::Universe;
-use plane::Refusal;
+use std::alloc::AllocError;
 use std::sync::Wait;
 use std::thread::Threads;
 use table_core::Shape;
 use worker_split::{Gate, Team};
-
-// How often the largest table is collected for one step, at most. No step takes so many collections.
-const MOST_COLLECTIONS: u32 = 1 << 20;
 
 // The universe after a step, or after its cells came to another table; or, where a table was full, the
 // universe as it was before.
@@ -25,101 +23,77 @@ pub(crate) enum Attempt {
 
 impl Universe {
     ghost use Rattle.universe.specs.Cells.{limit_of};
+    ghost use Rattle.universe.specs.Retries.{IsWithin};
     ghost use Rattle.universe.specs.Runs.{IsAttempt, IsFullAtLimit, IsFullInPlace, MayStep};
     ghost use Rattle.universe.specs.declared.rooted_still.Keep.TheVariants.{CellsAlone};
 
-    // Takes one step of the cells at their table. Where the table is full, the step begins again at a new one:
-    // of the same size with the cells alone, if earlier steps have filled it; then of each larger size, with
-    // all squares and results; then of the largest size with what a collection keeps, while this helps; and at
-    // last of the largest size with the cells alone.
+    // Takes one step of the cells at their table, or, where that is full, at new ones, as the plan says.
     pub(crate) fn step_with_growth<R: Threads + Wait + Sync, G: Gate>(
         self,
         team: &Team<'_, R, G>,
-    ) -> Result<Attempt, Refusal>
+    ) -> Result<Attempt, AllocError>
         requires { MayStep self }
         ensures ok { IfOk result (IsAttempt self) }
         ensures full { IfOk result IsFullAtLimit }
-        ensures memory { IsOkUnless result Refusal.NoMemory }
     {
-        let most = self.others.limit();
-        let mut shape = self.here.table.state.key.shape;
-        let growth_factor = self.here.table.growth_factor();
-        let mut start = match self.step_here_or_swept(team)? {
-            Attempt::Full(start) => start,
-            done => return Ok(done),
+        let plan = RetryPlan {
+            shape: self.here.table.key().shape,
+            history: self.here.history,
+            limit: self.others.limit,
         };
-        'sizes: while let Some(next) = larger(shape, most, growth_factor) {
-            start = match start.step_in(team, next, Keep::Everything)? {
+        let mut attempt = self.step_here(team)?;
+        let mut tried = None;
+        'retries: loop {
+            let start = match attempt {
                 Attempt::Full(start) => start,
                 done => return Ok(done),
             };
-            shape = next;
-        }
-        match start.step_collected(team)? {
-            Attempt::Full(start) => start.step_in(team, most, Keep::CellsAlone),
-            done => Ok(done),
+            let pairs = start.here.pair_count();
+            let Some(retry) = plan.next(tried, start.here.history.should_collect(pairs)) else {
+                return Ok(Attempt::Full(start));
+            };
+            attempt = start.retry(team, retry)?;
+            tried = Some(retry);
         }
     }
 
-    // Takes one step at a new table of the largest size, with what a collection keeps of the one before. Where
-    // that is full too it collects again, while this helps.
-    fn step_collected<R: Threads + Wait + Sync, G: Gate>(
+    // Takes one step at the new table that this retry means.
+    fn retry<R: Threads + Wait + Sync, G: Gate>(
         self,
         team: &Team<'_, R, G>,
-    ) -> Result<Attempt, Refusal>
-        requires { MayStep self }
+        retry: Retry,
+    ) -> Result<Attempt, AllocError>
+        requires step { MayStep self }
+        requires within { IsWithin self.others.limit retry }
         ensures ok { IfOk result (IsAttempt self) }
-        ensures memory { IsOkUnless result Refusal.NoMemory }
+        ensures full { retry ≡ Retry.CellsAlone → IfOk result IsFullAtLimit }
     {
-        let most = self.others.limit();
-        let mut start = self;
-        'collections: for _ in 0..MOST_COLLECTIONS {
-            if !start.here.table.should_collect() {
-                break;
+        let limit = self.others.limit;
+        match retry {
+            Retry::Swept => {
+                let shape = self.here.table.key().shape;
+                self.step_in(team, shape, Keep::CellsAlone)
             }
-            start = match start.step_in(team, most, Keep::Collected)? {
-                Attempt::Full(start) => start,
-                done => return Ok(done),
-            };
+            Retry::Enlarged(shape) => self.step_in(team, shape, Keep::Everything),
+            Retry::Collected(_) => self.step_in(team, limit, Keep::Collected),
+            Retry::CellsAlone => self.step_in(team, limit, Keep::CellsAlone),
         }
-        Ok(Attempt::Full(start))
-    }
-
-    // Takes one step at the table of the cells, or, where earlier steps have filled it and it isn't the
-    // largest, at a new one of its size with the cells alone.
-    fn step_here_or_swept<R: Threads + Wait + Sync, G: Gate>(
-        self,
-        team: &Team<'_, R, G>,
-    ) -> Result<Attempt, Refusal>
-        requires { MayStep self }
-        ensures ok { IfOk result (IsAttempt self) }
-        ensures memory { IsOkUnless result Refusal.NoMemory }
-    {
-        let start = match self.step_here(team)? {
-            Attempt::Full(start) => start,
-            done => return Ok(done),
-        };
-        let shape = start.here.table.state.key.shape;
-        if shape.bits >= start.others.limit().bits || !start.here.table.should_sweep_first() {
-            return Ok(Attempt::Full(start));
-        }
-        start.step_in(team, shape, Keep::CellsAlone)
     }
 
     // Takes one step at the table of the cells.
     fn step_here<R: Threads + Wait + Sync, G: Gate>(
         self,
         team: &Team<'_, R, G>,
-    ) -> Result<Attempt, Refusal>
+    ) -> Result<Attempt, AllocError>
         requires { MayStep self }
         ensures ok { IfOk result (IsAttempt self) }
         ensures full { IfOk result (IsFullInPlace self) }
-        ensures memory { IsOkUnless result Refusal.NoMemory }
     {
-        let Universe { here, others } = self;
-        match here.step(team)? {
-            Stepped::Done(here) => Ok(Attempt::Done(Universe { here, others })),
-            Stepped::Full(here) => Ok(Attempt::Full(Universe { here, others })),
+        let Universe { here, root, others } = self;
+        let (here, made) = here.step(team, root);
+        match unless_full(made)? {
+            Some(root) => Ok(Attempt::Done(Universe { here, root, others })),
+            None => Ok(Attempt::Full(Universe { here, root, others })),
         }
     }
 
@@ -129,26 +103,31 @@ impl Universe {
         team: &Team<'_, R, G>,
         shape: Shape,
         keep: Keep,
-    ) -> Result<Attempt, Refusal>
+    ) -> Result<Attempt, AllocError>
         requires step { MayStep self }
         requires shape { 2 ^ shape.bits ≤ limit_of self }
         ensures ok { IfOk result (IsAttempt self) }
         ensures full { keep ≡ CellsAlone → 2 ^ shape.bits ≡ limit_of self → IfOk result IsFullAtLimit }
-        ensures memory { IsOkUnless result Refusal.NoMemory }
     {
-        let Universe { here, mut others } = self;
+        let Universe {
+            here,
+            root,
+            mut others,
+        } = self;
         others.make_room(pair_count(shape));
-        let history = here.table.state.history;
-        let start = here.into_still();
-        match start.copied(team.alloc, shape, keep, history)? {
+        let exponent = here.table.key().exponent;
+        let history = here.history;
+        let start = here.close(root);
+        match start.copy(team.alloc, shape, keep, history)? {
             Some((fresh, history)) => {
                 drop(start);
-                let here = fresh.reopen(team.alloc, history)?;
-                Universe { here, others }.step_here(team)
+                let universe = fresh.open_at(team.alloc, exponent, history, others)?;
+                universe.step_here(team)
             }
             None => {
-                let here = start.reopen(team.alloc, history.without_collections())?;
-                Ok(Attempt::Full(Universe { here, others }))
+                let history = history.without_collections();
+                let universe = start.open_at(team.alloc, exponent, history, others)?;
+                Ok(Attempt::Full(universe))
             }
         }
     }

@@ -3,18 +3,19 @@
 ghost use Rattle.std.specs.Prelude.{◌≡◌, ◌⊎◌, ◌^◌, IfErr, IfOk};
 ghost use Rattle.plane.specs.Square.{IsSame};
 ghost use Rattle.table_core.specs.Sizes.{IsPairCount};
+ghost use Rattle.universe.specs.Outcomes.{LacksMemoryOrRoom};
 ghost use Rattle.universe.specs.Tables.{HasFullTable};
 
 use crate::build::Build;
 use crate::history::TableHistory;
 use crate::other_tables::OtherTables;
 use crate::refusals::unless_full;
-use crate::rooted_table::RootedTable;
 use crate::sizes::{GrowthFactor, larger, smallest};
 use crate::tables::OpenTable;
 use crate::universe::Universe;
 use plane::Refusal;
 use rule_text::Rule;
+use squares::Sq;
 use std::alloc::Global;
 use table_core::Shape;
 
@@ -40,37 +41,37 @@ impl Universe {
         let limit = Shape::new(limit);
         let mut shape = smallest(limit);
         'sizes: loop {
-            let made = RootedTable::built(alloc, rule, source, shape);
-            if let Some(here) = unless_full(made)? {
+            let made = OpenTable::of_source(alloc, rule, source, shape);
+            if let Some((here, root)) = unless_full(made)? {
                 let others = OtherTables::new(alloc, limit);
-                return Ok(Universe { here, others });
+                return Ok(Universe { here, root, others });
             }
             shape = larger(shape, limit, GrowthFactor::Sixteen).ok_or(Refusal::NodesFull)?;
         }
     }
 }
 
-impl RootedTable {
-    ghost use Rattle.universe.specs.Cells.{cells_of};
-    ghost use Rattle.universe.specs.Tables.{IsTableUnder, pairs_in};
+impl OpenTable {
+    ghost use Rattle.universe.specs.Tables.{IsBuilt};
 
-    // The live cells, in a table of this shape.
-    fn built<B: Build>(
+    // A new table of this shape with the square of the live cells, and this square.
+    fn of_source<B: Build>(
         alloc: Global,
         rule: &Rule,
         source: &B,
         shape: Shape,
-    ) -> Result<RootedTable, Refusal>
+    ) -> Result<(OpenTable, Sq), Refusal>
         requires { B.is_lawful source.now }
-        ensures ok { IfOk result (λ rooted. IsSame (cells_of rooted) (B.live source.now)) }
-        ensures under { IfOk result (λ rooted. IsTableUnder rule.now 0 rooted.table) }
-        ensures pairs { IfOk result (λ rooted. pairs_in rooted.table ≡ 2 ^ shape.bits) }
-        ensures refusal { IfErr result (λ refusal. (refusal ≡ Refusal.NoMemory) ⊎ (refusal ≡ Refusal.NodesFull)) }
+        ensures ok { IfOk result (λ made. IsBuilt rule.now (B.live source.now) (2 ^ shape.bits) made.0 made.1) }
+        ensures refusal { IfErr result LacksMemoryOrRoom }
         ensures full { IfErr result (λ refusal. refusal ≡ Refusal.NodesFull → HasFullTable rule.now (2 ^ shape.bits)) }
     {
-        let fresh = OpenTable::fresh(alloc, shape, rule, 0, TableHistory::new())?;
-        let (table, made) = fresh.build(alloc, source);
+        let mut opened = OpenTable::fresh(alloc, shape, rule, 0, TableHistory::new())?;
+        let desk = opened.desk;
+        let mut at = opened.table.at(desk);
+        let made = source.build(alloc, &mut at);
+        opened.desk = at.leave();
         let root = made?;
-        Ok(RootedTable { table, root })
+        Ok((opened, root))
     }
 }

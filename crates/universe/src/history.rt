@@ -9,7 +9,7 @@ use worker_split::MOST_WORKERS;
 // A full large table that has taken this many steps is swept before it grows.
 const STEPS_BEFORE_SWEEP: u32 = 4;
 
-// The same for a full table that is one size smaller than the large ones.
+// The same for a full table that has a quarter or half as many slots as a large one.
 const STEPS_BEFORE_SMALLER_SWEEP: u32 = 256;
 
 // A table that has taken more steps than this has nearly as many slots as a step needs.

@@ -1,14 +1,13 @@
 //! The tables of a universe beside the one of its cells.
 
-ghost use Rattle.std.specs.Prelude.{◌≡◌, ◌<◌, ◌≤◌, ◌-◌, ◌^◌, [], ◌∷◌, ◌++◌, IfNone, IfSome, IsOkUnless, OnErr, OnOk};
+ghost use Rattle.std.specs.Prelude.{◌≡◌, ◌<◌, ◌≤◌, ◌-◌, ◌^◌, [], ◌∷◌, ◌++◌, IfNone, IfSome, OnErr, OnOk};
 ghost use Rattle.universe.specs.Sums.{AreLast, IsTakenOut, pair_sum};
 ghost use Rattle.universe.specs.Tables.{IsTableUnder};
 
 use crate::sizes::pair_count;
 use crate::tables::OpenTable;
-use plane::Refusal;
 use rule_text::Rule;
-use std::alloc::Global;
+use std::alloc::{AllocError, Global};
 use table_core::Shape;
 
 /// The tables that stay open beside the one of the cells, the least recently used first, and the limit for the
@@ -16,7 +15,7 @@ use table_core::Shape;
 #[derive(Drop)]
 pub(crate) struct OtherTables {
     tables: Vec<OpenTable>,
-    limit: Shape,
+    pub(crate) limit: Shape,
 }
 
 impl OtherTables {
@@ -29,13 +28,6 @@ impl OtherTables {
             tables: Vec::new(alloc),
             limit,
         }
-    }
-
-    /// The limit, as the shape of a table of so many pair slots.
-    pub(crate) fn limit(&self) -> Shape
-        ensures { result ≡ self.now.limit }
-    {
-        self.limit
     }
 
     /// How many pair slots they have together.
@@ -78,11 +70,10 @@ impl OtherTables {
     }
 
     /// Puts a table back, as the most recently used.
-    pub(crate) fn push(&mut self, table: OpenTable) -> Result<(), Refusal>
+    pub(crate) fn push(&mut self, table: OpenTable) -> Result<(), AllocError>
         ensures ok { OnOk result (self.new.tables.items ≡ self.old.tables.items ++ table ∷ []) }
         ensures err { OnErr result (self.new.tables.items ≡ self.old.tables.items) }
         ensures limit { self.new.limit ≡ self.old.limit }
-        ensures memory { IsOkUnless result Refusal.NoMemory }
     {
         self.tables.push(table)?;
         Ok(())

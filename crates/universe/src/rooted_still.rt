@@ -1,23 +1,21 @@
 //! Live cells as a square in the words of a closed table.
 
-ghost use Rattle.std.specs.Prelude.{◌≡◌, ◌<◌, ◌≤◌, ◌^◌, IfNone, IfOk, IfSome, IsOkUnless};
+ghost use Rattle.std.specs.Prelude.{◌≡◌, ◌<◌, ◌≤◌, ◌+◌, ◌^◌, IfOk, IsOkUnless};
 ghost use Rattle.node_table.specs.Stills.{book_in, key_of};
-ghost use Rattle.plane.specs.Square.{IsSame};
 ghost use Rattle.squares.specs.Book.{IsKnown};
-ghost use Rattle.node_sweep.specs.EnlargedStills.{HasNoRoomForAll, IsEnlarged};
-ghost use Rattle.node_sweep.specs.SweptStills.{HasNoRoomFor, IsSwept};
 ghost use Rattle.viewport.specs.BoundingBox.{HasBounds};
 
 use crate::history::TableHistory;
+use crate::other_tables::OtherTables;
 use crate::refusals::unless_full;
-use crate::rooted_table::RootedTable;
 use crate::sizes::{GrowthFactor, larger, smallest};
 use crate::tables::OpenTable;
+use crate::universe::Universe;
 use node_sweep::{Collected, collect, enlarge, sweep};
 use node_table::Still;
 use plane::{Bounds, Refusal};
 use squares::Sq;
-use std::alloc::Global;
+use std::alloc::{AllocError, Global};
 use table_core::{Kind, Shape};
 use viewport::bounds;
 
@@ -42,9 +40,10 @@ pub struct RootedStill {
 }
 
 impl RootedStill {
-    ghost use Rattle.universe.specs.Cells.{cells_of, still_cells, root_of, still_of};
-    ghost use Rattle.universe.specs.RootedTables.{IsCopied, IsCompacted};
-    ghost use Rattle.universe.specs.Tables.{IsOpened};
+    ghost use Rattle.universe.specs.Cells.{still_cells, root_of, still_of};
+    ghost use Rattle.universe.specs.Outcomes.{IfMade, IfNoRoom};
+    ghost use Rattle.universe.specs.Stills.{HasNoRoomToEnlarge, HasNoRoomToSweep, IsCompacted, IsCopied, IsEnlargedFrom, IsOpenedAt, IsSweptFrom};
+    ghost use Rattle.universe.specs.Sums.{pair_sum};
     ghost use Rattle.universe.specs.declared.rooted_still.Keep.TheVariants.{CellsAlone};
 
     /// The words.
@@ -71,62 +70,48 @@ impl RootedStill {
         bounds(alloc, &self.still, self.root)
     }
 
-    // The cells at a table that is opened of these words, under another exponent.
+    // The cells at a table that is opened of these words under an exponent, beside other tables.
     pub(crate) fn open_at(
         self,
         alloc: Global,
         exponent: u8,
         history: TableHistory,
-    ) -> Result<RootedTable, Refusal>
-        ensures ok { IfOk result (λ rooted. IsSame (cells_of rooted) (still_cells self)) }
-        ensures key { IfOk result (λ rooted. rooted.table.state.key ≡ record (key_of (still_of self)) { exponent = exponent }) }
-        ensures opened { IfOk result (λ rooted. IsOpened (still_of self) (key_of (still_of self)).rule exponent rooted.table) }
-        ensures memory { IsOkUnless result Refusal.NoMemory }
+        others: OtherTables,
+    ) -> Result<Universe, AllocError>
+        requires { 2 ^ (key_of (still_of self)).shape.bits + pair_sum others.tables.items ≤ 2 ^ others.limit.bits }
+        ensures { IfOk result (IsOpenedAt self exponent others) }
     {
         let rule = self.still.key().rule;
         let RootedStill { still, root } = self;
-        let table = OpenTable::of_words(alloc, still, &rule, exponent, history)?;
-        Ok(RootedTable { table, root })
-    }
-
-    // The cells at a table that is opened of these words, under their own exponent.
-    pub(crate) fn reopen(self, alloc: Global, history: TableHistory) -> Result<RootedTable, Refusal>
-        ensures ok { IfOk result (λ rooted. IsSame (cells_of rooted) (still_cells self)) }
-        ensures key { IfOk result (λ rooted. rooted.table.state.key ≡ key_of (still_of self)) }
-        ensures opened { IfOk result (λ rooted. IsOpened (still_of self) (key_of (still_of self)).rule (key_of (still_of self)).exponent rooted.table) }
-        ensures memory { IsOkUnless result Refusal.NoMemory }
-    {
-        let exponent = self.still.key().exponent;
-        self.open_at(alloc, exponent, history)
+        let here = OpenTable::of_words(alloc, still, &rule, exponent, history)?;
+        Ok(Universe { here, root, others })
     }
 
     // The cells in new words of this shape, and the history of a table of these. `None` where they have no
     // room for what is kept, or where nothing was finished since the last collection.
-    pub(crate) fn copied(
+    pub(crate) fn copy(
         &self,
         alloc: Global,
         shape: Shape,
         keep: Keep,
         history: TableHistory,
-    ) -> Result<Option<(RootedStill, TableHistory)>, Refusal>
-        ensures ok { IfOk result (λ made. IfSome made (λ fresh. IsCopied self.now fresh.0 (2 ^ shape.bits))) }
-        ensures alone { keep ≡ CellsAlone → IfOk result (λ made. IfSome made (λ fresh. IsSwept (still_of self.now) (root_of self.now) (2 ^ shape.bits) (still_of fresh.0) (root_of fresh.0))) }
-        ensures full { keep ≡ CellsAlone → IfOk result (λ made. IfNone made (HasNoRoomFor (still_of self.now) (root_of self.now) (2 ^ shape.bits))) }
-        ensures memory { IsOkUnless result Refusal.NoMemory }
+    ) -> Result<Option<(RootedStill, TableHistory)>, AllocError>
+        ensures ok { IfMade result (λ fresh. IsCopied self.now (2 ^ shape.bits) fresh.0) }
+        ensures alone { keep ≡ CellsAlone → IfMade result (λ fresh. IsSweptFrom self.now (2 ^ shape.bits) fresh.0) }
+        ensures full { keep ≡ CellsAlone → IfNoRoom result (HasNoRoomToSweep self.now (2 ^ shape.bits)) }
     {
         let made = match keep {
-            Keep::Everything => self.enlarged(alloc, shape)?,
-            Keep::Collected => return self.collected(alloc, shape, history),
-            Keep::CellsAlone => self.swept(alloc, shape)?,
+            Keep::Everything => self.enlarge(alloc, shape)?,
+            Keep::Collected => return self.collect(alloc, shape, history),
+            Keep::CellsAlone => self.sweep(alloc, shape)?,
         };
         Ok(made.map(|fresh| (fresh, history.for_new_table(shape.bits))))
     }
 
     // The cells with all squares and results in new words of this shape, if these have room for them.
-    fn enlarged(&self, alloc: Global, shape: Shape) -> Result<Option<RootedStill>, Refusal>
-        ensures ok { IfOk result (λ made. IfSome made (λ fresh. IsEnlarged (still_of self.now) (root_of self.now) (2 ^ shape.bits) (still_of fresh) (root_of fresh))) }
-        ensures full { IfOk result (λ made. IfNone made (HasNoRoomForAll (still_of self.now) (2 ^ shape.bits))) }
-        ensures memory { IsOkUnless result Refusal.NoMemory }
+    fn enlarge(&self, alloc: Global, shape: Shape) -> Result<Option<RootedStill>, AllocError>
+        ensures ok { IfMade result (IsEnlargedFrom self.now (2 ^ shape.bits)) }
+        ensures full { IfNoRoom result (HasNoRoomToEnlarge self.now (2 ^ shape.bits)) }
     {
         let made = enlarge(alloc, &self.still, self.root, shape.slot_count(Kind::Pair));
         match unless_full(made)? {
@@ -137,14 +122,13 @@ impl RootedStill {
 
     // The cells with what a collection keeps in new words of this shape, if these have room for it and more is
     // finished than at the last collection.
-    fn collected(
+    fn collect(
         &self,
         alloc: Global,
         shape: Shape,
         history: TableHistory,
-    ) -> Result<Option<(RootedStill, TableHistory)>, Refusal>
-        ensures ok { IfOk result (λ made. IfSome made (λ fresh. IsCopied self.now fresh.0 (2 ^ shape.bits))) }
-        ensures memory { IsOkUnless result Refusal.NoMemory }
+    ) -> Result<Option<(RootedStill, TableHistory)>, AllocError>
+        ensures { IfMade result (λ fresh. IsCopied self.now (2 ^ shape.bits) fresh.0) }
     {
         let made = collect(alloc, &self.still, self.root, shape.slot_count(Kind::Pair));
         let Some(collected) = unless_full(made)? else {
@@ -163,14 +147,13 @@ impl RootedStill {
     }
 
     // The cells alone in as few words as have room for them, or else all of the old words.
-    pub(crate) fn compacted(self, alloc: Global) -> Result<RootedStill, Refusal>
-        ensures ok { IfOk result (IsCompacted self) }
-        ensures memory { IsOkUnless result Refusal.NoMemory }
+    pub(crate) fn compact(self, alloc: Global) -> Result<RootedStill, AllocError>
+        ensures { IfOk result (IsCompacted self) }
     {
         let own = self.still.key().shape;
         let mut shape = smallest(own);
         'sizes: while shape.bits < own.bits {
-            if let Some(fresh) = self.swept(alloc, shape)? {
+            if let Some(fresh) = self.sweep(alloc, shape)? {
                 return Ok(fresh);
             }
             let Some(next) = larger(shape, own, GrowthFactor::Sixteen) else {
@@ -182,10 +165,9 @@ impl RootedStill {
     }
 
     // The cells alone in new words of this shape, if these have room for them.
-    fn swept(&self, alloc: Global, shape: Shape) -> Result<Option<RootedStill>, Refusal>
-        ensures ok { IfOk result (λ made. IfSome made (λ fresh. IsSwept (still_of self.now) (root_of self.now) (2 ^ shape.bits) (still_of fresh) (root_of fresh))) }
-        ensures full { IfOk result (λ made. IfNone made (HasNoRoomFor (still_of self.now) (root_of self.now) (2 ^ shape.bits))) }
-        ensures memory { IsOkUnless result Refusal.NoMemory }
+    fn sweep(&self, alloc: Global, shape: Shape) -> Result<Option<RootedStill>, AllocError>
+        ensures ok { IfMade result (IsSweptFrom self.now (2 ^ shape.bits)) }
+        ensures full { IfNoRoom result (HasNoRoomToSweep self.now (2 ^ shape.bits)) }
     {
         let made = sweep(alloc, &self.still, self.root, shape.slot_count(Kind::Pair));
         match unless_full(made)? {

@@ -4,6 +4,7 @@ ghost use Rattle.std.specs.Prelude.{◌≡◌, ◌⊎◌, ◌≤◌, ◌<◌, �
 ghost use Rattle.plane.specs.Plane.{after};
 ghost use Rattle.plane.specs.Square.{IsSame, empty};
 ghost use Rattle.universe.specs.Held.{StaysHeld};
+ghost use Rattle.universe.specs.Outcomes.{LacksMemoryOrRoom};
 ghost use Rattle.universe.specs.Runs.{IsLater, IsStuck};
 
 use crate::attempts::Attempt;
@@ -28,7 +29,7 @@ impl Universe {
         requires held { StaysHeld (rule_of self) (live_cells self) (2 ^ exponent) }
         ensures ok { IfOk result (IsLater self (2 ^ exponent)) }
         ensures full { IfErr result (λ refusal. refusal ≡ Refusal.NodesFull → IsStuck self (2 ^ exponent)) }
-        ensures refusal { IfErr result (λ refusal. (refusal ≡ Refusal.NoMemory) ⊎ (refusal ≡ Refusal.NodesFull)) }
+        ensures refusal { IfErr result LacksMemoryOrRoom }
     {
         let start = match self
             .at_exponent(team.alloc, exponent)?
@@ -55,7 +56,7 @@ impl Universe {
         requires held { StaysHeld (rule_of self) (live_cells self) (2 ^ exponent) }
         ensures ok { IfOk result (IsLater self (2 ^ exponent)) }
         ensures full { IfErr result (λ refusal. refusal ≡ Refusal.NodesFull → IsStuck self (2 ^ exponent)) }
-        ensures refusal { IfErr result (λ refusal. (refusal ≡ Refusal.NoMemory) ⊎ (refusal ≡ Refusal.NodesFull)) }
+        ensures refusal { IfErr result LacksMemoryOrRoom }
     {
         if exponent <= table {
             return self.step(team, exponent);
@@ -86,7 +87,7 @@ impl Universe {
             return Ok(self);
         }
         let mut universe = self;
-        let digits = digits_from(generations, universe.here.table.state.key.exponent);
+        let digits = digits_from(generations, universe.here.table.key().exponent);
         'steps: for exponent in digits.as_slice() {
             let table = table_for(generations, *exponent);
             universe = universe.repeated_step(team, *exponent, table)?;

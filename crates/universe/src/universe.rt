@@ -1,26 +1,32 @@
 //! Live cells and the tables that stay open for them.
 
-ghost use Rattle.std.specs.Prelude.{◌≡◌, ◌≤◌, ◌+◌, ◌^◌, ◌↔◌, IfOk, IsOkUnless, IsTrue};
+ghost use Rattle.std.specs.Prelude.{◌≡◌, ◌<◌, ◌≤◌, ◌+◌, ◌^◌, ◌↔◌, IfOk, IsOkUnless, IsTrue};
 ghost use Rattle.plane.specs.Square.{IsSame, empty};
+ghost use Rattle.squares.specs.Book.{IsKnown};
 ghost use Rattle.viewport.specs.BoundingBox.{HasBounds};
 ghost use Rattle.viewport.specs.Population.{HasPopulation};
 ghost use Rattle.universe.specs.Sums.{pair_sum};
-ghost use Rattle.universe.specs.Tables.{pairs_in};
+ghost use Rattle.universe.specs.Tables.{known_at, pairs_in};
 
 use crate::other_tables::OtherTables;
 use crate::rooted_still::RootedStill;
-use crate::rooted_table::RootedTable;
+use crate::tables::OpenTable;
 use plane::{Bounds, Refusal};
+use squares::Sq;
 use std::alloc::Global;
+use viewport::{bounds_at, population_at};
 
 /// Live cells in the range, as a square round (0,0) at an open table, with a rule, and a limit for the
 /// pair slots of all its tables. A table for each exponent of its steps stays open: the one with the square
 /// is `here`.
 #[derive(Drop)]
 pub struct Universe {
-    pub(crate) here: RootedTable,
+    pub(crate) here: OpenTable,
+    pub(crate) root: Sq,
     pub(crate) others: OtherTables,
-    ghost within: { pairs_in here.table + pair_sum others.tables.items ≤ 2 ^ others.limit.bits },
+    ghost known: { IsKnown (known_at here) root.level root },
+    ghost level: { (3 < root.level) × (root.level ≤ 63) },
+    ghost within: { pairs_in here + pair_sum others.tables.items ≤ 2 ^ others.limit.bits },
 }
 
 impl Universe {
@@ -30,34 +36,42 @@ impl Universe {
     pub fn is_empty(&self) -> bool
         ensures { IsTrue result ↔ IsSame (live_cells self.now) empty }
     {
-        self.here.is_empty()
+        self.root.num.0 == 0
     }
 
     /// The universe again, and how many cells are live. `NoMemory` where there is no room to count them.
-    pub fn population(self, alloc: Global) -> Result<(Universe, u128), Refusal>
+    pub fn population(mut self, alloc: Global) -> Result<(Universe, u128), Refusal>
         ensures ok { IfOk result (λ found. HasPopulation (live_cells self) found.1) }
         ensures same { IfOk result (λ found. IsSame (live_cells found.0) (live_cells self)) }
         ensures rule { IfOk result (λ found. rule_of found.0 ≡ rule_of self) }
         ensures limit { IfOk result (λ found. limit_of found.0 ≡ limit_of self) }
         ensures memory { IsOkUnless result Refusal.NoMemory }
     {
-        let Universe { here, others } = self;
-        let (here, count) = here.population(alloc)?;
-        Ok((Universe { here, others }, count))
+        let (root, mut here) = (self.root, self.here);
+        let desk = here.desk;
+        let mut at = here.table.at(desk);
+        let count = population_at(alloc, &mut at, root)?;
+        here.desk = at.leave();
+        self.here = here;
+        Ok((self, count))
     }
 
     /// The universe again, and the smallest box that holds the live cells. `NoMemory` where there is no
     /// room to find it.
-    pub fn bounds(self, alloc: Global) -> Result<(Universe, Option<Bounds>), Refusal>
+    pub fn bounds(mut self, alloc: Global) -> Result<(Universe, Option<Bounds>), Refusal>
         ensures ok { IfOk result (λ found. HasBounds (live_cells self) found.1) }
         ensures same { IfOk result (λ found. IsSame (live_cells found.0) (live_cells self)) }
         ensures rule { IfOk result (λ found. rule_of found.0 ≡ rule_of self) }
         ensures limit { IfOk result (λ found. limit_of found.0 ≡ limit_of self) }
         ensures memory { IsOkUnless result Refusal.NoMemory }
     {
-        let Universe { here, others } = self;
-        let (here, bounds) = here.bounds(alloc)?;
-        Ok((Universe { here, others }, bounds))
+        let (root, mut here) = (self.root, self.here);
+        let desk = here.desk;
+        let mut at = here.table.at(desk);
+        let bounds = bounds_at(alloc, &mut at, root)?;
+        here.desk = at.leave();
+        self.here = here;
+        Ok((self, bounds))
     }
 
     /// How many pair slots its tables have together: at most the limit.
@@ -65,13 +79,13 @@ impl Universe {
         ensures pairs { result ≡ pairs_of self.now }
         ensures limit { result ≤ limit_of self.now }
     {
-        self.here.table.pair_count() + self.others.pairs()
+        self.here.pair_count() + self.others.pairs()
     }
 
     /// The live cells in the words of their table, which is closed. All other tables are dropped.
     pub fn into_still(self) -> RootedStill
         ensures { IsSame (still_cells result) (live_cells self) }
     {
-        self.here.into_still()
+        self.here.close(self.root)
     }
 }

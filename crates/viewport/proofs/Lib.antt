@@ -1,6 +1,7 @@
 pub mod Beside
 pub mod BlockRows
 pub mod BlocksOfPlanes
+pub mod BoxesLater
 pub mod BoxesRound
 pub mod CellsOfSquares
 pub mod CentredBlocks

@@ -1,5 +1,5 @@
 -- The smallest box round the live cells of planes and squares.
-use Rattle.std.specs.Prelude.{◌≡◌, ℕ, ◌^◌, ℤ, pos, ◌+ℤ◌, ◌≤ℤ◌, ◌<ℤ◌, true, List, Option, None, Some, FitsSigned}
+use Rattle.std.specs.Prelude.{◌≡◌, ℕ, ◌^◌, ℤ, pos, ◌+ℤ◌, ◌≤ℤ◌, ◌<ℤ◌, true, IsTrue, List, Option, None, Some, FitsSigned}
 use Rattle.std.specs.Int.{int_min, int_max, w64}
 use Rattle.std.specs.Option.{option_map}
 use Rattle.plane.specs.declared.cell.Cell.{Cell}
@@ -41,9 +41,13 @@ abbrev pub IsLocalBox : ℕ → Plane → Option Bounds → Type 0
 IsLocalBox side plane None = IsSame plane empty
 IsLocalBox side plane (Some box) = IsBoxOf plane box × IsInside side box
 
--- each box that is kept is that of its square
+-- the square is known, and this is its box, from its upper left corner
+abbrev pub IsKnownBox : Book → Sq → Option Bounds → Type 0
+IsKnownBox book sq box = IsTrue (book.knows sq) × IsLocalBox (2 ^ sq.level) (book.cells sq) box
+
+-- each box that is kept is that of its square, which is known
 pub record AreBoxes (book : Book) (boxes : Noted (Option Bounds)) : Type 0 where
-  pub box : (sq : Sq) (box : Option Bounds) → value_of boxes sq ≡ Some box → IsLocalBox (2 ^ sq.level) (book.cells sq) box
+  pub box : (sq : Sq) (box : Option Bounds) → value_of boxes sq ≡ Some box → IsKnownBox book sq box
 
 -- the box, moved so far to the right and down
 abbrev pub moved_bounds : ℤ → ℤ → Bounds → Bounds

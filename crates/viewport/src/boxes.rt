@@ -4,12 +4,12 @@ ghost use Rattle.std.specs.Prelude.{◌≡◌, ◌≤◌, ◌<◌, ◌-◌, ◌^
 ghost use Rattle.std.specs.Option.{ForSome};
 ghost use Rattle.plane.specs.Centred.{centred};
 ghost use Rattle.plane.specs.Square.{bits_plane};
-ghost use Rattle.squares.specs.Book.{IsKnown};
+ghost use Rattle.squares.specs.Book.{IsKnown, Keeps, KeepsResults};
 ghost use Rattle.viewport.specs.BoundingBox.{AreBoxes, FitsMoved, HasBounds, IsInside, IsLocalBox, box_round, joined_boxes, moved_box};
 
 use crate::sides::half_side;
 use plane::{Bounds, Refusal};
-use squares::{Look, Sq};
+use squares::{Look, Looked, Reading, Sq};
 use std::alloc::Global;
 use std::collections::HashMap;
 
@@ -24,6 +24,20 @@ pub fn bounds<B: Look>(alloc: Global, book: &B, sq: Sq) -> Result<Option<Bounds>
     ensures ok { IfOk result (HasBounds (centred sq.level ((B.book book.now).cells sq))) }
     ensures memory { IsOkUnless result Refusal.NoMemory }
 {
+    bounds_at(alloc, &mut Looked(book), sq)
+}
+
+/// The smallest box round the live cells of a square of a level up to 63, if it has any, found at a book
+/// that is read. The book goes on knowing what it knew. Each number above level 3 is visited once.
+/// `NoMemory` where there is no room for one more box.
+pub fn bounds_at<R: Reading>(alloc: Global, book: &mut R, sq: Sq) -> Result<Option<Bounds>, Refusal>
+    requires known { IsKnown (R.book book.old) sq.level sq }
+    requires level { sq.level ≤ 63 }
+    ensures ok { IfOk result (HasBounds (centred sq.level ((R.book book.old).cells sq))) }
+    ensures memory { IsOkUnless result Refusal.NoMemory }
+    ensures keeps { Keeps (R.book book.old) (R.book book.new) }
+    ensures results { KeepsResults (R.book book.old) (R.book book.new) }
+{
     let mut boxes = HashMap::new(alloc);
     let local = local_box(book, sq, &mut boxes)?;
     let half = half_side(sq.level);
@@ -32,19 +46,21 @@ pub fn bounds<B: Look>(alloc: Global, book: &B, sq: Sq) -> Result<Option<Bounds>
 
 // The box of the square's live cells, by the boxes that are known; it adds what it finds to them.
 #[cycle(local_box)]
-fn local_box<B: Look>(book: &B, sq: Sq, boxes: &mut Boxes) -> Result<Option<Bounds>, Refusal>
-    requires known { IsKnown (B.book book.now) sq.level sq }
+fn local_box<R: Reading>(book: &mut R, sq: Sq, boxes: &mut Boxes) -> Result<Option<Bounds>, Refusal>
+    requires known { IsKnown (R.book book.old) sq.level sq }
     requires level { sq.level ≤ 63 }
-    requires boxed { AreBoxes (B.book book.now) boxes.old }
-    ensures ok { IfOk result (IsLocalBox (2 ^ sq.level) ((B.book book.now).cells sq)) }
-    ensures boxed { AreBoxes (B.book book.now) boxes.new }
+    requires boxed { AreBoxes (R.book book.old) boxes.old }
+    ensures ok { IfOk result (IsLocalBox (2 ^ sq.level) ((R.book book.old).cells sq)) }
+    ensures boxed { AreBoxes (R.book book.new) boxes.new }
     ensures memory { IsOkUnless result Refusal.NoMemory }
+    ensures keeps { Keeps (R.book book.old) (R.book book.new) }
+    ensures results { KeepsResults (R.book book.old) (R.book book.new) }
 {
     if sq.num.0 == 0 {
         return Ok(None);
     }
     if sq.level == 3 {
-        return Ok(leaf_box(book.bits(sq)));
+        return Ok(leaf_box(book.cells_of(sq)));
     }
     let key = (sq.level, sq.num.0);
     if let Some(known) = boxes.get(&key) {
@@ -57,16 +73,22 @@ fn local_box<B: Look>(book: &B, sq: Sq, boxes: &mut Boxes) -> Result<Option<Boun
 
 // The box of the live cells of a square's quarters.
 #[cycle(local_box)]
-fn quarters_box<B: Look>(book: &B, sq: Sq, boxes: &mut Boxes) -> Result<Option<Bounds>, Refusal>
-    requires known { IsKnown (B.book book.now) sq.level sq }
+fn quarters_box<R: Reading>(
+    book: &mut R,
+    sq: Sq,
+    boxes: &mut Boxes,
+) -> Result<Option<Bounds>, Refusal>
+    requires known { IsKnown (R.book book.old) sq.level sq }
     requires low { 3 < sq.level }
     requires high { sq.level ≤ 63 }
-    requires boxed { AreBoxes (B.book book.now) boxes.old }
-    ensures ok { IfOk result (IsLocalBox (2 ^ sq.level) ((B.book book.now).cells sq)) }
-    ensures boxed { AreBoxes (B.book book.now) boxes.new }
+    requires boxed { AreBoxes (R.book book.old) boxes.old }
+    ensures ok { IfOk result (IsLocalBox (2 ^ sq.level) ((R.book book.old).cells sq)) }
+    ensures boxed { AreBoxes (R.book book.new) boxes.new }
     ensures memory { IsOkUnless result Refusal.NoMemory }
+    ensures keeps { Keeps (R.book book.old) (R.book book.new) }
+    ensures results { KeepsResults (R.book book.old) (R.book book.new) }
 {
-    let [nw, ne, sw, se] = book.parts(sq);
+    let [nw, ne, sw, se] = book.quarters_of(sq);
     let nw = local_box(book, nw, boxes)?;
     let ne = local_box(book, ne, boxes)?;
     let sw = local_box(book, sw, boxes)?;

@@ -18,7 +18,7 @@ mod sides;
 mod strips;
 
 pub use blocks::{Blocks, block_shades};
-pub use boxes::bounds;
+pub use boxes::{bounds, bounds_at};
 pub use laws::one_list_of_runs;
 pub use pictures::picture;
 pub use populations::{population, population_at};

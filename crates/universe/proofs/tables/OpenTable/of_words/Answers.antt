@@ -1,10 +1,8 @@
-use Rattle.std.proofs.Common.{refl}
 use Rattle.universe.proofs.OpenedWords.{opened_shows}
 use Rattle.universe.proofs.tables.OpenTable.of_words.Goals as goal
 
-pub returns-clause-ok : goal.returns-clause-ok
-returns-clause-ok c = record {
-  same_key = rw c.key.ensures refl;
+pub returns : goal.returns
+returns c = record {
   opens = c.in-Ok.ensures.ok;
   shows = λ sq known. opened_shows c.args.still c.args.rule.now c.args.exponent c.in-Ok.table c.in-Ok.desk c.in-Ok.ensures.ok sq known;
 }

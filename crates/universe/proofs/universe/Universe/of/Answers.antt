@@ -1,11 +1,13 @@
 use Rattle.std.proofs.Common.{◌≡◌, ◌≤◌, ◌^◌, ◌∙◌, refl, ap, subst, arith, pow_mono, rules}
-use Rattle.std.specs.Prelude.{Option, IfSome, Result, Ok, Err, IfErr, IfOk}
+use Rattle.std.specs.Prelude.{Option, IfSome, Result, Ok, Err, IfErr}
+use Rattle.std.proofs.lemmas.Result.{IfOk-at_ok}
 use Rattle.plane.specs.declared.refusal.Refusal.{Refusal}
 use Rattle.plane.specs.declared.refusal.Refusal.TheVariants.{NodesFull}
+use Rattle.squares.specs.declared.sq.Sq.{Sq}
 use Rattle.table_core.specs.declared.shape.Shape.{Shape}
 use Rattle.universe.specs.Sums.{pair_sum}
-use Rattle.universe.specs.Tables.{HasFullTable, pairs_in}
-use Rattle.universe.specs.declared.rooted_table.RootedTable.{RootedTable}
+use Rattle.universe.specs.Tables.{HasFullTable}
+use Rattle.universe.specs.declared.tables.OpenTable.{OpenTable}
 use Rattle.universe.proofs.universe.Universe.of.Goals as goal
 
 pub invariant_of-result : goal.invariant_of-result
@@ -13,16 +15,17 @@ invariant_of-result g c =
     let low = pow_mono {i = c.sizes.shape.bits} {j = c.new-limit.result.bits} c.sizes.invariant in
     let none = ap pair_sum c.new-others.ensures.tables in
     let same = ap (λ (s : Shape). 2 ^ s.bits) c.new-others.ensures.limit in
-    let made = subst (λ (o : Option RootedTable). IfSome o (λ value. c.built-made.result ≡ Ok value)) c.in-Some.is c.in_ok-here.ensures.some in
-    let here = subst (λ (r : Result RootedTable Refusal). IfOk r (λ rooted. pairs_in rooted.table ≡ 2 ^ c.sizes.shape.bits)) made c.built-made.ensures.pairs in
-    record { within = omega (arith, low, none, same, here) }
+    let made = subst (λ (o : Option (OpenTable × Sq)). IfSome o (λ value. c.of_source-made.result ≡ Ok value)) c.in-Some.is c.in_ok-here.ensures.some in
+    let built = IfOk-at_ok _ made c.of_source-made.ensures.ok in
+    let size = built.size in
+    record { known = built.round.known; level = (built.round.smallest.least, built.level); within = omega (arith, low, none, same, size) }
 
 pub returns-in_err-shape-clause-full : goal.returns-in_err-shape-clause-full
 returns-in_err-shape-clause-full g c =
-    let full : c.built-made.result ≡ Err NodesFull = search rules in
+    let full : c.of_source-made.result ≡ Err NodesFull = search rules in
     let least : c.new-limit.result.bits ≤ c.sizes.shape.bits = search rules in
     let most = c.sizes.invariant in
     let bits : c.sizes.shape.bits ≡ c.new-limit.result.bits = omega (arith, most, least) in
     let is : c.from_residual-in_err-shape.result ≡ Err c.in_err-shape.field-0.0 = search rules in
-    let table = subst (λ (r : Result RootedTable Refusal). IfErr r (λ refusal. refusal ≡ NodesFull → HasFullTable c.args.rule.now (2 ^ c.sizes.shape.bits))) full c.built-made.ensures.full refl in
+    let table = subst (λ (r : Result (OpenTable × Sq) Refusal). IfErr r (λ refusal. refusal ≡ NodesFull → HasFullTable c.args.rule.now (2 ^ c.sizes.shape.bits))) full c.of_source-made.ensures.full refl in
     rw is (λ refusal. subst (HasFullTable c.args.rule.now) (ap (λ n. 2 ^ n) bits ∙ c.new-limit.ensures) table)

@@ -1,11 +1,13 @@
-use Rattle.std.proofs.Common.{◌-◌}
-use Rattle.universe.specs.Cells.{exponent_of}
-use Rattle.universe.specs.Runs.{IsAtExponent}
+use Rattle.std.proofs.Common.{◌≡◌}
+use Rattle.std.specs.Prelude.{Some}
+use Rattle.universe.specs.Retries.{retries_after}
+use Rattle.universe.specs.Runs.{IsAttempt, IsFullAtLimit}
+use Rattle.universe.specs.declared.retries.Retry.TheVariants.{CellsAlone}
 use Rattle.universe.proofs.universe.Universe.step_with_growth.Given as goal
 
--- the same cells, at a table of the same exponent
-abbrev pub invariant-sizes : goal.invariant-sizes
-invariant-sizes g l = IsAtExponent (exponent_of l.fn.self) l.fn.self l.start
+-- the last attempt, which is at the limit after the last retry
+abbrev pub invariant-retries : goal.invariant-retries
+invariant-retries g l = record { attempt : IsAttempt l.fn.self l.attempt; full : l.tried ≡ Some CellsAlone → IsFullAtLimit l.attempt }
 
-abbrev pub decreases-sizes : goal.decreases-sizes
-decreases-sizes g l = l.most.bits - l.shape.bits
+abbrev pub decreases-retries : goal.decreases-retries
+decreases-retries g l = retries_after l.plan.limit l.tried

@@ -1,5 +1,0 @@
-use Rattle.std.proofs.Common.{◌-◌}
-use Rattle.universe.proofs.rooted_still.RootedStill.compacted.Given as goal
-
-abbrev pub decreases-sizes : goal.decreases-sizes
-decreases-sizes l = l.own.bits - l.shape.bits

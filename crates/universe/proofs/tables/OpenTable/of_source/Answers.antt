@@ -1,0 +1,34 @@
+use Rattle.std.proofs.Common.{◌≡◌, refl, rules}
+use Rattle.std.specs.Prelude.{Err}
+use Rattle.std.proofs.lemmas.Result.{IfErr-at_err, IfOk-at_ok}
+use Rattle.node_table.specs.Desks.{work_at}
+use Rattle.node_table.proofs.AtWork.{is_back}
+use Rattle.universe.proofs.Filling.{filled_up, full_book}
+use Rattle.universe.proofs.OpenedWords.{back_as_round}
+use Rattle.universe.proofs.tables.OpenTable.of_source.Goals as goal
+
+pub returns-clause-ok : goal.returns-clause-ok
+returns-clause-ok g c =
+    let fresh = c.in_ok-opened.opened in
+    let back = is_back fresh.table fresh.desk c.leave.result _ _ c.at-at.ensures c.build-made.ensures.keeps c.leave.ensures in
+    record {
+      under = c.in_ok-opened.ensures.under;
+      size = c.in_ok-opened.ensures.size;
+      round = back_as_round (g.B.Build.live c.args.source.now) c.in_ok-root.root back (IfOk-at_ok _ c.in_ok-root.was c.build-made.ensures.ok);
+      level = IfOk-at_ok _ c.in_ok-root.was c.build-made.ensures.level;
+    }
+
+pub returns-in_err-root-clause-full : goal.returns-in_err-root-clause-full
+returns-in_err-root-clause-full g c =
+    let is : c.from_residual-in_err-root.result ≡ Err c.in_err-root.field-0.0 = search rules in
+    let ended = c.build-made.new.book in
+    let fresh = c.in_ok-opened.opened in
+    let back = is_back fresh.table fresh.desk c.leave.result _ _ c.at-at.ensures c.build-made.ensures.keeps c.leave.ensures in
+    rw is (λ refusal. record {
+      still = c.in_ok-opened.ensures.still;
+      vacant = c.in_ok-opened.ensures.vacant;
+      table = record { table = fresh.table; desk = c.leave.result; history = fresh.history; of_table = back.of_table };
+      size = c.in_ok-opened.ensures.size;
+      filled = filled_up c.in_ok-opened.ensures.still c.args.rule.now 0 c.in_ok-opened.ensures.is (record { same_table = refl; keeps = back.keeps })
+          (back.full (full_book (work_at ended.expansions ended.table.now ended.desk) _ (IfErr-at_err _ c.in_err-root.was c.build-made.ensures.refusal) refusal));
+    })

@@ -1,0 +1,15 @@
+use Rattle.std.proofs.Common.{◌^◌, ap, subst, arith, pow_mono}
+use Rattle.table_core.specs.declared.key.Key.{Key}
+use Rattle.universe.specs.Retries.{IsWithin}
+use Rattle.universe.proofs.universe.Universe.retry.Goals as goal
+
+pub step_in-requires-clause-shape : goal.step_in-requires-clause-shape
+step_in-requires-clause-shape g c κs within =
+    let own = ap (λ (k : Key). 2 ^ k.shape.bits) c.key.ensures in
+    let all = c.args.self.within in
+    omega (arith, own, all)
+
+pub step_in-requires-in-Enlarged-clause-shape : goal.step_in-requires-in-Enlarged-clause-shape
+step_in-requires-in-Enlarged-clause-shape g c κs within =
+    let below = subst (IsWithin c.args.self.others.limit) c.in-Enlarged.is c.requires.within in
+    pow_mono {i = c.in-Enlarged.shape.bits} {j = c.args.self.others.limit.bits} below
