@@ -205,7 +205,7 @@ module _ (bytes : List ℕ) (options : Options) (meaning : Meaning) (rule : Coun
   }
 
   -- a run that has said some lines was stopped
-  stopped_by : (refusal : Refusal) (lines : ℕ) (said : List ℕ) → IsOutOfRoom refusal → Shows rule here meaning.generation (take lines (shown options)) said →
+  pub stopped_by : (refusal : Refusal) (lines : ℕ) (said : List ℕ) → IsOutOfRoom refusal → Shows rule here meaning.generation (take lines (shown options)) said →
       (refusal ≡ NodesFull → IsStuckWithin rule here options.pairs options.gens) → IsStopped bytes options (placeless refusal) said
   stopped_by refusal lines said (inl memory) shows stuck = inl (ap placeless memory, begun_some lines said shows)
   stopped_by refusal lines said (inr is) shows stuck =

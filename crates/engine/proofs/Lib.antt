@@ -1,5 +1,6 @@
 pub mod Acceptance
 pub mod Endings
+mod LastPatterns
 mod Onward
 pub mod OneRun
 pub mod OtherWorkers

@@ -2,8 +2,10 @@ pub mod Accepted
 pub mod Devices
 pub mod Generations
 pub mod Judgement
+pub mod Last
 pub mod Report
 pub mod Room
 pub mod Run
 pub mod SinkChange
+pub mod SummaryLine
 pub mod Workers

@@ -3,17 +3,21 @@
 
 mod accepted;
 mod input;
+mod last;
 mod laws;
 mod options;
 mod report;
 mod reported;
 mod rule_faults;
 mod running;
+mod summary_line;
 
 pub use input::load;
+pub use last::last_pattern;
 pub use laws::{every_number_of_workers, one_ending, one_judgement};
 pub use options::Options;
 pub use patterns::Format;
 pub use rule_faults::rule_refusal;
 pub use running::{Summary, run, run_gated};
+pub use summary_line::write_summary;
 pub use worker_split::{Gate, OpenGate};

@@ -1,6 +1,6 @@
 //! A run from end to end.
 
-ghost use Rattle.std.specs.Prelude.{IfOk, IsOkUnless};
+ghost use Rattle.std.specs.Prelude.{◌≡◌, IfOk, IsOkUnless};
 ghost use Rattle.table_core.specs.Sizes.{IsPairCount};
 ghost use Rattle.plane.specs.Square.{IsSame};
 ghost use Rattle.universe.specs.Cells.{live_cells};
@@ -77,12 +77,7 @@ pub fn run_gated<R: Threads + Wait + Sync, G: Gate, W: Sink, V: Sink>(
 {
     let begun = judge(alloc, bytes, options)?;
     let start = begun.text.generation();
-    let team = Team {
-        runtime: rt,
-        alloc,
-        workers: options.workers,
-        gate,
-    };
+    let team = team_of(rt, alloc, options, gate);
     let universe = run_reported(&team, begun.universe, start, options, report)?;
     let (last, summary) = ended(alloc, universe, start + options.gens)?;
     last.draw(options.window, report)?;
@@ -98,8 +93,30 @@ pub fn run_gated<R: Threads + Wait + Sync, G: Gate, W: Sink, V: Sink>(
     Ok(summary)
 }
 
+// The workers that take the steps.
+pub(crate) fn team_of<'a, R, G>(
+    rt: &'a R,
+    alloc: Global,
+    options: &Options,
+    gate: &'a G,
+) -> Team<'a, R, G>
+    requires { IsWorkerCount options.now.workers }
+    ensures { result.workers ≡ options.now.workers }
+{
+    Team {
+        runtime: rt,
+        alloc,
+        workers: options.workers,
+        gate,
+    }
+}
+
 // The pattern of the last generation, and what the run ends with.
-fn ended(alloc: Global, universe: Universe, generation: u64) -> Result<(Pattern, Summary), Refusal>
+pub(crate) fn ended(
+    alloc: Global,
+    universe: Universe,
+    generation: u64,
+) -> Result<(Pattern, Summary), Refusal>
     ensures same { IfOk result (λ ended. IsSame (plane_of ended.0) (live_cells universe)) }
     ensures ok { IfOk result (λ ended. SumsUp generation (plane_of ended.0) ended.1) }
     ensures memory { IsOkUnless result Refusal.NoMemory }

@@ -1,11 +1,10 @@
 -- The census of a pattern.
-use Rattle.std.specs.Prelude.{◌≡◌, ℕ, zero, suc, ◌^◌, ◌+◌, Option, None, Some, Ok, List, [], ◌++◌, length, codes, decimal, true}
-use Rattle.std.specs.Fmt.{signed_decimal}
+use Rattle.std.specs.Prelude.{◌≡◌, ℕ, zero, suc, ◌^◌, None, Ok, List, [], ◌++◌, length, true}
 use Rattle.plane.specs.Bounds.{bounds_of}
-use Rattle.plane.specs.declared.cell.Bounds.{Bounds}
 use Rattle.plane.specs.declared.cell.Cell.{Cell}
 use Rattle.engine.specs.Judgement.{Start, Judges}
 use Rattle.engine.specs.Run.{IsLast, last_generation}
+use Rattle.engine.specs.SummaryLine.{summary_line}
 use Rattle.engine.specs.declared.options.Options.{Options}
 use Rattle.engine.specs.declared.running.Summary.{Summary}
 
@@ -21,19 +20,8 @@ pub record IsSummaryAfter (bytes : List ℕ) (generations : ℕ) (summary : Summ
   pub last : IsLast start (quiet_run generations) cells
   pub is : summary ≡ record { generation = last_generation start (quiet_run generations); population = length cells; bounds = bounds_of cells }
 
--- from where to where a box goes
-abbrev pub bounds_text : Option Bounds → List ℕ
-bounds_text None = []
-bounds_text (Some box) =
-    codes ", x " ++ signed_decimal box.left ++ codes " to " ++ signed_decimal box.right
-    ++ codes ", y " ++ signed_decimal box.top ++ codes " to " ++ signed_decimal box.bottom
-
--- the line of a generation
-abbrev pub census_line : Summary → List ℕ
-census_line summary = decimal summary.generation ++ codes ": " ++ decimal summary.population ++ codes " cells" ++ bounds_text summary.bounds ++ codes "\n"
-
 -- the text is the lines after 1, 2, 4, .. generations, so many of them
 abbrev pub IsCensus : List ℕ → ℕ → List ℕ → Type 0
 IsCensus bytes zero text = text ≡ []
 IsCensus bytes (suc power) text =
-    (before : List ℕ) × (summary : Summary) × IsCensus bytes power before × IsSummaryAfter bytes (2 ^ power) summary × (text ≡ before ++ census_line summary)
+    (before : List ℕ) × (summary : Summary) × IsCensus bytes power before × IsSummaryAfter bytes (2 ^ power) summary × (text ≡ before ++ summary_line summary)

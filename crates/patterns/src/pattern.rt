@@ -26,6 +26,7 @@ impl Pattern {
     ghost use Rattle.patterns.specs.FileText.{Exceeds, Fits, IsReadBack, Writes};
     ghost use Rattle.patterns.specs.Pattern.{plane_of};
     ghost use Rattle.patterns.specs.Drawing.{picture_of};
+    ghost use Rattle.universe.specs.Cells.{still_cells};
     ghost use Rattle.std.specs.Io.KnownBytes.{Appends};
 
     /// The live cells of a universe. Its tables are freed, except for the words that hold these cells.
@@ -43,6 +44,13 @@ impl Pattern {
         ensures memory { IsOkUnless result Refusal.NoMemory }
     {
         self.cells.bounds(alloc)
+    }
+
+    /// The live cells as a square in words, for what looks at them.
+    pub fn square(&self) -> &RootedStill
+        ensures { still_cells result.now ≡ plane_of self.now }
+    {
+        &self.cells
     }
 
     /// Draws a window of the pattern, if one is asked for.

@@ -6,6 +6,7 @@ mod devices;
 mod ended;
 mod full_squares;
 mod full_tables;
+mod last;
 mod macrocell;
 mod many_leaves;
 mod nodes;

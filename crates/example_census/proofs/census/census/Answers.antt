@@ -1,6 +1,7 @@
 use Rattle.std.proofs.Common.{[], ◌++◌, refl, subst}
 use Rattle.std.proofs.KnownBytes.{Appends-nil, Appends-trans}
-use Rattle.example_census.specs.Census.{IsSummaryAfter, census_line}
+use Rattle.engine.specs.SummaryLine.{summary_line}
+use Rattle.example_census.specs.Census.{IsSummaryAfter}
 use Rattle.example_census.proofs.CensusLines.{one_more}
 use Rattle.example_census.proofs.census.census.Goals as goal
 
@@ -10,8 +11,8 @@ loop-power-init g c = ([], refl, Appends-nil _)
 pub loop-power-preserved : goal.loop-power-preserved
 loop-power-preserved g c =
     let was = c.loop-power.invariant in (
-      was.0 ++ census_line c.in_ok-summary.summary,
+      was.0 ++ summary_line c.in_ok-summary.summary,
       one_more c.args.bytes.now c.loop-power.power was.0 c.in_ok-summary.summary was.1
           (subst (λ generations. IsSummaryAfter c.args.bytes.now generations c.in_ok-summary.summary) c.power_of_two.ensures c.in_ok-summary.ensures),
-      Appends-trans _ _ _ _ _ was.2 c.in_ok-write_line.ensures,
+      Appends-trans _ _ _ _ _ was.2 c.in_ok-write_summary.ensures.written,
     )

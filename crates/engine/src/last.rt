@@ -1,0 +1,45 @@
+//! The last pattern of a run, for programs that look at it.
+
+ghost use Rattle.std.specs.Prelude.{IfErr, IfOk};
+ghost use Rattle.table_core.specs.Sizes.{IsPairCount};
+ghost use Rattle.engine.specs.Accepted.{IsRefused};
+ghost use Rattle.engine.specs.Last.{EndsWith};
+ghost use Rattle.engine.specs.Workers.{IsWorkerCount};
+ghost use Rattle.patterns.specs.Pattern.{plane_of};
+
+use crate::accepted::judge;
+use crate::options::Options;
+use crate::running::{Summary, ended, team_of};
+use patterns::Pattern;
+use plane::Fault;
+use std::alloc::Global;
+use std::sync::Wait;
+use std::thread::Threads;
+use worker_split::OpenGate;
+
+/// Runs the pattern in a file's bytes as [`run`](crate::run) does, without a report and without a file, and answers its
+/// last generation beside what the run ends with. Of the options it takes the number of generations, the rule, the pair
+/// slots and the workers.
+///
+/// It refuses what `run` refuses before its report, `NoMemory`, and `NodesFull`, if the cells of the file or those after
+/// a single generation have no room in the tables that the options allow.
+pub fn last_pattern<R: Threads + Wait + Sync>(
+    rt: &R,
+    alloc: Global,
+    bytes: &[u8],
+    options: &Options,
+) -> Result<(Pattern, Summary), Fault>
+    requires pairs { IsPairCount options.now.pairs }
+    requires workers { IsWorkerCount options.now.workers }
+    // It runs accepted files to their last generation, and sums that up.
+    ensures ok { IfOk result (λ last. EndsWith bytes.now options.now (plane_of last.0) last.1) }
+    // It refuses what is not accepted, by its name and at its place, and else only where memory ran out or the tables are full.
+    ensures refused { IfErr result (IsRefused bytes.now options.now) }
+{
+    let begun = judge(alloc, bytes, options)?;
+    let start = begun.text.generation();
+    let team = team_of(rt, alloc, options, &OpenGate);
+    let universe = begun.universe.after(&team, options.gens)?;
+    let last = ended(alloc, universe, start + options.gens)?;
+    Ok(last)
+}
