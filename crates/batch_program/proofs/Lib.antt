@@ -1,3 +1,4 @@
 pub mod AskedWords
 mod Endings
+mod Stops
 pub mod WindowTexts

@@ -1,12 +1,11 @@
 -- Exit statuses, and what they mean.
-use Rattle.std.specs.Prelude.{◌≡◌, ◌⊎◌, ℕ, List, [], Option, None, Ok, Err}
+use Rattle.std.specs.Prelude.{◌≡◌, ◌⊎◌, ℕ, List, Option, None, Ok, Err}
 use Rattle.std.specs.Io.KnownBytes.{Appends}
-use Rattle.clap.specs.Words.{Text, IsAmong, fault_of}
-use Rattle.clap.specs.declared.error.kind.ErrorKind.{ErrorKind}
-use Rattle.clap.specs.declared.error.kind.ErrorKind.TheVariants as kind
+use Rattle.clap.specs.Words.{Text}
 use Rattle.plane.specs.declared.fault.Fault.{Fault}
 use Rattle.plane.specs.declared.refusal.Refusal.{Refusal}
 use Rattle.plane.specs.declared.refusal.Refusal.TheVariants.{BoxTooLarge, NoMemory, ReadFailed, WriteFailed}
+use Rattle.program_parts.specs.Asking.{AsksForHelp, AsksForNothing}
 use Rattle.batch_program.specs.CommandLine.{AsksFor, IsFit, RefusesWords, command_form}
 use Rattle.engine.specs.Judgement.{Start, Judges}
 use Rattle.patterns.specs.Meaning.{placeless}
@@ -15,22 +14,13 @@ use Rattle.engine.specs.declared.running.Summary.{Summary}
 use Rattle.batch_program.specs.declared.request.Asked.{Asked}
 use Rattle.engine.specs.declared.options.Options.{Options}
 
--- 3 where a device failed, else 1
-abbrev pub refused_status : Refusal → ℕ
-refused_status ReadFailed = 3
-refused_status WriteFailed = 3
-refused_status _ = 1
-
 -- the words ask for the help
 abbrev pub AskForHelp : List Text → Type 0
-AskForHelp words = IsAmong kind.DisplayHelp (fault_of command_form words)
+AskForHelp words = AsksForHelp command_form words
 
--- the words ask for nothing: they have a fault of form other than a request for the help, or are of the form with a
--- value that is not fit
+-- the words ask for nothing
 abbrev pub AskForNothing : List Text → Type 0
-AskForNothing words =
-    ((wrong : ErrorKind) × IsAmong wrong (fault_of command_form words) × (wrong ≡ kind.DisplayHelp → ⊥))
-    ⊎ ((fault_of command_form words ≡ []) × (IsFit words → ⊥))
+AskForNothing words = AsksForNothing command_form (IsFit words) words
 
 -- a run of some bytes ended well, and between the two its report went out
 abbrev pub HasRun : Options → Option (List ℕ) → Option (List ℕ) → Type 0

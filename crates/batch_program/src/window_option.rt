@@ -1,63 +1,31 @@
 //! A window, as the words of a command line give it.
 
-ghost use Rattle.std.specs.Prelude.{◌≡◌, None, IfSome, IfOk, IfErr};
+ghost use Rattle.std.specs.Prelude.{◌≡◌, ◌↔◌, ◌<◌, ◌^◌, IfOk, IfErr, IsTrue};
 ghost use Rattle.std.specs.Option.{option_copied};
-ghost use Rattle.plane.specs.Window.{IsWindow, Rectangle};
-ghost use Rattle.batch_program.specs.CommandLine.{IsFitWindow};
-ghost use Rattle.batch_program.specs.WindowText.{AreNumbersOf, HasNoWindow, IsWindowOf, WritesWindow};
+ghost use Rattle.plane.specs.Window.{IsWindow};
+ghost use Rattle.program_parts.specs.WindowText.{IsFitWindow, rectangle_of};
+ghost use Rattle.batch_program.specs.Windows.{AreNarrow, HasNoWindow, IsWindowOf};
 
-use crate::command_line::WordsFault;
 use plane::{Refusal, Window};
+use program_parts::{Misfit, WindowNumbers, WordsFault, window_numbers};
 
-// The four numbers of a window, which may be too large or too far away.
-#[derive(Clone, Copy)]
-pub(crate) struct WindowNumbers {
-    x: i64,
-    y: i64,
-    width: u32,
-    height: u32,
-}
-
-impl WindowNumbers {
-    ghost use Rattle.batch_program.specs.WindowText.{rectangle_of};
-
-    // The numbers of a text `X,Y,W,H`, if it is one.
-    pub(crate) fn read(text: &str) -> Option<Self>
-        ensures written { IfSome result (λ numbers. WritesWindow text.now (rectangle_of numbers)) }
-        ensures none { result ≡ None → (window : Rectangle) → ¬ WritesWindow text.now window }
-    {
-        let (x, behind) = text.split_once(',')?;
-        let (y, behind) = behind.split_once(',')?;
-        let (width, height) = behind.split_once(',')?;
-        Some(WindowNumbers {
-            x: x.parse().ok()?,
-            y: y.parse().ok()?,
-            width: width.parse().ok()?,
-            height: height.parse().ok()?,
-        })
-    }
-
-    // The window that has these numbers. `WindowTooLarge` where none has.
-    pub(crate) fn window(self) -> Result<Window, Refusal>
-        ensures ok { IfOk result (λ window. IsWindow window × (window ≡ rectangle_of self)) }
-        ensures too_large { IfErr result (λ refusal. (refusal ≡ Refusal.WindowTooLarge) × ¬ IsWindow (rectangle_of self)) }
-    {
-        Window::new(self.x, self.y, self.width, self.height)
-    }
-}
-
-// The numbers of the window that is asked for, if one is.
-pub(crate) fn window_numbers(text: Option<&str>) -> Result<Option<WindowNumbers>, WordsFault>
-    ensures ok { IfOk result (AreNumbersOf (option_copied text.entry)) }
-    ensures err { IfErr result (λ fault. (fault ≡ WordsFault.Unfit) × ¬ IsFitWindow (option_copied text.entry)) }
+// The numbers of the window that is asked for, if one is. `Unfit` with `Window` where the text is not four numbers, or those of columns
+// and rows have more than 32 bits.
+pub(crate) fn narrow_numbers(text: Option<&str>) -> Result<Option<WindowNumbers>, WordsFault>
+    ensures ok { IfOk result (AreNarrow (option_copied text.entry)) }
+    ensures err { IfErr result (λ fault. (fault ≡ WordsFault.Unfit Misfit.Window) × ¬ IsFitWindow 32 (option_copied text.entry)) }
 {
-    match text {
-        Some(text) => match WindowNumbers::read(text) {
-            Some(numbers) => Ok(Some(numbers)),
-            None => Err(WordsFault::Unfit),
-        },
-        None => Ok(None),
+    match window_numbers(text)? {
+        Some(numbers) if !is_narrow(numbers) => Err(WordsFault::Unfit(Misfit::Window)),
+        numbers => Ok(numbers),
     }
+}
+
+// Whether the numbers of columns and rows fit 32 bits.
+fn is_narrow(numbers: WindowNumbers) -> bool
+    ensures { IsTrue result ↔ ((numbers.width < 2 ^ 32) × (numbers.height < 2 ^ 32)) }
+{
+    numbers.width <= u64::from(u32::MAX) && numbers.height <= u64::from(u32::MAX)
 }
 
 // The window that has these numbers, if one is asked for.
@@ -66,7 +34,18 @@ pub(crate) fn window_asked(numbers: Option<WindowNumbers>) -> Result<Option<Wind
     ensures err { IfErr result (λ refusal. (refusal ≡ Refusal.WindowTooLarge) × HasNoWindow numbers) }
 {
     match numbers {
-        Some(numbers) => Ok(Some(numbers.window()?)),
+        Some(numbers) => Ok(Some(window_of(numbers)?)),
         None => Ok(None),
+    }
+}
+
+// The window that has these numbers. `WindowTooLarge` where none has.
+fn window_of(numbers: WindowNumbers) -> Result<Window, Refusal>
+    ensures ok { IfOk result (λ window. IsWindow window × (window ≡ rectangle_of numbers)) }
+    ensures too_large { IfErr result (λ refusal. (refusal ≡ Refusal.WindowTooLarge) × ¬ IsWindow (rectangle_of numbers)) }
+{
+    match (u32::try_from(numbers.width), u32::try_from(numbers.height)) {
+        (Ok(width), Ok(height)) => Window::new(numbers.x, numbers.y, width, height),
+        _ => Err(Refusal::WindowTooLarge),
     }
 }

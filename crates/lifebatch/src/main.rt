@@ -5,8 +5,9 @@
 #[cfg(test)]
 mod tests;
 
-use batch_program::{program, refused_status, tell_fault};
-use plane::{Counted, Fault, Refusal, Sink};
+use batch_program::{NAME, program};
+use plane::{Counted, Sink};
+use program_parts::tell_no_words;
 use std::process::ExitCode;
 use std::rt::{Env, Files};
 use std::sync::Wait;
@@ -18,22 +19,9 @@ fn main(rt: HostRuntime) -> ExitCode {
     let mut err = Counted::new(rt.stderr());
     match run_words(&rt, &mut out, &mut err) {
         Ok(status) => ExitCode::from(status),
-        Err(error) if error.kind() == io::ErrorKind::InvalidData => {
-            let _ = eprintln!(rt; "lifebatch: bad words: a word is not UTF-8");
-            ExitCode::from(2)
-        }
-        Err(_) => {
-            let _ = tell_fault(&mut err, NO_MEMORY);
-            ExitCode::from(refused_status(NO_MEMORY.refusal))
-        }
+        Err(error) => ExitCode::from(tell_no_words(&mut err, NAME, &error)),
     }
 }
-
-// Memory ran out while the arguments were read.
-const NO_MEMORY: Fault = Fault {
-    refusal: Refusal::NoMemory,
-    place: None,
-};
 
 // Runs the program on its words, and answers its exit status. An error says that there are no words.
 fn run_words<R: Env + Files + Input + AllocGlobal + Threads + Wait + Sync, O: Sink, E: Sink>(

@@ -2,8 +2,9 @@ use Rattle.std.proofs.Common.{◌≡◌, ◌∙◌, [], ◌∷◌, ap, codes, ru
 use Rattle.std.specs.Prelude.{fold}
 use Rattle.std.proofs.lemmas.Result.{IfOk-weaker}
 use Rattle.clap.specs.Words.{app_of, new_app, with_rule}
-use Rattle.batch_program.specs.CommandLine.{file_argument, generation_option, node_option, output_option, quiet_option, rule_option, step_option, window_option, worker_option}
-use Rattle.batch_program.proofs.AskedWords.{adds_rules}
+use Rattle.program_parts.specs.OptionRules.{file_argument, generation_option, node_option, rule_option, window_option, worker_option}
+use Rattle.batch_program.specs.CommandLine.{output_option, quiet_option, step_option}
+use Rattle.program_parts.proofs.AskedWords.{adds_rules}
 use Rattle.batch_program.proofs.command_line.command.Goals as goal
 
 pub returns : goal.returns

@@ -1,6 +1,6 @@
-use Rattle.std.proofs.Common.{◌≡◌, Err, map, rules, refl, inl, inr}
-use Rattle.batch_program.specs.CommandLine.{RefusesWords}
-use Rattle.batch_program.specs.declared.entry.Stop.TheVariants.{Refused}
+use Rattle.std.proofs.Common.{◌≡◌, Err, map, rules, inl, inr}
+use Rattle.program_parts.specs.declared.stops.Stop.TheVariants.{Refused}
+use Rattle.batch_program.proofs.Stops.{done_by_words, stopped_by_words}
 use Rattle.batch_program.proofs.entry.perform.Goals as goal
 
 pub returns-in_err-run_asked-in-Ok-clause-stopped : goal.returns-in_err-run_asked-in-Ok-clause-stopped
@@ -11,7 +11,12 @@ returns-in_err-run_asked-in-Ok-clause-stopped g c =
 pub returns-in_ok-run_asked-in-Ok-clause-done : goal.returns-in_ok-run_asked-in-Ok-clause-done
 returns-in_ok-run_asked-in-Ok-clause-done g c = inr (c.in-Ok.asked, c.in-Ok.ensures.asks, c.in_ok-run_asked-in-Ok.ensures.ran)
 
-pub returns-in-Err-Refused-clause-stopped : goal.returns-in-Err-Refused-clause-stopped
-returns-in-Err-Refused-clause-stopped g c =
-    let refused : RefusesWords (map (λ word. word.now) c.args.words.now) c.in-Err-Refused.refusal = search rules in
-    inr (inl (c.in-Err-Refused.refusal, refused, c.from.ensures, refl))
+pub returns-in-Err-clause-done : goal.returns-in-Err-clause-done
+returns-in-Err-clause-done g c =
+    let words = map (λ word. word.now) c.args.words.now in
+    done_by_words c.end_of_words.result words c.in-Err.fault _ _ c.in-Err.ensures.faults c.end_of_words.ensures.shown
+
+pub returns-in-Err-clause-stopped : goal.returns-in-Err-clause-stopped
+returns-in-Err-clause-stopped g c =
+    let words = map (λ word. word.now) c.args.words.now in
+    stopped_by_words c.end_of_words.result words c.in-Err.fault _ _ _ _ c.in-Err.ensures.faults c.end_of_words.ensures.stopped

@@ -1,0 +1,4 @@
+pub mod AskedWords
+pub mod Statuses
+pub mod WordsFaults
+pub mod WindowTexts

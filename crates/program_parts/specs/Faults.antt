@@ -1,0 +1,39 @@
+-- Why words ask for no run, and what a program does then.
+use Rattle.std.specs.Prelude.{◌≡◌, ◌⊎◌, ⊤}
+use Rattle.clap.specs.Words.{kind_of}
+use Rattle.clap.specs.declared.error.Error.{Error}
+use Rattle.clap.specs.declared.error.kind.ErrorKind.TheVariants as kind
+use Rattle.patterns.specs.Meaning.{placeless}
+use Rattle.plane.specs.declared.refusal.Refusal.{Refusal}
+use Rattle.plane.specs.declared.refusal.Refusal.TheVariants.{NoMemory, WriteFailed}
+use Rattle.program_parts.specs.declared.stops.Stop.{Stop}
+use Rattle.program_parts.specs.declared.stops.Stop.TheVariants as stop
+use Rattle.program_parts.specs.declared.words.WordsFault.{WordsFault}
+use Rattle.program_parts.specs.declared.words.WordsFault.TheVariants.{Clap, Unfit, Refused}
+
+-- what an error of clap is told as
+abbrev pub IsToldAs : Error → WordsFault → Type 0
+IsToldAs error (Clap told) = (told ≡ error) × (kind_of error ≡ kind.OutOfMemory → ⊥)
+IsToldAs error (Unfit misfit) = ⊥
+IsToldAs error (Refused refusal) = (refusal ≡ NoMemory) × (kind_of error ≡ kind.OutOfMemory)
+
+-- the words ask for the help
+abbrev pub IsHelp : WordsFault → Type 0
+IsHelp (Clap error) = kind_of error ≡ kind.DisplayHelp
+IsHelp (Unfit misfit) = ⊥
+IsHelp (Refused refusal) = ⊥
+
+-- the words ask neither for the help nor for what is refused
+abbrev pub IsBad : WordsFault → Type 0
+IsBad (Clap error) = kind_of error ≡ kind.DisplayHelp → ⊥
+IsBad (Unfit misfit) = ⊤
+IsBad (Refused refusal) = ⊥
+
+-- why a program stopped whose words have this fault: they are bad, or refused; or the help that they ask for had no room, or
+-- could not be written
+abbrev pub IsStopOf : WordsFault → Type 0 → Type 0 → Stop → Type 0
+IsStopOf fault unchanged failed (stop.BadWords told) = (told ≡ fault) × IsBad fault × unchanged
+IsStopOf fault unchanged failed (stop.Refused told) =
+    ((refusal : Refusal) × (fault ≡ Refused refusal) × (told ≡ placeless refusal) × unchanged)
+    ⊎ (IsHelp fault × (told ≡ placeless NoMemory) × unchanged)
+    ⊎ (IsHelp fault × (told ≡ placeless WriteFailed) × failed)

@@ -1,0 +1,6 @@
+pub mod Asking
+pub mod Faults
+pub mod Messages
+pub mod OptionRules
+pub mod Values
+pub mod WindowText

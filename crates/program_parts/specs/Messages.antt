@@ -1,0 +1,41 @@
+-- Exit statuses, and what is told on standard error.
+use Rattle.std.specs.Prelude.{ℕ, Option, None, Some, Result, Ok, Err, List, [], ◌++◌, codes, decimal}
+use Rattle.std.specs.Io.KnownBytes.{Appends}
+use Rattle.plane.specs.Refusal.{name_of, number_of}
+use Rattle.plane.specs.declared.fault.Fault.{Fault}
+use Rattle.plane.specs.declared.refusal.Refusal.{Refusal}
+use Rattle.plane.specs.declared.refusal.Refusal.TheVariants.{ReadFailed, WriteFailed}
+use Rattle.program_parts.specs.declared.stops.Stop.{Stop}
+use Rattle.program_parts.specs.declared.stops.Stop.TheVariants.{BadWords, Refused}
+
+-- the words that say a place, if there is one
+abbrev pub place_words : Option ℕ → List ℕ
+place_words None = []
+place_words (Some place) = codes " at " ++ decimal place
+
+-- the line by which a program says why a run was refused
+abbrev pub fault_line : List ℕ → Fault → List ℕ
+fault_line program fault =
+    program ++ codes ": refused " ++ decimal (number_of fault.refusal) ++ place_words fault.place
+    ++ codes ": " ++ name_of fault.refusal ++ codes "\n"
+
+-- the message of a program that words are bad, and why
+abbrev pub bad_words_text : List ℕ → List ℕ → List ℕ
+bad_words_text program why = program ++ codes ": bad words:" ++ why ++ codes "\n"
+
+-- 3 where a device failed, else 1
+abbrev pub refused_status : Refusal → ℕ
+refused_status ReadFailed = 3
+refused_status WriteFailed = 3
+refused_status _ = 1
+
+-- the exit status of a program that did what its words ask for, or stopped
+abbrev pub status_of : {T : Type 0} → Result T Stop → ℕ
+status_of (Ok _) = 0
+status_of (Err (BadWords fault)) = 2
+status_of (Err (Refused fault)) = refused_status fault.refusal
+
+-- between the two the message of a program went out that says why it stopped
+abbrev pub HasTold : List ℕ → Stop → Option (List ℕ) → Option (List ℕ) → Type 0
+HasTold program (BadWords fault) before after = (why : List ℕ) × Appends before after (bad_words_text program why)
+HasTold program (Refused fault) before after = Appends before after (fault_line program fault)

@@ -1,0 +1,69 @@
+-- Rules of options.
+use Rattle.std.specs.Prelude.{◌≡◌, ℕ, List, [], ◌∷◌, Some, codes, false, true}
+use Rattle.std.specs.List.{AllZip}
+use Rattle.clap.specs.Words.{Rule, Text, new_rule, rule_of}
+use Rattle.clap.specs.declared.builder.arg.Arg.{Arg}
+use Rattle.clap.specs.declared.builder.value_parser.ValueParser.TheVariants as parser
+
+-- an option with a long name
+abbrev pub valued : Text → Rule
+valued name = record (new_rule name) { long = Some name; value_names = 1 }
+
+-- an option with a long name and a short one
+abbrev pub valued_in_short : Text → ℕ → Rule
+valued_in_short name short = record (valued name) { short = Some short }
+
+-- an option for a number below 2^64, 0 if it is left out
+abbrev pub numeric : Text → ℕ → Rule
+numeric name short = record (valued_in_short name short) {
+  defaults = codes "0" ∷ [];
+  parser = Some (parser.Unsigned 0 18446744073709551615);
+}
+
+-- the argument is read by this rule, in this command alone
+abbrev pub HasRule : Arg → Rule → Type 0
+HasRule arg rule = (rule_of arg ≡ rule) × (arg.global ≡ false)
+
+-- the arguments are read by these rules, one by one
+abbrev pub HaveRules : List Arg → List Rule → Type 0
+HaveRules args rules = AllZip HasRule args rules
+
+-- `-m N`, `--generation N`: a number below 2^64, 0 if it is left out
+abbrev pub generation_option : Rule
+generation_option = record (new_rule (codes "generation")) {
+  short = Some 109;
+  long = Some (codes "generation");
+  value_names = 1;
+  defaults = codes "0" ∷ [];
+  parser = Some (parser.Unsigned 0 18446744073709551615);
+}
+
+-- `-r R`, `--rule R`
+abbrev pub rule_option : Rule
+rule_option = record (new_rule (codes "rule")) { short = Some 114; long = Some (codes "rule"); value_names = 1 }
+
+-- `--window=X,Y,W,H`
+abbrev pub window_option : Rule
+window_option = record (new_rule (codes "window")) { long = Some (codes "window"); value_names = 1 }
+
+-- `--nodes N`: a number from 1024 to 268435456, 4194304 if it is left out
+abbrev pub node_option : Rule
+node_option = record (new_rule (codes "nodes")) {
+  long = Some (codes "nodes");
+  value_names = 1;
+  defaults = codes "4194304" ∷ [];
+  parser = Some (parser.Unsigned 1024 268435456);
+}
+
+-- `--workers N`: a number from 1 to 64, 1 if it is left out
+abbrev pub worker_option : Rule
+worker_option = record (new_rule (codes "workers")) {
+  long = Some (codes "workers");
+  value_names = 1;
+  defaults = codes "1" ∷ [];
+  parser = Some (parser.Unsigned 1 64);
+}
+
+-- FILE, which has to be there
+abbrev pub file_argument : Rule
+file_argument = record (new_rule (codes "file")) { value_names = 1; required = true }

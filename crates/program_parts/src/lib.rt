@@ -1,0 +1,26 @@
+//! What programs on [`engine`] share: options of their command lines and the values that these give, the files that
+//! they read and write, their messages and their exit statuses.
+#![tactic(auto)]
+
+mod input;
+mod messages;
+mod misfit;
+mod numbers;
+mod options;
+mod output_file;
+mod ranges;
+mod stops;
+mod window_text;
+mod words;
+
+pub use input::read_file;
+pub use misfit::Misfit;
+pub use numbers::{copied, number_for, pairs_asked, rule_asked, workers_asked};
+pub use options::{
+    file_argument, generation_option, long_option, node_option, number_option, rule_option,
+    short_option, worker_option,
+};
+pub use output_file::OutputFile;
+pub use stops::{Stop, end_of_words, told_status};
+pub use window_text::{WindowNumbers, window_numbers};
+pub use words::{WordsFault, tell_no_words};

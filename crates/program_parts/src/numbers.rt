@@ -1,0 +1,76 @@
+//! The values of options that several programs have.
+
+ghost use Rattle.std.specs.Prelude.{◌≡◌, codes, string_bytes, IfOk, IfErr};
+ghost use Rattle.std.specs.Option.{option_copied, option_map};
+ghost use Rattle.clap.specs.Words.{found_of, one_text};
+ghost use Rattle.program_parts.specs.Values.{IsAskedRule, IsNumber, IsPairNumber, IsRefusedRule, IsUnfit, IsWorkerNumber};
+
+use crate::misfit::Misfit;
+use crate::ranges::MOST_WORKERS;
+use crate::words::WordsFault;
+use clap::ArgMatches;
+use engine::rule_refusal;
+use plane::Refusal;
+use rule_text::Rule;
+use std::alloc::{AllocError, Global};
+use table_core::Shape;
+
+/// The number that is read for an option. `Unfit` with `Other` if there is none.
+pub fn number_for(matches: &ArgMatches<'_>, name: &str) -> Result<u64, WordsFault>
+    ensures ok { IfOk result (IsNumber (one_text (found_of matches.now) name.now)) }
+    ensures err { IfErr result (IsUnfit Misfit.Other (IsNumber (one_text (found_of matches.now) name.now))) }
+{
+    matches
+        .get_one::<u64>(name)
+        .ok_or(WordsFault::Unfit(Misfit::Other))
+}
+
+/// The most pair slots that the tables may have. `Unfit` with `Nodes` if the number is no power of two from 2^10 to 2^28.
+pub fn pairs_asked(matches: &ArgMatches<'_>) -> Result<u32, WordsFault>
+    ensures ok { IfOk result (IsPairNumber (one_text (found_of matches.now) (codes "nodes"))) }
+    ensures err { IfErr result (IsUnfit Misfit.Nodes (IsPairNumber (one_text (found_of matches.now) (codes "nodes")))) }
+{
+    let Some(number) = matches.get_one::<u64>("nodes") else {
+        return Err(WordsFault::Unfit(Misfit::Nodes));
+    };
+    match u32::try_from(number) {
+        Ok(pairs) if Shape::is_pair_count(pairs) => Ok(pairs),
+        _ => Err(WordsFault::Unfit(Misfit::Nodes)),
+    }
+}
+
+/// How many workers run. `Unfit` with `Other` if it is not from 1 to 64.
+pub fn workers_asked(matches: &ArgMatches<'_>) -> Result<usize, WordsFault>
+    ensures ok { IfOk result (IsWorkerNumber (one_text (found_of matches.now) (codes "workers"))) }
+    ensures err { IfErr result (IsUnfit Misfit.Other (IsWorkerNumber (one_text (found_of matches.now) (codes "workers")))) }
+{
+    let number = number_for(matches, "workers")?;
+    if number == 0 || number > MOST_WORKERS {
+        return Err(WordsFault::Unfit(Misfit::Other));
+    }
+    Ok(number as usize)
+}
+
+/// The rule that is given, if one is. `BadRule` or `BirthOnZero` for a text that is none.
+pub fn rule_asked(text: Option<&str>) -> Result<Option<Rule>, Refusal>
+    ensures ok { IfOk result (IsAskedRule (option_copied text.entry)) }
+    ensures err { IfErr result (IsRefusedRule (option_copied text.entry)) }
+{
+    let Some(text) = text else {
+        return Ok(None);
+    };
+    match Rule::read(text.as_bytes()) {
+        Ok(rule) => Ok(Some(rule)),
+        Err(fault) => Err(rule_refusal(fault)),
+    }
+}
+
+/// A copy of a text, if there is one.
+pub fn copied(alloc: Global, text: Option<&str>) -> Result<Option<String>, AllocError>
+    ensures { IfOk result (λ copy. option_map string_bytes copy ≡ option_copied text.entry) }
+{
+    match text {
+        Some(text) => Ok(Some(String::from_str(alloc, text)?)),
+        None => Ok(None),
+    }
+}

@@ -1,0 +1,71 @@
+//! The output file, created at its first byte.
+
+ghost use Rattle.std.specs.Prelude.{◌≡◌, ◌<◌, None, length, IfOk};
+ghost use Rattle.std.specs.Io.{WritesAtMost};
+
+use plane::{Counted, Failed, Sink};
+use std::fs;
+use std::rt::Files;
+
+/// A file that is created, or emptied, when its first byte is written.
+#[derive(Drop)]
+pub struct OutputFile<'a, R: Files> {
+    runtime: &'a R,
+    path: &'a str,
+    file: Option<Counted<R::File>>,
+    failures: u64,
+}
+
+impl<'a, R: Files> OutputFile<'a, R> {
+    /// The file of this name.
+    pub fn new(runtime: &'a R, path: &'a str) -> Self
+        ensures { result.failures ≡ 0 }
+    {
+        OutputFile {
+            runtime,
+            path,
+            file: None,
+            failures: 0,
+        }
+    }
+
+    // Passes the bytes on to the file, which is created if it was not yet.
+    fn pass_on(&mut self, bytes: &[u8]) -> Result<usize, Failed>
+        ensures bound { WritesAtMost result bytes.now }
+        ensures progress { 0 < length bytes.now → IfOk result (λ count. 0 < count) }
+        ensures failures { self.new.failures ≡ self.old.failures }
+    {
+        if bytes.is_empty() {
+            return Ok(0);
+        }
+        if self.file.is_none() {
+            let Ok(file) = fs::create(self.runtime, self.path) else {
+                return Err(Failed);
+            };
+            self.file = Some(Counted::new(file));
+        }
+        match &mut self.file {
+            Some(file) => file.write_some(bytes),
+            None => Err(Failed),
+        }
+    }
+}
+
+impl<'a, R: Files> Sink for OutputFile<'a, R> {
+    // Nothing is claimed of what a file holds.
+    ghost taken = { λ _. None };
+
+    ghost failure_count = { λ output. output.failures };
+
+    fn write_some(&mut self, bytes: &[u8]) -> Result<usize, Failed> {
+        let outcome = self.pass_on(bytes);
+        if outcome.is_err() {
+            self.failures = self.failures.saturating_add(1);
+        }
+        outcome
+    }
+
+    fn failures(&self) -> u64 {
+        self.failures
+    }
+}
