@@ -17,7 +17,7 @@ import tempfile
 from collections.abc import Callable, Iterator
 from dataclasses import dataclass
 
-from common.check import BUILT, Check, end, status_of
+from common.check import BUILT, Check, end, sum_up
 from common.program import Ended, text_of
 
 CHECK = Check(
@@ -206,7 +206,7 @@ def main() -> int:
     parser = CHECK.parser()
     parser.add_argument("--only", default="", help="only the rows with this text in their names")
     options = CHECK.options(parser)
-    rows, count = [it for it in ROWS if options.only in it.name], 0
+    rows, held = [it for it in ROWS if options.only in it.name], []
     with tempfile.TemporaryDirectory() as name:
         top = pathlib.Path(name)
         top.chmod(0o755)
@@ -216,10 +216,9 @@ def main() -> int:
             folder.mkdir()
             found = difference(program, row, folder)
             folder.chmod(0o755)
-            count += found is not None
+            held.append(found is None)
             print(f"differs  {row.name}: {found}" if found else f"holds    {row.name}", flush=True)
-    print(f"{len(rows) - count} rows hold, {count} differ")
-    return status_of(len(rows), count)
+    return sum_up(held, "rows")
 
 
 if __name__ == "__main__":

@@ -17,7 +17,7 @@ import sys
 import tempfile
 from dataclasses import dataclass
 
-from common.check import BGOLLY, BUILT, C_COMPILER, DIFFERS, GOLLY_PATTERNS, HOLDS, NOT_RUN, PARALLEL, Check, end, status_of
+from common.check import BGOLLY, BUILT, C_COMPILER, DIFFERS, GOLLY_PATTERNS, HOLDS, NOT_RUN, PARALLEL, Check, end, sum_up
 
 CHECK = Check(
     text=__doc__,
@@ -162,8 +162,7 @@ def main() -> int:
     with tempfile.TemporaryDirectory() as name:
         bench = Bench(options.program, pathlib.Path(name))
         held = [bench.holds(row) for row in ROWS if options.only in row.says()]
-    print(f"{sum(held)} rows hold, {len(held) - sum(held)} differ")
-    return status_of(len(held), len(held) - sum(held))
+    return sum_up(held, "rows")
 
 
 if __name__ == "__main__":

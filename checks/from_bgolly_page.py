@@ -12,7 +12,7 @@ import pathlib
 import tempfile
 
 from common.bgolly_lines import FILES, LINES, SECONDS, WATCHED, Line, Ran
-from common.check import BGOLLY, BUILT, CannotRun, Check, end, status_of
+from common.check import BGOLLY, BUILT, CannotRun, Check, end, sum_up
 from common.program import run
 
 CHECK = Check(
@@ -66,8 +66,7 @@ def main() -> int:
     with tempfile.TemporaryDirectory() as name:
         programs = Programs(options.program, pathlib.Path(name))
         held = [programs.shows(it) for it in LINES if options.only in it.says]
-    print(f"{sum(held)} lines hold, {len(held) - sum(held)} differ")
-    return status_of(len(held), len(held) - sum(held))
+    return sum_up(held, "lines")
 
 
 if __name__ == "__main__":

@@ -1,11 +1,12 @@
 #!/usr/bin/env python3
-"""Tries the launcher ./lifebatch with a kit that proves nothing and takes a moment.
+"""Tries the launchers ./lifebatch and ./lifeview with a kit that proves nothing and takes a moment.
 
     checks/launcher_runs.py
 
 The script copies the launcher and the code of the crates, and puts its own rt, rattle and rattle-link on the PATH. It tests the order in which
 crates are proved, the processor that the program is compiled for, and what the launcher does if nothing is to be built, if a crate fails, if files
-are newer or change during the build, if a build is interrupted, and if two calls run at once. It does not touch the program of this repository.
+are newer or change during the build, if a build is interrupted, if two calls run at once, and what one program leaves to prove for the other. It
+does not touch the programs of this repository.
 """
 import os
 import pathlib
@@ -18,7 +19,7 @@ import tempfile
 import time
 from collections.abc import Callable
 
-from common.check import PGREP, Check, end, status_of
+from common.check import PGREP, Check, end, sum_up
 from common.program import ROOT
 
 CHECK = Check(
@@ -60,7 +61,7 @@ class Repository:
 
     def __init__(self, folder: pathlib.Path):
         self.folder, self.log = folder, folder / "log"
-        for name in ("lifebatch", "crates.txt"):
+        for name in ("lifebatch", "lifeview", "crates.txt"):
             shutil.copy(ROOT / name, folder)
         for name in ("launcher", "crates"):
             shutil.copytree(ROOT / name, folder / name, ignore=shutil.ignore_patterns("out", "proofs"))
@@ -73,12 +74,12 @@ class Repository:
     def environment(self, **settings: str) -> dict[str, str]:
         return {**os.environ, "PATH": f"{self.folder / 'bin'}:{os.environ['PATH']}", "LOG": str(self.log), **settings}
 
-    def start(self, *words: str, **settings: str) -> subprocess.Popen:
+    def start(self, *words: str, name: str = "lifebatch", **settings: str) -> subprocess.Popen:
         how = {"stdin": subprocess.PIPE, "stdout": subprocess.PIPE, "stderr": subprocess.PIPE, "text": True, "start_new_session": True}
-        return subprocess.Popen([self.folder / "lifebatch", *words], env=self.environment(**settings), **how)
+        return subprocess.Popen([self.folder / name, *words], env=self.environment(**settings), **how)
 
-    def run(self, *words: str, **settings: str) -> tuple[int, str, str]:
-        ran = self.start(*words, **settings)
+    def run(self, *words: str, name: str = "lifebatch", **settings: str) -> tuple[int, str, str]:
+        ran = self.start(*words, name=name, **settings)
         out, err = printed(ran, "input")
         return ran.returncode, out, err
 
@@ -121,6 +122,24 @@ def second(it: Repository) -> bool:
     found = it.run("x")
     print(f"    a second call takes {1000 * (time.monotonic() - began):.0f} ms")
     return found == (0, "ran: x\ninput", "") and it.logged() == []
+
+
+def other_program(it: Repository) -> bool:
+    status, out, err = it.run("x", name="lifeview")
+    proved = {line.split()[1] for line in it.logged()}
+    again = it.run("y", name="lifeview")
+    return (
+        (status, out) == (0, "ran: x\ninput")
+        and proved == {"png_writer", "pattern_picture", "view_program", "lifeview"}
+        and "lifeview: proved and built" in err
+        and again == (0, "ran: y\ninput", "")
+        and it.logged() == []
+    )
+
+
+def unknown_program(it: Repository) -> bool:
+    ran = subprocess.run(["python3", it.folder / "launcher" / "build.py", "plane"], env=it.environment(), capture_output=True, text=True)
+    return ran.returncode == 2 and "lifebatch, lifeview" in ran.stderr and it.logged() == []
 
 
 def failed(it: Repository) -> bool:
@@ -193,6 +212,8 @@ GROUPS: list[list[tuple[str, Callable[[Repository], bool]]]] = [
     [
         ("the first call proves each crate once, builds the program for this processor and runs it", whole),
         ("a second call builds nothing", second),
+        ("the other program proves the crates that it alone uses", other_program),
+        ("the build takes the name of a program alone", unknown_program),
         ("on a terminal there is one line that moves", terminal),
     ],
     [
@@ -217,8 +238,7 @@ def main() -> int:
             for says, holds in rows:
                 held.append(holds(repository))
                 print(f"{'holds  ' if held[-1] else 'differs'}  {says}", flush=True)
-    print(f"{sum(held)} rows hold, {len(held) - sum(held)} differ")
-    return status_of(len(held), len(held) - sum(held))
+    return sum_up(held, "rows")
 
 
 if __name__ == "__main__":

@@ -19,7 +19,7 @@ import time
 from collections.abc import Iterator
 from dataclasses import dataclass
 
-from common.check import BUILT, DIFFERS, HOLDS, NOT_RUN, STATUSES, Check, add_program, end
+from common.check import BUILT, BUILT_VIEW, DIFFERS, HOLDS, NOT_RUN, STATUSES, Check, add_program, add_view, end
 
 FOLDER = pathlib.Path(__file__).resolve().parent
 NAMES = [
@@ -29,6 +29,7 @@ NAMES = [
     "failing_devices",
     "from_bgolly_page",
     "random_patterns",
+    "pictures",
     "small_tables",
     "golly_patterns",
     "refused_memory",
@@ -70,6 +71,7 @@ def run(name: str, check: Check, options: argparse.Namespace) -> Outcome:
     """Runs a check as a separate process."""
     words = [sys.executable, str(FOLDER / f"{name}.py"), *(check.quick if options.quick else [])]
     words += ["--program", str(options.program.resolve())] if BUILT in check.needs else []
+    words += ["--view", str(options.view.resolve())] if BUILT_VIEW in check.needs else []
     if sys.stdout.isatty():
         # The line with the result overwrites this one.
         print(f"runs     {name}", end="\r", flush=True)
@@ -102,6 +104,7 @@ def make_parser() -> argparse.ArgumentParser:
     parser.add_argument("--quick", action="store_true", help="give each check a small load; without names run all checks")
     parser.add_argument("--show", action="store_true", help="show all that the checks print")
     add_program(parser)
+    add_view(parser)
     return parser
 
 

@@ -1,10 +1,10 @@
 #!/usr/bin/env python3
-"""Proves and builds the program lifebatch, for the launcher of that name. It takes no arguments.
+"""Proves and builds a program of this repository, for the launcher of its name: build.py lifebatch, or build.py lifeview.
 
 Crates are proved side by side, as many as cores and memory allow, each after those below it. For each proved crate the build writes a library
-of its statements, which is all that the crates above it read. Their checks are shorter than over the libraries with proofs that `rt lib`
-keeps for editing, so the build calls the compiler of the kit, `rattle`, and not `rt`. An interrupted build keeps the libraries that it has
-made, and the next one resumes from them.
+of its statements, which is all that the crates above it read, in either program. Their checks are shorter than over the libraries with proofs
+that `rt lib` keeps for editing, so the build calls the compiler of the kit, `rattle`, and not `rt`. An interrupted build keeps the libraries that
+it has made, and the next one resumes from them.
 
 Standard error shows what is being proved. The status is 0 if the program was built, 2 if not, and 128 plus the signal's number if the build was
 interrupted.
@@ -22,10 +22,16 @@ import subprocess
 import sys
 import tempfile
 import time
+from collections.abc import Iterable
 from dataclasses import dataclass, field
+from typing import Optional, Union
 
 ROOT = pathlib.Path(__file__).resolve().parent.parent
-PROGRAM = "lifebatch"
+PROGRAMS = ["lifebatch", "lifeview"]
+if sys.argv[1:] not in [[it] for it in PROGRAMS]:
+    print(f"build.py takes the name of a program, one of {', '.join(PROGRAMS)}", file=sys.stderr)
+    sys.exit(2)
+PROGRAM = sys.argv[1]
 # The program, and a file with the time at which the last successful build began.
 BUILT = ROOT / "crates" / PROGRAM / "out" / PROGRAM
 BEGAN = BUILT.with_suffix(".built")
@@ -43,26 +49,31 @@ TARGET = "x86_64-unknown-linux-gnu"
 WIDE = "x86-64-v3"
 FLAGS_OF_WIDE = {"abm", "avx", "avx2", "bmi1", "bmi2", "f16c", "fma", "movbe", "xsave"}
 
+# Crates, lowest first, each with the crates that it uses.
+Crates = dict[str, list[str]]
+# The words of a command.
+Words = list[Union[str, pathlib.Path]]
+
 
 @functools.cache
-def kit():
+def kit() -> pathlib.Path:
     """The folder of the kit."""
     page = subprocess.run(["rt", "doc"], stdin=subprocess.DEVNULL, capture_output=True, text=True, check=True).stdout
     return pathlib.Path(page.strip()).parent
 
 
-def lines_of_crates():
+def lines_of_crates() -> dict[str, str]:
     """The lines of crates.txt by crate, without comments."""
     lines = [it.partition("#")[0].strip() for it in (ROOT / "crates.txt").read_text().splitlines()]
     return {re.match(r"\w+", it)[0]: it for it in lines if it}
 
 
-def used_by():
+def used_by() -> dict[str, list[str]]:
     """For each crate the crates that it uses, including the kit's."""
     return {name: line.partition(":")[2].split() for name, line in lines_of_crates().items()}
 
 
-def crates_below(program):
+def crates_below(program: str) -> Crates:
     """The program and the crates below it, lowest first, each with the crates that it uses."""
     listed = used_by()
     needed = {program}
@@ -72,12 +83,12 @@ def crates_below(program):
     return {name: [it for it in below if it in listed] for name, below in listed.items() if name in needed}
 
 
-def all_below(name, crates):
+def all_below(name: str, crates: Crates) -> set[str]:
     """The crates that this one uses, directly or through others."""
     return {name for it in crates[name] for name in (it, *all_below(it, crates))}
 
 
-def chains(crates):
+def chains(crates: Crates) -> dict[str, int]:
     """For each crate the number of lines in the longest chain of crates from it to the program."""
     lines = {name: sum(len(it.read_bytes().splitlines()) for it in folder(name).glob("src/**/*.rt")) for name in crates}
     found = {}
@@ -87,27 +98,27 @@ def chains(crates):
     return found
 
 
-def folder(name):
+def folder(name: str) -> pathlib.Path:
     return ROOT / "crates" / name
 
 
-def processor():
+def processor() -> list[str]:
     """The options that compile the program for this machine's processor, or none to compile it for any."""
     flags = re.search(r"^flags\s*:(.*)", pathlib.Path("/proc/cpuinfo").read_text(), re.MULTILINE)
     return ["--cpu", WIDE] if flags and FLAGS_OF_WIDE <= set(flags[1].split()) else []
 
 
-def library(name):
+def library(name: str) -> pathlib.Path:
     return folder(name) / "out" / "library" / f"{name}.rlib"
 
 
-def sum_file(name):
+def sum_file(name: str) -> pathlib.Path:
     """The file with the checksum of all that a library, or the program, was proved from."""
     return library(name).with_name("sum")
 
 
 @functools.cache
-def sum_of(name):
+def sum_of(name: str) -> str:
     """A checksum of all that a crate is proved from: its line, its files, the crates below it, and the kit."""
     files = [it for part in ("src", "specs", "proofs") for it in sorted((folder(name) / part).glob("**/*")) if it.is_file()]
     said = [lines_of_crates()[name], (kit() / "KIT-ID").read_text()]
@@ -116,12 +127,12 @@ def sum_of(name):
     return hashlib.sha256("\n".join(said).encode()).hexdigest()
 
 
-def is_proved(name):
+def is_proved(name: str) -> bool:
     made = BUILT if name == PROGRAM else library(name)
     return made.exists() and sum_file(name).is_file() and sum_file(name).read_text() == sum_of(name)
 
 
-def words_of_check(name, crates, jobs):
+def words_of_check(name: str, crates: Crates, jobs: int) -> Words:
     """The arguments for `rattle` that check a crate over the libraries below it."""
     words = ["--crate-name", name, f"src/{'main' if name == PROGRAM else 'lib'}.rt", "--jobs", str(jobs)]
     words += ["--antt-project", kit() / "rattle/logic/antt-project.json", "--logic-built", kit() / "logic_built"]
@@ -133,7 +144,7 @@ def words_of_check(name, crates, jobs):
     return words
 
 
-def commands_for(name, crates, jobs):
+def commands_for(name: str, crates: Crates, jobs: int) -> list[Words]:
     """The commands that prove a crate and write its library, or build the program and try its help."""
     check = [kit() / "bin/rattle", "build", *words_of_check(name, crates, jobs)]
     if name != PROGRAM:
@@ -150,18 +161,18 @@ def commands_for(name, crates, jobs):
 class Run:
     """A crate that is being proved: the commands left to run, and the one that runs."""
 
-    def __init__(self, name, commands, jobs, sum_before):
+    def __init__(self, name: str, commands: list[Words], jobs: int, sum_before: str):
         self.name, self.commands, self.jobs = name, commands, jobs
         # The crate's checksum when the build began.
         self.sum = sum_before
         self.said = tempfile.TemporaryFile("w+", errors="replace")
         self.call()
 
-    def call(self):
+    def call(self) -> None:
         how = {"cwd": folder(self.name), "stdin": subprocess.DEVNULL, "stdout": self.said, "stderr": subprocess.STDOUT}
         self.process = subprocess.Popen(self.commands.pop(0), start_new_session=True, **how)
 
-    def poll(self):
+    def poll(self) -> Optional[int]:
         """Starts the next command if one has ended. Returns the status once the last one, or a failed one, has ended."""
         status = self.process.poll()
         if status == 0 and self.commands:
@@ -169,7 +180,7 @@ class Run:
             return None
         return status
 
-    def keep(self):
+    def keep(self) -> None:
         """Keeps the result, for later builds too if no file has changed since this one began."""
         if self.name == PROGRAM:
             BUILT.with_suffix(".new").rename(BUILT)
@@ -177,68 +188,68 @@ class Run:
         if sum_of(self.name) == self.sum:
             sum_file(self.name).write_text(self.sum)
 
-    def messages(self):
+    def messages(self) -> list[str]:
         self.said.seek(0)
         return self.said.read().splitlines()
 
-    def end(self):
+    def end(self) -> None:
         """Ends it and the processes that it started."""
         with contextlib.suppress(ProcessLookupError):
             os.killpg(self.process.pid, signal.SIGTERM)
         self.process.wait()
 
-    def memory(self):
+    def memory(self) -> int:
         return MEMORY + (self.jobs - 1) * MEMORY_OF_JOB
 
 
 class Progress:
     """Shows what is being proved: on one line of a terminal, else on a line for each change."""
 
-    def __init__(self, crates):
+    def __init__(self, crates: int):
         self.of, self.began, self.shown = crates, time.monotonic(), None
         self.moves = sys.stderr.isatty()
         self.clear = "\r\x1b[K" if self.moves else ""
 
-    def clock(self):
+    def clock(self) -> str:
         seconds = int(time.monotonic() - self.began)
         return f"{seconds // 60}:{seconds % 60:02}"
 
-    def show(self, done, running):
+    def show(self, done: int, running: Iterable[str]) -> None:
         state = (done, *running, self.clock() if self.moves else "")
         if state == self.shown:
             return
         self.shown = state
-        text = f"lifebatch: {done} of {self.of} crates proved after {self.clock()}, proving {', '.join(running)}"
+        text = f"{PROGRAM}: {done} of {self.of} crates proved after {self.clock()}, proving {', '.join(running)}"
         if self.moves:
             text = text[: (os.get_terminal_size(2).columns or 80) - 1]
         print(f"{self.clear}{text}", end="" if self.moves else "\n", file=sys.stderr, flush=True)
 
-    def tell(self, text):
-        print(f"{self.clear}lifebatch: {text}", file=sys.stderr, flush=True)
+    def tell(self, text: str) -> None:
+        print(f"{self.clear}{PROGRAM}: {text}", file=sys.stderr, flush=True)
 
 
 @dataclass
 class Build:
-    crates: dict
+    crates: Crates
     cores: int
     memory: int
     progress: Progress
     # For each crate the number of lines in the longest chain of crates from it to the program.
-    chain: dict
-    running: dict = field(default_factory=dict)
-    done: set = field(default_factory=set)
+    chain: dict[str, int]
+    running: dict[str, Run] = field(default_factory=dict)
+    done: set[str] = field(default_factory=set)
     # Each crate's checksum when the build began.
-    sums: dict = field(default_factory=dict)
+    sums: dict[str, str] = field(default_factory=dict)
     # The number of the signal that interrupts the build.
     signal: int = 0
 
-    def start(self, name, jobs, behind):
+    def start(self, name: str, jobs: int, behind: list[str]) -> None:
         shutil.rmtree(library(name).parent, ignore_errors=True)
         library(name).parent.mkdir(parents=True)
         commands = [[*behind, *command] for command in commands_for(name, self.crates, jobs)]
         self.running[name] = Run(name, commands, jobs, self.sums[name])
 
-    def start_all(self, ready):
+    def start_all(self, ready: list[str]) -> None:
         """Starts the crates that there is room for. The one with the longest chain of crates above it gets as many jobs as cores and memory
         allow; the others get one each, at a lower priority."""
         for name in ready:
@@ -249,7 +260,7 @@ class Build:
             most = min(self.cores, MOST_JOBS, 1 + max(room - MEMORY, 0) // MEMORY_OF_JOB)
             self.start(name, most if is_longest else 1, [] if is_longest else BEHIND)
 
-    def end(self, name, status):
+    def end(self, name: str, status: int) -> bool:
         """Records a proved crate, or prints why it isn't proved and returns False."""
         run = self.running.pop(name)
         if status == 0:
@@ -262,7 +273,7 @@ class Build:
                 print(line, file=sys.stderr)
         return False
 
-    def run(self):
+    def run(self) -> bool:
         """Proves the crates that are not yet proved. Returns whether all are."""
         self.sums = {name: sum_of(name) for name in self.crates}
         self.done.update(name for name in self.crates if is_proved(name))
@@ -280,25 +291,25 @@ class Build:
                     return False
         return True
 
-    def close(self):
+    def close(self) -> None:
         """Ends what runs."""
         for run in self.running.values():
             run.end()
 
 
-def locked(folders):
+def locked(folders: Iterable[pathlib.Path]) -> list[int]:
     """Locks these folders, as `rt` does, so that other builds and `rt` wait until this program ends."""
     held = [os.open(it, os.O_RDONLY) for it in sorted(folders)]
     for it in held:
         try:
             fcntl.flock(it, fcntl.LOCK_EX | fcntl.LOCK_NB)
         except BlockingIOError:
-            print("lifebatch: waiting for another build to end", file=sys.stderr, flush=True)
+            print(f"{PROGRAM}: waiting for another build to end", file=sys.stderr, flush=True)
             fcntl.flock(it, fcntl.LOCK_EX)
     return held
 
 
-def free_memory():
+def free_memory() -> int:
     """The free memory in bytes, within the limit of the control group."""
     found = [1024 * int(re.search(r"MemAvailable:\s+(\d+)", pathlib.Path("/proc/meminfo").read_text())[1])]
     group = pathlib.Path("/sys/fs/cgroup")
@@ -309,15 +320,15 @@ def free_memory():
     return min(found)
 
 
-def main():
+def main() -> int:
     # Until a check runs, Ctrl-C just ends this program.
     signal.signal(signal.SIGINT, signal.SIG_DFL)
     began = time.time()
     crates = crates_below(PROGRAM)
     cores, memory, disk = len(os.sched_getaffinity(0)), free_memory(), shutil.disk_usage(ROOT).free
     print(
-        "lifebatch: proving and building the program first; this takes some minutes\n"
-        f"lifebatch: it needs rt ({shutil.which('rt')}), {MEMORY // GIGABYTE} GB of memory ({memory // GIGABYTE} GB free)"
+        f"{PROGRAM}: proving and building the program first; this takes some minutes\n"
+        f"{PROGRAM}: it needs rt ({shutil.which('rt')}), {MEMORY // GIGABYTE} GB of memory ({memory // GIGABYTE} GB free)"
         f" and {DISK // GIGABYTE} GB of disk ({disk // GIGABYTE} GB free), and uses all cores ({cores})",
         file=sys.stderr,
         flush=True,

@@ -5,10 +5,10 @@ import pathlib
 import shutil
 import sys
 import traceback
-from collections.abc import Callable
+from collections.abc import Callable, Sequence
 from dataclasses import dataclass
 
-from common.program import PATTERNS, PROGRAM
+from common.program import PATTERNS, PROGRAM, VIEW
 
 HOLDS, DIFFERS, NOT_RUN = 0, 1, 2
 
@@ -36,8 +36,8 @@ def tool(name: str, package: str) -> Need:
     return Need(name, f"apt-get install {package} brings it", lambda _: shutil.which(name) is not None)
 
 
-def is_built(options: argparse.Namespace) -> bool:
-    return options.program.is_file() and os.access(options.program, os.X_OK)
+def can_run(program: pathlib.Path) -> bool:
+    return program.is_file() and os.access(program, os.X_OK)
 
 
 def has_patterns(options: argparse.Namespace) -> bool:
@@ -45,16 +45,22 @@ def has_patterns(options: argparse.Namespace) -> bool:
     return getattr(options, "folder", PATTERNS).is_dir()
 
 
-BUILT = Need("the built program", "./lifebatch --help builds it", is_built)
+BUILT = Need("the built program", "./lifebatch --help builds it", lambda options: can_run(options.program))
+BUILT_VIEW = Need("the built program lifeview", "./lifeview --help builds it", lambda options: can_run(options.view))
 BGOLLY = tool("bgolly", "golly")
 GOLLY_PATTERNS = Need("the folder of Golly's patterns", "apt-get install golly brings it", has_patterns)
 C_COMPILER = tool("cc", "gcc libc6-dev")
 PGREP = tool("pgrep", "procps")
 PARALLEL = tool("parallel", "parallel")
+PNGCHECK = tool("pngcheck", "pngcheck")
 
 
 def add_program(parser: argparse.ArgumentParser) -> None:
     parser.add_argument("--program", type=pathlib.Path, default=PROGRAM, help="another build of lifebatch")
+
+
+def add_view(parser: argparse.ArgumentParser) -> None:
+    parser.add_argument("--view", type=pathlib.Path, default=VIEW, help="another build of lifeview")
 
 
 @dataclass(frozen=True)
@@ -88,6 +94,8 @@ class Check:
         parser = argparse.ArgumentParser(description=self.help_text(), formatter_class=argparse.RawDescriptionHelpFormatter)
         if BUILT in self.needs:
             add_program(parser)
+        if BUILT_VIEW in self.needs:
+            add_view(parser)
         return parser
 
     def options(self, parser: argparse.ArgumentParser) -> argparse.Namespace:
@@ -106,6 +114,13 @@ def status_of(compared: int, differing: int) -> int:
     if compared:
         return HOLDS
     raise CannotRun("nothing was compared")
+
+
+def sum_up(held: Sequence[bool], what: str) -> int:
+    """Prints how many rows, lines or others of a check hold, and returns its status."""
+    differing = len(held) - sum(held)
+    print(f"{sum(held)} {what} hold, {differing} differ")
+    return status_of(len(held), differing)
 
 
 def end(main: Callable[[], int]) -> None:

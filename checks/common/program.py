@@ -1,4 +1,4 @@
-"""Where the program and Golly's patterns are, and how a program is run."""
+"""Where the programs and Golly's patterns are, and how a program is run."""
 import gzip
 import pathlib
 import re
@@ -8,6 +8,7 @@ from dataclasses import dataclass
 
 ROOT = pathlib.Path(__file__).resolve().parent.parent.parent
 PROGRAM = ROOT / "crates" / "lifebatch" / "out" / "lifebatch"
+VIEW = ROOT / "crates" / "lifeview" / "out" / "lifeview"
 
 # The folders in which packages of Golly put its patterns.
 PLACES = [pathlib.Path(it) / "Patterns" for it in ("/usr/share/golly", "/usr/local/share/golly", "/usr/lib/golly")]

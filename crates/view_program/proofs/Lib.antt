@@ -1,0 +1,7 @@
+mod AskedWords
+mod Endings
+mod PictureLines
+mod ShownBoxes
+mod Stops
+mod Views
+mod WindowTexts

@@ -1,0 +1,90 @@
+-- How a view ends.
+use Rattle.std.proofs.Common.{◌≡◌, ◌⊎◌, ℕ, Option, List, ◌++◌, Ok, Err, refl, sym, ◌∙◌, ap, subst, inl, inr}
+use Rattle.std.specs.Io.KnownBytes.{Appends}
+use Rattle.std.proofs.KnownBytes.{Appends-trans}
+use Rattle.node_table.specs.Stills.{book_in}
+use Rattle.plane.specs.Plane.{Plane}
+use Rattle.plane.specs.declared.cell.Bounds.{Bounds}
+use Rattle.plane.specs.declared.fault.Fault.{Fault}
+use Rattle.plane.specs.declared.refusal.Refusal.{Refusal}
+use Rattle.plane.specs.declared.refusal.Refusal.TheVariants.{NoMemory, WriteFailed}
+use Rattle.patterns.specs.Meaning.{placeless}
+use Rattle.engine.specs.Accepted.{IsRefused}
+use Rattle.engine.specs.Last.{EndsWith}
+use Rattle.engine.specs.Run.{IsAcceptedRun}
+use Rattle.engine.specs.SinkChange.{SinkChange, Fails, IsUnfailed, Takes}
+use Rattle.engine.specs.SummaryLine.{summary_line}
+use Rattle.engine.specs.declared.options.Options.{Options}
+use Rattle.engine.specs.declared.running.Summary.{Summary}
+use Rattle.engine.proofs.Endings.{begun_none}
+use Rattle.png_writer.specs.Picture.{Picture, png_text}
+use Rattle.pattern_picture.specs.Drawn.{IsPictureOf}
+use Rattle.pattern_picture.specs.Scale.{IsScale}
+use Rattle.pattern_picture.specs.declared.scale.Scale.{Scale}
+use Rattle.pattern_picture.proofs.OneScale.{one_scale_lem}
+use Rattle.squares.specs.Book.{Book}
+use Rattle.squares.specs.declared.sq.Sq.{Sq}
+use Rattle.universe.specs.Cells.{root_of, square_plane, still_cells, still_of}
+use Rattle.universe.specs.declared.rooted_still.RootedStill.{RootedStill}
+use Rattle.view_program.specs.PictureLine.{picture_line}
+use Rattle.view_program.specs.Shown.{rectangle_shown}
+use Rattle.view_program.specs.View.{IsDrawn, IsView}
+use Rattle.view_program.specs.declared.request.View.{View}
+
+-- a run that ends so may be refused since memory ran out
+pub out_of_memory : (bytes : List ℕ) (options : Options) (plane : Plane) (answer : Summary) → EndsWith bytes options plane answer → IsRefused bytes options (placeless NoMemory)
+unfolding IsRefused
+out_of_memory bytes options plane answer ends =
+    let text = ends.accepted.0 in inr (inl (refl, inr (begun_none bytes options ends.start.meaning ends.start.rule text.text text.rule)))
+
+-- the picture of a square in words is that of its plane
+pub picture_of_plane : (plane : Plane) (rooted : RootedStill) (book : Book) (root : Sq) (shown : Bounds) (size : ℕ) (picture : Picture) → still_cells rooted ≡ plane → book ≡ book_in (still_of rooted) →
+    root ≡ root_of rooted → IsPictureOf (square_plane book root) shown size picture → IsPictureOf plane shown size picture
+picture_of_plane plane rooted book root shown size picture cells same_book same_root is =
+    subst (λ (p : Plane). IsPictureOf p shown size picture) (ap (λ b. square_plane b root) same_book ∙ ap (square_plane (book_in (still_of rooted))) same_root ∙ cells) is
+
+module _ {W V : Type 0} (bytes : List ℕ) (view : View) (name : List ℕ) (report : SinkChange W) (file : SinkChange V) where
+  -- a view that was refused before it has written anything
+  pub refused_at_once : (fault : Fault) → report.new ≡ report.old → file.new ≡ file.old → IsRefused bytes view.run fault → IsView bytes view name report file (Err fault)
+  refused_at_once fault same same_file refused = record {
+    finished = tt;
+    unfailed = inr (ap file.failure_count same_file, ap report.failure_count same);
+    refused = inl (refused, same, same_file);
+  }
+
+  -- a view whose report failed
+  pub report_failed : (refusal : Refusal) → refusal ≡ WriteFailed → IsAcceptedRun bytes view.run → Fails report → file.new ≡ file.old → IsView bytes view name report file (Err (placeless refusal))
+  report_failed refusal is accepted failed same_file =
+      let told = ap placeless is in record { finished = tt; unfailed = inl (ap Err told); refused = inr (inl (told, accepted, failed, same_file)) }
+
+  -- a view that has written its two lines
+  module _ (plane : Plane) (answer : Summary) (ends : EndsWith bytes view.run plane answer) (picture : Picture) (shows : IsPictureOf plane (rectangle_shown view.window answer.bounds) view.size picture)
+      (between : Option (List ℕ)) (first : Appends (report.taken report.old) between (summary_line answer))
+      (second : (scale : Scale) × IsScale (rectangle_shown view.window answer.bounds) view.size scale × Appends between (report.taken report.new) (picture_line name (rectangle_shown view.window answer.bounds) scale)) where
+    abbrev shown : Bounds
+    shown = rectangle_shown view.window answer.bounds
+
+    abbrev lines : List ℕ
+    lines = summary_line answer ++ picture_line name shown shows.scale
+
+    is_drawn : IsDrawn bytes view name lines (png_text picture.width picture.rows)
+    is_drawn = record { plane = plane; answer = answer; ends = ends; picture = picture; shows = shows; lines = refl; file = refl }
+
+    takes_lines : Takes report lines
+    takes_lines =
+        let one = one_scale_lem shown view.size second.0 shows.scale second.1 shows.scaled in
+        Appends-trans _ _ _ _ _ first (subst (λ scale. Appends between (report.taken report.new) (picture_line name shown scale)) one second.2)
+
+    -- and whose file failed
+    pub file_failed : (refusal : Refusal) → refusal ≡ WriteFailed → Fails file → IsView bytes view name report file (Err (placeless refusal))
+    file_failed refusal is failed =
+        let told = ap placeless is in
+        record { finished = tt; unfailed = inl (ap Err told); refused = inr (inr (told, (lines, png_text picture.width picture.rows, is_drawn, takes_lines), failed)) }
+
+    -- and the picture
+    pub ends_well : IsUnfailed report → IsUnfailed file → Takes file (png_text picture.width picture.rows) → IsView bytes view name report file (Ok tt)
+    ends_well unfailed file_unfailed takes = record {
+      finished = (lines, png_text picture.width picture.rows, is_drawn, takes_lines, takes);
+      unfailed = inr (file_unfailed, unfailed);
+      refused = tt;
+    }

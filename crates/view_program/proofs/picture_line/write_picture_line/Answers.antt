@@ -1,0 +1,16 @@
+use Rattle.std.proofs.Common.{◌≡◌, OnOk, rules, subst}
+use Rattle.std.specs.Io.KnownBytes.{Appends}
+use Rattle.std.proofs.KnownBytes.{Appends-trans}
+use Rattle.std.proofs.lemmas.Result.{on_ok_weaker}
+use Rattle.view_program.specs.PictureLine.{scale_words}
+use Rattle.view_program.proofs.picture_line.write_picture_line.Goals as goal
+
+pub returns-clause-written : goal.returns-clause-written
+returns-clause-written g c =
+    let scale = c.of.result in
+    let name : c.as_bytes.result.now ≡ c.args.name.now = search rules in
+    let words : c.as_bytes-2.result.now ≡ scale_words c.args.shown scale = search rules in
+    let first = subst (λ bytes. Appends (g.W.Sink.taken c.args.out.now) (g.W.Sink.taken c.write_all.new.sink) bytes) name c.in_ok-write_all.ensures.written in
+    on_ok_weaker c.write_all-2.result
+    (λ wrote. (scale, c.of.ensures, Appends-trans _ _ _ c.args.name.now (scale_words c.args.shown scale) first wrote))
+    (subst (λ bytes. OnOk c.write_all-2.result (Appends (g.W.Sink.taken c.write_all.new.sink) (g.W.Sink.taken c.write_all-2.new.sink) bytes)) words c.write_all-2.ensures.written)

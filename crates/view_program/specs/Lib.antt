@@ -1,0 +1,6 @@
+pub mod CommandLine
+pub mod Matched
+pub mod PictureLine
+pub mod Shown
+pub mod Status
+pub mod View

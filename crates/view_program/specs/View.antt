@@ -1,0 +1,50 @@
+-- What a view writes and answers.
+use Rattle.std.specs.Prelude.{◌≡◌, ◌⊎◌, ℕ, List, ◌++◌, Result, Err, IfErr, OnOk}
+use Rattle.plane.specs.Plane.{Plane}
+use Rattle.plane.specs.declared.fault.Fault.{Fault}
+use Rattle.plane.specs.declared.refusal.Refusal.TheVariants.{WriteFailed}
+use Rattle.patterns.specs.Meaning.{placeless}
+use Rattle.engine.specs.Accepted.{IsRefused}
+use Rattle.engine.specs.Last.{EndsWith}
+use Rattle.engine.specs.Run.{IsAcceptedRun}
+use Rattle.engine.specs.SinkChange.{SinkChange, Fails, IsUnfailed, Takes}
+use Rattle.engine.specs.SummaryLine.{summary_line}
+use Rattle.engine.specs.declared.running.Summary.{Summary}
+use Rattle.png_writer.specs.Picture.{Picture, png_text}
+use Rattle.pattern_picture.specs.Drawn.{IsPictureOf}
+use Rattle.view_program.specs.PictureLine.{picture_line}
+use Rattle.view_program.specs.Shown.{rectangle_shown}
+use Rattle.view_program.specs.declared.request.View.{View}
+
+-- a run of these bytes ends with a generation of which this is said, under the name of its picture, and this is drawn
+pub record IsDrawn (bytes : List ℕ) (view : View) (name said drawn : List ℕ) : Type 0 where
+  pub plane : Plane
+  pub answer : Summary
+  pub ends : EndsWith bytes view.run plane answer
+  pub picture : Picture
+  pub shows : IsPictureOf plane (rectangle_shown view.window answer.bounds) view.size picture
+  pub lines : said ≡ summary_line answer ++ picture_line name (rectangle_shown view.window answer.bounds) shows.scale
+  pub file : drawn ≡ png_text picture.width picture.rows
+
+-- a view ended well: its report and its file took what it says and draws
+abbrev pub HasDrawn : {W V : Type 0} → List ℕ → View → List ℕ → SinkChange W → SinkChange V → Type 0
+HasDrawn bytes view name report file =
+    (said : List ℕ) × (drawn : List ℕ) × IsDrawn bytes view name said drawn × Takes report said × Takes file drawn
+
+-- a view was refused: its run was, or memory ran out, and nothing was written; or the run is accepted, and a sink failed:
+-- that of the report, and nothing was written to the file; or that of the file, after the whole report
+abbrev pub HasStopped : {W V : Type 0} → List ℕ → View → List ℕ → SinkChange W → SinkChange V → Fault → Type 0
+HasStopped bytes view name report file fault =
+    (IsRefused bytes view.run fault × (report.new ≡ report.old) × (file.new ≡ file.old))
+    ⊎ ((fault ≡ placeless WriteFailed) × IsAcceptedRun bytes view.run × Fails report × (file.new ≡ file.old))
+    ⊎ ((fault ≡ placeless WriteFailed) × ((said : List ℕ) × (drawn : List ℕ) × IsDrawn bytes view name said drawn × Takes report said) × Fails file)
+
+-- what a view of these bytes does to its report and to its file, and what it answers
+pub record IsView {W V : Type 0} (bytes : List ℕ) (view : View) (name : List ℕ) (report : SinkChange W) (file : SinkChange V) (result : Result Unit Fault) : Type 0 where
+  -- it writes the two lines and the picture of the cells that the rule, applied that many times, makes live
+  pub finished : OnOk result (HasDrawn bytes view name report file)
+  -- no sink failed, or the answer is that one did
+  pub unfailed : (result ≡ Err (placeless WriteFailed)) ⊎ (IsUnfailed file × IsUnfailed report)
+  -- it refuses what is not accepted, by its name and at its place, and then has written nothing; and else only where memory
+  -- ran out or the tables are full, and nothing was written, or where a sink failed
+  pub refused : IfErr result (HasStopped bytes view name report file)

@@ -1,0 +1,100 @@
+//! What the words of a command line ask for.
+
+ghost use Rattle.std.specs.Prelude.{◌↔◌, List, codes, map, IfOk, IfErr, IsTrue};
+ghost use Rattle.clap.specs.Words.{Text, found_of, one_text};
+ghost use Rattle.program_parts.specs.Values.{IsUnfit};
+ghost use Rattle.view_program.specs.Matched.{AreMatchesOf, AskForView, HasFiles};
+ghost use Rattle.view_program.specs.CommandLine.{AsksFor, IsFitName, IsSizeNumber, IsWordsFault};
+
+use crate::command_line::command;
+use crate::names::ENDING;
+use crate::request::{Asked, LARGEST_SIZE, SMALLEST_SIZE, View};
+use crate::shown::window_asked;
+use clap::ArgMatches;
+use engine::Options;
+use program_parts::{
+    Misfit, WordsFault, number_for, pairs_asked, rule_asked, window_numbers, workers_asked,
+};
+use std::alloc::Global;
+
+/// Reads the words of a command line, the program's name first. It answers `Clap` for words that are not of its form and
+/// for a request for help, `Unfit` for a picture whose name does not end with `.png`, for a window that is not four
+/// numbers and for a number of nodes that is no power of two, then `Refused` with `BadRule` or `BirthOnZero` for the rule
+/// that is given, then `Refused` with `WindowTooLarge` for a window without cells or with a side beyond 2^62, and `Refused`
+/// with `NoMemory`.
+pub fn asked<'a>(alloc: Global, words: &'a [&'a str]) -> Result<Asked, WordsFault>
+    ensures asks { IfOk result (AsksFor (map (λ word. word.now) words.entry.now)) }
+    ensures faults { IfErr result (IsWordsFault (map (λ word. word.now) words.entry.now)) }
+{
+    let matches = command(alloc)?.try_get_matches_from(words)?;
+    asked_by(alloc, &matches)
+}
+
+// What words ask for, by the matches that clap has found in them.
+fn asked_by(alloc: Global, matches: &ArgMatches<'_>) -> Result<Asked, WordsFault>
+    ensures asks { (words : List Text) → AreMatchesOf words matches.now → IfOk result (AsksFor words) }
+    ensures faults { (words : List Text) → AreMatchesOf words matches.now → IfErr result (IsWordsFault words) }
+{
+    let Some(file) = matches.get_str("file") else {
+        return Err(WordsFault::Unfit(Misfit::Other));
+    };
+    let Some(output) = matches.get_str("output") else {
+        return Err(WordsFault::Unfit(Misfit::Other));
+    };
+    if !is_fit_name(output) {
+        return Err(WordsFault::Unfit(Misfit::Ending(ENDING)));
+    }
+    let view = view_by(matches)?;
+    Ok(Asked {
+        view,
+        file: String::from_str(alloc, file)?,
+        output: String::from_str(alloc, output)?,
+    })
+}
+
+// What is drawn by the words, which name a file, and a picture whose name is fit.
+fn view_by(matches: &ArgMatches<'_>) -> Result<View, WordsFault>
+    ensures asks { (words : List Text) → AreMatchesOf words matches.now → IfOk result (AskForView words) }
+    ensures faults { (words : List Text) → AreMatchesOf words matches.now → HasFiles words → IfErr result (IsWordsFault words) }
+{
+    let gens = number_for(matches, "generation")?;
+    let pairs = pairs_asked(matches)?;
+    let workers = workers_asked(matches)?;
+    let size = size_asked(matches)?;
+    let numbers = window_numbers(matches.get_str("window"))?;
+    let rule = rule_asked(matches.get_str("rule"))?;
+    let window = window_asked(numbers)?;
+    Ok(View {
+        run: Options {
+            gens,
+            step: 0,
+            rule,
+            window: None,
+            format: None,
+            pairs,
+            workers,
+            quiet: true,
+        },
+        window,
+        size,
+    })
+}
+
+// The most pixels on a side of the picture.
+fn size_asked(matches: &ArgMatches<'_>) -> Result<u32, WordsFault>
+    ensures ok { IfOk result (IsSizeNumber (one_text (found_of matches.now) (codes "size"))) }
+    ensures err { IfErr result (IsUnfit Misfit.Other (IsSizeNumber (one_text (found_of matches.now) (codes "size")))) }
+{
+    let number = number_for(matches, "size")?;
+    match u32::try_from(number) {
+        Ok(size) if size >= SMALLEST_SIZE && size <= LARGEST_SIZE => Ok(size),
+        _ => Err(WordsFault::Unfit(Misfit::Other)),
+    }
+}
+
+// Whether a picture may have this name.
+fn is_fit_name(name: &str) -> bool
+    ensures { IsTrue result ↔ IsFitName name.now }
+{
+    name.as_bytes().ends_with(b".png")
+}

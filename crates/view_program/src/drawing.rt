@@ -1,0 +1,53 @@
+//! A run, and the picture of its last generation.
+
+ghost use Rattle.std.specs.Prelude.{IfSome};
+ghost use Rattle.table_core.specs.Sizes.{IsPairCount};
+ghost use Rattle.engine.specs.Workers.{IsWorkerCount};
+ghost use Rattle.pattern_picture.specs.Scale.{IsShown, IsSize};
+ghost use Rattle.view_program.specs.View.{IsView};
+
+use crate::picture_line::write_picture_line;
+use crate::request::View;
+use crate::shown::rectangle_shown;
+use engine::{last_pattern, write_summary};
+use pattern_picture::picture;
+use plane::{Fault, Sink};
+use std::alloc::Global;
+use std::sync::Wait;
+use std::thread::Threads;
+
+/// Runs the pattern in a file's bytes, and draws its last generation as a PNG file. It writes two lines to `report`: the
+/// generation, the population and the bounding box; and the name of the picture, its size and what a pixel is. Then it
+/// writes the picture to `file`.
+///
+/// It refuses, in this order, a text that is no pattern file, by its first fault; the file's rule (`BadRule`,
+/// `BirthOnZero`), unless another one is given; and a run that would leave the range (`TooFar`). `NoMemory`, and
+/// `NodesFull`, if the cells of the file or those after a single generation have no room in the tables that the run may
+/// have, come before anything is written. `WriteFailed` comes if a sink failed, and whenever one did; nothing is written
+/// to `file` where the report failed.
+pub fn draw<R: Threads + Wait + Sync, W: Sink, V: Sink>(
+    rt: &R,
+    alloc: Global,
+    bytes: &[u8],
+    view: &View,
+    name: &str,
+    report: &mut W,
+    file: &mut V,
+) -> Result<(), Fault>
+    requires pairs { IsPairCount view.now.run.pairs }
+    requires workers { IsWorkerCount view.now.run.workers }
+    requires window { IfSome view.now.window IsShown }
+    requires size { IsSize view.now.size }
+    ensures { IsView bytes.now view.now name.now
+        (record { old = report.old; new = report.new; taken = W.taken; failure_count = W.failure_count })
+        (record { old = file.old; new = file.new; taken = V.taken; failure_count = V.failure_count }) result }
+{
+    let (last, summary) = last_pattern(rt, alloc, bytes, &view.run)?;
+    let shown = rectangle_shown(view.window, summary.bounds);
+    let square = last.square();
+    let image = picture(alloc, square.still(), square.root(), shown, view.size)?;
+    write_summary(report, &summary)?;
+    write_picture_line(report, name, shown, view.size)?;
+    image.write(file)?;
+    Ok(())
+}

@@ -1,0 +1,93 @@
+//! The line that says what a pixel is.
+
+ghost use Rattle.std.specs.Prelude.{◌≡◌, ◌≤◌, ◌+◌, ◌^◌, ◌++◌, IfErr, OnOk, length};
+ghost use Rattle.std.specs.Io.KnownBytes.{Appends};
+ghost use Rattle.plane.specs.Device.{IsWriteRefusal};
+ghost use Rattle.pattern_picture.specs.Scale.{IsScale, IsShown, IsSize, longer_side};
+ghost use Rattle.pattern_picture.specs.declared.scale.Scale.{Scale};
+ghost use Rattle.view_program.specs.PictureLine.{picture_line, pixel_words, product_words, scale_words};
+
+use arrayvec::ArrayString;
+use itoa::Buffer;
+use pattern_picture::Scale;
+use plane::{Bounds, Refusal, Sink, write_all};
+
+// Room for four numbers of up to 40 digits and the words between them.
+const LINE_ROOM: usize = 224;
+
+/// Writes one line with the name of a picture, its columns and rows, and what a pixel is, for a rectangle that is shown
+/// at the largest scale with at most `size` pixels on each side. `WriteFailed` if the sink failed.
+pub(crate) fn write_picture_line<W: Sink>(
+    out: &mut W,
+    name: &str,
+    shown: Bounds,
+    size: u32,
+) -> Result<(), Refusal>
+    requires shown { IsShown shown }
+    requires size { IsSize size }
+    ensures written { OnOk result ((scale : Scale) × IsScale shown size scale × Appends (W.taken out.old) (W.taken out.new) (picture_line name.now shown scale)) }
+    ensures unfailed { OnOk result (W.failure_count out.new ≡ W.failure_count out.old) }
+    ensures refused { IfErr result (IsWriteRefusal (W.failure_count out.old) (W.failure_count out.new)) }
+{
+    let line = scale_words(shown, Scale::of(shown, size));
+    write_all(out, name.as_bytes())?;
+    write_all(out, line.as_str().as_bytes())
+}
+
+// What stands behind the name of a picture: its size, and what a pixel is.
+fn scale_words(shown: Bounds, scale: Scale) -> ArrayString<LINE_ROOM>
+    requires shown { IsShown shown }
+    requires exponent { scale.exponent ≤ 62 }
+    requires zoom { scale.zoom ≤ 16 }
+    requires sides { longer_side scale.exponent shown ≤ 4096 }
+    ensures { result.bytes ≡ scale_words shown scale }
+{
+    let blocks = scale.blocks(shown);
+    let mut line = ArrayString::new();
+    line.push_str(": ");
+    push_product(
+        &mut line,
+        u64::from(scale.zoom * blocks.width),
+        u64::from(scale.zoom * blocks.height),
+    );
+    line.push_str(" pixels, ");
+    push_pixel(&mut line, scale);
+    line.push_str("\n");
+    line
+}
+
+// Adds how many pixels a cell has, or how many cells a pixel.
+fn push_pixel(line: &mut ArrayString<LINE_ROOM>, scale: Scale)
+    requires exponent { scale.exponent ≤ 62 }
+    requires room { length line.old.bytes + 97 ≤ 224 }
+    ensures text { line.new.bytes ≡ line.old.bytes ++ pixel_words scale }
+    ensures short { length line.new.bytes ≤ length line.old.bytes + 97 }
+{
+    if scale.exponent == 0 {
+        push_product(line, u64::from(scale.zoom), u64::from(scale.zoom));
+        line.push_str(" pixels a cell");
+    } else {
+        let side = block_side(scale.exponent);
+        push_product(line, side, side);
+        line.push_str(" cells a pixel");
+    }
+}
+
+// How many cells a block has on a side.
+fn block_side(exponent: u8) -> u64
+    requires { exponent ≤ 62 }
+    ensures { result ≡ 2 ^ exponent }
+{
+    1 << exponent
+}
+
+// Adds columns and rows, as `640 x 480`.
+fn push_product(line: &mut ArrayString<LINE_ROOM>, columns: u64, rows: u64)
+    requires { length line.old.bytes + 83 ≤ 224 }
+    ensures text { line.new.bytes ≡ line.old.bytes ++ product_words columns rows }
+    ensures short { length line.new.bytes ≤ length line.old.bytes + 83 }
+{
+    line.push_str(Buffer::new().format(columns));
+    line.push_str(" x ");
+    line.push_str(Buffer::new().format(rows));
+}
