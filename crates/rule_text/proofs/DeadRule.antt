@@ -1,6 +1,6 @@
 -- The rule by which no cell lives.
 use Rattle.std.proofs.Common.{◌≡◌, ℕ, List, [], refl, sym, subst, arith}
-use Rattle.rule_text.specs.CountRule.{CountRule, IsRule, counts, dead, rising}
+use Rattle.rule_text.specs.CountRule.{IsRule, counts, dead, rising}
 use Rattle.rule_text.specs.declared.neighbourhood.Neighbourhood.TheVariants.{Moore}
 
 dead_is_rule : IsRule dead

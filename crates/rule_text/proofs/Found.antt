@@ -8,9 +8,10 @@ use Rattle.std.proofs.lemmas.Bool.Decides.{nat_tests}
 use Rattle.std.proofs.lemmas.List.{take-append-drop}
 use Rattle.std.proofs.lemmas.List.Sums.{take_while-cons}
 use Rattle.std.proofs.lemmas.List.Elements.{All-from_recursion, recursion_from_All, All-weaker, All-map}
-use Rattle.rule_text.specs.RuleText.{Form, Names, Spells, Written, body, capitals, digit_text, is_blank}
+use Rattle.rule_text.specs.RuleText.{Form, Names, Spells, Written, body, capitals, digit_text, is_blank, trimmed_start}
 use Rattle.rule_text.specs.RuleText.Form.{BirthSlashSurvival, SurvivalSlashBirth, BirthSurvival, SurvivalBirth, DigitsAlone}
 use Rattle.rule_text.specs.RuleCut.{TwoRuns, BothRuns, two_runs, birth_first, survival_first, runs_round_slash, runs_round_letter, both_runs, neighbourhood_cut, parts_of, parts_after, after_all, after_mark, digit_values}
+use Rattle.rule_text.proofs.Fronts.{trimmed_start-is}
 use Rattle.rule_text.specs.declared.neighbourhood.Neighbourhood.{Neighbourhood}
 use Rattle.rule_text.specs.declared.neighbourhood.Neighbourhood.TheVariants.{Moore, VonNeumann, Hexagonal}
 
@@ -183,16 +184,20 @@ no_length : (xs : List ℕ) → length xs ≡ 0 → xs ≡ []
 no_length [] none = refl
 no_length (x ∷ xs) none = absurd (omega arith)
 
-only_blanks : (text : List ℕ) → length (after_all is_blank text) ≡ 0 → AllPass is_blank text
+-- a text is the blanks at its front and what is left without them
+blanks_and_rest : (text : List ℕ) → text ≡ take_while is_blank text ++ trimmed_start text
+blanks_and_rest text = front_and_rest is_blank text ∙ ap (λ x. take_while is_blank text ++ x) (sym (trimmed_start-is text))
+
+only_blanks : (text : List ℕ) → length (trimmed_start text) ≡ 0 → AllPass is_blank text
 only_blanks text none =
     let same : take_while is_blank text ≡ text =
-    sym (append-nil (take_while is_blank text)) ∙ ap (λ x. take_while is_blank text ++ x) (sym (no_length (after_all is_blank text) none)) ∙ sym (front_and_rest is_blank text)
+    sym (append-nil (take_while is_blank text)) ∙ ap (λ x. take_while is_blank text ++ x) (sym (no_length (trimmed_start text) none)) ∙ sym (blanks_and_rest text)
     in
     subst (AllPass is_blank) same (take_while-pass is_blank text)
 
-parts_after-some : (runs : BothRuns) (cut : Neighbourhood × List ℕ) (written : Written) → parts_after runs cut ≡ Some written → (length (after_all is_blank cut.1) ≡ 0) × (written ≡ record { neighbourhood = cut.0; birth = digit_values runs.birth; survival = digit_values runs.survival })
+parts_after-some : (runs : BothRuns) (cut : Neighbourhood × List ℕ) (written : Written) → parts_after runs cut ≡ Some written → (length (trimmed_start cut.1) ≡ 0) × (written ≡ record { neighbourhood = cut.0; birth = digit_values runs.birth; survival = digit_values runs.survival })
 parts_after-some runs cut written found =
-    elim (cases_Bool (length (after_all is_blank cut.1) == 0)) [
+    elim (cases_Bool (length (trimmed_start cut.1) == 0)) [
       | inl none ↦ (eqb-true _ 0 none, sym (let k = rw none at found in cc))
       | inr some ↦ let k = rw some at found in absurd cc
     ]
@@ -202,7 +207,7 @@ runs_after text written None found = absurd cc
 runs_after text written (Some runs) found = (runs, refl, found)
 
 -- the parts that are found, as what is spelled
-spells_parts : (text : List ℕ) (runs : BothRuns) → InForm (after_all is_blank (capitals text)) runs → Named runs.rest (neighbourhood_cut runs.rest) → AllPass is_blank (neighbourhood_cut runs.rest).1 → Spells text (record { neighbourhood = (neighbourhood_cut runs.rest).0; birth = digit_values runs.birth; survival = digit_values runs.survival })
+spells_parts : (text : List ℕ) (runs : BothRuns) → InForm (trimmed_start (capitals text)) runs → Named runs.rest (neighbourhood_cut runs.rest) → AllPass is_blank (neighbourhood_cut runs.rest).1 → Spells text (record { neighbourhood = (neighbourhood_cut runs.rest).0; birth = digit_values runs.birth; survival = digit_values runs.survival })
 spells_parts text runs form named blank =
     let before = take_while is_blank (capitals text) in
     let b = digit_values runs.birth in
@@ -213,7 +218,7 @@ spells_parts text runs form named blank =
       letter = named.letter;
       after = (neighbourhood_cut runs.rest).1;
       spelled =
-          front_and_rest is_blank (capitals text)
+          blanks_and_rest (capitals text)
           ∙ ap (λ x. before ++ x) (form.whole ∙ ap (λ x. body form.form b s ++ x) named.whole)
           ∙ regroup before (body form.form b s) named.letter (neighbourhood_cut runs.rest).1;
       names = named.names;
@@ -227,7 +232,7 @@ spells_parts text runs form named blank =
 pub parts_of-found : (text : List ℕ) (written : Written) → parts_of (capitals text) ≡ Some written → Spells text written
 unfolding parts_of
 parts_of-found text written found =
-    let runs = runs_after text written (both_runs (after_all is_blank (capitals text))) found in
+    let runs = runs_after text written (both_runs (trimmed_start (capitals text))) found in
     let parts = parts_after-some runs.0 (neighbourhood_cut runs.0.rest) written runs.2 in
     rw parts.1
-    (spells_parts text runs.0 (both_runs-found (after_all is_blank (capitals text)) runs.0 runs.1) (neighbourhood_cut-named runs.0.rest) (only_blanks (neighbourhood_cut runs.0.rest).1 parts.0))
+    (spells_parts text runs.0 (both_runs-found (trimmed_start (capitals text)) runs.0 runs.1) (neighbourhood_cut-named runs.0.rest) (only_blanks (neighbourhood_cut runs.0.rest).1 parts.0))

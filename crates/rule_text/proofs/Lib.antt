@@ -3,6 +3,7 @@ pub mod Capitals
 pub mod Codes
 pub mod CountUp
 pub mod Found
+pub mod FoundParts
 pub mod Fronts
 pub mod Marks
 pub mod Readings

@@ -5,12 +5,12 @@ use Rattle.std.specs.List.{All, AllPass}
 use Rattle.std.proofs.lemmas.Bool.{ne_eqb}
 use Rattle.std.proofs.lemmas.Bool.Decides.{nat_tests}
 use Rattle.std.proofs.lemmas.List.Elements.{All-head}
-use Rattle.rule_text.specs.RuleText.{Form, Names, Spells, Written, body, capitals, digit_text, is_blank}
+use Rattle.rule_text.specs.RuleText.{Form, Names, Spells, Written, body, capitals, digit_text, is_blank, trimmed_start}
 use Rattle.rule_text.specs.RuleText.Form.{BirthSlashSurvival, SurvivalSlashBirth, BirthSurvival, SurvivalBirth, DigitsAlone}
-use Rattle.rule_text.specs.RuleCut.{TwoRuns, two_runs, birth_first, survival_first, runs_round_slash, runs_round_letter, both_runs, neighbourhood_cut, parts_of, after_all}
+use Rattle.rule_text.specs.RuleCut.{TwoRuns, two_runs, birth_first, survival_first, runs_round_slash, runs_round_letter, both_runs, neighbourhood_cut, parts_of}
 use Rattle.rule_text.specs.declared.neighbourhood.Neighbourhood.{Neighbourhood}
 use Rattle.rule_text.specs.declared.neighbourhood.Neighbourhood.TheVariants.{Moore, VonNeumann, Hexagonal}
-use Rattle.rule_text.proofs.Fronts.{Stops, take_while-append_stop, after_all-append_stop, digit_text-pass, digit_values-digit_text}
+use Rattle.rule_text.proofs.Fronts.{Stops, take_while-append_stop, after_all-append_stop, trimmed_start-append_stop, digit_text-pass, digit_values-digit_text}
 
 abbrev AreDigits : List ℕ → Type 0
 AreDigits digits = All (λ digit. digit < 10) digits
@@ -120,8 +120,8 @@ form_stops SurvivalBirth b s rest sd = refl
 form_stops DigitsAlone b [] rest sd = refl
 form_stops DigitsAlone b (d ∷ ds) rest sd = digit_no_blank d (All-head (λ digit. digit < 10) d ds sd)
 
-all_blank : (after : List ℕ) → AllPass is_blank after → after_all is_blank after ≡ []
-all_blank after blank = ap (after_all is_blank) (sym (append-nil after)) ∙ after_all-append_stop is_blank after [] blank tt
+all_blank : (after : List ℕ) → AllPass is_blank after → trimmed_start after ≡ []
+all_blank after blank = ap trimmed_start (sym (append-nil after)) ∙ trimmed_start-append_stop after [] blank tt
 
 -- what a text spells is found in it
 pub parts_of-spelled : (text : List ℕ) (written : Written) → Spells text written → parts_of (capitals text) ≡ Some written
@@ -133,7 +133,7 @@ parts_of-spelled text written spells =
     let stops : Stops is_ascii_digit tail = tail_stops written.neighbourhood spells.letter spells.after spells.names spells.blank_after in
     let whole : capitals text ≡ spells.before ++ (body spells.form b s ++ tail) =
     spells.spelled ∙ regroup spells.before (body spells.form b s) spells.letter spells.after in
-    let inner : after_all is_blank (capitals text) ≡ body spells.form b s ++ tail =
-    ap (after_all is_blank) whole
-    ∙ after_all-append_stop is_blank spells.before (body spells.form b s ++ tail) spells.blank_before (form_stops spells.form b s tail spells.survival_digits) in
+    let inner : trimmed_start (capitals text) ≡ body spells.form b s ++ tail =
+    ap trimmed_start whole
+    ∙ trimmed_start-append_stop spells.before (body spells.form b s ++ tail) spells.blank_before (form_stops spells.form b s tail spells.survival_digits) in
     rw (inner, both_runs-spelled spells.form b s tail spells.birth_digits spells.survival_digits stops, neighbourhood_cut-spelled written.neighbourhood spells.letter spells.after spells.names spells.blank_after, all_blank spells.after spells.blank_after, digit_values-digit_text b, digit_values-digit_text s) refl

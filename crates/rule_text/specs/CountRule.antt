@@ -22,6 +22,10 @@ pub record CountRule : Type 0 where
   pub birth : List ℕ
   pub survival : List ℕ
 
+-- the rule of this neighbourhood and these digits
+abbrev pub count_rule : Neighbourhood → List ℕ → List ℕ → CountRule
+count_rule neighbourhood birth survival = record { neighbourhood = neighbourhood; birth = birth; survival = survival }
+
 -- each digit is the count of some neighbours
 abbrev pub Fit : Neighbourhood → List ℕ → Type 0
 Fit neighbourhood digits = All (λ digit. digit ≤ neighbour_count neighbourhood) digits

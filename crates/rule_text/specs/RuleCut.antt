@@ -3,7 +3,7 @@ use Rattle.std.specs.Prelude.{ℕ, ◌-◌, ◌==◌, Bool, List, [], ◌∷◌,
 use Rattle.std.specs.List.{prefix_len}
 use Rattle.std.specs.Option.{option_map_or}
 use Rattle.std.specs.Char.{is_ascii_digit}
-use Rattle.rule_text.specs.RuleText.{Written, is_blank, capitals}
+use Rattle.rule_text.specs.RuleText.{Written, capitals, trimmed_start}
 use Rattle.rule_text.specs.declared.neighbourhood.Neighbourhood.{Neighbourhood}
 use Rattle.rule_text.specs.declared.neighbourhood.Neighbourhood.TheVariants.{Moore, VonNeumann, Hexagonal}
 use Rattle.rule_text.specs.declared.parts.Runs.{Runs}
@@ -72,13 +72,13 @@ digit_values bytes = map (λ byte. byte - 48) bytes
 
 abbrev pub parts_after : BothRuns → Neighbourhood × List ℕ → Option Written
 parts_after runs cut =
-    if length (after_all is_blank cut.1) == 0
+    if length (trimmed_start cut.1) == 0
     then Some (record { neighbourhood = cut.0; birth = digit_values runs.birth; survival = digit_values runs.survival })
     else None
 
 -- all of the text: blanks, the runs of digits, a letter for the neighbourhood, blanks
 unfoldable pub parts_of : List ℕ → Option Written
-parts_of text = option_map_or (λ runs. parts_after runs (neighbourhood_cut runs.rest)) (both_runs (after_all is_blank text)) None
+parts_of text = option_map_or (λ runs. parts_after runs (neighbourhood_cut runs.rest)) (both_runs (trimmed_start text)) None
 
 -- what the functions of the code give, with what is left in capitals
 abbrev pub seen_runs : Runs → TwoRuns

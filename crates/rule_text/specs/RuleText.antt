@@ -1,5 +1,5 @@
 -- What a rule's text is: the digits of birth and of survival in one of five forms, and a letter for the neighbourhood.
-use Rattle.std.specs.Prelude.{◌≡◌, ℕ, ◌+◌, ◌<◌, ◌==◌, ◌||◌, ◌⊎◌, Bool, true, false, List, [], ◌++◌, map, All, IsTrue, codes, Result, Ok, Err}
+use Rattle.std.specs.Prelude.{◌≡◌, ℕ, ◌+◌, ◌<◌, ◌==◌, ◌||◌, ◌⊎◌, if◌then◌else◌, Bool, true, false, List, [], ◌∷◌, ◌++◌, map, All, IsTrue, codes, Result, Ok, Err}
 use Rattle.std.specs.Char.{to_ascii_uppercase}
 use Rattle.rule_text.specs.CountRule.{CountRule, Fit, has, rising}
 use Rattle.rule_text.specs.declared.fault.RuleFault.{RuleFault}
@@ -10,6 +10,11 @@ use Rattle.rule_text.specs.declared.neighbourhood.Neighbourhood.TheVariants.{Moo
 -- a space or a tab
 abbrev pub is_blank : ℕ → Bool
 is_blank byte = (byte == 32) || (byte == 9)
+
+-- the text from its first byte on that is no blank
+unfoldable pub trimmed_start : List ℕ → List ℕ
+trimmed_start [] = []
+trimmed_start (first ∷ rest) = if is_blank first then trimmed_start rest else first ∷ rest
 
 -- the text with its letters raised to capitals
 abbrev pub capitals : List ℕ → List ℕ

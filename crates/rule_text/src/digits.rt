@@ -32,7 +32,8 @@ impl Model for Digits {
 
     ghost inverse = { λ digits. record { listed = listed_digits digits } };
 
-    ghost inverse_ok = { λ digits nine. ap (λ listed. record { listed = listed }) (listed_again digits.listed nine) };
+    ghost inverse_ok = { λ digits nine.
+        ap (λ listed. record { listed = listed }) (listed_again digits.listed nine) };
 }
 
 impl Digits {

@@ -8,7 +8,8 @@ ghost use Rattle.rule_text.specs.declared.fault.RuleFault.{RuleFault};
 
 /// A text is read in one way only: as one rule or with one fault.
 pub fn one_reading()
-    ensures { (text : List ℕ) (a b : Result CountRule RuleFault) → Reads text a → Reads text b → a ≡ b }
+    ensures { (text : List ℕ) (a b : Result CountRule RuleFault) →
+        Reads text a → Reads text b → a ≡ b }
 {}
 
 /// A rule's canonical text is read as that rule.
@@ -18,7 +19,8 @@ pub fn canonical_text_read_back()
 
 /// No two rules have one canonical text.
 pub fn one_rule_a_text()
-    ensures { (a b : CountRule) → IsRule a → IsRule b → canonical_text a ≡ canonical_text b → a ≡ b }
+    ensures { (a b : CountRule) → IsRule a → IsRule b →
+        canonical_text a ≡ canonical_text b → a ≡ b }
 {}
 
 /// No two rules have one code.

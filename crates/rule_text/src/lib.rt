@@ -9,7 +9,7 @@ mod neighbourhood;
 mod parts;
 mod rule;
 
-pub use blanks::is_blank;
+pub use blanks::{is_blank, trim_start};
 pub use fault::RuleFault;
 pub use laws::{canonical_text_read_back, one_reading, one_rule_a_code, one_rule_a_text};
 pub use neighbourhood::{Neighbourhood, Offset};

@@ -4,10 +4,10 @@ ghost use Rattle.std.specs.Prelude.{◌≡◌, ℕ, IfSome, option_map, take_whi
 ghost use Rattle.std.specs.List.{AllPass};
 ghost use Rattle.std.specs.Char.{is_ascii_digit};
 ghost use Rattle.std.specs.Option.{option_copied};
-ghost use Rattle.rule_text.specs.RuleText.{is_blank, capitals};
+ghost use Rattle.rule_text.specs.RuleText.{capitals};
 ghost use Rattle.rule_text.specs.RuleCut.{after_all, after_mark, runs_round_slash, runs_round_letter, both_runs, neighbourhood_cut, parts_of, seen_runs, seen_body, seen_parts};
 
-use crate::blanks::is_blank;
+use crate::blanks::trim_start;
 use crate::neighbourhood::Neighbourhood;
 
 /// The neighbourhood and the digits of a rule's text, the digits as they stand in it.
@@ -35,7 +35,6 @@ struct Runs<'a> {
 }
 
 /// The parts of a text in one of the forms of a rule's text, if it is in one of them.
-#[tactic(auto, unfolding(crate::specs::RuleCut::parts_of))]
 pub(crate) fn find_parts(text: &[u8]) -> Option<Parts<'_>>
     ensures parts { option_map seen_parts result ≡ parts_of (capitals text.now) }
     ensures birth { IfSome result (λ parts. AllPass is_ascii_digit parts.birth.now) }
@@ -45,9 +44,9 @@ pub(crate) fn find_parts(text: &[u8]) -> Option<Parts<'_>>
         birth,
         survival,
         rest,
-    } = find_body(after_blanks(text))?;
+    } = find_body(trim_start(text))?;
     let (neighbourhood, rest) = leading_neighbourhood(rest);
-    if !after_blanks(rest).is_empty() {
+    if !trim_start(rest).is_empty() {
         return None;
     }
     Some(Parts {
@@ -156,15 +155,4 @@ fn leading_digits(text: &[u8]) -> (&[u8], &[u8])
         .position(|byte| !byte.is_ascii_digit())
         .unwrap_or(text.len());
     text.split_at(end)
-}
-
-/// The text after the blanks at its front.
-fn after_blanks(text: &[u8]) -> &[u8]
-    ensures { capitals result.now ≡ after_all is_blank (capitals text.now) }
-{
-    let end = text
-        .iter()
-        .position(|byte| !is_blank(*byte))
-        .unwrap_or(text.len());
-    text.split_at(end).1
 }

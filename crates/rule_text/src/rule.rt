@@ -23,15 +23,19 @@ pub struct Rule {
 }
 
 impl Model for Rule {
-    ghost use Rattle.rule_text.specs.CountRule.{CountRule, IsRule};
+    ghost use Rattle.rule_text.specs.CountRule.{CountRule, IsRule, count_rule};
 
     ghost Value = { CountRule };
 
-    ghost view = { λ rule. record { neighbourhood = rule.neighbourhood; birth = rule.birth; survival = rule.survival } };
+    ghost view = { λ rule. count_rule rule.neighbourhood rule.birth rule.survival };
 
-    ghost invariant = { λ rule. IsRule (record { neighbourhood = rule.neighbourhood; birth = rule.birth; survival = rule.survival }) };
+    ghost invariant = { λ rule. IsRule (count_rule rule.neighbourhood rule.birth rule.survival) };
 
-    ghost inverse = { λ rule. record { neighbourhood = rule.neighbourhood; birth = rule.birth; survival = rule.survival } };
+    ghost inverse = { λ rule. record {
+      neighbourhood = rule.neighbourhood;
+      birth = rule.birth;
+      survival = rule.survival;
+    } };
 }
 
 impl Rule {

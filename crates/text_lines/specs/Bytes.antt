@@ -3,6 +3,7 @@ use Rattle.std.specs.Prelude.{ℕ, Bool, ◌==◌, if◌then◌else◌, List, []
 use Rattle.std.specs.List.{onto_first}
 use Rattle.std.specs.Str.{bytes_eq}
 pub use Rattle.rule_text.specs.RuleText.{is_blank}
+unfoldable pub use Rattle.rule_text.specs.RuleText.{trimmed_start}
 
 -- the test that a byte is this one
 abbrev pub is_byte : ℕ → ℕ → Bool
@@ -15,11 +16,6 @@ begins_with front text = bytes_eq (take (length front) text) front
 -- the text ends with these bytes
 abbrev pub ends_with : List ℕ → List ℕ → Bool
 ends_with back text = bytes_eq (drop (length text - length back) text) back
-
--- the text from its first byte on that is no blank
-unfoldable pub trimmed_start : List ℕ → List ℕ
-trimmed_start [] = []
-trimmed_start (first ∷ rest) = if is_blank first then trimmed_start rest else first ∷ rest
 
 -- the text up to its last byte that is no blank
 unfoldable pub trimmed_end : List ℕ → List ℕ

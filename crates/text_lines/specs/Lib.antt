@@ -1,5 +1,6 @@
 pub mod Bytes
 pub mod Lines
+pub mod LinesLeft
 pub mod Numbers
 pub mod Comments
 pub mod Faults

@@ -2,9 +2,9 @@
 
 ghost use Rattle.std.specs.Prelude.{◌≡◌};
 ghost use Rattle.std.specs.List.{position};
-ghost use Rattle.text_lines.specs.Bytes.{begins_with, is_blank, trimmed, trimmed_start, trimmed_end};
+ghost use Rattle.text_lines.specs.Bytes.{begins_with, is_blank, trimmed, trimmed_end};
 
-use rule_text::is_blank;
+use rule_text::{is_blank, trim_start};
 
 /// Whether the text begins with these bytes.
 pub fn begins_with(text: &[u8], front: &[u8]) -> bool
@@ -20,24 +20,9 @@ pub fn first_blank(text: &[u8]) -> Option<usize>
     text.iter().position(|byte| is_blank(*byte))
 }
 
-/// The text from its first byte on that is no blank.
-#[tactic(auto, unfolding(crate::specs::Bytes::trimmed_start))]
-pub fn trimmed_start(text: &[u8]) -> &[u8]
-    ensures { result.now ≡ trimmed_start text.now }
-{
-    let mut rest = text;
-    while let Some((first, others)) = rest.split_first() {
-        if !is_blank(*first) {
-            return rest;
-        }
-        rest = others;
-    }
-    rest
-}
-
 /// The text up to its last byte that is no blank.
 #[tactic(auto, using(crate::proofs::TrimLemmas::trimmed_ends))]
-pub fn trimmed_end(text: &[u8]) -> &[u8]
+pub fn trim_end(text: &[u8]) -> &[u8]
     ensures { result.now ≡ trimmed_end text.now }
 {
     let mut rest = text;
@@ -51,8 +36,8 @@ pub fn trimmed_end(text: &[u8]) -> &[u8]
 }
 
 /// The text without the blanks at its ends.
-pub fn trimmed(text: &[u8]) -> &[u8]
+pub fn trim(text: &[u8]) -> &[u8]
     ensures { result.now ≡ trimmed text.now }
 {
-    trimmed_end(trimmed_start(text))
+    trim_end(trim_start(text))
 }

@@ -3,7 +3,7 @@
 ghost use Rattle.std.specs.Prelude.{◌≡◌, [], ◌∷◌, MatchOption};
 ghost use Rattle.std.specs.Iterator.{YieldsFirstRef, item_count};
 ghost use Rattle.text_lines.specs.Comments.{comments_of, is_blank_line, is_comment, is_kept, is_settings_line};
-ghost use Rattle.text_lines.specs.Lines.{lines_from};
+ghost use Rattle.text_lines.specs.LinesLeft.{lines_left};
 
 use crate::bytes::begins_with;
 use crate::lines::Lines;
@@ -54,17 +54,17 @@ pub struct Comments<'a> {
 impl<'a> Model for Comments<'a> {
     ghost use Rattle.std.specs.Prelude.{List, ℕ};
     ghost use Rattle.text_lines.specs.Comments.{comments_of};
-    ghost use Rattle.text_lines.specs.Lines.{lines_from};
+    ghost use Rattle.text_lines.specs.LinesLeft.{lines_left};
 
     ghost Value = { List (List ℕ) };
 
-    ghost view = { λ comments. comments_of (lines_from comments.rest.source.now comments.rest.at) };
+    ghost view = { λ comments. comments_of (lines_left comments.rest) };
 }
 
 impl<'a> Comments<'a> {
     /// The kept comments among these lines.
     pub fn new(lines: Lines<'a>) -> Self
-        ensures { result ≡ comments_of (lines_from lines.entry.source.now lines.entry.at) }
+        ensures { result ≡ comments_of (lines_left lines.entry) }
     {
         Comments { rest: lines }
     }
@@ -85,10 +85,9 @@ impl<'a> Iterator for Comments<'a> {
 /// Takes lines up to the next kept comment, or all if there is none.
 fn next_comment<'a>(lines: &mut Lines<'a>) -> Option<&'a [u8]>
     ensures { MatchOption result
-        ((comments_of (lines_from lines.old.source.now lines.old.at) ≡ [])
-        × (comments_of (lines_from lines.new.source.now lines.new.at) ≡ []))
-        (λ comment. comments_of (lines_from lines.old.source.now lines.old.at)
-        ≡ comment.now ∷ comments_of (lines_from lines.new.source.now lines.new.at)) }
+        ((comments_of (lines_left lines.old) ≡ []) × (comments_of (lines_left lines.new) ≡ []))
+        (λ comment. comments_of (lines_left lines.old)
+        ≡ comment.now ∷ comments_of (lines_left lines.new)) }
 {
     while let Some(line) = lines.next_line() {
         if is_kept(line.text) {

@@ -9,10 +9,10 @@ mod laws;
 mod lines;
 mod numbers;
 
-pub use bytes::{begins_with, first_blank, trimmed, trimmed_end, trimmed_start};
+pub use bytes::{begins_with, first_blank, trim, trim_end};
 pub use comments::{Comments, is_blank_line, is_comment, is_kept, is_settings_line};
 pub use faults::fault_at;
 pub use laws::lines_are_slices;
 pub use lines::{Line, Lines, line_length};
 pub use numbers::{number, with_digit};
-pub use rule_text::is_blank;
+pub use rule_text::{is_blank, trim_start};

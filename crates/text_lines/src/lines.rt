@@ -45,11 +45,13 @@ impl<'a> Lines<'a> {
     /// Takes the next line, if there is one.
     pub fn next_line(&mut self) -> Option<Line<'a>>
         ensures source { self.new.source.now ≡ self.old.source.now }
-        ensures place { MatchOption result (self.new.at ≡ self.old.at) (λ line. (line.place ≡ self.old.at) × (self.old.at < self.new.at)) }
+        ensures place { MatchOption result (self.new.at ≡ self.old.at)
+            (λ line. (line.place ≡ self.old.at) × (self.old.at < self.new.at)) }
         ensures line { MatchOption result
             (lines_from self.old.source.now self.old.at ≡ [])
             (λ line. lines_from self.old.source.now self.old.at
-            ≡ record { place = line.place; text = line.text.now } ∷ lines_from self.new.source.now self.new.at) }
+            ≡ record { place = line.place; text = line.text.now }
+            ∷ lines_from self.new.source.now self.new.at) }
     {
         let rest = &self.source[self.at..];
         if rest.is_empty() {

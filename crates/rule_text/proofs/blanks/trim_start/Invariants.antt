@@ -1,6 +1,6 @@
 use Rattle.std.proofs.Common.{◌≡◌, length}
-use Rattle.text_lines.specs.Bytes.{trimmed_start}
-use Rattle.text_lines.proofs.bytes.trimmed_start.Given as goal
+use Rattle.rule_text.specs.RuleText.{trimmed_start}
+use Rattle.rule_text.proofs.blanks.trim_start.Given as goal
 
 abbrev pub invariant-loop-first : goal.invariant-loop-first
 invariant-loop-first l = trimmed_start l.rest ≡ trimmed_start l.text
