@@ -8,24 +8,24 @@ use Rattle.std.proofs.lemmas.List.Sums.{prefix_len-le-length}
 use Rattle.text_lines.specs.Bytes.{is_blank, trimmed_start}
 use Rattle.text_lines.specs.Numbers.{number_of, capped}
 use Rattle.text_lines.proofs.TrimLemmas.{trimmed_start-nil, trimmed_start-blank, trimmed_start-mark}
-use Rattle.macrocell_reader.specs.Inner.{is_word, words, numbers, inner_of, begins_with_number}
+use Rattle.macrocell_reader.specs.Inner.{is_field, fields, numbers, inner_of, begins_with_number}
 use Rattle.macrocell_reader.specs.Nodes.{kept}
 use Rattle.macrocell_reader.specs.declared.node.Node.{Node}
 use Rattle.macrocell_reader.specs.declared.node.Node.TheVariants.{Inner}
 
--- ---- words
+-- ---- fields
 
-words-blank : (first : ℕ) (rest : List ℕ) → is_blank first ≡ true → words (first ∷ rest) ≡ words rest
-words-blank first rest blank = rw blank refl
+fields-blank : (first : ℕ) (rest : List ℕ) → is_blank first ≡ true → fields (first ∷ rest) ≡ fields rest
+fields-blank first rest blank = rw blank refl
 
-words-trimmed_by : (first : ℕ) (rest : List ℕ) (b : Bool) → is_blank first ≡ b → words (trimmed_start rest) ≡ words rest → words (trimmed_start (first ∷ rest)) ≡ words (first ∷ rest)
-words-trimmed_by first rest true blank later = ap words (trimmed_start-blank first rest blank) ∙ later ∙ sym (words-blank first rest blank)
-words-trimmed_by first rest false mark later = ap words (trimmed_start-mark first rest mark)
+fields-trimmed_by : (first : ℕ) (rest : List ℕ) (b : Bool) → is_blank first ≡ b → fields (trimmed_start rest) ≡ fields rest → fields (trimmed_start (first ∷ rest)) ≡ fields (first ∷ rest)
+fields-trimmed_by first rest true blank later = ap fields (trimmed_start-blank first rest blank) ∙ later ∙ sym (fields-blank first rest blank)
+fields-trimmed_by first rest false mark later = ap fields (trimmed_start-mark first rest mark)
 
--- blanks at the front are no words
-words-trimmed : (text : List ℕ) → words (trimmed_start text) ≡ words text
-words-trimmed [] = ap words trimmed_start-nil
-words-trimmed (first ∷ rest) = words-trimmed_by first rest (is_blank first) refl (words-trimmed rest)
+-- blanks at the front are no fields
+fields-trimmed : (text : List ℕ) → fields (trimmed_start text) ≡ fields text
+fields-trimmed [] = ap fields trimmed_start-nil
+fields-trimmed (first ∷ rest) = fields-trimmed_by first rest (is_blank first) refl (fields-trimmed rest)
 
 -- the first byte is no blank, if there is one
 abbrev pub begins_blank : List ℕ → Bool
@@ -61,39 +61,39 @@ unfolding later_parts
 split_first [] = refl
 split_first (first ∷ rest) = split_step (is_blank first) first rest (first_length rest) (split_first rest)
 
-later_step : (b : Bool) (first : ℕ) (rest : List ℕ) (n : ℕ) → is_blank first ≡ b → filter is_word (later_parts (drop n rest)) ≡ words (drop n rest) →
-    filter is_word (later_parts (drop (cond (not b) (1 + n) 0) (first ∷ rest))) ≡ words (drop (cond (not b) (1 + n) 0) (first ∷ rest))
+later_step : (b : Bool) (first : ℕ) (rest : List ℕ) (n : ℕ) → is_blank first ≡ b → filter is_field (later_parts (drop n rest)) ≡ fields (drop n rest) →
+    filter is_field (later_parts (drop (cond (not b) (1 + n) 0) (first ∷ rest))) ≡ fields (drop (cond (not b) (1 + n) 0) (first ∷ rest))
 unfolding later_parts
-later_step true first rest n blank h = sym (words-blank first rest blank)
+later_step true first rest n blank h = sym (fields-blank first rest blank)
 later_step false first rest n mark h = rw one-add h
 
-later_words : (text : List ℕ) → filter is_word (later_parts (drop (first_length text) text)) ≡ words (drop (first_length text) text)
+later_fields : (text : List ℕ) → filter is_field (later_parts (drop (first_length text) text)) ≡ fields (drop (first_length text) text)
 unfolding later_parts
-later_words [] = refl
-later_words (first ∷ rest) = later_step (is_blank first) first rest (first_length rest) refl (later_words rest)
+later_fields [] = refl
+later_fields (first ∷ rest) = later_step (is_blank first) first rest (first_length rest) refl (later_fields rest)
 
-first_some : (b : Bool) (first : ℕ) (rest : List ℕ) (n : ℕ) → b ≡ false → is_word (take (cond (not b) (1 + n) 0) (first ∷ rest)) ≡ true
+first_some : (b : Bool) (first : ℕ) (rest : List ℕ) (n : ℕ) → b ≡ false → is_field (take (cond (not b) (1 + n) 0) (first ∷ rest)) ≡ true
 first_some true first rest n mark = cc
 first_some false first rest n mark = rw one-add refl
 
-keeps_first : (b : Bool) (word : List ℕ) (others : List (List ℕ)) → b ≡ true → cond b (word ∷ others) others ≡ word ∷ others
-keeps_first true word others some = refl
-keeps_first false word others some = cc
+keeps_first : (b : Bool) (field : List ℕ) (others : List (List ℕ)) → b ≡ true → cond b (field ∷ others) others ≡ field ∷ others
+keeps_first true field others some = refl
+keeps_first false field others some = cc
 
--- the first word of a text that begins with none of its blanks
-words-first : (first : ℕ) (rest : List ℕ) → is_blank first ≡ false → let text = first ∷ rest in
-    words text ≡ take (first_length text) text ∷ words (drop (first_length text) text)
-words-first first rest mark =
+-- the first field of a text that begins with none of its blanks
+fields-first : (first : ℕ) (rest : List ℕ) → is_blank first ≡ false → let text = first ∷ rest in
+    fields text ≡ take (first_length text) text ∷ fields (drop (first_length text) text)
+fields-first first rest mark =
     let text = first ∷ rest in
-    ap (filter is_word) (split_first text)
-    ∙ keeps_first (is_word (take (first_length text) text)) (take (first_length text) text) (filter is_word (later_parts (drop (first_length text) text))) (first_some (is_blank first) first rest (first_length rest) mark)
-    ∙ ap (λ others. take (first_length text) text ∷ others) (later_words text)
+    ap (filter is_field) (split_first text)
+    ∙ keeps_first (is_field (take (first_length text) text)) (take (first_length text) text) (filter is_field (later_parts (drop (first_length text) text))) (first_some (is_blank first) first rest (first_length rest) mark)
+    ∙ ap (λ others. take (first_length text) text ∷ others) (later_fields text)
 
 -- ---- numbers
 
 numbers-trimmed : (text : List ℕ) → numbers (trimmed_start text) ≡ numbers text
 unfolding numbers
-numbers-trimmed text = ap (map number_of) (words-trimmed text)
+numbers-trimmed text = ap (map number_of) (fields-trimmed text)
 
 numbers-nil : numbers [] ≡ []
 unfolding numbers
@@ -102,7 +102,7 @@ numbers-nil = refl
 pub numbers-first : (first : ℕ) (rest : List ℕ) → is_blank first ≡ false → let text = first ∷ rest in
     numbers text ≡ number_of (take (first_length text) text) ∷ numbers (drop (first_length text) text)
 unfolding numbers
-numbers-first first rest mark = ap (map number_of) (words-first first rest mark)
+numbers-first first rest mark = ap (map number_of) (fields-first first rest mark)
 
 number_of-nil : number_of [] ≡ None
 unfolding number_of
@@ -164,10 +164,10 @@ no_more [] none = inl refl
 no_more (None ∷ rest) none = inr (rest, refl)
 no_more (Some number ∷ rest) none = cc
 
--- a word is left
-pub words_left : (text rest : List ℕ) → rest ≡ trimmed_start text → 0 < length rest → (first : Option ℕ) × (others : List (Option ℕ)) × (numbers text ≡ first ∷ others)
-words_left text [] is some = absurd (omega arith)
-words_left text (first ∷ rest) is some = (
+-- a field is left
+pub fields_left : (text rest : List ℕ) → rest ≡ trimmed_start text → 0 < length rest → (first : Option ℕ) × (others : List (Option ℕ)) × (numbers text ≡ first ∷ others)
+fields_left text [] is some = absurd (omega arith)
+fields_left text (first ∷ rest) is some = (
   number_of (take (first_length (first ∷ rest)) (first ∷ rest)),
   numbers (drop (first_length (first ∷ rest)) (first ∷ rest)),
   sym (numbers-trimmed text) ∙ ap numbers (sym is) ∙ numbers-first first rest (ap begins_blank is ∙ begins_trimmed text),

@@ -1,4 +1,4 @@
--- The bits of a leaf's word are its cells.
+-- The bits of a leaf are its cells.
 use Rattle.std.proofs.Common.{◌≡◌, ℕ, zero, suc, ◌+◌, ◌*◌, ◌/◌, ◌%◌, ◌^◌, ◌<◌, ◌≤◌, Bool, true, false, cond, nat_le, List, [], ◌∷◌, length, Some, None, refl, ap, sym, ◌∙◌, arith, zero-add}
 use Rattle.std.specs.Prelude.{◌==◌, ◌&&◌, slice_index}
 use Rattle.std.specs.Int.{bit_at}
@@ -8,7 +8,7 @@ use Rattle.std.proofs.lemmas.Bool.Decides.{nat_tests}
 use Rattle.std.proofs.lemmas.Nat.{pow_pos}
 use Rattle.std.proofs.lemmas.Nat.Bits.{bit_at-zero, bit_at-suc, bit_at_lowest}
 use Rattle.text_lines.specs.Bytes.{trimmed_end}
-use Rattle.macrocell_reader.specs.Leaf.{is_cell, cell_bit, is_row, are_rows, rows_of, row_bits, leaf_bits, leaf_of, word_of, is_live_at}
+use Rattle.macrocell_reader.specs.Leaf.{is_cell, cell_bit, is_row, are_rows, rows_of, row_bits, leaf_bits, leaf_of, bits_of, is_live_at}
 
 -- the lowest bit before others
 low_bit : (b n : ℕ) → b < 2 → bit_at (b + 2 * n) 0 ≡ b
@@ -97,13 +97,13 @@ rows_bits (row ∷ rows) x (suc y) all below =
     ap (λ k. bit_at (row_bits row + 256 * leaf_bits rows) k == 1) place
     ∙ ap (λ n. n == 1) (high_bits 8 (row_bits row) (leaf_bits rows) (8 * y + x) (fits_row row is.0)) ∙ rows_bits rows x y is.1 below
 
-word_step : (b : Bool) (rows : List (List ℕ)) (bits : ℕ) → are_rows rows ≡ b → cond b (Some (leaf_bits rows)) None ≡ Some bits → (are_rows rows ≡ true) × (leaf_bits rows ≡ bits)
-word_step true rows bits is some = (is, cc)
-word_step false rows bits is some = cc
+bits_step : (b : Bool) (rows : List (List ℕ)) (bits : ℕ) → are_rows rows ≡ b → cond b (Some (leaf_bits rows)) None ≡ Some bits → (are_rows rows ≡ true) × (leaf_bits rows ≡ bits)
+bits_step true rows bits is some = (is, cc)
+bits_step false rows bits is some = cc
 
 pub leaf_bit : (line : List ℕ) (bits : ℕ) → leaf_of line ≡ Some bits → (x y : ℕ) → x < 8 → (bit_at bits (8 * y + x) == 1) ≡ is_live_at (rows_of (trimmed_end line)) x y
-unfolding leaf_of word_of
+unfolding leaf_of bits_of
 leaf_bit line bits some x y below =
     let rows = rows_of (trimmed_end line) in
-    let is = word_step (are_rows rows) rows bits refl some in
+    let is = bits_step (are_rows rows) rows bits refl some in
     ap (λ n. bit_at n (8 * y + x) == 1) (sym is.1) ∙ rows_bits rows x y (both_true (nat_le (length rows) 8) (list_all is_row rows) is.0).1 below

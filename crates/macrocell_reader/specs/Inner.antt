@@ -7,17 +7,17 @@ use Rattle.macrocell_reader.specs.declared.node.Node.{Node}
 use Rattle.macrocell_reader.specs.declared.node.Node.TheVariants.{Inner}
 
 -- the part is not empty
-abbrev pub is_word : List ℕ → Bool
-is_word [] = false
-is_word (first ∷ rest) = true
+abbrev pub is_field : List ℕ → Bool
+is_field [] = false
+is_field (first ∷ rest) = true
 
 -- the parts of a text between its blanks that are not empty
-abbrev pub words : List ℕ → List (List ℕ)
-words text = filter is_word (slice_split is_blank text)
+abbrev pub fields : List ℕ → List (List ℕ)
+fields text = filter is_field (slice_split is_blank text)
 
 -- the numbers that they write, where they are numbers
 unfoldable pub numbers : List ℕ → List (Option ℕ)
-numbers text = map number_of (words text)
+numbers text = map number_of (fields text)
 
 -- the level and the four quadrants, if these are all numbers
 unfoldable pub inner_of : List (Option ℕ) → Option Node

@@ -35,12 +35,12 @@ leaf_bits [] = 0
 leaf_bits (row ∷ rows) = row_bits row + 256 * leaf_bits rows
 
 -- the bits of a leaf with the rows of this text
-unfoldable pub word_of : List ℕ → Option ℕ
-word_of text = if are_rows (rows_of text) then Some (leaf_bits (rows_of text)) else None
+unfoldable pub bits_of : List ℕ → Option ℕ
+bits_of text = if are_rows (rows_of text) then Some (leaf_bits (rows_of text)) else None
 
 -- the bits of the leaf that a line writes, which may have blanks at its end
 unfoldable pub leaf_of : List ℕ → Option ℕ
-leaf_of line = word_of (trimmed_end line)
+leaf_of line = bits_of (trimmed_end line)
 
 -- the cell in this column of this row is live; cells and rows that are left out are dead
 abbrev pub is_live_at : List (List ℕ) → ℕ → ℕ → Bool

@@ -9,7 +9,7 @@ ghost use Rattle.macrocell_reader.specs.Inner.{numbers, inner_of, begins_with_nu
 ghost use Rattle.macrocell_reader.specs.Nodes.{kept};
 
 use crate::node::Node;
-use text_lines::{first_blank, number, trimmed_start};
+use text_lines::{first_blank, number, trim_start};
 
 /// The inner node of a line: its level, and the numbers of its quadrants north west, north east, south
 /// west and south east. A number that is too large for its type stays at the largest. None where the
@@ -22,7 +22,7 @@ pub(crate) fn inner(line: &[u8]) -> Option<Node>
     let (ne, rest) = next_number(rest)?;
     let (sw, rest) = next_number(rest)?;
     let (se, rest) = next_number(rest)?;
-    if !trimmed_start(rest).is_empty() {
+    if !trim_start(rest).is_empty() {
         return None;
     }
     Some(Node::Inner {
@@ -42,16 +42,17 @@ fn as_number(number: u64) -> u32
 /// and stays at the largest `u64` if it is larger.
 fn next_number(text: &[u8]) -> Option<(u64, &[u8])>
     ensures { MatchOption result (begins_with_number (numbers text.now) ≡ false)
-        (λ found. (n : ℕ) × (numbers text.now ≡ Some n ∷ numbers found.1.now) × (found.0 ≡ capped n)) }
+        (λ found. (n : ℕ) × (numbers text.now ≡ Some n ∷ numbers found.1.now)
+        × (found.0 ≡ capped n)) }
 {
-    let rest = trimmed_start(text);
-    let length = word_length(rest);
+    let rest = trim_start(text);
+    let length = field_length(rest);
     let value = number(&rest[..length])?;
     Some((value, &rest[length..]))
 }
 
 /// How many bytes stand before the first blank, or how many there are if there is none.
-fn word_length(text: &[u8]) -> usize
+fn field_length(text: &[u8]) -> usize
     ensures { result ≡ position_or_len is_blank text.now }
 {
     first_blank(text).unwrap_or(text.len())

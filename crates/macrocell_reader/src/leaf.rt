@@ -1,9 +1,9 @@
 //! Leaf lines: the rows of a square of 8 by 8 cells, each ended by `$`.
 
 ghost use Rattle.std.specs.Prelude.{◌≡◌, ◌<◌, ◌+◌, ◌*◌, ◌^◌};
-ghost use Rattle.macrocell_reader.specs.Leaf.{leaf_of, word_of, is_cell, cell_bit};
+ghost use Rattle.macrocell_reader.specs.Leaf.{leaf_of, bits_of, is_cell, cell_bit};
 
-use text_lines::trimmed_end;
+use text_lines::trim_end;
 
 /// The cells of a leaf line: bit `8 * y + x` is the cell in column x of row y. The line may have blanks at
 /// its end. None where it is no leaf.
@@ -11,14 +11,14 @@ use text_lines::trimmed_end;
 pub(crate) fn leaf(line: &[u8]) -> Option<u64>
     ensures { result ≡ leaf_of line.now }
 {
-    word(trimmed_end(line))
+    bits_of(trim_end(line))
 }
 
 /// The cells of at most 8 rows of at most 8 cells. A row ends with `$`, which the last one may lack.
-fn word(text: &[u8]) -> Option<u64>
-    ensures { result ≡ word_of text.now }
+fn bits_of(text: &[u8]) -> Option<u64>
+    ensures { result ≡ bits_of text.now }
 {
-    let mut word = 0u64;
+    let mut bits = 0u64;
     let mut row = 0u32;
     let mut column = 0u32;
     for byte in text {
@@ -32,24 +32,24 @@ fn word(text: &[u8]) -> Option<u64>
             if column == 8 || !is_cell(*byte) {
                 return None;
             }
-            word = with_cell(word, 8 * row + column, *byte);
+            bits = with_cell(bits, 8 * row + column, *byte);
             column += 1;
         }
     }
-    Some(word)
+    Some(bits)
 }
 
-/// The word with a cell at this bit, where it has no live cell from there on.
-fn with_cell(word: u64, place: u32, cell: u8) -> u64
+/// The bits with a cell at this place, where none is set from there on.
+fn with_cell(bits: u64, place: u32, cell: u8) -> u64
     requires place { place < 64 }
-    requires free { word < 2 ^ place }
-    ensures value { result ≡ word + cell_bit cell * 2 ^ place }
+    requires free { bits < 2 ^ place }
+    ensures value { result ≡ bits + cell_bit cell * 2 ^ place }
     ensures free { result < 2 ^ (place + 1) }
 {
     if cell == b'*' {
-        word + (1 << place)
+        bits + (1 << place)
     } else {
-        word
+        bits
     }
 }
 

@@ -4,7 +4,7 @@ ghost use Rattle.std.specs.Prelude.{◌≡◌, ◌⊎◌, [], map, IfOk, IfErr, 
 ghost use Rattle.std.specs.Option.{option_copied};
 ghost use Rattle.plane.specs.declared.refusal.Refusal.{Refusal};
 ghost use Rattle.text_lines.specs.Faults.{fault_at};
-ghost use Rattle.text_lines.specs.Lines.{lines_from};
+ghost use Rattle.text_lines.specs.LinesLeft.{lines_left};
 ghost use Rattle.macrocell_reader.specs.Meaning.{judged, first_fault, levels_after, is_node_line, node_line_fault};
 ghost use Rattle.macrocell_reader.specs.NodeFaults.{StandInOrder};
 ghost use Rattle.macrocell_reader.specs.Seen.{said_seen, out_of_memory};
@@ -29,15 +29,15 @@ pub struct McFile<'a> {
 
 impl<'a> Model for McFile<'a> {
     ghost use Rattle.std.specs.Prelude.{◌≡◌, None, []};
-    ghost use Rattle.text_lines.specs.Lines.{lines_from};
+    ghost use Rattle.text_lines.specs.LinesLeft.{lines_left};
     ghost use Rattle.macrocell_reader.specs.Meaning.{Meaning, meaning_with, first_fault};
     ghost use Rattle.macrocell_reader.specs.Seen.{said_seen};
 
     ghost Value = { Meaning };
 
-    ghost view = { λ file. meaning_with (said_seen file.settings) (lines_from file.body.source.now file.body.at) };
+    ghost view = { λ file. meaning_with (said_seen file.settings) (lines_left file.body) };
 
-    ghost invariant = { λ file. first_fault [] (lines_from file.body.source.now file.body.at) ≡ None };
+    ghost invariant = { λ file. first_fault [] (lines_left file.body) ≡ None };
 }
 
 impl<'a> McFile<'a> {
@@ -57,7 +57,8 @@ impl<'a> McFile<'a> {
     /// The first line with a fault is answered, and of its faults the first in the order of this list.
     pub fn open(alloc: Global, source: &'a [u8]) -> Result<McFile<'a>, Fault>
         ensures accepted { IfOk result (λ file. judged source.now ≡ Ok file) }
-        ensures refused { IfErr result (λ fault. (judged source.now ≡ Err fault) ⊎ (fault ≡ out_of_memory)) }
+        ensures refused { IfErr result (λ fault.
+            (judged source.now ≡ Err fault) ⊎ (fault ≡ out_of_memory)) }
     {
         if !begins_with(source, b"[M2]") {
             return Err(fault_at(Refusal::NotAPattern, 0));
@@ -110,10 +111,10 @@ impl<'a> McFile<'a> {
 /// Checks lines, each with the nodes before it, and gives what they say.
 fn check_lines<'a>(alloc: Global, body: Lines<'a>) -> Result<Settings<'a>, Fault>
     ensures accepted { IfOk result (λ settings.
-        (first_fault [] (lines_from body.entry.source.now body.entry.at) ≡ None)
-        × (said_seen settings ≡ after_lines nothing_said (lines_from body.entry.source.now body.entry.at))) }
+        (first_fault [] (lines_left body.entry) ≡ None)
+        × (said_seen settings ≡ after_lines nothing_said (lines_left body.entry))) }
     ensures refused { IfErr result (λ fault.
-        (first_fault [] (lines_from body.entry.source.now body.entry.at) ≡ Some fault) ⊎ (fault ≡ out_of_memory)) }
+        (first_fault [] (lines_left body.entry) ≡ Some fault) ⊎ (fault ≡ out_of_memory)) }
 {
     let mut lines = body;
     let mut settings = Settings::new();
@@ -130,8 +131,8 @@ fn add_level(levels: &mut Vec<u8>, line: Line<'_>) -> Result<(), Fault>
     ensures accepted { OnOk result ((node_line_fault levels.old.items line.entry.text.now ≡ None)
         × (levels.new.items ≡ levels_after levels.old.items line.entry.text.now)) }
     ensures refused { IfErr result (λ fault. ((refusal : Refusal)
-        × (node_line_fault levels.old.items line.entry.text.now ≡ Some refusal) × (fault ≡ fault_at refusal line.entry.place))
-        ⊎ (fault ≡ out_of_memory)) }
+        × (node_line_fault levels.old.items line.entry.text.now ≡ Some refusal)
+        × (fault ≡ fault_at refusal line.entry.place)) ⊎ (fault ≡ out_of_memory)) }
 {
     if is_node_line(line.text) {
         let found = level_of_line(levels, line.text);

@@ -2,7 +2,7 @@
 
 ghost use Rattle.std.specs.Prelude.{◌≡◌, [], ◌∷◌, MatchOption};
 ghost use Rattle.std.specs.Iterator.{YieldsFirstBy, item_count};
-ghost use Rattle.text_lines.specs.Lines.{lines_from};
+ghost use Rattle.text_lines.specs.LinesLeft.{lines_left};
 ghost use Rattle.macrocell_reader.specs.Seen.{nodes_kept, written_seen};
 
 use crate::node::{NodeLine, node_of};
@@ -17,19 +17,19 @@ pub struct NodeLines<'a> {
 
 impl<'a> Model for NodeLines<'a> {
     ghost use Rattle.std.specs.Prelude.{List};
-    ghost use Rattle.text_lines.specs.Lines.{lines_from};
+    ghost use Rattle.text_lines.specs.LinesLeft.{lines_left};
     ghost use Rattle.macrocell_reader.specs.Nodes.{WrittenNode};
     ghost use Rattle.macrocell_reader.specs.Seen.{nodes_kept};
 
     ghost Value = { List WrittenNode };
 
-    ghost view = { λ lines. nodes_kept (lines_from lines.rest.source.now lines.rest.at) };
+    ghost view = { λ lines. nodes_kept (lines_left lines.rest) };
 }
 
 impl<'a> NodeLines<'a> {
     /// The node lines among these lines.
     pub(crate) fn new(rest: Lines<'a>) -> Self
-        ensures { result ≡ nodes_kept (lines_from rest.entry.source.now rest.entry.at) }
+        ensures { result ≡ nodes_kept (lines_left rest.entry) }
     {
         NodeLines { rest }
     }
@@ -50,10 +50,9 @@ impl<'a> Iterator for NodeLines<'a> {
 /// Takes lines up to the next node line, or all if there is none.
 fn next_node<'a>(lines: &mut Lines<'a>) -> Option<NodeLine<'a>>
     ensures { MatchOption result
-        ((nodes_kept (lines_from lines.old.source.now lines.old.at) ≡ [])
-        × (nodes_kept (lines_from lines.new.source.now lines.new.at) ≡ []))
-        (λ node. nodes_kept (lines_from lines.old.source.now lines.old.at)
-        ≡ written_seen node ∷ nodes_kept (lines_from lines.new.source.now lines.new.at)) }
+        ((nodes_kept (lines_left lines.old) ≡ []) × (nodes_kept (lines_left lines.new) ≡ []))
+        (λ node. nodes_kept (lines_left lines.old)
+        ≡ written_seen node ∷ nodes_kept (lines_left lines.new)) }
 {
     while let Some(line) = lines.next_line() {
         if let Some(node) = node_of(line.text) {

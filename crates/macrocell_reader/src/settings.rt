@@ -7,7 +7,7 @@ ghost use Rattle.macrocell_reader.specs.Seen.{said_seen};
 ghost use Rattle.macrocell_reader.specs.Settings.{nothing_said, said_fault, after_line, generation_of, within_limit};
 
 use plane::{Fault, GENERATION_LIMIT, Refusal};
-use text_lines::{Line, begins_with, fault_at, number, trimmed};
+use text_lines::{Line, begins_with, fault_at, number, trim};
 
 /// What the lines `#R` and `#G` say, of each the last.
 #[derive(Clone, Copy, Debug)]
@@ -36,17 +36,18 @@ impl<'a> Settings<'a> {
     /// - `BadGen` a line `#G` whose rest is no number or above the last generation.
     #[tactic(auto, unfolding(crate::specs::Settings::after_line, crate::specs::Settings::said_fault))]
     pub(crate) fn read_line(&mut self, line: Line<'a>) -> Result<(), Fault>
-        ensures fault { IfErr result (λ fault. (refusal : Refusal) × (said_fault line.entry.text.now ≡ Some refusal)
+        ensures fault { IfErr result (λ fault. (refusal : Refusal)
+            × (said_fault line.entry.text.now ≡ Some refusal)
             × (fault ≡ fault_at refusal line.entry.place)) }
         ensures accepted { OnOk result (said_fault line.entry.text.now ≡ None) }
-        ensures settings { OnOk result (said_seen self.new
-            ≡ after_line (said_seen self.old) (record { place = line.entry.place; text = line.entry.text.now })) }
+        ensures settings { OnOk result (said_seen self.new ≡ after_line (said_seen self.old)
+            (record { place = line.entry.place; text = line.entry.text.now })) }
     {
         if begins_with(line.text, b"#FRAMES") {
             return Err(fault_at(Refusal::FramesNotRead, line.place));
         }
         if let Some(rule) = line.text.strip_prefix(b"#R") {
-            self.rule = Some(trimmed(rule));
+            self.rule = Some(trim(rule));
             self.rule_place = line.place;
         }
         if let Some(text) = line.text.strip_prefix(b"#G") {
@@ -62,5 +63,5 @@ impl<'a> Settings<'a> {
 fn generation_of(text: &[u8]) -> Option<u64>
     ensures { result ≡ generation_of text.now }
 {
-    number(trimmed(text)).filter(|generation| *generation <= GENERATION_LIMIT)
+    number(trim(text)).filter(|generation| *generation <= GENERATION_LIMIT)
 }

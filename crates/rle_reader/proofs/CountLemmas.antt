@@ -12,7 +12,7 @@ use Rattle.plane.specs.Limits.{most_live_cells}
 use Rattle.plane.specs.Listing.{IsListing, is_at, plane_of, reading_order}
 use Rattle.plane.specs.Plane.{Plane}
 use Rattle.plane.proofs.Listings.{is_at-own}
-use Rattle.plane.proofs.Turns.{AllByRecursion-weaker}
+use Rattle.plane.proofs.Elements.{AllByRecursion-weaker}
 use Rattle.rle_reader.specs.Items.{ItemSlice}
 use Rattle.rle_reader.specs.Meaning.{Meaning, covers, is_covered, is_live, judged, live_cells, live_plane}
 use Rattle.rle_reader.specs.State.{State, start_at, after_item}

@@ -252,15 +252,17 @@ module _ (all left : List LocatedByte) (count : Count) (is : IsCount all count l
     subst (λ o. IfSome o (λ located. is_ascii_digit located.byte ≡ false)) next is.next,
   )
 
-  pub counted-none : count.next ≡ None → (all ≡ is.digits ++ left) × (left ≡ [])
-  counted-none next = (
-    is.whole ∙ ap (λ o. is.digits ++ (option_to_list o ++ left)) next,
-    subst (λ o. IfNone o (left ≡ [])) next is.end,
-  )
-
-pub end-nil : (rest : List LocatedByte) → rest ≡ [] → IsEnd rest
+end-nil : (rest : List LocatedByte) → rest ≡ [] → IsEnd rest
 end-nil [] none = tt
 end-nil (first ∷ rest) none = cc
+
+-- the digits of a count stand before the end, where the byte after them is a `!` or is missing
+pub counted-end : (all left : List LocatedByte) (count : Count) → IsCount all count left → IfSome count.next (λ last. is_end last ≡ true) → IsEnd (option_to_list count.next ++ left)
+counted-end all left count is ends = by_next count.next is.end ends
+  where
+    by_next : (next : Option LocatedByte) → IfNone next (left ≡ []) → IfSome next (λ last. is_end last ≡ true) → IsEnd (option_to_list next ++ left)
+    by_next None none ends = end-nil left none
+    by_next (Some last) none ends = ends
 
 pub item_slice_from-source : (own source : List ℕ) (place value : ℕ) (tag : LocatedByte) (found : Result (Option ItemSlice) Fault) → own ≡ source →
     found ≡ result_map_both (λ run. Some run) (λ refusal. fault_at refusal place) (item_slice_from own place value tag) →

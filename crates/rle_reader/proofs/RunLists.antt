@@ -12,7 +12,7 @@ use Rattle.plane.specs.declared.refusal.Refusal.{Refusal}
 use Rattle.plane.specs.declared.refusal.Refusal.TheVariants.{BadCount}
 use Rattle.plane.specs.Runs.{AreRising, AreRuns, IsRun, Precedes, is_in_run, runs_plane}
 use Rattle.plane.specs.Square.{IsSame}
-use Rattle.plane.proofs.Turns.{AllByRecursion-append, AllByRecursion-weaker}
+use Rattle.plane.proofs.Elements.{AllByRecursion-append, AllByRecursion-weaker}
 use Rattle.rle_reader.specs.Items.{ItemSlice, Item, item_slice_between, item_slice_from, run_of, tag_of}
 use Rattle.rle_reader.specs.LiveRuns.{live_run}
 use Rattle.rle_reader.specs.Meaning.{Meaning, StayInRange, is_covered, live_plane}

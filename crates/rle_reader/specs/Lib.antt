@@ -11,4 +11,5 @@ pub mod Slices
 pub mod State
 pub mod Meaning
 pub mod Seen
+pub mod Left
 pub mod LiveRuns

@@ -12,8 +12,13 @@ use Rattle.std.specs.Option.{option_map, option_to_list}
 use Rattle.std.specs.List.{AllByRecursion}
 use Rattle.std.specs.Char.{is_ascii_digit}
 use Rattle.rle_reader.specs.declared.body.LocatedByte.{LocatedByte}
-use Rattle.rle_reader.specs.Items.{ItemSlice, is_digit, count_of}
+use Rattle.rle_reader.specs.Items.{ItemSlice, is_digit, count_of, items_of}
+use Rattle.text_lines.specs.Faults.{at_place}
 use Rattle.text_lines.specs.Numbers.{capped}
+use Rattle.text_lines.specs.declared.lines.Line.{Line}
+use Rattle.rle_reader.specs.Body.{stripped_from}
+use Rattle.rle_reader.specs.Header.{header_rule}
+use Rattle.rle_reader.specs.Meaning.{body_fault}
 use Rattle.rle_reader.specs.declared.item.Count.{Count}
 use Rattle.rle_reader.specs.declared.item.Run.{Run}
 use Rattle.rle_reader.specs.declared.preamble.Preamble.{Preamble}
@@ -30,6 +35,14 @@ opening_seen source preamble = record {
 
 abbrev pub seen_opening : List ℕ → Result Preamble Fault → Result Opening Fault
 seen_opening source found = result_map_both (opening_seen source) (λ fault. fault) found
+
+-- the first fault of the body behind what was read
+abbrev pub fault_in_body : List ℕ → Preamble → Option Fault
+fault_in_body source preamble = body_fault preamble.settings.pos (items_of (stripped_from source preamble.body true))
+
+-- the rule of a header line, or its fault
+abbrev pub rule_at : Line → Result (Option (List ℕ)) Fault
+rule_at line = at_place line.place (header_rule line.text.now)
 
 -- an item with the bytes of its slice
 abbrev pub run_seen : Run → ItemSlice

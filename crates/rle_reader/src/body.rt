@@ -55,13 +55,14 @@ impl<'a> Body<'a> {
     /// Takes the next byte that is no blank, CR or LF and stands in no comment.
     pub(crate) fn next_byte(&mut self) -> Option<LocatedByte>
         ensures source { self.new.source.now ≡ self.old.source.now }
-        ensures place { MatchOption result (self.old.at ≤ self.new.at) (λ next. (self.old.at ≤ next.place) × (next.place < self.new.at)) }
+        ensures place { MatchOption result (self.old.at ≤ self.new.at)
+            (λ next. (self.old.at ≤ next.place) × (next.place < self.new.at)) }
         ensures within { self.new.at ≤ length self.new.source.now }
         ensures bytes { MatchOption result
             ((stripped_from self.old.source.now self.old.at self.old.line_begins ≡ [])
             × (stripped_from self.new.source.now self.new.at self.new.line_begins ≡ []))
             (λ next. stripped_from self.old.source.now self.old.at self.old.line_begins
-            ≡ record { place = next.place; byte = next.byte } ∷ stripped_from self.new.source.now self.new.at self.new.line_begins) }
+            ≡ next ∷ stripped_from self.new.source.now self.new.at self.new.line_begins) }
     {
         while self.at < self.source.len() {
             let place = self.at;
@@ -87,7 +88,8 @@ impl<'a> Body<'a> {
         ensures source { self.new.source.now ≡ self.old.source.now }
         ensures place { self.old.at < self.new.at }
         ensures begins { self.new.line_begins ≡ true }
-        ensures bytes { stripped_from self.new.source.now self.new.at true ≡ stripped_from self.old.source.now self.old.at true }
+        ensures bytes { stripped_from self.new.source.now self.new.at true
+            ≡ stripped_from self.old.source.now self.old.at true }
     {
         let rest = &self.source[self.at..];
         self.at += (line_length(rest) + 1).min(rest.len());

@@ -50,10 +50,16 @@ impl Cursor {
     /// The cursor past an item.
     #[tactic(auto, unfolding(crate::specs::State::motion_fault))]
     pub(crate) fn after(self, run: &Run<'_>) -> Result<Cursor, Refusal>
-        ensures ok { IfOk result (λ next. (motion_fault (state_at self.column self.row self.live) run.now.tag run.now.count ≡ None)
-            × (state_at next.column next.row next.live ≡ after_item self.left (state_at self.column self.row self.live) run.now.tag run.now.count)
+        ensures ok { IfOk result (λ next.
+            (motion_fault (state_at self.column self.row self.live) run.now.tag run.now.count
+            ≡ None)
+            × (state_at next.column next.row next.live
+            ≡ after_item self.left (state_at self.column self.row self.live)
+            run.now.tag run.now.count)
             × (next.left ≡ self.left)) }
-        ensures err { IfErr result (λ refusal. motion_fault (state_at self.column self.row self.live) run.now.tag run.now.count ≡ Some refusal) }
+        ensures err { IfErr result (λ refusal.
+            motion_fault (state_at self.column self.row self.live) run.now.tag run.now.count
+            ≡ Some refusal) }
     {
         let count = run.count;
         let Cursor {
@@ -63,10 +69,10 @@ impl Cursor {
             live,
         } = self;
         let (column, row, live) = match run.tag {
-            Tag::Row => (left, moved(row, count)?, live),
-            Tag::Dead => (moved(column, count)?, row, live),
+            Tag::Row => (left, advance(row, count)?, live),
+            Tag::Dead => (advance(column, count)?, row, live),
             Tag::Live if row >= COORDINATE_LIMIT => return Err(Refusal::OutOfRange),
-            Tag::Live => (moved(column, count)?, row, more_live(live, count)?),
+            Tag::Live => (advance(column, count)?, row, more_live(live, count)?),
         };
         Ok(Cursor {
             left,
@@ -77,11 +83,13 @@ impl Cursor {
     }
 }
 
-/// The coordinate moved on by a count. `OutOfRange` if it is then above the limit.
-fn moved(coordinate: i64, count: u64) -> Result<i64, Refusal>
+/// Moves a coordinate on by a count. `OutOfRange` if it is then above the limit.
+fn advance(coordinate: i64, count: u64) -> Result<i64, Refusal>
     requires { IsWithinReach coordinate }
-    ensures ok { IfOk result (λ next. (passes_limit coordinate count ≡ false) × (next ≡ coordinate +ℤ pos count) × IsWithinReach next) }
-    ensures err { IfErr result (λ refusal. (passes_limit coordinate count ≡ true) × (refusal ≡ Refusal.OutOfRange)) }
+    ensures ok { IfOk result (λ next. (passes_limit coordinate count ≡ false)
+        × (next ≡ coordinate +ℤ pos count) × IsWithinReach next) }
+    ensures err { IfErr result (λ refusal. (passes_limit coordinate count ≡ true)
+        × (refusal ≡ Refusal.OutOfRange)) }
 {
     if count > COORDINATE_LIMIT.abs_diff(coordinate) {
         return Err(Refusal::OutOfRange);
@@ -93,7 +101,8 @@ fn moved(coordinate: i64, count: u64) -> Result<i64, Refusal>
 fn more_live(live: u64, count: u64) -> Result<u64, Refusal>
     requires { live ≤ most_live_cells }
     ensures ok { IfOk result (λ more. (more ≡ live + count) × (more ≤ most_live_cells)) }
-    ensures err { IfErr result (λ refusal. (most_live_cells < live + count) × (refusal ≡ Refusal.TooManyCells)) }
+    ensures err { IfErr result (λ refusal. (most_live_cells < live + count)
+        × (refusal ≡ Refusal.TooManyCells)) }
 {
     if count > LIVE_CELL_LIMIT - live {
         return Err(Refusal::TooManyCells);

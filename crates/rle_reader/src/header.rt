@@ -9,7 +9,7 @@ ghost use Rattle.rle_reader.specs.Header.{header_rule, rule_behind, begins_as_he
 
 use crate::bytes::split_at_byte;
 use plane::Refusal;
-use text_lines::{number, trimmed, trimmed_start};
+use text_lines::{number, trim, trim_start};
 
 /// The rule of a header line, if it names one.
 #[tactic(auto, unfolding(crate::specs::Header::header_rule))]
@@ -56,7 +56,7 @@ fn rule_behind(rest: &[u8]) -> Result<Option<&[u8]>, Refusal>
 fn begins_as_header(line: &[u8]) -> bool
     ensures { result ≡ begins_as_header line.now }
 {
-    matches!(trimmed_start(line).first(), Some(b'x' | b'X'))
+    matches!(trim_start(line).first(), Some(b'x' | b'X'))
 }
 
 /// Whether the part is the key, `=` and one or more digits.
@@ -74,7 +74,7 @@ fn value_behind<'a>(part: &'a [u8], key: &[u8]) -> Option<&'a [u8]>
     ensures { option_copied result ≡ value_behind key.now part.now }
 {
     let (name, value) = split_at_byte(part, b'=')?;
-    is_key(trimmed(name), key).then(|| trimmed(value))
+    is_key(trim(name), key).then(|| trim(value))
 }
 
 /// Whether the name is the key, whichever its letters' case.

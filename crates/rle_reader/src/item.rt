@@ -4,9 +4,9 @@ ghost use Rattle.std.specs.Prelude.{◌≡◌, ◌<◌, ◌≤◌, ◌∷◌, if
 ghost use Rattle.std.specs.Option.{option_map};
 ghost use Rattle.std.specs.Result.{result_map_both};
 ghost use Rattle.plane.specs.declared.refusal.Refusal.TheVariants.{BadCount};
-ghost use Rattle.rle_reader.specs.Body.{stripped_from};
 ghost use Rattle.text_lines.specs.Faults.{fault_at};
-ghost use Rattle.rle_reader.specs.Items.{items_of, items_after, next_of, kept, item_slice_from, tag_of};
+ghost use Rattle.rle_reader.specs.Items.{items_after, next_of, kept, item_slice_from, tag_of};
+ghost use Rattle.rle_reader.specs.Left.{bytes_left, items_left};
 ghost use Rattle.rle_reader.specs.Seen.{seen_next, IsCount};
 
 use crate::body::{Body, LocatedByte};
@@ -52,23 +52,19 @@ pub(crate) fn next_run<'a>(body: &mut Body<'a>) -> Result<Option<Run<'a>>, Fault
     ensures source { body.new.source.now ≡ body.old.source.now }
     ensures progress { IfOk result (λ next. IfSome next (λ run. body.old.at < body.new.at)) }
     ensures next { seen_next result ≡ result_map_both (option_map kept) (λ fault. fault)
-        (next_of body.old.source.now (items_of (stripped_from body.old.source.now body.old.at body.old.line_begins))) }
-    ensures rest { IfOk result (λ next. OnSome next (items_of (stripped_from body.new.source.now body.new.at body.new.line_begins)
-        ≡ items_after (items_of (stripped_from body.old.source.now body.old.at body.old.line_begins)))) }
+        (next_of body.old.source.now (items_left body.old)) }
+    ensures rest { IfOk result (λ next. OnSome next
+        (items_left body.new ≡ items_after (items_left body.old))) }
 {
     let Some(first) = body.next_byte() else {
         return Ok(None);
     };
     let count = read_count(body, first);
     match count.next {
-        Some(last) => {
-            if last.byte == b'!' {
-                untagged(first.place, count.is_written)
-            } else {
-                tagged_run(body.source(), first.place, count.value, last)
-            }
+        Some(last) if last.byte != b'!' => {
+            tagged_run(body.source(), first.place, count.value, last)
         }
-        None => untagged(first.place, count.is_written),
+        _ => check_end(first.place, count.is_written),
     }
 }
 
@@ -81,7 +77,9 @@ fn tagged_run<'a>(
 ) -> Result<Option<Run<'a>>, Fault>
     requires order { place ≤ last.place }
     requires within { last.place < length source.now }
-    ensures { seen_next result ≡ result_map_both (λ run. Some run) (λ refusal. fault_at refusal place) (item_slice_from source.now place count last) }
+    ensures { seen_next result
+        ≡ result_map_both (λ run. Some run) (λ refusal. fault_at refusal place)
+        (item_slice_from source.now place count last) }
 {
     let tag = match tag_of(last.byte) {
         Ok(tag) => tag,
@@ -99,7 +97,7 @@ fn tagged_run<'a>(
 }
 
 /// The end of the body, where a count that no tag follows is a fault.
-fn untagged<'a>(place: usize, is_written: bool) -> Result<Option<Run<'a>>, Fault>
+fn check_end<'a>(place: usize, is_written: bool) -> Result<Option<Run<'a>>, Fault>
     ensures { seen_next result ≡ (if is_written then Err (fault_at BadCount place) else Ok None) }
 {
     if is_written {
@@ -115,9 +113,9 @@ fn read_count(body: &mut Body<'_>, first: LocatedByte) -> Count
     ensures source { body.new.source.now ≡ body.old.source.now }
     ensures place { body.old.at ≤ body.new.at }
     ensures within { body.new.at ≤ length body.new.source.now }
-    ensures next { IfSome result.next (λ last. (first.place ≤ last.place) × (last.place < body.new.at)) }
-    ensures count { IsCount (first ∷ stripped_from body.old.source.now body.old.at body.old.line_begins) result
-        (stripped_from body.new.source.now body.new.at body.new.line_begins) }
+    ensures next { IfSome result.next (λ last.
+        (first.place ≤ last.place) × (last.place < body.new.at)) }
+    ensures count { IsCount (first ∷ bytes_left body.old) result (bytes_left body.new) }
 {
     if !first.byte.is_ascii_digit() {
         return Count {

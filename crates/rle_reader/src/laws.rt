@@ -14,7 +14,8 @@ ghost use Rattle.rle_reader.specs.State.{start_at};
 /// A body is cut into items, digits that are left over and an end in exactly one way.
 pub fn one_cut()
     ensures cut { (body : List LocatedByte) → AreItemsOf body (items_of body) }
-    ensures only { (body : List LocatedByte) (found : Items) → AreItemsOf body found → found ≡ items_of body }
+    ensures only { (body : List LocatedByte) (found : Items) →
+        AreItemsOf body found → found ≡ items_of body }
 {}
 
 /// The items of an accepted text stay in the range, their live cells are no more than a file may have, each
@@ -26,12 +27,14 @@ pub fn accepted_in_range()
         live_cells meaning.runs ≤ most_live_cells }
     ensures cells { (text : List ℕ) (meaning : Meaning) → judged text ≡ Ok meaning →
         (x y : ℤ) → live_plane meaning x y ≡ true → IsInRange (record { y = y; x = x }) }
-    ensures listing { (text : List ℕ) (meaning : Meaning) (cells : List Cell) → judged text ≡ Ok meaning →
-        IsListing cells (live_plane meaning) → length cells ≤ most_live_cells }
+    ensures listing { (text : List ℕ) (meaning : Meaning) (cells : List Cell) →
+        judged text ≡ Ok meaning → IsListing cells (live_plane meaning) →
+        length cells ≤ most_live_cells }
 {}
 
 /// Each item of an accepted text is the slice of the text from its first digit, or from its tag if it has no
 /// count, to its tag. No slice begins before the one before it ends, so their places rise.
 pub fn items_are_slices()
-    ensures { (text : List ℕ) (meaning : Meaning) → judged text ≡ Ok meaning → AreSlices text 0 meaning.runs }
+    ensures { (text : List ℕ) (meaning : Meaning) → judged text ≡ Ok meaning →
+        AreSlices text 0 meaning.runs }
 {}

@@ -2,10 +2,8 @@
 
 ghost use Rattle.std.specs.Prelude.{◌≡◌, ◌≤◌, length, IfOk, IfErr};
 ghost use Rattle.std.specs.Option.{option_copied};
-ghost use Rattle.text_lines.specs.Faults.{at_place};
-ghost use Rattle.rle_reader.specs.Header.{header_rule};
 ghost use Rattle.text_lines.specs.Lines.{lines_from};
-ghost use Rattle.rle_reader.specs.Seen.{seen_opening};
+ghost use Rattle.rle_reader.specs.Seen.{rule_at, seen_opening};
 ghost use Rattle.rle_reader.specs.Opening.{stands_before_header, opening_of};
 
 use crate::header::header_rule;
@@ -28,7 +26,8 @@ pub(crate) struct Preamble<'a> {
 impl<'a> Preamble<'a> {
     /// Reads the lines up to the header.
     pub(crate) fn read(source: &'a [u8]) -> Result<Preamble<'a>, Fault>
-        ensures opening { seen_opening source.now result ≡ opening_of (length source.now) (lines_from source.now 0) }
+        ensures opening { seen_opening source.now result
+            ≡ opening_of (length source.now) (lines_from source.now 0) }
         ensures body { IfOk result (λ read. read.body ≤ length source.now) }
     {
         let mut lines = Lines::new(source);
@@ -43,9 +42,10 @@ impl<'a> Preamble<'a> {
     }
 
     fn with_header(settings: Settings, line: Line<'a>, body: usize) -> Result<Preamble<'a>, Fault>
-        ensures ok { IfOk result (λ read. (read.settings ≡ settings) × (read.header ≡ line.entry.place) × (read.body ≡ body)
-            × (at_place line.entry.place (header_rule line.entry.text.now) ≡ Ok (option_copied read.rule))) }
-        ensures err { IfErr result (λ fault. at_place line.entry.place (header_rule line.entry.text.now) ≡ Err fault) }
+        ensures ok { IfOk result (λ read.
+            (read.settings ≡ settings) × (read.header ≡ line.entry.place) × (read.body ≡ body)
+            × (rule_at line.entry ≡ Ok (option_copied read.rule))) }
+        ensures err { IfErr result (λ fault. rule_at line.entry ≡ Err fault) }
     {
         let rule = header_rule(line.text).map_err(|refusal| fault_at(refusal, line.place))?;
         Ok(Preamble {

@@ -1,12 +1,11 @@
 //! A checked RLE file.
 
-ghost use Rattle.std.specs.Prelude.{◌≡◌, ◌<◌, ◌≤◌, ◌++◌, length, true, IfOk, IfErr, OnOk};
+ghost use Rattle.std.specs.Prelude.{◌≡◌, ◌<◌, ◌≤◌, ◌++◌, length, IfOk, IfErr, OnOk};
 ghost use Rattle.std.specs.List.{AllByRecursion};
 ghost use Rattle.std.specs.Option.{option_copied};
-ghost use Rattle.rle_reader.specs.Body.{stripped_from};
-ghost use Rattle.rle_reader.specs.Items.{items_of};
 ghost use Rattle.rle_reader.specs.LiveRuns.{live_run};
-ghost use Rattle.rle_reader.specs.Meaning.{StayInRange, body_fault, judged, live_plane};
+ghost use Rattle.rle_reader.specs.Meaning.{StayInRange, judged, live_plane};
+ghost use Rattle.rle_reader.specs.Seen.{fault_in_body};
 ghost use Rattle.rle_reader.specs.State.{start_at};
 ghost use Rattle.plane.specs.Range.{IsInRange};
 ghost use Rattle.plane.specs.Runs.{AreRuns, runs_plane};
@@ -31,23 +30,23 @@ pub struct RleFile<'a> {
 }
 
 impl<'a> Model for RleFile<'a> {
-    ghost use Rattle.std.specs.Prelude.{◌≡◌, ◌≤◌, None, Ok, true, length};
-    ghost use Rattle.rle_reader.specs.Body.{stripped_from};
-    ghost use Rattle.rle_reader.specs.Items.{items_of};
-    ghost use Rattle.rle_reader.specs.Meaning.{Meaning, meaning_of, body_fault};
+    ghost use Rattle.std.specs.Prelude.{◌≡◌, ◌≤◌, None, Ok, length};
+    ghost use Rattle.rle_reader.specs.Meaning.{Meaning, meaning_of};
     ghost use Rattle.rle_reader.specs.Opening.{opening_of};
     ghost use Rattle.text_lines.specs.Lines.{lines_from};
     ghost use Rattle.plane.specs.Range.{IsInRange};
-    ghost use Rattle.rle_reader.specs.Seen.{opening_seen};
+    ghost use Rattle.rle_reader.specs.Seen.{fault_in_body, opening_seen};
 
     ghost Value = { Meaning };
 
-    ghost view = { λ file. meaning_of file.source.now (opening_seen file.source.now file.preamble) };
+    ghost view = { λ file.
+        meaning_of file.source.now (opening_seen file.source.now file.preamble) };
 
     ghost invariant = { λ file. (file.preamble.body ≤ length file.source.now)
         × IsInRange file.preamble.settings.pos
-        × (body_fault file.preamble.settings.pos (items_of (stripped_from file.source.now file.preamble.body true)) ≡ None)
-        × (Ok (opening_seen file.source.now file.preamble) ≡ opening_of (length file.source.now) (lines_from file.source.now 0)) };
+        × (fault_in_body file.source.now file.preamble ≡ None)
+        × (Ok (opening_seen file.source.now file.preamble)
+        ≡ opening_of (length file.source.now) (lines_from file.source.now 0)) };
 }
 
 impl<'a> RleFile<'a> {
@@ -146,7 +145,8 @@ impl<'a> RleFile<'a> {
 
 /// Adds the run of an item whose first cell is this one, if it is of live cells.
 fn push_live(live: &mut Vec<(Cell, u64)>, first: Cell, run: &Run<'_>) -> Result<(), AllocError>
-    ensures { OnOk result (live.new.items ≡ live.old.items ++ live_run first run.now.tag run.now.count) }
+    ensures { OnOk result
+        (live.new.items ≡ live.old.items ++ live_run first run.now.tag run.now.count) }
 {
     if run.tag == Tag::Live {
         live.push((first, run.count))?;
@@ -158,8 +158,8 @@ fn push_live(live: &mut Vec<(Cell, u64)>, first: Cell, run: &Run<'_>) -> Result<
 fn check_body(source: &[u8], preamble: &Preamble<'_>) -> Result<(), Fault>
     requires body { preamble.now.body ≤ length source.now }
     requires in_range { IsInRange preamble.now.settings.pos }
-    ensures ok { OnOk result (body_fault preamble.now.settings.pos (items_of (stripped_from source.now preamble.now.body true)) ≡ None) }
-    ensures err { IfErr result (λ fault. body_fault preamble.now.settings.pos (items_of (stripped_from source.now preamble.now.body true)) ≡ Some fault) }
+    ensures ok { OnOk result (fault_in_body source.now preamble.now ≡ None) }
+    ensures err { IfErr result (λ fault. fault_in_body source.now preamble.now ≡ Some fault) }
 {
     let mut body = Body::new(source, preamble.body);
     let mut cursor = Cursor::new(preamble.settings.pos);

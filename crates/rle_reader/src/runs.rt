@@ -3,6 +3,7 @@
 ghost use Rattle.std.specs.Prelude.{◌≡◌, ◌≤◌, [], ◌∷◌, true, length, map, MatchOption};
 ghost use Rattle.std.specs.Iterator.{YieldsFirstBy, item_count};
 ghost use Rattle.rle_reader.specs.Body.{stripped_from};
+ghost use Rattle.rle_reader.specs.Left.{runs_left};
 ghost use Rattle.rle_reader.specs.Meaning.{runs_kept};
 ghost use Rattle.rle_reader.specs.Seen.{run_seen};
 
@@ -18,13 +19,12 @@ pub struct Runs<'a> {
 
 impl<'a> Model for Runs<'a> {
     ghost use Rattle.std.specs.Prelude.{List};
-    ghost use Rattle.rle_reader.specs.Body.{stripped_from};
     ghost use Rattle.rle_reader.specs.Items.{ItemSlice};
-    ghost use Rattle.rle_reader.specs.Meaning.{runs_kept};
+    ghost use Rattle.rle_reader.specs.Left.{runs_left};
 
     ghost Value = { List ItemSlice };
 
-    ghost view = { λ runs. runs_kept runs.body.source.now (stripped_from runs.body.source.now runs.body.at runs.body.line_begins) };
+    ghost view = { λ runs. runs_left runs.body };
 }
 
 impl<'a> Runs<'a> {
@@ -52,19 +52,12 @@ impl<'a> Iterator for Runs<'a> {
 
 /// Takes the next item, or all that is left if there is none.
 fn take_run<'a>(body: &mut Body<'a>) -> Option<Run<'a>>
-    ensures { MatchOption result
-        ((runs_kept body.old.source.now (stripped_from body.old.source.now body.old.at body.old.line_begins) ≡ [])
-        × (runs_kept body.new.source.now (stripped_from body.new.source.now body.new.at body.new.line_begins) ≡ []))
-        (λ run. runs_kept body.old.source.now (stripped_from body.old.source.now body.old.at body.old.line_begins)
-        ≡ run_seen run ∷ runs_kept body.new.source.now (stripped_from body.new.source.now body.new.at body.new.line_begins)) }
+    ensures { MatchOption result ((runs_left body.old ≡ []) × (runs_left body.new ≡ []))
+        (λ run. runs_left body.old ≡ run_seen run ∷ runs_left body.new) }
 {
     match next_run(body) {
         Ok(Some(run)) => Some(run),
-        Ok(None) => {
-            body.close();
-            None
-        }
-        Err(_) => {
+        _ => {
             body.close();
             None
         }

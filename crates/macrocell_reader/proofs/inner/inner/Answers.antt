@@ -1,7 +1,7 @@
 use Rattle.std.proofs.Common.{◌≡◌, ◌<◌, ◌∙◌, ap, sym, length, arith}
 use Rattle.std.proofs.lemmas.Bool.Decides.{nat_tests}
 use Rattle.macrocell_reader.specs.Inner.{numbers}
-use Rattle.macrocell_reader.proofs.InnerLemmas.{node_from, node_from-is, too_few-0, too_few-1, too_few-2, too_few-3, too_few-4, too_many, five_kept, words_left, numbers-end, after}
+use Rattle.macrocell_reader.proofs.InnerLemmas.{node_from, node_from-is, too_few-0, too_few-1, too_few-2, too_few-3, too_few-4, too_many, five_kept, fields_left, numbers-end, after}
 use Rattle.macrocell_reader.proofs.inner.inner.Goals as goal
 
 pub returns-in_err-level : goal.returns-in_err-level
@@ -49,8 +49,8 @@ returns-then-not-is_empty c =
     let d = c.in_ok-ne.ensures in
     let e = c.in_ok-sw.ensures in
     let f = c.in_ok-se.ensures in
-    let some : 0 < length c.trimmed_start.result.now = grind (arith, nat_tests) in
-    let more = words_left c.in_ok-se.rest.now c.trimmed_start.result.now c.trimmed_start.ensures some in
+    let some : 0 < length c.trim_start.result.now = grind (arith, nat_tests) in
+    let more = fields_left c.in_ok-se.rest.now c.trim_start.result.now c.trim_start.ensures some in
     sym (too_many a.0 b.0 d.0 e.0 f.0 more.0 more.1)
     ∙ ap node_from (sym (after a.0 a.1 (after b.0 b.1 (after d.0 d.1 (after e.0 e.1 (after f.0 f.1 more.2))))))
     ∙ node_from-is (numbers c.args.line.now)
@@ -62,8 +62,8 @@ returns c =
     let d = c.in_ok-ne.ensures in
     let e = c.in_ok-sw.ensures in
     let f = c.in_ok-se.ensures in
-    let none : length c.trimmed_start.result.now ≡ 0 = grind (arith, nat_tests) in
-    let end = numbers-end c.in_ok-se.rest.now c.trimmed_start.result.now c.trimmed_start.ensures none in
+    let none : length c.trim_start.result.now ≡ 0 = grind (arith, nat_tests) in
+    let end = numbers-end c.in_ok-se.rest.now c.trim_start.result.now c.trim_start.ensures none in
     five_kept a.0 b.0 d.0 e.0 f.0 c.min.result c.as_number.result c.as_number-2.result c.as_number-3.result c.as_number-4.result
     (omega arith) (omega arith) (omega arith) (omega arith) (omega arith)
     ∙ ap node_from (sym (after a.0 a.1 (after b.0 b.1 (after d.0 d.1 (after e.0 e.1 (after f.0 f.1 end))))))

@@ -1,7 +1,7 @@
 use Rattle.std.proofs.Common.{◌∙◌, ap, unwrap_or, length}
 use Rattle.std.proofs.Common.{ℕ, Option}
 use Rattle.macrocell_reader.proofs.InnerLemmas.{place_or_end}
-use Rattle.macrocell_reader.proofs.inner.word_length.Goals as goal
+use Rattle.macrocell_reader.proofs.inner.field_length.Goals as goal
 
 pub returns : goal.returns
 returns c =
