@@ -1,6 +1,6 @@
 //! The picture of a rectangle of cells.
 
-ghost use Rattle.std.specs.Prelude.{◌≡◌, ◌≤◌, ◌<◌, IfOk, IsOkUnless};
+ghost use Rattle.std.specs.Prelude.{◌≤◌, ◌<◌, IfOk, IsOkUnless};
 ghost use Rattle.plane.specs.Centred.{centred};
 ghost use Rattle.squares.specs.Book.{IsKnown};
 ghost use Rattle.pattern_picture.specs.Drawn.{IsPictureOf};
@@ -33,7 +33,8 @@ pub fn picture<L: Look>(
     requires level { sq.level ≤ 63 }
     requires shown { IsShown shown }
     requires size { IsSize size }
-    ensures drawn { IfOk result (IsPictureOf (centred sq.level ((L.book look.now).cells sq)) shown size) }
+    ensures drawn { IfOk result (IsPictureOf
+        (centred sq.level ((L.book look.now).cells sq)) shown size) }
     ensures memory { IsOkUnless result Refusal.NoMemory }
 {
     let scale = Scale::of(shown, size);

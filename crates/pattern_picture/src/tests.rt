@@ -1,6 +1,6 @@
 //! Pictures whose files were made by a program in Python, from the same cells.
 
-ghost use Rattle.std.specs.Prelude.{◌≡◌, ◌≤◌, IfOk};
+ghost use Rattle.std.specs.Prelude.{◌≡◌, IfOk};
 ghost use Rattle.squares.specs.Book.{IsKnown};
 ghost use Rattle.pattern_picture.specs.Scale.{IsShown, IsSize};
 

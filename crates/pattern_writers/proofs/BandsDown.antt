@@ -41,10 +41,10 @@ bands_go_down frame = λ band.
 
 -- ---- the frame's numbers
 
-abbrev whole_range : Bounds
+abbrev pub whole_range : Bounds
 whole_range = record { left = pos 0 -ℤ pos (2 ^ 62); top = pos 0 -ℤ pos (2 ^ 62); right = pos (2 ^ 62); bottom = pos (2 ^ 62) }
 
-in_whole_range : (plane : Plane) (cells : List Cell) → Holds 63 plane → IsListing cells plane → AllByRecursion (IsWithin whole_range) cells
+pub in_whole_range : (plane : Plane) (cells : List Cell) → Holds 63 plane → IsListing cells plane → AllByRecursion (IsWithin whole_range) cells
 unfolding plane_of
 in_whole_range plane cells is listing =
     found_all (IsWithin whole_range) cells (λ cell found.

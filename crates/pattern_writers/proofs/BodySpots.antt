@@ -5,7 +5,7 @@ use Rattle.std.specs.List.{AllByRecursion, list_all, onto_first}
 use Rattle.std.proofs.lemmas.Bool.Decides.{nat_tests}
 use Rattle.std.proofs.lemmas.List.{map-append}
 use Rattle.plane.proofs.Cuts.{and_left, and_right}
-use Rattle.plane.proofs.Turns.{AllByRecursion-append, AllByRecursion-weaker}
+use Rattle.plane.proofs.Elements.{AllByRecursion-append, AllByRecursion-weaker}
 use Rattle.text_lines.specs.Bytes.{ended_parts}
 use Rattle.text_lines.specs.Comments.{is_comment}
 use Rattle.text_lines.specs.Lines.{is_line_feed, lines, placed_lines, raw_lines, without_return}

@@ -4,7 +4,7 @@ use Rattle.std.specs.Prelude.{◌==◌, ◌&&◌, ◌||◌, is_some}
 use Rattle.std.specs.List.{AllByRecursion, after_first, before_first, list_any}
 use Rattle.std.specs.Option.{option_map_or}
 use Rattle.plane.specs.declared.refusal.Refusal.TheVariants.{BadHeader, NotAPattern}
-use Rattle.plane.proofs.Turns.{AllByRecursion-append}
+use Rattle.plane.proofs.Elements.{AllByRecursion-append}
 use Rattle.text_lines.specs.Bytes.{is_byte, trimmed, trimmed_end, trimmed_start}
 use Rattle.text_lines.specs.Numbers.{number_of}
 use Rattle.rle_reader.specs.Header.{begins_as_header, header_rule, is_side, rule_behind, value_behind}

@@ -11,7 +11,7 @@ use Rattle.plane.specs.declared.cell.Cell.{Cell}
 use Rattle.plane.proofs.Around.{at_place}
 use Rattle.plane.proofs.Cells.{at}
 use Rattle.plane.proofs.Listings.{is_at-own}
-use Rattle.plane.proofs.Turns.{AllByRecursion-append, AllByRecursion-weaker}
+use Rattle.plane.proofs.Elements.{AllByRecursion-append, AllByRecursion-weaker}
 use Rattle.pattern_writers.specs.Items.{distance}
 use Rattle.pattern_writers.specs.RowRuns.{first_cell, joined, run_at, runs_of}
 use Rattle.pattern_writers.specs.declared.rle_text.row_run.RowRun.{RowRun}

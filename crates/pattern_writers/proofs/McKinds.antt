@@ -9,7 +9,7 @@ use Rattle.rule_text.specs.CountRule.{CountRule}
 use Rattle.rule_text.specs.RuleText.{canonical_text}
 use Rattle.plane.specs.declared.refusal.Refusal.TheVariants.{BadGen}
 use Rattle.plane.specs.Limits.{largest_generation}
-use Rattle.plane.proofs.Turns.{AllByRecursion-append}
+use Rattle.plane.proofs.Elements.{AllByRecursion-append}
 use Rattle.squares.proofs.NumberMaps.{by_cases}
 use Rattle.text_lines.specs.Bytes.{begins_with}
 use Rattle.text_lines.specs.Comments.{is_blank_line, is_kept, is_settings_line}

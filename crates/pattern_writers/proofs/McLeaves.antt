@@ -13,10 +13,10 @@ use Rattle.plane.specs.Plane.{Plane}
 use Rattle.plane.specs.Square.{IsSame, IsSquare, bits_plane, empty, spans}
 use Rattle.plane.proofs.Cuts.{and_left, and_right, cut_case}
 use Rattle.plane.proofs.Same.{same_sym, same_trans}
-use Rattle.plane.proofs.Turns.{AllByRecursion-append, AllByRecursion-weaker}
+use Rattle.plane.proofs.Elements.{AllByRecursion-append, AllByRecursion-weaker}
 use Rattle.text_lines.specs.Bytes.{is_byte}
 use Rattle.macrocell_reader.specs.Inner.{inner_of, numbers}
-use Rattle.macrocell_reader.specs.Leaf.{are_rows, is_cell, is_live_at, is_row, leaf_bits, leaf_of, rows_of, word_of}
+use Rattle.macrocell_reader.specs.Leaf.{are_rows, is_cell, is_live_at, is_row, leaf_bits, leaf_of, rows_of, bits_of}
 use Rattle.macrocell_reader.specs.Nodes.{begins_leaf, node_of}
 use Rattle.macrocell_reader.specs.declared.node.Node.TheVariants.{Leaf}
 use Rattle.macrocell_reader.proofs.LeafBits.{leaf_bit}
@@ -136,9 +136,9 @@ pub leaf_marks : (plane : Plane) → AllByRecursion IsMark (leaf_text plane)
 leaf_marks plane = all_flat (rows_written plane) (rows_are plane)
 
 leaf_word : (plane : Plane) → leaf_of (leaf_text plane) ≡ Some (leaf_bits (rows_written plane))
-unfolding leaf_of word_of
+unfolding leaf_of bits_of
 leaf_word plane =
-    ap word_of (ends_with_marks (leaf_text plane) (leaf_marks plane))
+    ap bits_of (ends_with_marks (leaf_text plane) (leaf_marks plane))
     ∙ ap (λ rows. cond (are_rows rows) (Some (leaf_bits rows)) None) (rows_read plane)
     ∙ ap (λ t. cond t (Some (leaf_bits (rows_written plane))) None) (rows_pass plane)
 

@@ -4,35 +4,35 @@ use Rattle.std.specs.Char.{is_ascii_digit}
 use Rattle.std.specs.List.{AllByRecursion, list_all}
 use Rattle.std.proofs.lemmas.Bool.Decides.{nat_tests}
 use Rattle.plane.proofs.Cuts.{and_left}
-use Rattle.plane.proofs.Turns.{AllByRecursion-append, AllByRecursion-weaker}
+use Rattle.plane.proofs.Elements.{AllByRecursion-append, AllByRecursion-weaker}
 use Rattle.text_lines.specs.Numbers.{number_of}
-use Rattle.macrocell_reader.specs.Inner.{inner_of, is_word, numbers, words}
+use Rattle.macrocell_reader.specs.Inner.{inner_of, is_field, numbers, fields}
 use Rattle.macrocell_reader.specs.Nodes.{begins_leaf, node_of}
 use Rattle.macrocell_reader.specs.declared.node.Node.TheVariants.{Inner}
 use Rattle.pattern_writers.specs.McText.{inner_text}
 use Rattle.pattern_writers.proofs.TextLines.{IsMark, IsPlain, split_first, split_last}
 use Rattle.pattern_writers.proofs.Decimals.{IsDecimal, decimal_is, decimal_read}
 
--- ---- words
+-- ---- fields
 
 abbrev IsWord : List ℕ → Type 0
 IsWord part = (0 < length part) × AllByRecursion IsMark part
 
-word_is : (part : List ℕ) → IsWord part → is_word part ≡ true
+word_is : (part : List ℕ) → IsWord part → is_field part ≡ true
 word_is [] is = absurd (omega (arith, is.0))
 word_is (b ∷ part) is = refl
 
-word_kept : (part : List ℕ) (parts : List (List ℕ)) → IsWord part → filter is_word (part ∷ parts) ≡ part ∷ filter is_word parts
-word_kept part parts is = ap (λ t. cond t (part ∷ filter is_word parts) (filter is_word parts)) (word_is part is)
+word_kept : (part : List ℕ) (parts : List (List ℕ)) → IsWord part → filter is_field (part ∷ parts) ≡ part ∷ filter is_field parts
+word_kept part parts is = ap (λ t. cond t (part ∷ filter is_field parts) (filter is_field parts)) (word_is part is)
 
 five_flat : (a b c d e : List ℕ) → a ++ codes " " ++ b ++ codes " " ++ c ++ codes " " ++ d ++ codes " " ++ e ≡ a ++ 32 ∷ (b ++ 32 ∷ (c ++ 32 ∷ (d ++ 32 ∷ e)))
 five_flat a b c d e = simp append_assoc
 
 five_words : (a b c d e : List ℕ) → IsWord a → IsWord b → IsWord c → IsWord d → IsWord e →
-    words (a ++ codes " " ++ b ++ codes " " ++ c ++ codes " " ++ d ++ codes " " ++ e) ≡ a ∷ b ∷ c ∷ d ∷ e ∷ []
+    fields (a ++ codes " " ++ b ++ codes " " ++ c ++ codes " " ++ d ++ codes " " ++ e) ≡ a ∷ b ∷ c ∷ d ∷ e ∷ []
 five_words a b c d e is_a is_b is_c is_d is_e =
-    ap words (five_flat a b c d e)
-    ∙ ap (filter is_word) (split_first a _ is_a.1 ∙ ap (λ l. a ∷ l) (split_first b _ is_b.1 ∙ ap (λ l. b ∷ l) (split_first c _ is_c.1 ∙ ap (λ l. c ∷ l) (split_first d _ is_d.1 ∙ ap (λ l. d ∷ l) (split_last e is_e.1)))))
+    ap fields (five_flat a b c d e)
+    ∙ ap (filter is_field) (split_first a _ is_a.1 ∙ ap (λ l. a ∷ l) (split_first b _ is_b.1 ∙ ap (λ l. b ∷ l) (split_first c _ is_c.1 ∙ ap (λ l. c ∷ l) (split_first d _ is_d.1 ∙ ap (λ l. d ∷ l) (split_last e is_e.1)))))
     ∙ word_kept a (b ∷ c ∷ d ∷ e ∷ []) is_a ∙ ap (λ l. a ∷ l) (word_kept b (c ∷ d ∷ e ∷ []) is_b ∙ ap (λ l. b ∷ l) (word_kept c (d ∷ e ∷ []) is_c ∙ ap (λ l. c ∷ l) (word_kept d (e ∷ []) is_d ∙ ap (λ l. d ∷ l) (word_kept e [] is_e))))
 
 word_of_decimal : (n : ℕ) → n < 2 ^ 64 → IsWord (decimal n)

@@ -9,7 +9,7 @@ use Rattle.rule_text.specs.CountRule.{CountRule}
 use Rattle.rule_text.specs.RuleText.{canonical_text}
 use Rattle.plane.specs.Plane.{Plane}
 use Rattle.plane.specs.Square.{IsSame, IsSquare}
-use Rattle.plane.proofs.Turns.{AllByRecursion-weaker, AllByRecursion-append}
+use Rattle.plane.proofs.Elements.{AllByRecursion-weaker, AllByRecursion-append}
 use Rattle.text_lines.specs.Comments.{comments_of, is_kept}
 use Rattle.text_lines.specs.Lines.{is_line_feed, lines, placed_lines, raw_lines, without_return}
 use Rattle.text_lines.proofs.LineLemmas.{placed_lines-cons}

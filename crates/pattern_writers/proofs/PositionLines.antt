@@ -9,7 +9,7 @@ use Rattle.std.proofs.lemmas.Int.{ints}
 use Rattle.plane.specs.Range.{IsCoordinate}
 use Rattle.plane.specs.Limits.{coordinate_limit, largest_generation}
 use Rattle.plane.specs.declared.refusal.Refusal.TheVariants.{BadGen, OutOfRange}
-use Rattle.plane.proofs.Turns.{AllByRecursion-append}
+use Rattle.plane.proofs.Elements.{AllByRecursion-append}
 use Rattle.text_lines.specs.Bytes.{is_byte}
 use Rattle.text_lines.specs.Comments.{is_kept}
 use Rattle.text_lines.specs.Numbers.{number_of}

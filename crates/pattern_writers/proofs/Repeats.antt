@@ -6,7 +6,7 @@ use Rattle.std.proofs.lemmas.Bool.{false≢true}
 use Rattle.std.proofs.lemmas.Bool.Decides.{Decides-eqb}
 use Rattle.std.proofs.lemmas.List.Folds.{list_any-append}
 use Rattle.plane.proofs.Listings.{is_at-own}
-use Rattle.plane.proofs.Turns.{AllByRecursion-weaker}
+use Rattle.plane.proofs.Elements.{AllByRecursion-weaker}
 use Rattle.plane.specs.declared.cell.Cell.{Cell}
 use Rattle.pattern_writers.specs.Subsquares.{Square, is_listed, is_same_cell, is_same_square, live_cells, with_new}
 

@@ -11,7 +11,7 @@ use Rattle.plane.specs.Plane.{Plane}
 use Rattle.plane.specs.Square.{IsSame}
 use Rattle.plane.specs.declared.cell.Cell.{Cell}
 use Rattle.plane.specs.declared.fault.Fault.{Fault}
-use Rattle.plane.proofs.Turns.{AllByRecursion-weaker}
+use Rattle.plane.proofs.Elements.{AllByRecursion-weaker}
 use Rattle.text_lines.specs.Comments.{comments_of, is_kept}
 use Rattle.text_lines.specs.Faults.{at_place, unless, ◌>>=◌}
 use Rattle.text_lines.specs.Lines.{Line, is_line_feed, lines, placed_lines, raw_lines, without_return}

@@ -11,7 +11,7 @@ use Rattle.plane.specs.Listing.{IsListing, is_at, plane_of, reading_order}
 use Rattle.plane.specs.Plane.{Plane}
 use Rattle.plane.specs.declared.cell.Cell.{Cell}
 use Rattle.plane.proofs.Listings.{is_at-own}
-use Rattle.plane.proofs.Turns.{AllByRecursion-append, AllByRecursion-weaker}
+use Rattle.plane.proofs.Elements.{AllByRecursion-append, AllByRecursion-weaker}
 use Rattle.viewport.specs.Rows.{IsDeadFrom, IsFirstRow}
 use Rattle.pattern_writers.specs.RleText.{HasRuns}
 use Rattle.pattern_writers.specs.RowRuns.{AddsRow, first_cell, joined, rows_between, run_at, runs_of}

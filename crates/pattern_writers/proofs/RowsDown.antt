@@ -16,7 +16,7 @@ use Rattle.plane.specs.Plane.{Plane}
 use Rattle.plane.specs.Range.{IsCoordinate}
 use Rattle.plane.specs.Square.{spans}
 use Rattle.plane.specs.Listing.{IsListing}
-use Rattle.plane.proofs.Turns.{AllByRecursion-append, AllByRecursion-weaker}
+use Rattle.plane.proofs.Elements.{AllByRecursion-append, AllByRecursion-weaker}
 use Rattle.viewport.specs.RowRuns as row
 use Rattle.viewport.specs.Rows.{AreDeadRows, IsDeadFrom, IsFirstRow, IsLiveRow}
 use Rattle.pattern_writers.specs.RowRuns.{AddsRow, run_in, runs_of}

@@ -12,7 +12,7 @@ use Rattle.plane.specs.Listing.{is_at, reading_order}
 use Rattle.plane.specs.declared.cell.Cell.{Cell}
 use Rattle.plane.proofs.Around.{at_place}
 use Rattle.plane.proofs.Cells.{at}
-use Rattle.plane.proofs.Turns.{AllByRecursion-weaker}
+use Rattle.plane.proofs.Elements.{AllByRecursion-weaker}
 use Rattle.pattern_writers.specs.Items.{distance, next_cell}
 use Rattle.pattern_writers.specs.RowRuns.{first_cell, joined, run_at, runs_of}
 use Rattle.pattern_writers.specs.declared.rle_text.row_run.RowRun.{RowRun}

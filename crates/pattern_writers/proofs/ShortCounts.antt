@@ -6,7 +6,7 @@ use Rattle.std.specs.Ordering.{int_eq}
 use Rattle.std.proofs.lemmas.Int.{ints}
 use Rattle.plane.specs.Range.{IsCoordinate, IsInRange}
 use Rattle.plane.specs.declared.cell.Cell.{Cell}
-use Rattle.plane.proofs.Turns.{AllByRecursion-append}
+use Rattle.plane.proofs.Elements.{AllByRecursion-append}
 use Rattle.rle_reader.specs.declared.item.Tag.{Tag}
 use Rattle.rle_reader.specs.declared.item.Tag.TheVariants.{Dead, Live, Row}
 use Rattle.pattern_writers.specs.Items.{counted, distance, items_of, next_cell, run_items}

@@ -17,7 +17,7 @@ use Rattle.plane.proofs.Cuts.{and_left, and_right, cut_empty}
 use Rattle.plane.proofs.Listings.{is_at-own}
 use Rattle.plane.proofs.Populations.{empty_cells}
 use Rattle.plane.proofs.Same.{plane_equal}
-use Rattle.plane.proofs.Turns.{AllByRecursion-weaker}
+use Rattle.plane.proofs.Elements.{AllByRecursion-weaker}
 use Rattle.plane.proofs.Windows.{square_listing}
 use Rattle.pattern_writers.specs.Subsquares.{Square, if_alive, is_dead, is_none, is_same_cell, is_same_square, live_cells, nw_of, ne_of, sw_of, se_of, squares_in}
 

@@ -14,7 +14,7 @@ use Rattle.plane.specs.declared.cell.Cell.{Cell}
 use Rattle.plane.specs.Limits.{coordinate_limit}
 use Rattle.plane.proofs.Boxes.{Covers, box_at, covers_bounds, some_box, within_bounds}
 use Rattle.plane.proofs.Cells.{at}
-use Rattle.plane.proofs.Turns.{AllByRecursion-weaker}
+use Rattle.plane.proofs.Elements.{AllByRecursion-weaker}
 use Rattle.pattern_writers.specs.Frame.{frame_of, side}
 use Rattle.pattern_writers.specs.Items.{items_of}
 use Rattle.pattern_writers.specs.Layout.{body_text}

@@ -9,7 +9,7 @@ use Rattle.std.specs.Option.{option_map}
 use Rattle.std.proofs.lemmas.Bool.Decides.{nat_tests}
 use Rattle.std.proofs.Math.Seq.{take-append_seam}
 use Rattle.plane.proofs.Cuts.{and_left, and_right}
-use Rattle.plane.proofs.Turns.{AllByRecursion-weaker}
+use Rattle.plane.proofs.Elements.{AllByRecursion-weaker}
 use Rattle.text_lines.specs.Bytes.{is_byte}
 use Rattle.text_lines.specs.Numbers.{number_of}
 use Rattle.rle_reader.specs.Numbers.{integer_of}

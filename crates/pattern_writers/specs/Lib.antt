@@ -8,10 +8,12 @@ pub mod McReading
 pub mod McText
 pub mod NodeLines
 pub mod Opening
+pub mod OutputBlock
 pub mod RleReading
 pub mod RleText
 pub mod Roots
 pub mod RowRuns
 pub mod Subsquares
 pub mod Taken
+pub mod WriterRefusal
 pub mod WrittenComments

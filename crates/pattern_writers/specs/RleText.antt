@@ -1,5 +1,5 @@
 -- The text of a pattern in RLE.
-use Rattle.std.specs.Prelude.{◌≡◌, ℕ, List, ◌++◌, codes, Option}
+use Rattle.std.specs.Prelude.{◌≡◌, ◌⊎◌, ℕ, List, ◌++◌, codes, Option}
 use Rattle.std.specs.Io.KnownBytes.{Appends}
 use Rattle.std.specs.List.{flat_map}
 use Rattle.rule_text.specs.CountRule.{CountRule}
@@ -8,6 +8,8 @@ use Rattle.plane.specs.Bounds.{bounds_of}
 use Rattle.plane.specs.Listing.{IsListing}
 use Rattle.plane.specs.Plane.{Plane}
 use Rattle.plane.specs.declared.cell.Cell.{Cell}
+use Rattle.plane.specs.declared.refusal.Refusal.{Refusal}
+use Rattle.plane.specs.declared.refusal.Refusal.TheVariants.{BoxTooLarge, NoMemory}
 use Rattle.pattern_writers.specs.Frame.{FitsRle, frame_of}
 use Rattle.pattern_writers.specs.Items.{items_of}
 use Rattle.pattern_writers.specs.Layout.{body_text}
@@ -51,6 +53,10 @@ pub record IsTooLarge (plane : Plane) : Type 0 where
   pub cells : List Cell
   pub listing : IsListing cells plane
   pub unfit : ¬ FitsRle (bounds_of cells)
+
+-- why there is no frame: a side of the cells' box is too long, or memory ran out
+abbrev pub IsFrameRefusal : Plane → Refusal → Type 0
+IsFrameRefusal plane refusal = ((refusal ≡ BoxTooLarge) × IsTooLarge plane) ⊎ (refusal ≡ NoMemory)
 
 -- the frame of the plane's cells, which have a text
 pub record HasFrame (plane : Plane) (frame : Frame) : Type 0 where

@@ -1,8 +1,8 @@
 //! The beginning of a text: some lines, and those of the comments.
 
-ghost use Rattle.std.specs.Prelude.{◌≡◌, ◌++◌, OnOk, IfErr};
-ghost use Rattle.std.specs.Io.KnownBytes.{Appends, append_known};
-ghost use Rattle.plane.specs.Device.{IsWriteRefusal};
+ghost use Rattle.std.specs.Prelude.{◌++◌, OnOk};
+ghost use Rattle.plane.specs.Device.{TellsFailure};
+ghost use Rattle.pattern_writers.specs.OutputBlock.{AppendsBuffered};
 ghost use Rattle.pattern_writers.specs.RleText.{comment_lines};
 
 use crate::output_block::{OutputBlock, put};
@@ -16,9 +16,9 @@ pub(crate) fn begin<V: Sink>(
     opening: &str,
     comments: Comments<'_>,
 ) -> Result<(), Refusal>
-    ensures written { OnOk result (Appends (append_known (V.taken file.old) block.old.items) (append_known (V.taken file.new) block.new.items) (opening.now ++ comment_lines comments.entry)) }
-    ensures unfailed { OnOk result (V.failure_count file.new ≡ V.failure_count file.old) }
-    ensures refused { IfErr result (IsWriteRefusal (V.failure_count file.old) (V.failure_count file.new)) }
+    ensures written { OnOk result (AppendsBuffered (V.taken file.old) block.old.items
+        (V.taken file.new) block.new.items (opening.now ++ comment_lines comments.entry)) }
+    ensures failure { TellsFailure (V.failure_count file.old) (V.failure_count file.new) result }
 {
     put(file, block, opening.as_bytes())?;
     write_comments(file, block, comments)
@@ -30,9 +30,9 @@ fn write_comments<V: Sink>(
     block: &mut OutputBlock,
     comments: Comments<'_>,
 ) -> Result<(), Refusal>
-    ensures written { OnOk result (Appends (append_known (V.taken file.old) block.old.items) (append_known (V.taken file.new) block.new.items) (comment_lines comments.entry)) }
-    ensures unfailed { OnOk result (V.failure_count file.new ≡ V.failure_count file.old) }
-    ensures refused { IfErr result (IsWriteRefusal (V.failure_count file.old) (V.failure_count file.new)) }
+    ensures written { OnOk result (AppendsBuffered (V.taken file.old) block.old.items
+        (V.taken file.new) block.new.items (comment_lines comments.entry)) }
+    ensures failure { TellsFailure (V.failure_count file.old) (V.failure_count file.new) result }
 {
     for comment in comments {
         put(file, block, comment)?;

@@ -1,11 +1,11 @@
 //! The text of a pattern as a macrocell file.
 
 ghost use Rattle.std.specs.Prelude.{◌≡◌, ◌⊎◌, ◌≤◌, OnOk, IfErr};
-ghost use Rattle.plane.specs.Centred.{centred};
 ghost use Rattle.plane.specs.Device.{IsWriteRefusal};
 ghost use Rattle.squares.specs.Book.{IsKnown};
 ghost use Rattle.pattern_writers.specs.McReading.{IsReadBackFromMc};
 ghost use Rattle.pattern_writers.specs.McText.{WritesMc};
+ghost use Rattle.squares.specs.Rounds.{square_plane};
 ghost use Rattle.pattern_writers.specs.Taken.{IfTaken};
 
 mod leaf;
@@ -43,9 +43,10 @@ pub fn write_mc<B: Look, V: Sink>(
 ) -> Result<(), Refusal>
     requires known { IsKnown (B.book book.now) sq.level sq }
     requires high { sq.level ≤ 63 }
-    ensures written { OnOk result (WritesMc (centred sq.level ((B.book book.now).cells sq)) comments.entry rule.now generation (V.taken file.old) (V.taken file.new)) }
+    ensures written { OnOk result (WritesMc (square_plane (B.book book.now) sq)
+        comments.entry rule.now generation (V.taken file.old) (V.taken file.new)) }
     ensures read_back { OnOk result (IfTaken (V.taken file.old) (V.taken file.new)
-        (IsReadBackFromMc (centred sq.level ((B.book book.now).cells sq)) comments.entry rule.now generation)) }
+        (IsReadBackFromMc (square_plane (B.book book.now) sq) comments.entry rule.now generation)) }
     ensures unfailed { OnOk result (V.failure_count file.new ≡ V.failure_count file.old) }
     ensures refused { IfErr result (λ refusal.
         (refusal ≡ Refusal.NoMemory × file.new ≡ file.old)

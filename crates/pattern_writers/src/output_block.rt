@@ -1,8 +1,8 @@
 //! Output that is handed to a sink in blocks.
 
-ghost use Rattle.std.specs.Prelude.{◌≡◌, OnOk, IfErr};
-ghost use Rattle.std.specs.Io.KnownBytes.{Appends, append_known};
-ghost use Rattle.plane.specs.Device.{IsWriteRefusal};
+ghost use Rattle.std.specs.Prelude.{OnOk};
+ghost use Rattle.plane.specs.Device.{TellsFailure};
+ghost use Rattle.pattern_writers.specs.OutputBlock.{AppendsBuffered};
 
 use arrayvec::ArrayVec;
 use plane::{Refusal, Sink, write_all};
@@ -20,9 +20,9 @@ pub(crate) fn put<V: Sink>(
     block: &mut OutputBlock,
     piece: &[u8],
 ) -> Result<(), Refusal>
-    ensures written { OnOk result (Appends (append_known (V.taken file.old) block.old.items) (append_known (V.taken file.new) block.new.items) piece.now) }
-    ensures unfailed { OnOk result (V.failure_count file.new ≡ V.failure_count file.old) }
-    ensures refused { IfErr result (IsWriteRefusal (V.failure_count file.old) (V.failure_count file.new)) }
+    ensures written { OnOk result (AppendsBuffered (V.taken file.old) block.old.items
+        (V.taken file.new) block.new.items piece.now) }
+    ensures failure { TellsFailure (V.failure_count file.old) (V.failure_count file.new) result }
 {
     if block.try_extend_from_slice(piece).is_ok() {
         return Ok(());

@@ -1,13 +1,14 @@
 //! The text of a pattern in RLE.
 
-ghost use Rattle.std.specs.Prelude.{◌≡◌, ◌⊎◌, ◌≤◌, OnOk, IfErr};
-ghost use Rattle.plane.specs.Centred.{centred};
-ghost use Rattle.plane.specs.Device.{IsWriteRefusal};
+ghost use Rattle.std.specs.Prelude.{◌≡◌, ◌≤◌, OnOk, IfErr};
+ghost use Rattle.plane.specs.Device.{TellsFailure};
 ghost use Rattle.squares.specs.Book.{IsKnown};
 ghost use Rattle.std.specs.Io.KnownBytes.{Appends};
 ghost use Rattle.pattern_writers.specs.RleReading.{IsReadBackFromRle};
 ghost use Rattle.pattern_writers.specs.RleText.{HasRleText, IsTooLarge, WritesRle, items_text};
+ghost use Rattle.squares.specs.Rounds.{square_plane};
 ghost use Rattle.pattern_writers.specs.Taken.{IfTaken};
+ghost use Rattle.pattern_writers.specs.WriterRefusal.{IsWriterRefusal};
 
 mod bands;
 mod frame;
@@ -51,14 +52,15 @@ pub fn write_rle<R: Threads + Sync, B: Look + Sync, V: Sink>(
 ) -> Result<(), Refusal>
     requires known { IsKnown (B.book book.now) sq.level sq }
     requires level { sq.level ≤ 63 }
-    ensures written { OnOk result (WritesRle (centred sq.level ((B.book book.now).cells sq)) comments.entry rule.now generation (V.taken file.old) (V.taken file.new)) }
+    ensures written { OnOk result (WritesRle (square_plane (B.book book.now) sq)
+        comments.entry rule.now generation (V.taken file.old) (V.taken file.new)) }
     ensures read_back { OnOk result (IfTaken (V.taken file.old) (V.taken file.new)
-        (IsReadBackFromRle (centred sq.level ((B.book book.now).cells sq)) comments.entry rule.now generation)) }
+        (IsReadBackFromRle (square_plane (B.book book.now) sq)
+        comments.entry rule.now generation)) }
     ensures unfailed { OnOk result (V.failure_count file.new ≡ V.failure_count file.old) }
-    ensures refused { IfErr result (λ refusal.
-        (refusal ≡ Refusal.BoxTooLarge × IsTooLarge (centred sq.level ((B.book book.now).cells sq)) × file.new ≡ file.old)
-        ⊎ (refusal ≡ Refusal.NoMemory × file.new ≡ file.old)
-        ⊎ (IsWriteRefusal (V.failure_count file.old) (V.failure_count file.new) refusal × HasRleText (centred sq.level ((B.book book.now).cells sq)))) }
+    ensures refused { IfErr result (IsWriterRefusal V.failure_count file.old file.new
+        (IsTooLarge (square_plane (B.book book.now) sq))
+        (HasRleText (square_plane (B.book book.now) sq))) }
 {
     let (frame, items) = framed_items(rt, alloc, book, sq)?;
     write_items(file, frame, items.as_slice(), comments, rule, generation)
@@ -73,9 +75,9 @@ fn write_items<V: Sink>(
     rule: &Rule,
     generation: u64,
 ) -> Result<(), Refusal>
-    ensures written { OnOk result (Appends (V.taken file.old) (V.taken file.new) (items_text frame comments.entry rule.now generation items.now)) }
-    ensures unfailed { OnOk result (V.failure_count file.new ≡ V.failure_count file.old) }
-    ensures refused { IfErr result (IsWriteRefusal (V.failure_count file.old) (V.failure_count file.new)) }
+    ensures written { OnOk result (Appends (V.taken file.old) (V.taken file.new)
+        (items_text frame comments.entry rule.now generation items.now)) }
+    ensures failure { TellsFailure (V.failure_count file.old) (V.failure_count file.new) result }
 {
     let position = position_line(frame.corner, generation);
     let mut block = ArrayVec::new();

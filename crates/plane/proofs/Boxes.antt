@@ -9,7 +9,7 @@ use Rattle.plane.specs.Bounds.{box_with, bounds_of, IsWithin}
 use Rattle.plane.specs.Generation.{HasRoom}
 use Rattle.plane.specs.Laws.{SmallestBox}
 use Rattle.plane.specs.Range.{IsBoxInRange, IsCoordinate, widened}
-use Rattle.plane.proofs.Turns.{AllByRecursion-weaker}
+use Rattle.plane.proofs.Elements.{AllByRecursion-weaker}
 
 -- the box reaches at least as far on each side
 pub record Covers (outer inner : Bounds) : Type 0 where

@@ -17,7 +17,7 @@ use Rattle.plane.proofs.Boxes.{Covers, box_at, coordinate_between, covers_bounds
 use Rattle.plane.proofs.Cells.{at}
 use Rattle.plane.proofs.Cones.{offsets_step}
 use Rattle.plane.proofs.Listings.{is_at-own}
-use Rattle.plane.proofs.Turns.{AllByRecursion-weaker}
+use Rattle.plane.proofs.Elements.{AllByRecursion-weaker}
 
 -- a box whose sides do not cross
 record IsProper (box : Bounds) : Type 0 where

@@ -5,6 +5,7 @@ pub mod Boxes
 pub mod Cells
 pub mod Cones
 pub mod Cuts
+pub mod Elements
 pub mod Growth
 pub mod LeafBits
 pub mod Listings

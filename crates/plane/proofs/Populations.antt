@@ -15,7 +15,7 @@ use Rattle.plane.specs.Square.{empty, joined}
 use Rattle.plane.specs.Window.{row_places, places, cells_in, square_cells, moved_cell}
 use Rattle.plane.proofs.Cells.{at}
 use Rattle.plane.proofs.Cuts.{cond_true, cond_false}
-use Rattle.plane.proofs.Turns.{AllByRecursion-append}
+use Rattle.plane.proofs.Elements.{AllByRecursion-append}
 
 -- how many places are live
 count : Plane → List Cell → ℕ

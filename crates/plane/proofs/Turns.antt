@@ -3,6 +3,7 @@ use Rattle.std.proofs.Common.{◌≡◌, List, [], ◌∷◌, ◌++◌, Bor, map
 use Rattle.std.specs.List.{AllByRecursion}
 use Rattle.std.specs.Map.Iter.{deref}
 use Rattle.std.proofs.lemmas.List.{map-append}
+use Rattle.plane.proofs.Elements.{AllByRecursion-append, AllByRecursion-middle, AllByRecursion-weaker}
 
 module _ {X : Type 0} where
   -- the item goes from what is left to what is done
@@ -12,24 +13,11 @@ module _ {X : Type 0} where
       ap (λ l. l ++ rest) (map-append deref done (x ∷ [])) ∙ append_assoc (map deref done) (x.now ∷ []) rest
       ∙ ap (λ l. map deref done ++ l) (sym step) ∙ whole
 
-  module _ (P : X → Type 0) where
-    pub AllByRecursion-append : (xs ys : List X) → AllByRecursion P xs → AllByRecursion P ys → AllByRecursion P (xs ++ ys)
-    AllByRecursion-append [] ys all more = more
-    AllByRecursion-append (x ∷ xs) ys all more = (all.0, AllByRecursion-append xs ys all.1 more)
-
-    pub AllByRecursion-middle : (xs : List X) (x : X) (ys : List X) → AllByRecursion P (xs ++ x ∷ ys) → P x
-    AllByRecursion-middle [] x ys all = all.0
-    AllByRecursion-middle (z ∷ xs) x ys all = AllByRecursion-middle xs x ys all.1
-
-    -- what holds of the whole list holds of the item
-    pub holds_of_item : (all done : List X) (x : X) (left rest : List X) → done ++ left ≡ all → left ≡ x ∷ rest → AllByRecursion P all → P x
-    holds_of_item all done x left rest whole step holds =
-        let is : all ≡ done ++ x ∷ rest = sym whole ∙ ap (λ l. done ++ l) step in
-        AllByRecursion-middle done x rest (rw is at holds)
-
-  pub AllByRecursion-weaker : (P Q : X → Type 0) → ((x : X) → P x → Q x) → (xs : List X) → AllByRecursion P xs → AllByRecursion Q xs
-  AllByRecursion-weaker P Q weaker [] all = tt
-  AllByRecursion-weaker P Q weaker (x ∷ xs) all = (weaker x all.0, AllByRecursion-weaker P Q weaker xs all.1)
+  -- what holds of the whole list holds of the item
+  pub holds_of_item : (P : X → Type 0) (all done : List X) (x : X) (left rest : List X) → done ++ left ≡ all → left ≡ x ∷ rest → AllByRecursion P all → P x
+  holds_of_item P all done x left rest whole step holds =
+      let is : all ≡ done ++ x ∷ rest = sym whole ∙ ap (λ l. done ++ l) step in
+      AllByRecursion-middle P done x rest (rw is at holds)
 
   -- what holds of each item that is done, and of this one, holds of each item then
   pub holds_of_done : (P Q : X → Type 0) (done : List (Bor X)) (x : Bor X) → ((y : X) → P y → Q y) →

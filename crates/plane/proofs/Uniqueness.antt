@@ -11,7 +11,7 @@ use Rattle.plane.specs.Listing.{reading_order}
 use Rattle.plane.proofs.Around.{at_place}
 use Rattle.plane.proofs.Cells.{same_cell}
 use Rattle.plane.proofs.Listings.{reading_order_total, ties_at_place, plane_of-by_order}
-use Rattle.plane.proofs.Turns.{AllByRecursion-weaker}
+use Rattle.plane.proofs.Elements.{AllByRecursion-weaker}
 
 -- whether a search by the order finds the cell
 abbrev finds : List Cell → Cell → Bool

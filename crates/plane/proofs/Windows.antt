@@ -14,7 +14,7 @@ use Rattle.plane.specs.Square.{IsSquare, spans}
 use Rattle.plane.specs.Window.{row_places, places, cells_in, square_cells, IsInWindow}
 use Rattle.plane.proofs.Cells.{at}
 use Rattle.plane.proofs.Living.{at_cell, kept_or, left_out}
-use Rattle.plane.proofs.Turns.{AllByRecursion-append}
+use Rattle.plane.proofs.Elements.{AllByRecursion-append}
 
 or_and : (a b c : Bool) → ((a && b) || (a && c)) ≡ (a && (b || c))
 or_and true b c = refl

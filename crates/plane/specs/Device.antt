@@ -1,4 +1,4 @@
-use Rattle.std.specs.Prelude.{◌≡◌, ℕ, ◌+◌, ◌-◌, ◌^◌, ◌<◌, ◌⊎◌, min, Result, Ok, Err, Option, Some, List, drop}
+use Rattle.std.specs.Prelude.{◌≡◌, ℕ, ◌+◌, ◌-◌, ◌^◌, ◌<◌, ◌⊎◌, min, Result, Ok, Err, Option, Some, List, OnOk, IfErr, drop}
 use Rattle.plane.specs.declared.refusal.Refusal.{Refusal}
 use Rattle.plane.specs.declared.refusal.Refusal.TheVariants.{WriteFailed}
 
@@ -19,12 +19,21 @@ HasFailed before after = (before < after) ⊎ (after ≡ most_failures)
 abbrev pub IsWriteRefusal : ℕ → ℕ → Refusal → Type 0
 IsWriteRefusal before after refusal = (refusal ≡ WriteFailed) × HasFailed before after
 
+-- what a call answers tells whether the sink failed in it: the count of failures stayed, or the answer is `WriteFailed`
+pub record TellsFailure {T : Type 0} (before after : ℕ) (made : Result T Refusal) : Type 0 where
+  pub unfailed : OnOk made (after ≡ before)
+  pub refused : IfErr made (IsWriteRefusal before after)
+
 -- what a memory holds: its bytes, how many of them were read, the bytes that it has room for, and how many calls failed
 pub record MemoryContents : Type 0 where
   pub bytes : List ℕ
   pub position : ℕ
   pub room : ℕ
   pub failures : ℕ
+
+-- a memory with these bytes, none of which was read, and with this room
+abbrev pub unread : List ℕ → ℕ → MemoryContents
+unread bytes room = record { bytes = bytes; position = 0; room = room; failures = 0 }
 
 -- the bytes that were not read yet
 abbrev pub memory_remaining : MemoryContents → Option (List ℕ)

@@ -11,6 +11,10 @@ pub record Rectangle : Type 0 where
   pub width : ℕ
   pub height : ℕ
 
+-- the rectangle of so many columns from x on, and so many rows from y on
+abbrev pub rectangle_at : ℤ → ℤ → ℕ → ℕ → Rectangle
+rectangle_at x y width height = record { x = x; y = y; width = width; height = height }
+
 -- how many columns, or rows, a window may have
 pub record IsWindowSide (cells : ℕ) : Type 0 where
   pub some : 1 ≤ cells

@@ -1,6 +1,6 @@
 //! The next generation of a set of cells.
 
-ghost use Rattle.std.specs.Prelude.{◌≡◌, ℕ, ◌+◌, ℤ, ◌+ℤ◌, ◌-ℤ◌, true, IfOk, OnOk, IsOkUnless};
+ghost use Rattle.std.specs.Prelude.{◌≡◌, ℕ, ◌+◌, ℤ, ◌+ℤ◌, ◌-ℤ◌, IfOk, OnOk, IsOkUnless};
 ghost use Rattle.std.specs.List.{AllByRecursion};
 ghost use Rattle.rule_text.specs.Neighbourhood.{IsStep};
 ghost use Rattle.plane.specs.Bounds.{HasReach};
@@ -97,7 +97,8 @@ impl CellSet {
     pub fn next(&self, alloc: Global, rule: &Rule) -> Result<CellSet, Refusal>
         requires { HasReach 1 self.now }
         ensures ok { IfOk result (λ cells. IsListing cells (next rule.now (plane_of self.now))) }
-        ensures reach { IfOk result (λ cells. (generations : ℕ) → HasReach (generations + 1) self.now → HasReach generations cells) }
+        ensures reach { IfOk result (λ cells. (generations : ℕ) →
+            HasReach (generations + 1) self.now → HasReach generations cells) }
         ensures memory { IsOkUnless result Refusal.NoMemory }
     {
         let candidates = self.candidates(alloc, rule.neighbourhood())?;

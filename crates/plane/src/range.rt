@@ -67,9 +67,10 @@ pub fn reach(
     start: u64,
     generations: u64,
 ) -> Result<Option<Bounds>, Refusal>
-    ensures ok { IfOk result (λ reached.
-        StaysWithin bounds start generations × (reached ≡ option_map (widened generations) bounds)) }
-    ensures too_far { IfErr result (λ refusal. (refusal ≡ Refusal.TooFar) × ¬ StaysWithin bounds start generations) }
+    ensures ok { IfOk result (λ reached. StaysWithin bounds start generations
+        × (reached ≡ option_map (widened generations) bounds)) }
+    ensures too_far { IfErr result (λ refusal.
+        (refusal ≡ Refusal.TooFar) × ¬ StaysWithin bounds start generations) }
 {
     match start.checked_add(generations) {
         Some(last) if last <= GENERATION_LIMIT => match bounds {

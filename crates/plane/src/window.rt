@@ -1,7 +1,7 @@
 //! Windows: rectangles of the plane that a picture can show.
 
 ghost use Rattle.std.specs.Prelude.{◌≡◌, ◌↔◌, IfOk, IfErr, IsTrue};
-ghost use Rattle.plane.specs.Window.{IsWindow, IsWindowCorner, IsWindowSide};
+ghost use Rattle.plane.specs.Window.{IsWindow, IsWindowCorner, IsWindowSide, rectangle_at};
 
 use crate::refusal::Refusal;
 use std::marker::Model;
@@ -22,15 +22,21 @@ pub struct Window {
 }
 
 impl Model for Window {
-    ghost use Rattle.plane.specs.Window.{Rectangle, IsWindow};
+    ghost use Rattle.plane.specs.Window.{Rectangle, IsWindow, rectangle_at};
 
     ghost Value = { Rectangle };
 
-    ghost view = { λ window. record { x = window.x; y = window.y; width = window.width; height = window.height } };
+    ghost view = { λ window. rectangle_at window.x window.y window.width window.height };
 
-    ghost invariant = { λ window. IsWindow (record { x = window.x; y = window.y; width = window.width; height = window.height }) };
+    ghost invariant = { λ window.
+        IsWindow (rectangle_at window.x window.y window.width window.height) };
 
-    ghost inverse = { λ rectangle. record { x = rectangle.x; y = rectangle.y; width = rectangle.width; height = rectangle.height } };
+    ghost inverse = { λ rectangle. record {
+      x = rectangle.x;
+      y = rectangle.y;
+      width = rectangle.width;
+      height = rectangle.height;
+    } };
 }
 
 // Whether a window may have so many columns, or rows.
@@ -53,9 +59,9 @@ impl Window {
     /// `-WINDOW_CORNER_LIMIT` to `WINDOW_CORNER_LIMIT`.
     pub fn new(x: i64, y: i64, width: u32, height: u32) -> Result<Window, Refusal>
         ensures ok { IfOk result (λ window.
-            IsWindow window × (window ≡ record { x = x; y = y; width = width; height = height })) }
+            IsWindow window × (window ≡ rectangle_at x y width height)) }
         ensures too_large { IfErr result (λ refusal.
-            (refusal ≡ Refusal.WindowTooLarge) × ¬ IsWindow (record { x = x; y = y; width = width; height = height })) }
+            (refusal ≡ Refusal.WindowTooLarge) × ¬ IsWindow (rectangle_at x y width height)) }
     {
         let is_near = is_window_corner(x) && is_window_corner(y);
         let is_drawable = is_window_side(width) && is_window_side(height);

@@ -2,16 +2,16 @@
 
 ghost use Rattle.std.specs.Prelude.{◌≡◌, ◌+◌, ◌≤◌, [], ◌∷◌, ◌++◌, length, IfOk, OnOk, IsOkUnless, Some};
 ghost use Rattle.std.specs.HashMap.{Updates};
-ghost use Rattle.plane.specs.Centred.{centred};
 ghost use Rattle.squares.specs.Book.{IsKnown, nth};
 ghost use Rattle.squares.specs.Noted.{is_same_key};
 ghost use Rattle.pattern_writers.specs.ListedNodes.{AreNodes, Lists, ListsFour, number_of, root_node};
 ghost use Rattle.pattern_writers.specs.Roots.{AreKnown};
+ghost use Rattle.squares.specs.Rounds.{square_plane};
 
 use super::node::Node;
 use super::root::Root;
 use plane::Refusal;
-use squares::{Look, Sq};
+use squares::{LEAF_LEVEL, Look, Sq};
 use std::alloc::Global;
 use std::collections::HashMap;
 
@@ -27,7 +27,7 @@ impl NodeList {
     fn number_of(&self, sq: Sq) -> Option<u64>
         ensures { result ≡ number_of self.now sq }
     {
-        if sq.num.0 == 0 {
+        if sq.is_empty() {
             return Some(0);
         }
         self.numbers.get(&(sq.level, sq.num.0)).copied()
@@ -37,7 +37,8 @@ impl NodeList {
     fn add(&mut self, sq: Sq, node: Node) -> Result<u64, Refusal>
         ensures node { OnOk result (self.new.nodes.items ≡ self.old.nodes.items ++ node ∷ []) }
         ensures number { IfOk result (λ number. number ≡ length self.old.nodes.items + 1) }
-        ensures noted { IfOk result (λ number. Updates is_same_key self.old.numbers self.new.numbers (sq.level, sq.num.0) (Some number)) }
+        ensures noted { IfOk result (λ number. Updates is_same_key
+            self.old.numbers self.new.numbers (sq.level, sq.num.0) (Some number)) }
         ensures memory { IsOkUnless result Refusal.NoMemory }
     {
         self.nodes.push(node)?;
@@ -52,7 +53,7 @@ impl NodeList {
 pub(crate) fn listed_nodes<B: Look>(alloc: Global, book: &B, sq: Sq) -> Result<Vec<Node>, Refusal>
     requires known { IsKnown (B.book book.now) sq.level sq }
     requires low { 4 ≤ sq.level }
-    ensures ok { IfOk result (λ nodes. AreNodes (centred sq.level ((B.book book.now).cells sq)) nodes.items) }
+    ensures ok { IfOk result (λ nodes. AreNodes (square_plane (B.book book.now) sq) nodes.items) }
     ensures memory { IsOkUnless result Refusal.NoMemory }
 {
     let mut list = NodeList {
@@ -86,7 +87,7 @@ fn number<B: Look>(book: &B, sq: Sq, list: &mut NodeList) -> Result<u64, Refusal
     if let Some(number) = list.number_of(sq) {
         return Ok(number);
     }
-    if sq.level == 3 {
+    if sq.level == LEAF_LEVEL {
         return list.add(sq, Node::Leaf(book.bits(sq)));
     }
     let quarters = numbers(book, book.parts(sq), list)?;

@@ -1,11 +1,11 @@
 //! Nodes of a macrocell file, and their lines.
 
-ghost use Rattle.std.specs.Prelude.{◌≡◌, ◌+◌, ◌≤◌, ◌++◌, codes, decimal, OnOk, IfErr};
+ghost use Rattle.std.specs.Prelude.{◌≡◌, ◌+◌, ◌≤◌, ◌++◌, codes, decimal, OnOk};
 ghost use Rattle.arrayvec.specs.ArrayString.{array_string_len};
-ghost use Rattle.std.specs.Io.KnownBytes.{Appends, append_known};
 ghost use Rattle.std.specs.List.{flat_map};
-ghost use Rattle.plane.specs.Device.{IsWriteRefusal};
+ghost use Rattle.plane.specs.Device.{TellsFailure};
 ghost use Rattle.pattern_writers.specs.NodeLines.{node_line};
+ghost use Rattle.pattern_writers.specs.OutputBlock.{AppendsBuffered};
 
 use super::leaf::leaf_text;
 use crate::output_block::{OutputBlock, put};
@@ -79,9 +79,9 @@ pub(crate) fn write_nodes<V: Sink>(
     block: &mut OutputBlock,
     nodes: &[Node],
 ) -> Result<(), Refusal>
-    ensures written { OnOk result (Appends (append_known (V.taken file.old) block.old.items) (append_known (V.taken file.new) block.new.items) (flat_map node_line nodes.now)) }
-    ensures unfailed { OnOk result (V.failure_count file.new ≡ V.failure_count file.old) }
-    ensures refused { IfErr result (IsWriteRefusal (V.failure_count file.old) (V.failure_count file.new)) }
+    ensures written { OnOk result (AppendsBuffered (V.taken file.old) block.old.items
+        (V.taken file.new) block.new.items (flat_map node_line nodes.now)) }
+    ensures failure { TellsFailure (V.failure_count file.old) (V.failure_count file.new) result }
 {
     for node in nodes {
         put(file, block, node.line().as_str().as_bytes())?;

@@ -1,12 +1,13 @@
 //! The smallest square round (0,0) that holds the cells of a larger one.
 
 ghost use Rattle.std.specs.Prelude.{◌≡◌, ◌≤◌, ◌<◌, ◌-◌, ◌+◌, IfSome, IfNone};
-ghost use Rattle.plane.specs.Centred.{Holds, centred};
+ghost use Rattle.plane.specs.Centred.{Holds};
 ghost use Rattle.plane.specs.Plane.{Plane};
 ghost use Rattle.squares.specs.Book.{IsKnown};
 ghost use Rattle.pattern_writers.specs.Roots.{AreKnown, HasRoot, IsRoot};
+ghost use Rattle.squares.specs.Rounds.{square_plane};
 
-use squares::{Look, Sq, has_empty_border};
+use squares::{LOWEST_ROOT_LEVEL, Look, Sq, has_empty_border};
 
 // The quarters of a square whose centre corner is (0,0), which need not be a square that is known.
 #[derive(Clone, Copy)]
@@ -20,13 +21,13 @@ impl Root {
     pub(crate) fn of<B: Look>(book: &B, sq: Sq) -> Self
         requires known { IsKnown (B.book book.now) sq.level sq }
         requires low { 4 ≤ sq.level }
-        ensures { IsRoot (B.book book.now) (centred sq.level ((B.book book.now).cells sq)) result }
+        ensures { IsRoot (B.book book.now) (square_plane (B.book book.now) sq) result }
     {
         let mut root = Root {
             level: sq.level,
             quarters: book.parts(sq),
         };
-        while root.level > 4 {
+        while root.level > LOWEST_ROOT_LEVEL {
             let Some(inner) = root.inner(book) else {
                 return root;
             };
@@ -40,8 +41,10 @@ impl Root {
         requires level { 4 < self.level }
         requires known { AreKnown (B.book book.now) (self.level - 1) self.quarters }
         ensures level { IfSome result (λ inner. inner.level + 1 ≡ self.level) }
-        ensures inner { IfSome result (λ inner. (plane : Plane) → HasRoot (B.book book.now) plane self → HasRoot (B.book book.now) plane inner) }
-        ensures none { IfNone result ((plane : Plane) → HasRoot (B.book book.now) plane self → ¬ Holds (self.level - 1) plane) }
+        ensures inner { IfSome result (λ inner. (plane : Plane) →
+            HasRoot (B.book book.now) plane self → HasRoot (B.book book.now) plane inner) }
+        ensures none { IfNone result ((plane : Plane) →
+            HasRoot (B.book book.now) plane self → ¬ Holds (self.level - 1) plane) }
     {
         let [nw, ne, sw, se] = self.quarters;
         let nw = book.parts(nw);

@@ -5,13 +5,14 @@ ghost use Rattle.plane.specs.Centred.{centred};
 ghost use Rattle.plane.specs.Square.{bits_plane};
 ghost use Rattle.squares.specs.Book.{IsKnown};
 ghost use Rattle.pattern_writers.specs.ListedNodes.{AreNodes};
+ghost use Rattle.squares.specs.Rounds.{square_plane};
 
 use super::listing::listed_nodes;
 use super::node::Node;
 use hashlife_step::trim;
 use plane::Refusal;
 use rule_text::Rule;
-use squares::{Look, PlainBook, Sq, Squares};
+use squares::{LEAF_LEVEL, Look, PlainBook, Sq, Squares};
 use std::alloc::Global;
 
 // The nodes of the squares in a square, whose centre corner is (0,0), in the smallest square of a level of at least 4
@@ -23,10 +24,10 @@ pub(crate) fn pattern_nodes<B: Look>(
     rule: &Rule,
 ) -> Result<Vec<Node>, Refusal>
     requires known { IsKnown (B.book book.now) sq.level sq }
-    ensures ok { IfOk result (λ nodes. AreNodes (centred sq.level ((B.book book.now).cells sq)) nodes.items) }
+    ensures ok { IfOk result (λ nodes. AreNodes (square_plane (B.book book.now) sq) nodes.items) }
     ensures memory { IsOkUnless result Refusal.NoMemory }
 {
-    if sq.level == 3 {
+    if sq.level == LEAF_LEVEL {
         return leaf_nodes(alloc, rule, book.bits(sq));
     }
     listed_nodes(alloc, book, sq)

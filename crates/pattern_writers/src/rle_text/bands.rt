@@ -1,11 +1,11 @@
 //! The runs of live cells in all rows, found in bands of rows that threads share.
 
-ghost use Rattle.std.specs.Prelude.{◌≡◌, ◌≤◌, ◌<◌, ◌+◌, flat_map, IfOk};
-ghost use Rattle.plane.specs.Centred.{centred};
+ghost use Rattle.std.specs.Prelude.{◌≤◌, ◌<◌, ◌+◌, flat_map, IfOk};
 ghost use Rattle.squares.specs.Book.{IsKnown};
 ghost use Rattle.pattern_writers.specs.Frame.{HasRoom, band_row};
 ghost use Rattle.pattern_writers.specs.RleText.{HasFrame, HasRuns};
 ghost use Rattle.pattern_writers.specs.RowRuns.{rows_between};
+ghost use Rattle.squares.specs.Rounds.{square_plane};
 
 use super::frame::{BANDS, Frame};
 use super::row_run::{RowRun, runs_between};
@@ -25,9 +25,10 @@ pub(crate) fn banded_runs<R: Threads + Sync, B: Look + Sync>(
 ) -> Result<Vec<Vec<RowRun>>, AllocError>
     requires known { IsKnown (B.book book.now) sq.level sq }
     requires level { sq.level ≤ 63 }
-    requires frame { HasFrame (centred sq.level ((B.book book.now).cells sq)) frame }
+    requires frame { HasFrame (square_plane (B.book book.now) sq) frame }
     requires room { HasRoom frame }
-    ensures { IfOk result (λ bands. HasRuns (centred sq.level ((B.book book.now).cells sq)) (flat_map (λ band. band.items) bands.items)) }
+    ensures { IfOk result (λ bands. HasRuns (square_plane (B.book book.now) sq)
+        (flat_map (λ band. band.items) bands.items)) }
 {
     (0..BANDS)
         .into_par_iter()
@@ -40,7 +41,7 @@ pub(crate) fn banded_runs<R: Threads + Sync, B: Look + Sync>(
                 requires room { HasRoom frame }
                 ensures { IfOk result (λ runs.
                     HasRuns (rows_between (band_row frame band) (band_row frame (band + 1))
-                    (centred sq.level ((B.book book.entry.now).cells sq))) runs.items) }
+                    (square_plane (B.book book.entry.now) sq)) runs.items) }
             {
                 runs_between(
                     alloc,

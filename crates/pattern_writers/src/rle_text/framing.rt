@@ -1,10 +1,10 @@
 //! From the cells of a square to its frame and its items.
 
-ghost use Rattle.std.specs.Prelude.{◌≡◌, ◌⊎◌, ◌≤◌, IfOk, IfErr};
-ghost use Rattle.plane.specs.Centred.{centred};
+ghost use Rattle.std.specs.Prelude.{◌≤◌, IfOk, IfErr};
 ghost use Rattle.squares.specs.Book.{IsKnown};
 ghost use Rattle.pattern_writers.specs.Frame.{HasRoom};
-ghost use Rattle.pattern_writers.specs.RleText.{HasFrame, HasItems, IsTooLarge};
+ghost use Rattle.pattern_writers.specs.RleText.{HasFrame, HasItems, IsFrameRefusal};
+ghost use Rattle.squares.specs.Rounds.{square_plane};
 
 use super::bands::banded_runs;
 use super::frame::Frame;
@@ -24,10 +24,9 @@ pub(crate) fn framed_items<R: Threads + Sync, B: Look + Sync>(
 ) -> Result<(Frame, Vec<Item>), Refusal>
     requires known { IsKnown (B.book book.now) sq.level sq }
     requires level { sq.level ≤ 63 }
-    ensures ok { IfOk result (λ framed. HasItems (centred sq.level ((B.book book.now).cells sq)) framed.0 framed.1.items) }
-    ensures refused { IfErr result (λ refusal.
-        (refusal ≡ Refusal.BoxTooLarge × IsTooLarge (centred sq.level ((B.book book.now).cells sq)))
-        ⊎ refusal ≡ Refusal.NoMemory) }
+    ensures ok { IfOk result (λ framed.
+        HasItems (square_plane (B.book book.now) sq) framed.0 framed.1.items) }
+    ensures refused { IfErr result (IsFrameRefusal (square_plane (B.book book.now) sq)) }
 {
     let frame = cells_frame(alloc, book, sq)?;
     let bands = banded_runs(rt, alloc, book, sq, frame)?;
@@ -39,11 +38,9 @@ pub(crate) fn framed_items<R: Threads + Sync, B: Look + Sync>(
 fn cells_frame<B: Look>(alloc: Global, book: &B, sq: Sq) -> Result<Frame, Refusal>
     requires known { IsKnown (B.book book.now) sq.level sq }
     requires level { sq.level ≤ 63 }
-    ensures frame { IfOk result (HasFrame (centred sq.level ((B.book book.now).cells sq))) }
+    ensures frame { IfOk result (HasFrame (square_plane (B.book book.now) sq)) }
     ensures room { IfOk result HasRoom }
-    ensures refused { IfErr result (λ refusal.
-        (refusal ≡ Refusal.BoxTooLarge × IsTooLarge (centred sq.level ((B.book book.now).cells sq)))
-        ⊎ refusal ≡ Refusal.NoMemory) }
+    ensures refused { IfErr result (IsFrameRefusal (square_plane (B.book book.now) sq)) }
 {
     Frame::round(bounds(alloc, book, sq)?)
 }

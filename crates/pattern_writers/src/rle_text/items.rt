@@ -46,7 +46,8 @@ pub(crate) fn items(
     corner: Cell,
     bands: &[Vec<RowRun>],
 ) -> Result<Vec<Item>, AllocError>
-    ensures { IfOk result (λ items. items.items ≡ items_of corner.x corner (flat_map (λ band. band.items) bands.now)) }
+    ensures { IfOk result (λ items. items.items
+        ≡ items_of corner.x corner (flat_map (λ band. band.items) bands.now)) }
 {
     let mut items = Vec::new(alloc);
     let mut next = corner;
@@ -63,7 +64,8 @@ fn push_runs(
     start: Cell,
     runs: &[RowRun],
 ) -> Result<Cell, AllocError>
-    ensures items { OnOk result (items.new.items ≡ items.old.items ++ items_of left start runs.now) }
+    ensures items { OnOk result
+        (items.new.items ≡ items.old.items ++ items_of left start runs.now) }
     ensures next { IfOk result (λ next. next ≡ cell_after start runs.now) }
 {
     let mut next = start;

@@ -1,10 +1,10 @@
 //! An RLE body in lines of at most 70 bytes.
 
-ghost use Rattle.std.specs.Prelude.{◌≡◌, ℕ, ◌≤◌, List, [], ◌∷◌, ◌++◌, codes, length, OnOk, IfErr};
-ghost use Rattle.std.specs.Io.KnownBytes.{Appends, append_known};
+ghost use Rattle.std.specs.Prelude.{◌≡◌, ℕ, ◌≤◌, List, [], ◌∷◌, ◌++◌, codes, length, OnOk};
 ghost use Rattle.arrayvec.specs.ArrayString.{array_string_len};
-ghost use Rattle.plane.specs.Device.{IsWriteRefusal};
+ghost use Rattle.plane.specs.Device.{TellsFailure};
 ghost use Rattle.pattern_writers.specs.Layout.{body_text, LaysOut};
+ghost use Rattle.pattern_writers.specs.OutputBlock.{AppendsBuffered};
 
 use super::items::Item;
 use crate::output_block::{OutputBlock, put};
@@ -23,9 +23,9 @@ pub(crate) fn write_body<V: Sink>(
     block: &mut OutputBlock,
     items: &[Item],
 ) -> Result<(), Refusal>
-    ensures written { OnOk result (Appends (append_known (V.taken file.old) block.old.items) (append_known (V.taken file.new) block.new.items) (body_text items.now)) }
-    ensures unfailed { OnOk result (V.failure_count file.new ≡ V.failure_count file.old) }
-    ensures refused { IfErr result (IsWriteRefusal (V.failure_count file.old) (V.failure_count file.new)) }
+    ensures written { OnOk result (AppendsBuffered (V.taken file.old) block.old.items
+        (V.taken file.new) block.new.items (body_text items.now)) }
+    ensures failure { TellsFailure (V.failure_count file.old) (V.failure_count file.new) result }
 {
     let mut line = ArrayString::new();
     for item in items {
@@ -46,10 +46,9 @@ fn add_to_line<V: Sink>(
     requires piece { length piece.now ≤ 70 }
     ensures line { OnOk result (array_string_len line.new ≤ 70) }
     ensures laid { OnOk result ((out : List ℕ)
-        × Appends (append_known (V.taken file.old) block.old.items) (append_known (V.taken file.new) block.new.items) out
+        × AppendsBuffered (V.taken file.old) block.old.items (V.taken file.new) block.new.items out
         × LaysOut line.old.bytes (piece.now ∷ []) line.new.bytes out) }
-    ensures unfailed { OnOk result (V.failure_count file.new ≡ V.failure_count file.old) }
-    ensures refused { IfErr result (IsWriteRefusal (V.failure_count file.old) (V.failure_count file.new)) }
+    ensures failure { TellsFailure (V.failure_count file.old) (V.failure_count file.new) result }
 {
     if line.len() + piece.len() > LINE_LENGTH {
         end_line(file, block, line)?;
@@ -65,10 +64,10 @@ fn end_line<V: Sink>(
     line: &mut ArrayString<LINE_ROOM>,
 ) -> Result<(), Refusal>
     requires { array_string_len line.old ≤ 70 }
-    ensures written { OnOk result (Appends (append_known (V.taken file.old) block.old.items) (append_known (V.taken file.new) block.new.items) (line.old.bytes ++ codes "\n")) }
+    ensures written { OnOk result (AppendsBuffered (V.taken file.old) block.old.items
+        (V.taken file.new) block.new.items (line.old.bytes ++ codes "\n")) }
     ensures emptied { OnOk result (line.new.bytes ≡ []) }
-    ensures unfailed { OnOk result (V.failure_count file.new ≡ V.failure_count file.old) }
-    ensures refused { IfErr result (IsWriteRefusal (V.failure_count file.old) (V.failure_count file.new)) }
+    ensures failure { TellsFailure (V.failure_count file.old) (V.failure_count file.new) result }
 {
     line.push_str("\n");
     put(file, block, line.as_str().as_bytes())?;

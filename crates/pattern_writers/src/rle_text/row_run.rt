@@ -2,11 +2,11 @@
 
 ghost use Rattle.std.specs.Prelude.{◌≡◌, ◌≤◌, ◌+ℤ◌, pos, FitsSigned, IfOk, OnOk};
 ghost use Rattle.std.specs.Int.{w64};
-ghost use Rattle.plane.specs.Centred.{centred};
 ghost use Rattle.squares.specs.Book.{IsKnown};
 ghost use Rattle.pattern_writers.specs.Items.{next_cell};
 ghost use Rattle.pattern_writers.specs.RleText.{HasRuns};
 ghost use Rattle.pattern_writers.specs.RowRuns.{AddsRow, rows_between, run_in};
+ghost use Rattle.squares.specs.Rounds.{square_plane};
 ghost use Rattle.viewport.specs.Rows.{IsFirstRow};
 
 use plane::Cell;
@@ -58,7 +58,8 @@ pub(crate) fn runs_between<B: Look>(
 ) -> Result<Vec<RowRun>, AllocError>
     requires known { IsKnown (B.book book.now) sq.level sq }
     requires level { sq.level ≤ 63 }
-    ensures { IfOk result (λ runs. HasRuns (rows_between from end (centred sq.level ((B.book book.now).cells sq))) runs.items) }
+    ensures { IfOk result (λ runs.
+        HasRuns (rows_between from end (square_plane (B.book book.now) sq)) runs.items) }
 {
     let mut runs = Vec::new(alloc);
     let mut next = next_row(book, sq, from, end);
@@ -73,7 +74,7 @@ pub(crate) fn runs_between<B: Look>(
 fn next_row<B: Look>(book: &B, sq: Sq, from: i64, end: i64) -> Option<i64>
     requires known { IsKnown (B.book book.now) sq.level sq }
     requires level { sq.level ≤ 63 }
-    ensures { IsFirstRow (rows_between from end (centred sq.level ((B.book book.now).cells sq))) from result }
+    ensures { IsFirstRow (rows_between from end (square_plane (B.book book.now) sq)) from result }
 {
     let row = first_row(book, sq, from)?;
     if row < end { Some(row) } else { None }
@@ -89,7 +90,8 @@ fn add_row<B: Look>(
 ) -> Result<(), AllocError>
     requires known { IsKnown (B.book book.now) sq.level sq }
     requires level { sq.level ≤ 63 }
-    ensures { OnOk result (AddsRow (centred sq.level ((B.book book.now).cells sq)) row runs.old.items runs.new.items) }
+    ensures { OnOk result
+        (AddsRow (square_plane (B.book book.now) sq) row runs.old.items runs.new.items) }
 {
     let Ok(found) = viewport::row_runs(alloc, book, sq, row) else {
         return Err(AllocError);

@@ -26,7 +26,8 @@ impl<T> Counted<T> {
 
     fn fail(&mut self) -> Failed
         ensures inner { counted_inner self.new ≡ counted_inner self.old }
-        ensures failures { counted_failures self.new ≡ min (counted_failures self.old + 1) most_failures }
+        ensures failures { counted_failures self.new
+            ≡ min (counted_failures self.old + 1) most_failures }
     {
         self.failures = self.failures.saturating_add(1);
         Failed

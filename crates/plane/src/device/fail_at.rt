@@ -52,7 +52,8 @@ impl<T> FailAt<T> {
     // Counts a failure, if the call failed.
     fn counted<R>(&mut self, outcome: Result<R, Failed>) -> Result<R, Failed>
         ensures inner { fail_at_inner self.new ≡ fail_at_inner self.old }
-        ensures failures { fail_at_failures self.new ≡ failures_after result (fail_at_failures self.old) }
+        ensures failures { fail_at_failures self.new
+            ≡ failures_after result (fail_at_failures self.old) }
         ensures calls { calls_until_failure self.new ≡ calls_until_failure self.old }
         ensures outcome { result ≡ outcome }
     {
@@ -70,14 +71,18 @@ impl<T: Source> Source for FailAt<T> {
 
     fn read_some(&mut self, buffer: &mut [u8]) -> Result<usize, Failed>
         ensures bound { ReadsAtMost result buffer.new }
-        ensures bytes { ReadConsumes (T.remaining (fail_at_inner self.old)) (T.remaining (fail_at_inner self.new)) result buffer.new }
-        ensures failures { fail_at_failures self.new ≡ failures_after result (fail_at_failures self.old) }
+        ensures bytes { ReadConsumes (T.remaining (fail_at_inner self.old))
+            (T.remaining (fail_at_inner self.new)) result buffer.new }
+        ensures failures { fail_at_failures self.new
+            ≡ failures_after result (fail_at_failures self.old) }
         // It fails at its one call, and there passes nothing on.
         ensures call { calls_until_failure self.new ≡ calls_until_failure self.old - 1 }
-        ensures due { calls_until_failure self.old ≡ 1 → IsErr result × (fail_at_inner self.new ≡ fail_at_inner self.old) }
+        ensures due { calls_until_failure self.old ≡ 1 →
+            IsErr result × (fail_at_inner self.new ≡ fail_at_inner self.old) }
         // At any other call it fails exactly where the inner device does.
         ensures passes { calls_until_failure self.old ≢ 1 →
-            T.failure_count (fail_at_inner self.new) ≡ failures_after result (T.failure_count (fail_at_inner self.old)) }
+            T.failure_count (fail_at_inner self.new)
+            ≡ failures_after result (T.failure_count (fail_at_inner self.old)) }
     {
         let outcome = if self.is_failing_call() {
             Err(Failed)
@@ -100,14 +105,18 @@ impl<T: Sink> Sink for FailAt<T> {
     fn write_some(&mut self, bytes: &[u8]) -> Result<usize, Failed>
         ensures bound { WritesAtMost result bytes.now }
         ensures progress { 0 < length bytes.now → IfOk result (λ count. 0 < count) }
-        ensures bytes { WriteAppends (T.taken (fail_at_inner self.old)) (T.taken (fail_at_inner self.new)) result bytes.now }
-        ensures failures { fail_at_failures self.new ≡ failures_after result (fail_at_failures self.old) }
+        ensures bytes { WriteAppends (T.taken (fail_at_inner self.old))
+            (T.taken (fail_at_inner self.new)) result bytes.now }
+        ensures failures { fail_at_failures self.new
+            ≡ failures_after result (fail_at_failures self.old) }
         // It fails at its one call, and there passes nothing on.
         ensures call { calls_until_failure self.new ≡ calls_until_failure self.old - 1 }
-        ensures due { calls_until_failure self.old ≡ 1 → IsErr result × (fail_at_inner self.new ≡ fail_at_inner self.old) }
+        ensures due { calls_until_failure self.old ≡ 1 →
+            IsErr result × (fail_at_inner self.new ≡ fail_at_inner self.old) }
         // At any other call it fails exactly where the inner device does.
         ensures passes { calls_until_failure self.old ≢ 1 →
-            T.failure_count (fail_at_inner self.new) ≡ failures_after result (T.failure_count (fail_at_inner self.old)) }
+            T.failure_count (fail_at_inner self.new)
+            ≡ failures_after result (T.failure_count (fail_at_inner self.old)) }
     {
         let outcome = if self.is_failing_call() {
             Err(Failed)

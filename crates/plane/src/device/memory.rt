@@ -3,7 +3,7 @@
 ghost use Rattle.std.specs.Prelude.{◌≡◌, ◌+◌, ◌≤◌, ◌<◌, ◌↔◌, ◌++◌, [], Some, drop, length, min, take, IsOk, IfOk};
 ghost use Rattle.std.specs.Io.{ReadsAtMost, WritesAtMost};
 ghost use Rattle.std.specs.Io.KnownBytes.{ReadConsumes, WriteAppends};
-ghost use Rattle.plane.specs.Device.{failures_after, memory_remaining};
+ghost use Rattle.plane.specs.Device.{failures_after, memory_remaining, unread};
 
 use super::{Failed, Sink, Source};
 use std::alloc::{AllocError, Global};
@@ -20,20 +20,27 @@ pub struct Memory {
 }
 
 impl Model for Memory {
-    ghost use Rattle.std.specs.Prelude.{◌≤◌, ◌<◌, ◌^◌, vec_len, vec_capacity};
+    ghost use Rattle.std.specs.Prelude.{◌≤◌, vec_len, vec_capacity};
     ghost use Rattle.plane.specs.Device.{MemoryContents};
 
     ghost Value = { MemoryContents };
 
-    ghost view = { λ memory. record { bytes = memory.bytes.items; position = memory.position; room = memory.room; failures = memory.failures } };
+    ghost view = { λ memory. record {
+      bytes = memory.bytes.items;
+      position = memory.position;
+      room = memory.room;
+      failures = memory.failures;
+    } };
 
-    ghost invariant = { λ memory. (memory.position ≤ vec_len memory.bytes) × (vec_len memory.bytes ≤ memory.room) × (memory.room ≤ vec_capacity memory.bytes) };
+    ghost invariant = { λ memory. (memory.position ≤ vec_len memory.bytes)
+        × (vec_len memory.bytes ≤ memory.room)
+        × (memory.room ≤ vec_capacity memory.bytes) };
 }
 
 impl Memory {
     /// Room for so many bytes, and none in it yet.
     pub fn with_room(alloc: Global, room: usize) -> Result<Self, AllocError>
-        ensures { IfOk result (λ memory. memory ≡ record { bytes = []; position = 0; room = room; failures = 0 }) }
+        ensures { IfOk result (λ memory. memory ≡ unread [] room) }
     {
         Ok(Memory {
             bytes: Vec::with_capacity(alloc, room)?,
@@ -45,7 +52,7 @@ impl Memory {
 
     /// These bytes, with no room for more.
     pub fn holding(alloc: Global, bytes: &[u8]) -> Result<Self, AllocError>
-        ensures { IfOk result (λ memory. memory ≡ record { bytes = bytes.now; position = 0; room = length bytes.now; failures = 0 }) }
+        ensures { IfOk result (λ memory. memory ≡ unread bytes.now (length bytes.now)) }
     {
         Ok(Memory {
             bytes: Vec::from_slice(alloc, bytes)?,
@@ -80,7 +87,8 @@ impl Source for Memory {
 
     fn read_some(&mut self, buffer: &mut [u8]) -> Result<usize, Failed>
         ensures bound { ReadsAtMost result buffer.new }
-        ensures bytes { ReadConsumes (memory_remaining self.old) (memory_remaining self.new) result buffer.new }
+        ensures bytes { ReadConsumes
+            (memory_remaining self.old) (memory_remaining self.new) result buffer.new }
         ensures failures { self.new.failures ≡ failures_after result self.old.failures }
         ensures succeeds { IsOk result }
     {

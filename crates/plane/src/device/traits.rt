@@ -33,7 +33,8 @@ pub trait Source {
     fn read_some(&mut self, buffer: &mut [u8]) -> Result<usize, Failed>
         ensures bound { ReadsAtMost result buffer.new }
         ensures bytes { ReadConsumes (remaining self.old) (remaining self.new) result buffer.new }
-        ensures failures { failure_count self.new ≡ failures_after result (failure_count self.old) };
+        ensures failures { failure_count self.new
+            ≡ failures_after result (failure_count self.old) };
 
     /// How many calls have failed, or 2^64 - 1 for any more.
     fn failures(&self) -> u64
@@ -54,7 +55,8 @@ pub trait Sink {
         ensures bound { WritesAtMost result bytes.now }
         ensures progress { 0 < length bytes.now → IfOk result (λ count. 0 < count) }
         ensures bytes { WriteAppends (taken self.old) (taken self.new) result bytes.now }
-        ensures failures { failure_count self.new ≡ failures_after result (failure_count self.old) };
+        ensures failures { failure_count self.new
+            ≡ failures_after result (failure_count self.old) };
 
     /// How many calls have failed, or 2^64 - 1 for any more.
     fn failures(&self) -> u64

@@ -1,8 +1,8 @@
 //! All of some bytes, written to a sink.
 
-ghost use Rattle.std.specs.Prelude.{◌≡◌, OnOk, IfErr};
+ghost use Rattle.std.specs.Prelude.{OnOk};
 ghost use Rattle.std.specs.Io.KnownBytes.{Appends};
-ghost use Rattle.plane.specs.Device.{IsWriteRefusal};
+ghost use Rattle.plane.specs.Device.{TellsFailure};
 
 use crate::device::traits::Sink;
 use crate::refusal::Refusal;
@@ -11,8 +11,7 @@ use crate::refusal::Refusal;
 /// them then.
 pub fn write_all<W: Sink>(sink: &mut W, bytes: &[u8]) -> Result<(), Refusal>
     ensures written { OnOk result (Appends (W.taken sink.old) (W.taken sink.new) bytes.now) }
-    ensures unfailed { OnOk result (W.failure_count sink.new ≡ W.failure_count sink.old) }
-    ensures refused { IfErr result (IsWriteRefusal (W.failure_count sink.old) (W.failure_count sink.new)) }
+    ensures failure { TellsFailure (W.failure_count sink.old) (W.failure_count sink.new) result }
 {
     let mut written = 0;
     while written < bytes.len() {

@@ -26,4 +26,4 @@ returns-in_err-frame-clause-refused g c = search rules
 pub returns-clause-refused : goal.returns-clause-refused
 returns-clause-refused g c =
     let framed = c.in_ok-frame.ensures.ok in
-    IfErr-weaker c.write_items.result _ _ (λ refusal is. inr (inr (is, record { cells = framed.cells; listing = framed.listing; fits = framed.fits }))) c.write_items.ensures.refused
+    IfErr-weaker c.write_items.result _ _ (λ refusal is. inr (inr (is, record { cells = framed.cells; listing = framed.listing; fits = framed.fits }))) c.write_items.ensures.failure.refused

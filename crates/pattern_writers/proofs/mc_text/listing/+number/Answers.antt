@@ -13,13 +13,13 @@ pub number-returns-in-Some-clause-ok : goal.number-returns-in-Some-clause-ok
 number-returns-in-Some-clause-ok g t c =
     number_lists (g.B.Look.book c.args.book.now) (g.met.B.Look.is_book c.args.book.now) c.args.list.now c.args.sq c.in-Some.number c.requires.known.known (sym c.in-Some.ensures)
 
-pub number-returns-then-sq-eq3-clause-ok : goal.number-returns-then-sq-eq3-clause-ok
-number-returns-then-sq-eq3-clause-ok g t c =
+pub number-returns-then-sq-eq-LEAF_LEVEL-clause-ok : goal.number-returns-then-sq-eq-LEAF_LEVEL-clause-ok
+number-returns-then-sq-eq-LEAF_LEVEL-clause-ok g t c =
     let book = g.B.Look.book c.args.book.now in
     let new = no_number book (g.met.B.Look.is_book c.args.book.now) c.args.list.now c.args.sq (sym {b = number_of c.args.list.now c.args.sq} c.in_default.ensures) in
     from_three c.add.result _ _ _ _
     (λ number grown next up.
-    leaf_lists book (g.met.B.Look.is_book c.args.book.now) c.args.list.now c.add.new.self c.args.sq c.bits.result number c.requires.known new.0 c.if-sq-eq3.true
+    leaf_lists book (g.met.B.Look.is_book c.args.book.now) c.args.list.now c.add.new.self c.args.sq c.bits.result number c.requires.known new.0 c.if-sq-eq-LEAF_LEVEL.true
     new.1 c.bits.ensures next grown up)
     c.add.ensures.node c.add.ensures.number c.add.ensures.noted
 
