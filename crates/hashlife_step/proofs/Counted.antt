@@ -1,10 +1,11 @@
 -- The count of expansions, from one book to the next.
 use Rattle.std.proofs.Common.{◌≡◌, ℕ, zero, suc, ◌+◌, ◌-◌, ◌^◌, ◌<◌, ◌≤◌, min, arith, sym, ◌∙◌, ap, subst, refl, ⊎_elim}
 use Rattle.squares.specs.Accounts.{Accounts}
-use Rattle.squares.specs.Book.{Book, KeepsResults, Learns, AddsResult, HasResult}
+use Rattle.squares.specs.Book.{AddsResult, AddsSquares, Book, HasResult, KeepsResults, Learns}
 use Rattle.squares.specs.declared.sq.Sq.{Sq}
 use Rattle.squares.proofs.Results.{accounts_added, accounts_kept, accounts_learned, accounts_trans, not_new}
-use Rattle.hashlife_step.specs.Tallies.{counted, Tallies}
+use Rattle.squares.proofs.Kept.{keeps_trans}
+use Rattle.hashlife_step.specs.Tallies.{MakesResults, Tallies, counted}
 
 counted_sum : (n a b : ℕ) → counted (counted n a) b ≡ counted n (a + b)
 counted_sum n a zero = let e : a + 0 ≡ a = omega arith in sym (ap (counted n) e)
@@ -72,9 +73,23 @@ made_and_kept old recalled made kept sq k m n low same none is adds full =
     let last = tallies_added made kept sq m (still_none old made sq k m low first none) adds in
     subst (Tallies old kept sq.level k) (sym full) (tallies_trans old made kept (sq.level - 1) sq.level k m _ (omega arith) first last)
 
--- results were made twice, and between that none
-pub made_twice : (old first second third last new : Book) (level k m n : ℕ) → KeepsResults old first → Tallies first second level k m → KeepsResults second third →
-    Tallies third last level m n → KeepsResults last new → Tallies old new level k n
-made_twice old first second third last new level k m n same is between again after =
-    let one = made_between old first second third level level k m (omega arith) same is between in
-    tallies_trans old last new level level k n n (omega arith) (tallies_trans old third last level level k m n (omega arith) one again) (tallies_none last new level n after)
+-- squares alone are new
+pub makes_none : {old new : Book} {level n : ℕ} → AddsSquares old new → MakesResults old new level n n
+makes_none {old} {new} {level} {n} is = record { keeps = is.keeps; tally = tallies_none old new level n is.results }
+
+pub makes_trans : {old now new : Book} {level k m n : ℕ} → MakesResults old now level k m → MakesResults now new level m n → MakesResults old new level k n
+makes_trans {old} {now} {new} {level} {k} {m} {n} first second = record {
+  keeps = keeps_trans first.keeps second.keeps;
+  tally = tallies_trans old now new level level k m n (omega arith) first.tally second.tally;
+}
+
+-- results of one level are results of another that is the same
+pub makes_at : {old new : Book} {level level' k n : ℕ} → level ≡ level' → MakesResults old new level k n → MakesResults old new level' k n
+makes_at {old} {new} {level} {level'} {k} {n} e is = subst (λ l. MakesResults old new l k n) e is
+
+-- results up to a level are results up to a higher one
+pub makes_up_to : {old new : Book} {level top k n : ℕ} → level ≤ top → MakesResults old new level k n → MakesResults old new top k n
+makes_up_to {old} {new} {level} {top} {k} {n} le is = record {
+  keeps = is.keeps;
+  tally = made_between old old new new level top k n le (results_none old) is.tally (results_none new);
+}

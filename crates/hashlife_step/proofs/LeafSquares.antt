@@ -1,15 +1,14 @@
 -- Squares of levels 4, 5 and 6: their leaves, and what kernels make of these.
-use Rattle.std.proofs.Common.{◌≡◌, ℕ, ◌+◌, ◌-◌, ◌^◌, min, List, [], ◌∷◌, arith, sym, ◌∙◌, ap, subst, refl}
+use Rattle.std.proofs.Common.{◌≡◌, ℕ, ◌+◌, ◌-◌, ◌^◌, min, List, arith, sym, ◌∙◌, ap, subst, refl}
 use Rattle.rule_text.specs.CountRule.{CountRule}
 use Rattle.plane.specs.Plane.{Plane, after}
 use Rattle.plane.specs.Square.{IsSame, IsSquare, joined, centre_of, future}
 use Rattle.plane.proofs.Rounds.{whole_joined}
 use Rattle.plane.proofs.Same.{same_trans, same_sym, plane_equal}
-use Rattle.squares.specs.Book.{Book, IsKnown, IsFuture, Shows, Keeps, AreQuarters, joined_squares, nth}
+use Rattle.squares.specs.Book.{Book, IsKnown, IsFuture, Shows, Keeps, AreQuarters, nth}
 use Rattle.squares.specs.declared.sq.Sq.{Sq}
 use Rattle.squares.proofs.Kept.{keeps_trans, same_later}
 use Rattle.squares.proofs.Centres.{lowered, shows_as}
-use Rattle.squares.proofs.FourKnown.{joined_as}
 
 -- a square with the cells of the future, in the book as it is now
 pub future_later : (old new : Book) (sq next : Sq) → Keeps old new → IsKnown old sq.level sq →
@@ -46,12 +45,3 @@ quarters_shown own level plane b1 b2 b3 b4 q a b c d twice e square parts k2 k3 
     (same_trans is_b (same_later k2 four.ne))
     (same_trans is_c (same_later (keeps_trans k2 k3) four.sw))
     (same_trans is_d (same_later (keeps_trans k2 (keeps_trans k3 k4)) four.se))
-
--- four squares of one level that were numbered in turn
-pub numbered_joined : (own : ℕ) (a b c d : Plane) (b1 b2 b3 b4 b5 : Book) (nw ne sw se whole : Sq) → Keeps b1 b2 → Keeps b2 b3 → Keeps b3 b4 →
-    Shows b1 own a nw → Shows b2 own b ne → Shows b3 own c sw → Shows b4 own d se →
-    Shows b5 (nw.level + 1) (joined_squares b4 nw.level (nw ∷ ne ∷ sw ∷ se ∷ [])) whole →
-    Shows b5 (own + 1) (joined (2 ^ own) a b c d) whole
-numbered_joined own a b c d b1 b2 b3 b4 b5 nw ne sw se whole k2 k3 k4 s1 s2 s3 s4 s =
-    joined_as b4 b5 own (nw ∷ ne ∷ sw ∷ se ∷ []) a b c d whole s1.known.at_level
-    (same_later (keeps_trans k2 (keeps_trans k3 k4)) s1) (same_later (keeps_trans k3 k4) s2) (same_later k4 s3) s4.cells s

@@ -1,19 +1,18 @@
 -- Squares with the same cells round (0,0), from one book to the next.
-use Rattle.std.proofs.Common.{◌≡◌, ℕ, ◌+◌, ◌-◌, ◌^◌, ◌<◌, ◌≤◌, max, arith}
+use Rattle.std.proofs.Common.{◌≡◌, ℕ, ◌+◌, ◌-◌, ◌^◌, ◌≤◌, max, arith}
 use Rattle.plane.specs.Centred.{centred, Holds}
 use Rattle.plane.specs.Plane.{Plane, after}
 use Rattle.plane.specs.Square.{IsSame}
 use Rattle.plane.proofs.Paddings.{padded_after, square_held}
 use Rattle.plane.proofs.Same.{same_trans}
-use Rattle.squares.specs.Book.{Book, IsBook, IsKnown, Keeps, KeepsResults}
+use Rattle.squares.specs.Book.{AddsSquares, Book, IsBook, IsKnown}
 use Rattle.squares.specs.declared.sq.Sq.{Sq}
-use Rattle.squares.proofs.Kept.{keeps_trans, results_trans}
+use Rattle.squares.proofs.Kept.{adds_trans}
 use Rattle.hashlife_step.specs.Round.{ShowsRound}
 
--- a square of some level that has the cells, in a book that has only grown
+-- a square of some level that has the cells, in a book where squares alone are new
 pub record IsReached (old new : Book) (plane : Plane) (low high : ℕ) (sq : Sq) : Type 0 where
-  pub keeps : Keeps old new
-  pub results : KeepsResults old new
+  pub adds : AddsSquares old new
   pub shown : ShowsRound new plane sq
   pub above : low ≤ sq.level
   pub below : sq.level ≤ high
@@ -22,11 +21,10 @@ pub round_as : {book : Book} {plane other : Plane} {sq : Sq} → ShowsRound book
 round_as is same = record { known = is.known; cells = same_trans is.cells same }
 
 -- one step on
-pub reached_next : (old now new : Book) (plane : Plane) (low high : ℕ) (sq next : Sq) → IsReached old now plane low high sq → Keeps now new → KeepsResults now new →
+pub reached_next : (old now new : Book) (plane : Plane) (low high : ℕ) (sq next : Sq) → IsReached old now plane low high sq → AddsSquares now new →
     ShowsRound new (centred sq.level (now.cells sq)) next → low ≤ next.level → next.level ≤ high → IsReached old new plane low high next
-reached_next old now new plane low high sq next is keeps results shown above below = record {
-  keeps = keeps_trans is.keeps keeps;
-  results = results_trans is.results results;
+reached_next old now new plane low high sq next is adds shown above below = record {
+  adds = adds_trans is.adds adds;
   shown = round_as shown is.shown.cells;
   above = above;
   below = below;

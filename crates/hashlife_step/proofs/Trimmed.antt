@@ -5,23 +5,23 @@ use Rattle.plane.specs.Plane.{Plane}
 use Rattle.plane.specs.Square.{centre_of}
 use Rattle.plane.proofs.Paddings.{centred_centre, holds_more, holds_same, square_held}
 use Rattle.plane.proofs.Same.{same_sym, same_trans, plane_equal}
-use Rattle.squares.specs.Book.{Book, IsBook, Shows, Keeps, KeepsResults}
+use Rattle.squares.specs.Book.{AddsSquares, Book, IsBook, Keeps, Shows}
 use Rattle.squares.specs.declared.sq.Sq.{Sq}
-use Rattle.squares.proofs.Kept.{keeps_trans, known_kept, results_trans}
+use Rattle.squares.proofs.Kept.{adds_trans, known_kept}
 use Rattle.hashlife_step.specs.Round.{ShowsRound}
 use Rattle.hashlife_step.proofs.Grown.{centred_same, shows_round}
 use Rattle.hashlife_step.proofs.RoundSquares.{IsReached, reached_next}
 
 -- the centre, where it holds all
 pub centre_reached : (old now read new : Book) (plane : Plane) (high : ℕ) (sq next : Sq) → IsReached old now plane 4 high sq → 4 < sq.level →
-    Holds (sq.level - 1) (centred sq.level (now.cells sq)) → Keeps now read → KeepsResults now read → Keeps read new → KeepsResults read new →
+    Holds (sq.level - 1) (centred sq.level (now.cells sq)) → AddsSquares now read → AddsSquares read new →
     Shows new (sq.level - 1) (centre_of sq.level (read.cells sq)) next → IsReached old new plane 4 high next
-centre_reached old now read new plane high sq next is above held k2 r2 k3 r3 shown =
-    let same : read.cells sq ≡ now.cells sq = plane_equal _ _ (k2.cells sq is.shown.known.known) in
+centre_reached old now read new plane high sq next is above held reads adds shown =
+    let same : read.cells sq ≡ now.cells sq = plane_equal _ _ (reads.keeps.cells sq is.shown.known.known) in
     let centre : Shows new (sq.level - 1) (centre_of sq.level (now.cells sq)) next = subst (λ p. Shows new (sq.level - 1) (centre_of sq.level p) next) same shown in
     let round : ShowsRound new (centred sq.level (now.cells sq)) next = shows_round new (sq.level - 1) (centre_of sq.level (now.cells sq)) _ next centre (centred_centre sq.level (now.cells sq) (omega arith) held) in
     let level = shown.known.at_level in let below = is.below in
-    reached_next old now new plane 4 high sq next is (keeps_trans k2 k3) (results_trans r2 r3) round (omega arith) (omega arith)
+    reached_next old now new plane 4 high sq next is (adds_trans reads adds) round (omega arith) (omega arith)
 
 -- it is still so in a later book
 pub round_kept : {old new : Book} {plane : Plane} {sq : Sq} → Keeps old new → ShowsRound old plane sq → ShowsRound new plane sq

@@ -1,7 +1,7 @@
--- The count of expansions.
+-- The results that were made, and the count of expansions.
 use Rattle.std.specs.Prelude.{◌≡◌, ℕ, zero, suc, ◌+◌, ◌-◌, ◌^◌, ◌≤◌, min}
 use Rattle.squares.specs.Accounts.{Accounts}
-use Rattle.squares.specs.Book.{Book}
+use Rattle.squares.specs.Book.{Book, Keeps}
 
 -- a count after so many more, one at a time: a full count stays
 abbrev pub counted : ℕ → ℕ → ℕ
@@ -14,3 +14,8 @@ pub record Tallies (old new : Book) (level before after : ℕ) : Type 0 where
   pub accounts : Accounts old new level 0 made
   pub told : old.learned ≤ new.learned
   pub count : after ≡ counted before made
+
+-- squares, and results of at most this level, are new, if anything is: all that was known stays known, and the results that were made are counted
+pub record MakesResults (old new : Book) (level before after : ℕ) : Type 0 where
+  pub keeps : Keeps old new
+  pub tally : Tallies old new level before after

@@ -1,19 +1,18 @@
 //! The centres of the four squares that neighbours make among nine squares in three rows.
 ghost use Rattle.std.specs.Prelude.{◌<◌, All, IfOk, IfErr};
-ghost use Rattle.squares.specs.Book.{IsKnown, Keeps, KeepsResults, MayRefuse};
+ghost use Rattle.squares.specs.Book.{AddsSquares, IsKnown, MayRefuse};
 ghost use Rattle.hashlife_step.specs.Futures.{AreCentres};
 ghost use Rattle.hashlife_step.specs.Quarters.{AreRead};
 
 use plane::Refusal;
-use squares::{Sq, Squares, leaf_centre};
+use squares::{LEAF_LEVEL, Sq, Squares, leaf_centre};
 
 // The same centres as `four_centres`, of nine squares of level 3.
 fn leaf_centres<S: Squares>(book: &mut S, nine: [Sq; 9]) -> Result<[Sq; 4], Refusal>
     requires known { All (IsKnown (S.book book.old) 3) nine }
     ensures ok { IfOk result (AreCentres (S.book book.new) 3 nine) }
     ensures refusal { IfErr result (MayRefuse (S.book book.new)) }
-    ensures keeps { Keeps (S.book book.old) (S.book book.new) }
-    ensures results { KeepsResults (S.book book.old) (S.book book.new) }
+    ensures adds { AddsSquares (S.book book.old) (S.book book.new) }
 {
     let [nw, upper, ne, left, middle, right, sw, lower, se] = nine;
     let upper_left = leaf_centre(book, [nw, upper, left, middle])?;
@@ -28,8 +27,7 @@ fn read_row<S: Squares>(book: &mut S, level: u8, row: [Sq; 3]) -> [[Sq; 4]; 3]
     requires known { All (IsKnown (S.book book.old) level) row }
     requires low { 3 < level }
     ensures value { AreRead (S.book book.old) (S.book book.new) level row result }
-    ensures keeps { Keeps (S.book book.old) (S.book book.new) }
-    ensures results { KeepsResults (S.book book.old) (S.book book.new) }
+    ensures adds { AddsSquares (S.book book.old) (S.book book.new) }
 {
     let [left, middle, right] = row;
     [
@@ -44,8 +42,7 @@ fn read_nine<S: Squares>(book: &mut S, level: u8, nine: [Sq; 9]) -> [[Sq; 4]; 9]
     requires known { All (IsKnown (S.book book.old) level) nine }
     requires low { 3 < level }
     ensures value { AreRead (S.book book.old) (S.book book.new) level nine result }
-    ensures keeps { Keeps (S.book book.old) (S.book book.new) }
-    ensures results { KeepsResults (S.book book.old) (S.book book.new) }
+    ensures adds { AddsSquares (S.book book.old) (S.book book.new) }
 {
     let [nw, upper, ne, left, middle, right, sw, lower, se] = nine;
     let [nw, upper, ne] = read_row(book, level, [nw, upper, ne]);
@@ -63,10 +60,9 @@ pub(crate) fn four_centres<S: Squares>(
     requires known { All (IsKnown (S.book book.old) level) nine }
     ensures ok { IfOk result (AreCentres (S.book book.new) level nine) }
     ensures refusal { IfErr result (MayRefuse (S.book book.new)) }
-    ensures keeps { Keeps (S.book book.old) (S.book book.new) }
-    ensures results { KeepsResults (S.book book.old) (S.book book.new) }
+    ensures adds { AddsSquares (S.book book.old) (S.book book.new) }
 {
-    if level == 3 {
+    if level == LEAF_LEVEL {
         return leaf_centres(book, nine);
     }
     // A centre is made of the quarters where its four squares meet.

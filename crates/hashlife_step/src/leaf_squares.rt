@@ -1,23 +1,26 @@
 //! Squares of levels 3 to 6, by the cells of their leaves: read and joined, their futures, and the
 //! square round a leaf.
 ghost use Rattle.std.specs.Prelude.{◌≡◌, IfOk, IfErr};
-ghost use Rattle.leaf_kernels.specs.Rows.{four_fours_plane, four_sixteens_plane, leaves_plane, sixteen_plane};
-ghost use Rattle.plane.specs.Centred.{centred};
+ghost use Rattle.leaf_kernels.specs.Rows.{four_fours_plane, four_sixteens_plane, sixteen_plane};
 ghost use Rattle.plane.specs.Square.{IsSame};
-ghost use Rattle.squares.specs.Book.{IsFuture, IsKnown, Keeps, KeepsResults, MayRefuse, Shows};
+ghost use Rattle.squares.specs.Book.{AddsSquares, IsFuture, IsKnown, MayRefuse, Shows};
+ghost use Rattle.squares.specs.Rounds.{square_plane};
 ghost use Rattle.hashlife_step.specs.Round.{ShowsRound};
 
 use leaf_kernels::{centre16, result16, result64};
 use plane::Refusal;
-use squares::{Sq, Squares, read_leaves};
+use squares::{Sq, Squares, join_leaves, read_leaves};
+
+/// The level of a base: of the squares whose futures a kernel makes from all their leaves at once.
+/// The future of a larger square is made of those of smaller ones.
+pub(crate) const BASE_LEVEL: u8 = 6;
 
 // The sixteen leaves of a square of level 5, row by row.
 fn read_sixteen<S: Squares>(book: &mut S, sq: Sq) -> [u64; 16]
     requires known { IsKnown (S.book book.old) sq.level sq }
     requires level { sq.level ≡ 5 }
     ensures value { IsSame (sixteen_plane result) ((S.book book.old).cells sq) }
-    ensures keeps { Keeps (S.book book.old) (S.book book.new) }
-    ensures results { KeepsResults (S.book book.old) (S.book book.new) }
+    ensures adds { AddsSquares (S.book book.old) (S.book book.new) }
 {
     let [nw, ne, sw, se] = book.read_parts(sq);
     let nw = read_leaves(book, nw);
@@ -32,28 +35,12 @@ fn read_sixteen<S: Squares>(book: &mut S, sq: Sq) -> [u64; 16]
     ]
 }
 
-// The square of level 4 that four leaves make.
-fn join_leaves<S: Squares>(book: &mut S, leaves: [u64; 4]) -> Result<Sq, Refusal>
-    ensures ok { IfOk result (Shows (S.book book.new) 4 (leaves_plane leaves)) }
-    ensures refusal { IfErr result (MayRefuse (S.book book.new)) }
-    ensures keeps { Keeps (S.book book.old) (S.book book.new) }
-    ensures results { KeepsResults (S.book book.old) (S.book book.new) }
-{
-    let [nw, ne, sw, se] = leaves;
-    let upper_left = book.leaf(nw)?;
-    let upper_right = book.leaf(ne)?;
-    let lower_left = book.leaf(sw)?;
-    let lower_right = book.leaf(se)?;
-    book.quad([upper_left, upper_right, lower_left, lower_right])
-}
-
 // The leaves of a square of level 6, quarter by quarter.
 fn read_quarters<S: Squares>(book: &mut S, sq: Sq) -> [[u64; 16]; 4]
     requires known { IsKnown (S.book book.old) sq.level sq }
     requires level { sq.level ≡ 6 }
     ensures value { IsSame (four_sixteens_plane result) ((S.book book.old).cells sq) }
-    ensures keeps { Keeps (S.book book.old) (S.book book.new) }
-    ensures results { KeepsResults (S.book book.old) (S.book book.new) }
+    ensures adds { AddsSquares (S.book book.old) (S.book book.new) }
 {
     let [nw, ne, sw, se] = book.read_parts(sq);
     let upper_left = read_sixteen(book, nw);
@@ -67,8 +54,7 @@ fn read_quarters<S: Squares>(book: &mut S, sq: Sq) -> [[u64; 16]; 4]
 fn join_quarters<S: Squares>(book: &mut S, quarters: [[u64; 4]; 4]) -> Result<Sq, Refusal>
     ensures ok { IfOk result (Shows (S.book book.new) 5 (four_fours_plane quarters)) }
     ensures refusal { IfErr result (MayRefuse (S.book book.new)) }
-    ensures keeps { Keeps (S.book book.old) (S.book book.new) }
-    ensures results { KeepsResults (S.book book.old) (S.book book.new) }
+    ensures adds { AddsSquares (S.book book.old) (S.book book.new) }
 {
     let [nw, ne, sw, se] = quarters;
     let upper_left = join_leaves(book, nw)?;
@@ -78,17 +64,16 @@ fn join_quarters<S: Squares>(book: &mut S, quarters: [[u64; 4]; 4]) -> Result<Sq
     book.quad([upper_left, upper_right, lower_left, lower_right])
 }
 
-/// The future of a square of level 6.
-pub(crate) fn wide_future<S: Squares>(book: &mut S, sq: Sq) -> Result<Sq, Refusal>
+/// The future of a base, a square of level 6.
+pub(crate) fn base_future<S: Squares>(book: &mut S, sq: Sq) -> Result<Sq, Refusal>
     requires known { IsKnown (S.book book.old) sq.level sq }
     requires level { sq.level ≡ 6 }
     ensures ok { IfOk result (IsFuture (S.book book.new) sq) }
     ensures refusal { IfErr result (MayRefuse (S.book book.new)) }
-    ensures keeps { Keeps (S.book book.old) (S.book book.new) }
-    ensures results { KeepsResults (S.book book.old) (S.book book.new) }
+    ensures adds { AddsSquares (S.book book.old) (S.book book.new) }
 {
     let quarters = read_quarters(book, sq);
-    let exponent = u8::min(book.exponent(), 4);
+    let exponent = u8::min(book.exponent(), sq.level - 2);
     let middle = result64(book.rule(), quarters, exponent);
     join_quarters(book, middle)
 }
@@ -99,25 +84,23 @@ pub(crate) fn leaf_future<S: Squares>(book: &mut S, sq: Sq) -> Result<Sq, Refusa
     requires level { sq.level ≡ 4 }
     ensures ok { IfOk result (IsFuture (S.book book.new) sq) }
     ensures refusal { IfErr result (MayRefuse (S.book book.new)) }
-    ensures keeps { Keeps (S.book book.old) (S.book book.new) }
-    ensures results { KeepsResults (S.book book.old) (S.book book.new) }
+    ensures adds { AddsSquares (S.book book.old) (S.book book.new) }
 {
     let leaves = read_leaves(book, sq);
-    let exponent = u8::min(book.exponent(), 2);
+    let exponent = u8::min(book.exponent(), sq.level - 2);
     let word = result16(book.rule(), leaves, exponent);
     book.leaf(word)
 }
 
-/// The square of level 4 that has this one, of level 3, in its middle: each quarter is the middle of
-/// four leaves, of which this is one.
+/// The square of level 4 that has this one, of level 3, in its middle: each quarter is the middle
+/// of four leaves, of which this is one.
 pub(crate) fn surround_leaf<S: Squares>(book: &mut S, sq: Sq) -> Result<Sq, Refusal>
     requires known { IsKnown (S.book book.old) sq.level sq }
     requires level { sq.level ≡ 3 }
     ensures level { IfOk result (λ whole. whole.level ≡ 4) }
-    ensures cells { IfOk result (ShowsRound (S.book book.new) (centred sq.level ((S.book book.old).cells sq))) }
+    ensures cells { IfOk result (ShowsRound (S.book book.new) (square_plane (S.book book.old) sq)) }
     ensures refusal { IfErr result (MayRefuse (S.book book.new)) }
-    ensures keeps { Keeps (S.book book.old) (S.book book.new) }
-    ensures results { KeepsResults (S.book book.old) (S.book book.new) }
+    ensures adds { AddsSquares (S.book book.old) (S.book book.new) }
 {
     let word = book.read_bits(sq);
     let upper_left = book.leaf(centre16([0, 0, 0, word]))?;

@@ -1,32 +1,33 @@
-//! The recursion of HashLife: the future of a square from the futures of smaller ones. The book is the
-//! memo: it recalls the results that it knows and keeps those that are made.
-ghost use Rattle.std.specs.Prelude.{◌≡◌, ◌+◌, ◌-◌, ◌<◌, ◌≤◌, All, IfOk, IfErr, OnOk};
-ghost use Rattle.squares.specs.Book.{IsFuture, IsKnown, Keeps, MayRefuse};
+//! The recursion of HashLife: the future of a square from the futures of smaller ones. The book is
+//! the memo: it recalls the results that it knows and keeps those that are made.
+ghost use Rattle.std.specs.Prelude.{◌+◌, ◌-◌, ◌<◌, ◌≤◌, All, IfOk, IfErr, OnOk};
+ghost use Rattle.squares.specs.Book.{IsFuture, IsKnown, MayRefuse};
 ghost use Rattle.hashlife_step.specs.FoundFutures.{FindsFuture};
 ghost use Rattle.hashlife_step.specs.Futures.{AreFinished, AreFutures};
-ghost use Rattle.hashlife_step.specs.Tallies.{Tallies};
+ghost use Rattle.hashlife_step.specs.Tallies.{MakesResults};
 
 use crate::centres::four_centres;
-use crate::leaf_squares::{leaf_future, wide_future};
+use crate::leaf_squares::{BASE_LEVEL, base_future, leaf_future};
 use crate::orders::permuted;
 use crate::tally::Tally;
 use plane::Refusal;
-use squares::{Sq, Squares};
+use squares::{LEAF_LEVEL, Sq, Squares};
 
 /// The future of a square: its centre, which has half its side, after 2^exponent generations of the
-/// book's exponent, or after 2^(level - 2) if that is less. A result that the book knows is recalled,
-/// and one that is made is kept in the book and counted.
+/// book's exponent, or after 2^(level - 2) if that is less. A result that the book knows is
+/// recalled, and one that is made is kept in the book and counted.
 pub fn future<S: Squares>(book: &mut S, sq: Sq, tally: &mut Tally) -> Result<Sq, Refusal>
     requires known { IsKnown (S.book book.old) sq.level sq }
     requires low { 3 < sq.level }
-    ensures { FindsFuture (S.book book.old) (S.book book.new) sq tally.old.expansions tally.new.expansions result }
+    ensures { FindsFuture (S.book book.old) (S.book book.new) sq
+        tally.old.expansions tally.new.expansions result }
 {
     future_in_order(book, sq, 0, tally)
 }
 
-/// The same future. Where the order isn't 0, the futures of several smaller squares are first asked for
-/// in an order of this number: of workers at one table, each with an order of its own, each finds most
-/// of what the others make.
+/// The same future. Where the order isn't 0, the futures of several smaller squares are first asked
+/// for in an order of this number: of workers at one table, each with an order of its own, each
+/// finds most of what the others make.
 #[cycle(future)]
 pub fn future_in_order<S: Squares>(
     book: &mut S,
@@ -36,7 +37,8 @@ pub fn future_in_order<S: Squares>(
 ) -> Result<Sq, Refusal>
     requires known { IsKnown (S.book book.old) sq.level sq }
     requires low { 3 < sq.level }
-    ensures { FindsFuture (S.book book.old) (S.book book.new) sq tally.old.expansions tally.new.expansions result }
+    ensures { FindsFuture (S.book book.old) (S.book book.new) sq
+        tally.old.expansions tally.new.expansions result }
 {
     if let Some(future) = book.recall(sq) {
         return Ok(future);
@@ -54,14 +56,14 @@ fn make<S: Squares>(book: &mut S, sq: Sq, order: u8, tally: &mut Tally) -> Resul
     requires low { 3 < sq.level }
     ensures ok { IfOk result (IsFuture (S.book book.new) sq) }
     ensures refusal { IfErr result (MayRefuse (S.book book.new)) }
-    ensures keeps { Keeps (S.book book.old) (S.book book.new) }
-    ensures tally { Tallies (S.book book.old) (S.book book.new) (sq.level - 1) tally.old.expansions tally.new.expansions }
+    ensures makes { MakesResults (S.book book.old) (S.book book.new) (sq.level - 1)
+        tally.old.expansions tally.new.expansions }
 {
-    if sq.level == 4 {
+    if sq.level == LEAF_LEVEL + 1 {
         return leaf_future(book, sq);
     }
-    if sq.level == 6 {
-        return wide_future(book, sq);
+    if sq.level == BASE_LEVEL {
+        return base_future(book, sq);
     }
     let level = sq.level - 1;
     let mut parts = book.nine(sq)?;
@@ -85,8 +87,8 @@ fn finish<S: Squares>(
     requires high { level < 65 }
     ensures ok { IfOk result (AreFinished (S.book book.new) level nine) }
     ensures refusal { IfErr result (MayRefuse (S.book book.new)) }
-    ensures keeps { Keeps (S.book book.old) (S.book book.new) }
-    ensures tally { Tallies (S.book book.old) (S.book book.new) (level + 1) tally.old.expansions tally.new.expansions }
+    ensures makes { MakesResults (S.book book.old) (S.book book.new) (level + 1)
+        tally.old.expansions tally.new.expansions }
 {
     if book.exponent() < level {
         return four_centres(book, level, nine);
@@ -96,8 +98,8 @@ fn finish<S: Squares>(
     Ok(four)
 }
 
-/// Puts its future in the place of each square of a level. Where the order isn't 0, they are first asked
-/// for in an order of this number, as in [`future_in_order`].
+/// Puts its future in the place of each square of a level. Where the order isn't 0, they are first
+/// asked for in an order of this number, as in [`future_in_order`].
 #[cycle(future)]
 pub fn replace_by_futures<S: Squares>(
     book: &mut S,
@@ -110,8 +112,8 @@ pub fn replace_by_futures<S: Squares>(
     requires low { 3 < level }
     ensures ok { OnOk result (AreFutures (S.book book.new) level squares.old squares.new) }
     ensures refusal { IfErr result (MayRefuse (S.book book.new)) }
-    ensures keeps { Keeps (S.book book.old) (S.book book.new) }
-    ensures tally { Tallies (S.book book.old) (S.book book.new) level tally.old.expansions tally.new.expansions }
+    ensures makes { MakesResults (S.book book.old) (S.book book.new) level
+        tally.old.expansions tally.new.expansions }
 {
     ask_ahead(book, level, squares, order, tally)?;
     for i in 0..squares.len() {
@@ -132,8 +134,8 @@ fn ask_ahead<S: Squares>(
     requires known { All (IsKnown (S.book book.old) level) squares.now }
     requires low { 3 < level }
     ensures refusal { IfErr result (MayRefuse (S.book book.new)) }
-    ensures keeps { Keeps (S.book book.old) (S.book book.new) }
-    ensures tally { Tallies (S.book book.old) (S.book book.new) level tally.old.expansions tally.new.expansions }
+    ensures makes { MakesResults (S.book book.old) (S.book book.new) level
+        tally.old.expansions tally.new.expansions }
 {
     if order == 0 {
         return Ok(());

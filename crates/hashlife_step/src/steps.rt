@@ -1,10 +1,8 @@
 //! One step of a run: the square is padded, its future taken and trimmed.
-ghost use Rattle.std.specs.Prelude.{◌+◌, ◌^◌, ◌≤◌, max, IfOk, IfErr};
-ghost use Rattle.plane.specs.Centred.{centred};
-ghost use Rattle.plane.specs.Plane.{after};
-ghost use Rattle.squares.specs.Book.{IsKnown, Keeps, MayRefuse};
-ghost use Rattle.squares.specs.Rounds.{IsRound};
-ghost use Rattle.hashlife_step.specs.Tallies.{Tallies};
+ghost use Rattle.std.specs.Prelude.{◌+◌, ◌≤◌, max, IfOk, IfErr};
+ghost use Rattle.squares.specs.Book.{IsKnown, MayRefuse};
+ghost use Rattle.hashlife_step.specs.Round.{IsStepOf};
+ghost use Rattle.hashlife_step.specs.Tallies.{MakesResults};
 
 use crate::padding::pad;
 use crate::recursion::future;
@@ -19,11 +17,10 @@ use squares::{Sq, Squares};
 pub fn step<S: Squares>(book: &mut S, root: Sq, tally: &mut Tally) -> Result<Sq, Refusal>
     requires known { IsKnown (S.book book.old) root.level root }
     requires high { max (root.level + 2) ((S.book book.old).exponent + 3) ≤ 65 }
-    ensures ok { IfOk result (IsRound (S.book book.new)
-        (after (S.book book.old).rule (centred root.level ((S.book book.old).cells root)) (2 ^ (S.book book.old).exponent))) }
+    ensures ok { IfOk result (IsStepOf (S.book book.old) (S.book book.new) root) }
     ensures refusal { IfErr result (MayRefuse (S.book book.new)) }
-    ensures keeps { Keeps (S.book book.old) (S.book book.new) }
-    ensures tally { Tallies (S.book book.old) (S.book book.new) 65 tally.old.expansions tally.new.expansions }
+    ensures makes { MakesResults (S.book book.old) (S.book book.new) 65
+        tally.old.expansions tally.new.expansions }
 {
     let exponent = book.exponent();
     let padded = pad(book, root, exponent)?;

@@ -1,4 +1,6 @@
+pub mod Generation
 pub mod Life
 pub mod Masks
 pub mod Rows
 pub mod Sums
+pub mod Words

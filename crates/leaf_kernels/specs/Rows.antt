@@ -1,5 +1,5 @@
 -- Squares of 16 by 16 and of 64 by 64 cells: as rows, and as leaves.
-use Rattle.std.specs.Prelude.{ℕ, ℤ, pos, ◌+◌, ◌/◌, ◌%◌, List, [], unsigned_abs, slice_index, slice_index_or, ◌&&◌, if◌then◌else◌, int_lt}
+use Rattle.std.specs.Prelude.{◌≡◌, ℕ, ℤ, pos, ◌+◌, ◌/◌, ◌%◌, Bool, List, [], unsigned_abs, slice_index, slice_index_or, ◌&&◌, if◌then◌else◌, int_lt}
 use Rattle.plane.specs.Plane.{Plane}
 use Rattle.plane.specs.Square.{spans, bit, bits_plane, joined}
 
@@ -10,6 +10,14 @@ cells_of_rows width height rows x y = (spans width x && spans height y) && bit (
 -- the cells of four rows of sixty-four cells
 abbrev pub four_rows_plane : List ℕ → Plane
 four_rows_plane = cells_of_rows 64 4
+
+-- whether this column and lane are among theirs
+abbrev pub in_rows : ℤ → ℤ → Bool
+in_rows x lane = spans 64 x && spans 4 lane
+
+-- the rows have the cells of this plane
+abbrev pub HasCells : List ℕ → Plane → Type 0
+HasCells rows plane = (x lane : ℤ) → four_rows_plane rows x lane ≡ plane x lane
 
 -- row y of the sixty-four in sixteen vectors: lane y / 16 of vector y % 16
 abbrev pub row_at : List (List ℕ) → ℕ → ℕ

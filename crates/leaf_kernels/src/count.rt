@@ -18,7 +18,8 @@ impl Count {
     /// The sum of three sums.
     #[inline(always)]
     pub(crate) fn of_sums(first: Sum, second: Sum, third: Sum) -> Count
-        ensures { (x y : ℤ) → count_at result x y ≡ sum_at first x y + sum_at second x y + sum_at third x y }
+        ensures { (x y : ℤ) → count_at result x y
+            ≡ sum_at first x y + sum_at second x y + sum_at third x y }
     {
         let ones = Sum::of_three(first.ones, second.ones, third.ones);
         let twos = Sum::of_three(first.twos, second.twos, third.twos);

@@ -1,9 +1,8 @@
 //! What a rule makes of the cells that have one number of live neighbours.
-ghost use Rattle.std.specs.Prelude.{◌≡◌, ℕ, ℤ, ◌&&◌};
+ghost use Rattle.std.specs.Prelude.{◌≡◌, ℕ, ◌&&◌};
 ghost use Rattle.rule_text.specs.CountRule.{CountRule, lives};
-ghost use Rattle.plane.specs.Square.{spans};
 ghost use Rattle.leaf_kernels.specs.Masks.{IsDigit, mask_of};
-ghost use Rattle.leaf_kernels.specs.Rows.{four_rows_plane};
+ghost use Rattle.leaf_kernels.specs.Rows.{HasCells, four_rows_plane, in_rows};
 
 use crate::rows::everywhere;
 use rule_text::Rule;
@@ -16,7 +15,8 @@ pub(crate) fn mask(live: bool) -> u64
     if live { u64::MAX } else { 0 }
 }
 
-/// What a rule makes of the cells that have one number of live neighbours, for a whole word at once.
+/// What a rule makes of the cells that have one number of live neighbours, for a whole word at
+/// once.
 #[derive(Clone, Copy)]
 pub(crate) struct Digit {
     /// Whether dead cells become live.
@@ -41,8 +41,9 @@ impl Digit {
     /// The cells in the next generation, if all have this number of live neighbours.
     #[inline(always)]
     pub(crate) fn next(&self, cells: u64x4) -> u64x4
-        ensures { (rule : CountRule) (count : ℕ) → IsDigit rule count self.now → (x lane : ℤ) → four_rows_plane result x lane
-            ≡ ((spans 64 x && spans 4 lane) && lives rule (four_rows_plane cells x lane) count) }
+        ensures { (rule : CountRule) (count : ℕ) → IsDigit rule count self.now
+            → HasCells result (λ x lane.
+            in_rows x lane && lives rule (four_rows_plane cells x lane) count) }
     {
         everywhere(self.births) ^ (cells & everywhere(self.changes))
     }

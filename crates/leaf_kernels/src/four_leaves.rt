@@ -1,7 +1,8 @@
 //! Squares of four leaves: their centres, and where they stand in larger squares.
-ghost use Rattle.std.specs.Prelude.{◌≡◌, ℕ, ◌+◌, ◌*◌, ◌<◌};
+ghost use Rattle.std.specs.Prelude.{◌≡◌, ℕ, ◌+◌, ◌<◌};
 ghost use Rattle.plane.specs.Square.{IsSame, bit, bits_plane, centre_of, cut};
 ghost use Rattle.leaf_kernels.specs.Rows.{four_fours_plane, four_sixteens_plane, leaves_plane};
+ghost use Rattle.leaf_kernels.specs.Words.{cell_at};
 
 // The cells in the columns 0 to 3 of a leaf.
 const LEFT_COLUMNS: u64 = 0x0f0f0f0f0f0f0f0f;
@@ -29,14 +30,16 @@ fn middle_rows(above: u64, below: u64) -> u64
 
 // The right half of a leaf, and beside it the left half of the leaf on its right.
 fn middle_columns(left: u64, right: u64) -> u64
-    ensures left { (row column : ℕ) → row < 8 → column < 4 → bit result (8 * row + column) ≡ bit left (8 * row + (4 + column)) }
-    ensures right { (row column : ℕ) → row < 8 → column < 4 → bit result (8 * row + (4 + column)) ≡ bit right (8 * row + column) }
+    ensures left { (row column : ℕ) → row < 8 → column < 4
+        → cell_at result row column ≡ cell_at left row (4 + column) }
+    ensures right { (row column : ℕ) → row < 8 → column < 4
+        → cell_at result row (4 + column) ≡ cell_at right row column }
 {
     ((left >> 4) & LEFT_COLUMNS) | ((right << 4) & RIGHT_COLUMNS)
 }
 
 /// Four squares of sixteen leaves with these four leaves in their middle; all other cells are dead.
-pub(crate) fn surrounded(leaves: [u64; 4]) -> [[u64; 16]; 4]
+pub(crate) fn surround(leaves: [u64; 4]) -> [[u64; 16]; 4]
     ensures { IsSame (leaves_plane leaves) (cut 16 24 24 (four_sixteens_plane result)) }
 {
     let [upper_left, upper_right, lower_left, lower_right] = leaves;

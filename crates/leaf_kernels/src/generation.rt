@@ -1,9 +1,10 @@
-//! The next generation of sixty-four rows, by anything that makes that of four rows from the rows above and below.
-ghost use Rattle.std.specs.Prelude.{◌≡◌, ℤ, pos, ◌&&◌, true};
-ghost use Rattle.rule_text.specs.CountRule.{CountRule, lives};
-ghost use Rattle.plane.specs.Plane.{live_neighbours, next};
-ghost use Rattle.plane.specs.Square.{IsSame, cut, spans};
-ghost use Rattle.leaf_kernels.specs.Rows.{four_rows_plane, lane_plane, rows_plane};
+//! The next generation of sixty-four rows, by anything that makes that of four rows from the rows
+//! above and below.
+ghost use Rattle.rule_text.specs.CountRule.{CountRule};
+ghost use Rattle.plane.specs.Plane.{next};
+ghost use Rattle.plane.specs.Square.{IsSame, cut};
+ghost use Rattle.leaf_kernels.specs.Generation.{AreNext};
+ghost use Rattle.leaf_kernels.specs.Rows.{rows_plane};
 
 use crate::rows::{from_lane_before, from_lane_behind};
 use std::simd::prelude::*;
@@ -15,15 +16,15 @@ pub(crate) trait NextCells {
 
     /// The next generation of the middle rows.
     fn next_cells(&self, above: u64x4, here: u64x4, below: u64x4) -> u64x4
-        ensures { (x lane : ℤ) → (spans 64 x && spans 4 lane) ≡ true
-            → four_rows_plane result x lane ≡ lives (rule self.now) (four_rows_plane here x lane) (live_neighbours (rule self.now).neighbourhood (lane_plane above here below lane) x (pos 0)) };
+        ensures { AreNext (rule self.now) above here below result };
 }
 
-/// Puts their next generation in the place of sixty-four rows. Cells outside the 64 by 64 are taken as dead, and those that
-/// would become live there are left out.
+/// Puts their next generation in the place of sixty-four rows. Cells outside the 64 by 64 are taken
+/// as dead, and those that would become live there are left out.
 #[inline(always)]
 pub(crate) fn next_rows<N: NextCells>(kernel: &N, rows: &mut [u64x4; 16])
-    ensures { IsSame (rows_plane rows.new) (cut 64 0 0 (next (N.rule kernel.now) (rows_plane rows.old))) }
+    ensures { IsSame (rows_plane rows.new)
+        (cut 64 0 0 (next (N.rule kernel.now) (rows_plane rows.old))) }
 {
     let [a, b, c, d, e, f, g, h, i, j, k, l, m, n, o, p] = *rows;
     *rows = [

@@ -1,7 +1,8 @@
 //! The leaves of a square of 64 by 64 cells and its rows, each from the other.
-ghost use Rattle.std.specs.Prelude.{◌≡◌, ℕ, ◌+◌, ◌*◌, ◌/◌, ◌%◌, ◌^◌, ◌<◌, [], slice_index, slice_index_or};
+ghost use Rattle.std.specs.Prelude.{◌≡◌, ℕ, ◌+◌, ◌*◌, ◌/◌, ◌%◌, ◌^◌, ◌<◌, slice_index};
 ghost use Rattle.plane.specs.Square.{IsSame, bit, centre_of};
 ghost use Rattle.leaf_kernels.specs.Rows.{four_fours_plane, four_sixteens_plane, rows_plane};
+ghost use Rattle.leaf_kernels.specs.Words.{AreTransposed, cell_at, lane_at};
 
 use std::simd::prelude::*;
 
@@ -26,10 +27,10 @@ pub(crate) fn middle_of(rows: [u64x4; 16]) -> [[u64; 4]; 4]
     let [a, b, c, d, e, f, g, h, i, j, k, l, m, n, o, p] = rows;
     let [first, third] = middle_lanes([a, b, c, d, e, f, g, h]);
     let [second, fourth] = middle_lanes([i, j, k, l, m, n, o, p]);
-    let first = transposed(first).to_array();
-    let second = transposed(second).to_array();
-    let third = transposed(third).to_array();
-    let fourth = transposed(fourth).to_array();
+    let first = transpose(first).to_array();
+    let second = transpose(second).to_array();
+    let third = transpose(third).to_array();
+    let fourth = transpose(fourth).to_array();
     [
         [first[2], first[3], second[2], second[3]],
         [first[4], first[5], second[4], second[5]],
@@ -42,17 +43,19 @@ pub(crate) fn middle_of(rows: [u64x4; 16]) -> [[u64; 4]; 4]
 #[inline(always)]
 fn bands(left: [u64; 16], right: [u64; 16]) -> [u64x8; 4]
     ensures left { (four column place row : ℕ) → four < 4 → column < 4 → place < 8 → row < 8
-        → bit (slice_index (slice_index_or result four []) row) (8 * column + place) ≡ bit (slice_index left (4 * four + column)) (8 * row + place) }
+        → cell_at (lane_at result four row) column place
+        ≡ cell_at (slice_index left (4 * four + column)) row place }
     ensures right { (four column place row : ℕ) → four < 4 → column < 4 → place < 8 → row < 8
-        → bit (slice_index (slice_index_or result four []) row) (8 * (4 + column) + place) ≡ bit (slice_index right (4 * four + column)) (8 * row + place) }
+        → cell_at (lane_at result four row) (4 + column) place
+        ≡ cell_at (slice_index right (4 * four + column)) row place }
 {
     let [a, b, c, d, e, f, g, h, i, j, k, l, m, n, o, p] = left;
     let [q, r, s, t, u, v, w, x, y, z, aa, bb, cc, dd, ee, ff] = right;
     [
-        transposed(u64x8::from_array([a, b, c, d, q, r, s, t])),
-        transposed(u64x8::from_array([e, f, g, h, u, v, w, x])),
-        transposed(u64x8::from_array([i, j, k, l, y, z, aa, bb])),
-        transposed(u64x8::from_array([m, n, o, p, cc, dd, ee, ff])),
+        transpose(u64x8::from_array([a, b, c, d, q, r, s, t])),
+        transpose(u64x8::from_array([e, f, g, h, u, v, w, x])),
+        transpose(u64x8::from_array([i, j, k, l, y, z, aa, bb])),
+        transpose(u64x8::from_array([m, n, o, p, cc, dd, ee, ff])),
     ]
 }
 
@@ -60,7 +63,7 @@ fn bands(left: [u64; 16], right: [u64; 16]) -> [u64x8; 4]
 #[inline(always)]
 fn by_lane(bands: [u64x8; 4]) -> [u64x4; 8]
     ensures { (row lane : ℕ) → row < 8 → lane < 4
-        → slice_index (slice_index_or result row []) lane ≡ slice_index (slice_index_or bands lane []) row }
+        → lane_at result row lane ≡ lane_at bands lane row }
 {
     let [first, second, third, fourth] = bands;
     let [a, b, c, d, e, f, g, h] = first.to_array();
@@ -83,7 +86,7 @@ fn by_lane(bands: [u64x8; 4]) -> [u64x4; 8]
 #[inline(always)]
 fn middle_lanes(rows: [u64x4; 8]) -> [u64x8; 2]
     ensures { (row lane : ℕ) → row < 8 → lane < 2
-        → slice_index (slice_index_or result lane []) row ≡ slice_index (slice_index_or rows row []) (1 + lane) }
+        → lane_at result lane row ≡ lane_at rows row (1 + lane) }
 {
     let [a, b, c, d, e, f, g, h] = rows;
     let [_, a1, a2, _] = a.to_array();
@@ -102,11 +105,10 @@ fn middle_lanes(rows: [u64x4; 8]) -> [u64x8; 2]
 
 /// Eight leaves beside each other as eight rows, and eight rows as the eight leaves.
 #[inline(always)]
-fn transposed(words: u64x8) -> u64x8
-    ensures { (column place row : ℕ) → column < 8 → place < 8 → row < 8
-        → bit (slice_index result row) (8 * column + place) ≡ bit (slice_index words column) (8 * row + place) }
+fn transpose(words: u64x8) -> u64x8
+    ensures { AreTransposed words result }
 {
-    words_of_bytes(woven(bytes_of_words(words)))
+    words_of_bytes(interleave(bytes_of_words(words)))
 }
 
 /// The bytes of eight words, the lowest byte of each first.
@@ -120,8 +122,9 @@ fn bytes_of_words(words: u64x8) -> u8x64
 
 /// The bytes of eight words in turn, the first byte of each first.
 #[inline(always)]
-fn woven(bytes: u8x64) -> u8x64
-    ensures { (word place : ℕ) → word < 8 → place < 8 → slice_index result (8 * place + word) ≡ slice_index bytes (8 * word + place) }
+fn interleave(bytes: u8x64) -> u8x64
+    ensures { (word place : ℕ) → word < 8 → place < 8
+        → slice_index result (8 * place + word) ≡ slice_index bytes (8 * word + place) }
 {
     bytes.swizzle([
         0, 8, 16, 24, 32, 40, 48, 56, 1, 9, 17, 25, 33, 41, 49, 57, 2, 10, 18, 26, 34, 42, 50, 58,
@@ -134,7 +137,8 @@ fn woven(bytes: u8x64) -> u8x64
 #[inline(always)]
 fn words_of_bytes(bytes: u8x64) -> u64x8
     ensures { (column place row : ℕ) → column < 8 → place < 8 → row < 8
-        → bit (slice_index result row) (8 * column + place) ≡ bit (slice_index bytes (8 * row + column)) place }
+        → cell_at (slice_index result row) column place
+        ≡ bit (slice_index bytes (8 * row + column)) place }
 {
     u64x8::from_le_bytes(bytes)
 }

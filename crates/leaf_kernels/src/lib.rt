@@ -1,5 +1,5 @@
-//! The middle of squares of 16 by 16 and of 64 by 64 cells, some generations on. A square is worked on as its
-//! rows, the lanes of vectors: many cells at once.
+//! The middle of squares of 16 by 16 and of 64 by 64 cells, some generations on. A square is worked
+//! on as its rows, the lanes of vectors: many cells at once.
 #![tactic(auto)]
 
 mod count;

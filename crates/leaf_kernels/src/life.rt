@@ -2,8 +2,7 @@
 ghost use Rattle.std.specs.Prelude.{◌≡◌, ◌↔◌, ℤ, pos, ◌+◌, ◌+ℤ◌, ◌-ℤ◌, true, IsTrue};
 ghost use Rattle.plane.specs.Square.{spans};
 ghost use Rattle.leaf_kernels.specs.Life.{life};
-ghost use Rattle.leaf_kernels.specs.Rows.{four_rows_plane};
-ghost use Rattle.leaf_kernels.specs.Sums.{number, sum_at};
+ghost use Rattle.leaf_kernels.specs.Sums.{number_at, sum_at};
 
 use crate::generation::NextCells;
 use crate::rows::{dead_cells, from_left, from_right};
@@ -29,7 +28,8 @@ pub(crate) struct Life;
 #[inline(always)]
 fn three(rows: u64x4) -> Sum
     ensures { (x lane : ℤ) → spans 64 x ≡ true → sum_at result x lane
-        ≡ number (four_rows_plane rows (x -ℤ pos 1) lane) + number (four_rows_plane rows x lane) + number (four_rows_plane rows (x +ℤ pos 1) lane) }
+        ≡ number_at rows (x -ℤ pos 1) lane + number_at rows x lane
+        + number_at rows (x +ℤ pos 1) lane }
 {
     Sum::of_three(from_left(rows), rows, from_right(rows))
 }
@@ -37,7 +37,8 @@ fn three(rows: u64x4) -> Sum
 impl NextCells for Life {
     ghost rule = { λ _. life };
 
-    // A cell lives with three live neighbours, and a live one with two. No cell has more than eight.
+    // A cell lives with three live neighbours, and a live one with two. No cell has more than
+    // eight.
     #[inline(always)]
     fn next_cells(&self, above: u64x4, here: u64x4, below: u64x4) -> u64x4 {
         let upper = three(above);

@@ -1,10 +1,9 @@
 //! The next generation by any rule, for four rows of sixty-four cells at once.
-ghost use Rattle.std.specs.Prelude.{◌≡◌, ℤ, pos, ◌≤◌, ◌&&◌, true};
+ghost use Rattle.std.specs.Prelude.{◌≡◌, ℤ, ◌≤◌, true};
 ghost use Rattle.rule_text.specs.CountRule.{lives};
-ghost use Rattle.plane.specs.Plane.{live_neighbours};
-ghost use Rattle.plane.specs.Square.{spans};
+ghost use Rattle.leaf_kernels.specs.Generation.{neighbours_at};
 ghost use Rattle.leaf_kernels.specs.Masks.{AreDiagonals, AreDigits};
-ghost use Rattle.leaf_kernels.specs.Rows.{four_rows_plane, lane_plane};
+ghost use Rattle.leaf_kernels.specs.Rows.{four_rows_plane, in_rows};
 ghost use Rattle.leaf_kernels.specs.Sums.{count_at};
 
 use crate::count::Count;
@@ -61,8 +60,8 @@ impl Masks {
     // How many of its neighbours among three rows are live, for each cell of the middle ones.
     #[inline(always)]
     fn count(&self, above: u64x4, here: u64x4, below: u64x4) -> Count
-        ensures { (x lane : ℤ) → (spans 64 x && spans 4 lane) ≡ true
-            → count_at result x lane ≡ live_neighbours self.now.rule.neighbourhood (lane_plane above here below lane) x (pos 0) }
+        ensures { (x lane : ℤ) → in_rows x lane ≡ true → count_at result x lane
+            ≡ neighbours_at self.now.rule.neighbourhood above here below x lane }
     {
         let falling = everywhere(self.falling);
         let rising = everywhere(self.rising);
@@ -83,8 +82,9 @@ impl Masks {
     // The cells in the next generation, by their numbers of live neighbours, which are at most 8.
     #[inline(always)]
     fn by_count(&self, cells: u64x4, count: Count) -> u64x4
-        ensures { (x lane : ℤ) → (spans 64 x && spans 4 lane) ≡ true → count_at count x lane ≤ 8
-            → four_rows_plane result x lane ≡ lives self.now.rule (four_rows_plane cells x lane) (count_at count x lane) }
+        ensures { (x lane : ℤ) → in_rows x lane ≡ true → count_at count x lane ≤ 8
+            → four_rows_plane result x lane
+            ≡ lives self.now.rule (four_rows_plane cells x lane) (count_at count x lane) }
     {
         let [zero, one, two, three, four, five, six, seven, eight] = &self.digits;
         let low = choose(

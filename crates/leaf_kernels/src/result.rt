@@ -3,7 +3,7 @@ ghost use Rattle.std.specs.Prelude.{◌<◌};
 ghost use Rattle.plane.specs.Square.{IsSame, bits_plane, future};
 ghost use Rattle.leaf_kernels.specs.Rows.{four_fours_plane, four_sixteens_plane, leaves_plane};
 
-use crate::four_leaves::{centre16, innermost, surrounded};
+use crate::four_leaves::{centre16, innermost, surround};
 use crate::generation::{NextCells, next_rows};
 use crate::leaves;
 use crate::life::{Life, is_life};
@@ -17,16 +17,17 @@ pub fn result16(rule: &Rule, leaves: [u64; 4], exp: u8) -> u64
     requires { exp < 3 }
     ensures { IsSame (bits_plane result) (future rule.now exp 4 (leaves_plane leaves)) }
 {
-    let middle = result64(rule, surrounded(leaves), exp);
+    let middle = result64(rule, surround(leaves), exp);
     centre16(innermost(middle))
 }
 
-/// The cells in the middle of a square of 64 by 64 cells, 2^`exp` generations on, where all cells outside the
-/// square are dead at first. The square stands in four quarters of sixteen leaves each, row by row, and its
-/// middle in four quarters of four leaves each.
+/// The cells in the middle of a square of 64 by 64 cells, 2^`exp` generations on, where all cells
+/// outside the square are dead at first. The square stands in four quarters of sixteen leaves each,
+/// row by row, and its middle in four quarters of four leaves each.
 pub fn result64(rule: &Rule, quarters: [[u64; 16]; 4], exp: u8) -> [[u64; 4]; 4]
     requires { exp < 5 }
-    ensures { IsSame (four_fours_plane result) (future rule.now exp 6 (four_sixteens_plane quarters)) }
+    ensures { IsSame (four_fours_plane result)
+        (future rule.now exp 6 (four_sixteens_plane quarters)) }
 {
     if is_life(rule) {
         middle_after(&Life, quarters, exp)
@@ -38,7 +39,8 @@ pub fn result64(rule: &Rule, quarters: [[u64; 16]; 4], exp: u8) -> [[u64; 4]; 4]
 // The same by what makes the next generation.
 fn middle_after<N: NextCells>(kernel: &N, quarters: [[u64; 16]; 4], exp: u8) -> [[u64; 4]; 4]
     requires { exp < 5 }
-    ensures { IsSame (four_fours_plane result) (future (N.rule kernel.now) exp 6 (four_sixteens_plane quarters)) }
+    ensures { IsSame (four_fours_plane result)
+        (future (N.rule kernel.now) exp 6 (four_sixteens_plane quarters)) }
 {
     let mut rows = leaves::rows_of(quarters);
     let generations = 1u8 << exp;

@@ -1,17 +1,17 @@
-//! Sixty-four rows of sixty-four cells in sixteen vectors of four rows: row `y` is lane `y / 16` of the vector
-//! `y % 16`, bit `x` of it the cell `(x, y)`. So the rows above and below those of a vector are those of the
-//! vectors beside it.
-ghost use Rattle.std.specs.Prelude.{◌≡◌, ℤ, Bool, pos, ◌+ℤ◌, ◌-ℤ◌, ◌&&◌, if◌then◌else◌, not};
+//! Sixty-four rows of sixty-four cells in sixteen vectors of four rows: row `y` is lane `y / 16` of
+//! the vector `y % 16`, bit `x` of it the cell `(x, y)`. So the rows above and below those of a
+//! vector are those of the vectors beside it.
+ghost use Rattle.std.specs.Prelude.{◌≡◌, Bool, pos, ◌+ℤ◌, ◌-ℤ◌, ◌&&◌, if◌then◌else◌, not};
 ghost use Rattle.plane.specs.Square.{spans};
 ghost use Rattle.leaf_kernels.specs.Masks.{mask_of};
-ghost use Rattle.leaf_kernels.specs.Rows.{four_rows_plane};
+ghost use Rattle.leaf_kernels.specs.Rows.{HasCells, four_rows_plane, in_rows};
 
 use std::simd::prelude::*;
 
 /// Each cell as its left neighbour; the first column is dead.
 #[inline(always)]
 pub(crate) fn from_left(rows: u64x4) -> u64x4
-    ensures { (x lane : ℤ) → four_rows_plane result x lane ≡ (spans 64 x && four_rows_plane rows (x -ℤ pos 1) lane) }
+    ensures { HasCells result (λ x lane. spans 64 x && four_rows_plane rows (x -ℤ pos 1) lane) }
 {
     rows << u64x4::splat(1)
 }
@@ -19,7 +19,7 @@ pub(crate) fn from_left(rows: u64x4) -> u64x4
 /// Each cell as its right neighbour; the last column is dead.
 #[inline(always)]
 pub(crate) fn from_right(rows: u64x4) -> u64x4
-    ensures { (x lane : ℤ) → four_rows_plane result x lane ≡ (spans 64 x && four_rows_plane rows (x +ℤ pos 1) lane) }
+    ensures { HasCells result (λ x lane. spans 64 x && four_rows_plane rows (x +ℤ pos 1) lane) }
 {
     rows >> u64x4::splat(1)
 }
@@ -27,7 +27,7 @@ pub(crate) fn from_right(rows: u64x4) -> u64x4
 /// Each lane as the one before it; the first lane is dead.
 #[inline(always)]
 pub(crate) fn from_lane_before(rows: u64x4) -> u64x4
-    ensures { (x lane : ℤ) → four_rows_plane result x lane ≡ (spans 4 lane && four_rows_plane rows x (lane -ℤ pos 1)) }
+    ensures { HasCells result (λ x lane. spans 4 lane && four_rows_plane rows x (lane -ℤ pos 1)) }
 {
     u64x4::splat(0).shuffle(rows, [3, 4, 5, 6])
 }
@@ -35,7 +35,7 @@ pub(crate) fn from_lane_before(rows: u64x4) -> u64x4
 /// Each lane as the one behind it; the last lane is dead.
 #[inline(always)]
 pub(crate) fn from_lane_behind(rows: u64x4) -> u64x4
-    ensures { (x lane : ℤ) → four_rows_plane result x lane ≡ (spans 4 lane && four_rows_plane rows x (lane +ℤ pos 1)) }
+    ensures { HasCells result (λ x lane. spans 4 lane && four_rows_plane rows x (lane +ℤ pos 1)) }
 {
     rows.shuffle(u64x4::splat(0), [1, 2, 3, 4])
 }
@@ -43,7 +43,7 @@ pub(crate) fn from_lane_behind(rows: u64x4) -> u64x4
 /// The dead cells.
 #[inline(always)]
 pub(crate) fn dead_cells(rows: u64x4) -> u64x4
-    ensures { (x lane : ℤ) → four_rows_plane result x lane ≡ ((spans 64 x && spans 4 lane) && not (four_rows_plane rows x lane)) }
+    ensures { HasCells result (λ x lane. in_rows x lane && not (four_rows_plane rows x lane)) }
 {
     !rows
 }
@@ -51,7 +51,8 @@ pub(crate) fn dead_cells(rows: u64x4) -> u64x4
 /// All cells or none, by a word of which all bits are live or none.
 #[inline(always)]
 pub(crate) fn everywhere(mask: u64) -> u64x4
-    ensures { (live : Bool) → mask ≡ mask_of live → (x lane : ℤ) → four_rows_plane result x lane ≡ ((spans 64 x && spans 4 lane) && live) }
+    ensures { (live : Bool) → mask ≡ mask_of live
+        → HasCells result (λ x lane. in_rows x lane && live) }
 {
     u64x4::splat(mask)
 }
@@ -59,7 +60,8 @@ pub(crate) fn everywhere(mask: u64) -> u64x4
 /// The one's cells where `bit` is dead, the other's where it is live.
 #[inline(always)]
 pub(crate) fn choose(bit: u64x4, dead: u64x4, live: u64x4) -> u64x4
-    ensures { (x lane : ℤ) → four_rows_plane result x lane ≡ (if four_rows_plane bit x lane then four_rows_plane live x lane else four_rows_plane dead x lane) }
+    ensures { HasCells result (λ x lane. if four_rows_plane bit x lane
+        then four_rows_plane live x lane else four_rows_plane dead x lane) }
 {
     dead ^ ((dead ^ live) & bit)
 }

@@ -1,7 +1,6 @@
 //! A number from 0 to 3 at each cell of four rows of sixty-four cells.
 ghost use Rattle.std.specs.Prelude.{◌≡◌, ℤ, ◌+◌};
-ghost use Rattle.leaf_kernels.specs.Rows.{four_rows_plane};
-ghost use Rattle.leaf_kernels.specs.Sums.{number, sum_at};
+ghost use Rattle.leaf_kernels.specs.Sums.{number_at, sum_at};
 
 use std::simd::prelude::*;
 
@@ -16,7 +15,7 @@ impl Sum {
     /// How many of two cells are live.
     #[inline(always)]
     pub(crate) fn of_two(first: u64x4, second: u64x4) -> Sum
-        ensures { (x y : ℤ) → sum_at result x y ≡ number (four_rows_plane first x y) + number (four_rows_plane second x y) }
+        ensures { (x y : ℤ) → sum_at result x y ≡ number_at first x y + number_at second x y }
     {
         Sum {
             ones: first ^ second,
@@ -27,7 +26,8 @@ impl Sum {
     /// How many of three cells are live.
     #[inline(always)]
     pub(crate) fn of_three(first: u64x4, second: u64x4, third: u64x4) -> Sum
-        ensures { (x y : ℤ) → sum_at result x y ≡ number (four_rows_plane first x y) + number (four_rows_plane second x y) + number (four_rows_plane third x y) }
+        ensures { (x y : ℤ) → sum_at result x y
+            ≡ number_at first x y + number_at second x y + number_at third x y }
     {
         let odd = first ^ second;
         Sum {

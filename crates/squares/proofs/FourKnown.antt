@@ -9,7 +9,7 @@ use Rattle.plane.proofs.Same.{same_sym}
 use Rattle.squares.specs.Book.{Book, IsBook, IsKnown, Shows, Keeps, joined_squares, nth, numbered}
 use Rattle.squares.specs.declared.sq.Sq.{Sq}
 use Rattle.squares.proofs.Centres.{shows_as}
-use Rattle.squares.proofs.Kept.{keeps_trans, shows_kept}
+use Rattle.squares.proofs.Kept.{keeps_trans, same_later, shows_kept}
 
 -- what four squares show, joined
 pub joined_as : (a b : Book) (level : ℕ) (quarters : List Sq) (p q r s : Plane) (sq : Sq) → (nth quarters 0).level ≡ level →
@@ -58,3 +58,12 @@ joined_later {old = old} {new = new} {level = level} {a = a} {b = b} {c = c} {d 
     joined_as old new level (a ∷ b ∷ c ∷ d ∷ []) _ _ _ _ sq in_a.at_level
     (same_sym (keeps.cells a in_a.known)) (same_sym (keeps.cells b in_b.known)) (same_sym (keeps.cells c in_c.known)) (same_sym (keeps.cells d in_d.known))
     (shows_kept later shown)
+
+-- four squares of one level that were numbered in turn
+pub numbered_joined : (own : ℕ) (a b c d : Plane) (b1 b2 b3 b4 b5 : Book) (nw ne sw se whole : Sq) → Keeps b1 b2 → Keeps b2 b3 → Keeps b3 b4 →
+    Shows b1 own a nw → Shows b2 own b ne → Shows b3 own c sw → Shows b4 own d se →
+    Shows b5 (nw.level + 1) (joined_squares b4 nw.level (nw ∷ ne ∷ sw ∷ se ∷ [])) whole →
+    Shows b5 (own + 1) (joined (2 ^ own) a b c d) whole
+numbered_joined own a b c d b1 b2 b3 b4 b5 nw ne sw se whole k2 k3 k4 s1 s2 s3 s4 s =
+    joined_as b4 b5 own (nw ∷ ne ∷ sw ∷ se ∷ []) a b c d whole s1.known.at_level
+    (same_later (keeps_trans k2 (keeps_trans k3 k4)) s1) (same_later (keeps_trans k3 k4) s2) (same_later k4 s3) s4.cells s

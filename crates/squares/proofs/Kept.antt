@@ -4,7 +4,7 @@ use Rattle.plane.specs.Plane.{Plane}
 use Rattle.plane.proofs.Same.{same_trans, same_refl}
 use Rattle.plane.specs.Square.{IsSame}
 use Rattle.squares.specs.declared.sq.Sq.{Sq}
-use Rattle.squares.specs.Book.{Book, IsKnown, Shows, Keeps, KeepsResults}
+use Rattle.squares.specs.Book.{Book, IsKnown, Shows, Keeps, KeepsResults, AddsSquares}
 
 pub keeps_trans : {a b c : Book} → Keeps a b → Keeps b c → Keeps a c
 keeps_trans h k = record {
@@ -45,3 +45,9 @@ results_trans h k = record { results = k.results ∙ h.results; learned = k.lear
 
 pub results_none : (a : Book) → KeepsResults a a
 results_none a = record { results = refl; learned = refl }
+
+pub adds_trans : {a b c : Book} → AddsSquares a b → AddsSquares b c → AddsSquares a c
+adds_trans h k = record { keeps = keeps_trans h.keeps k.keeps; results = results_trans h.results k.results }
+
+pub adds_none : (a : Book) → AddsSquares a a
+adds_none a = record { keeps = keeps_none a; results = results_none a }

@@ -1,7 +1,10 @@
 -- What stands at a place of a list that grows or changes.
-use Rattle.std.proofs.Common.{◌≡◌, ◌≢◌, ℕ, zero, suc, ◌<◌, ◌⊎◌, List, [], ◌∷◌, ◌++◌, length, ◌∙◌, ap, refl, inl, inr, ⊎_elim, arith}
-use Rattle.std.specs.Prelude.{Some, None, slice_get, slice_set, slice_index_or}
-use Rattle.std.specs.List.{AllByRecursion}
+use Rattle.std.proofs.Common.{◌≡◌, ◌≢◌, ◌↔◌, ℕ, zero, suc, ◌<◌, ◌⊎◌, Bool, List, [], ◌∷◌, ◌++◌, length, ◌∙◌, ap, refl, inl, inr, ⊎_elim, arith}
+use Rattle.std.specs.Prelude.{IsTrue, MatchBool, Some, None, slice_get, slice_set, slice_index_or}
+use Rattle.std.specs.List.{AllByRecursion, AllWithin, HoldsAt}
+use Rattle.std.proofs.lemmas.Bool.{MatchBool-at_true}
+use Rattle.std.proofs.lemmas.Iterator.Search.{true_from_All}
+use Rattle.std.proofs.lemmas.List.Elements.{All-from_all_within, All-from_recursion, recursion_from_All}
 
 some_same : {X : Type 0} (a b : X) → Some a ≡ Some b → a ≡ b
 some_same a b e = cc
@@ -51,3 +54,10 @@ pub all_at : {X : Type 0} (P : X → Type 0) (xs : List X) (i : ℕ) (d : X) →
 all_at P [] i d all h = absurd (omega arith)
 all_at P (x ∷ xs) zero d all h = all.0
 all_at P (x ∷ xs) (suc i) d all h = all_at P xs i d all.1 (omega arith)
+
+-- what a test of each of some says of all
+pub all_tested : {X : Type 0} (P : X → Type 0) (r : Bool) (xs : List X) → MatchBool r (AllWithin P xs 0 (length xs)) ((k : ℕ) × (k < length xs) × HoldsAt (λ x. ¬ P x) xs k) → IsTrue r ↔ AllByRecursion P xs
+all_tested P r xs said = (
+  (λ yes. recursion_from_All P xs (All-from_all_within P xs (MatchBool-at_true _ _ yes said))),
+  (λ all. true_from_All P (λ x. ¬ P x) r xs (λ x yes no. no yes) said (All-from_recursion P xs all)),
+)

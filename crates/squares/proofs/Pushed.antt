@@ -5,7 +5,7 @@ use Rattle.std.specs.BTreeMap.{BTreeMap, get}
 use Rattle.std.specs.Ordering.{nat_cmp}
 use Rattle.std.proofs.lemmas.List.{take_at}
 use Rattle.rule_text.specs.CountRule.{CountRule}
-use Rattle.squares.specs.Book.{IsFuture, Keeps, KeepsResults, numbered}
+use Rattle.squares.specs.Book.{AddsSquares, IsFuture, Keeps, KeepsResults, numbered}
 use Rattle.squares.specs.declared.node.Node.{Node}
 use Rattle.squares.specs.declared.node.Node.TheVariants.{Leaf, Inner}
 use Rattle.squares.specs.declared.node.Quarters.{Quarters}
@@ -59,6 +59,9 @@ module _ (rule : CountRule) (exponent : ℕ) (records : List Record) (node : Nod
   pub pushed_keeps : Keeps (plain_book rule exponent records) (plain_book rule exponent (records ++ record { node = node; future = None } ∷ []))
   pushed_keeps = keeps_more rule exponent records (records ++ record { node = node; future = None } ∷ []) (node ∷ []) good (nodes_pushed records (record { node = node; future = None }))
       (λ sq h. subst (λ results. Contains results sq) (sym pushed_results.results) h)
+
+  pub pushed_adds : AddsSquares (plain_book rule exponent records) (plain_book rule exponent (records ++ record { node = node; future = None } ∷ []))
+  pushed_adds = record { keeps = pushed_keeps; results = pushed_results }
 
   old_future : (i : ℕ) (r : Record) (num : Num) → slice_get records i ≡ Some r → r.future ≡ Some num → AreFutures rule exponent records →
       (3 < level_of r.node) × IsFuture (plain_book rule exponent (records ++ record { node = node; future = None } ∷ [])) (numbered (level_of r.node) (suc i)) (numbered (level_of r.node - 1) num.0)

@@ -82,6 +82,11 @@ pub record KeepsResults (old new : Book) : Type 0 where
   pub results : new.results ≡ old.results
   pub learned : new.learned ≡ old.learned
 
+-- squares alone are new, if anything is: all that was known stays known, and no result is new
+pub record AddsSquares (old new : Book) : Type 0 where
+  pub keeps : Keeps old new
+  pub results : KeepsResults old new
+
 -- the square is new among the results, and it alone
 pub record Gains (old new : List Sq) (sq : Sq) : Type 0 where
   pub length : length new ≡ suc (length old)
@@ -101,6 +106,10 @@ pub record AddsResult (old new : Book) (sq : Sq) : Type 0 where
 -- a refusal that the book may give: that memory ran out, if it takes any, or that it is full
 abbrev pub MayRefuse : Book → Refusal → Type 0
 MayRefuse book refusal = ((refusal ≡ NoMemory) × IsTrue book.takes_memory) ⊎ ((refusal ≡ NodesFull) × IsTrue book.is_full)
+
+-- that memory ran out, or one of these refusals
+abbrev pub LacksMemoryOr : (Refusal → Type 0) → Refusal → Type 0
+LacksMemoryOr Refuses refusal = (refusal ≡ NoMemory) ⊎ Refuses refusal
 
 -- one of some squares
 abbrev pub nth : List Sq → ℕ → Sq

@@ -1,5 +1,5 @@
 -- The nodes of a plain book: the record at index i has number i + 1.
-use Rattle.std.specs.Prelude.{◌≡◌, ◌≢◌, ℕ, zero, suc, ◌+◌, ◌-◌, ◌^◌, ◌<◌, ◌≤◌, ◌==◌, nat_le, ◌&&◌, Bool, true, false, if◌then◌else◌, List, [], ◌∷◌, map, slice_get, IsTrue, Option, Some, None, is_some, option_and_then}
+use Rattle.std.specs.Prelude.{◌≡◌, ◌≢◌, ℕ, zero, suc, ◌+◌, ◌-◌, ◌^◌, ◌<◌, ◌≤◌, ◌==◌, nat_le, ◌&&◌, Bool, true, false, if◌then◌else◌, List, [], ◌∷◌, ◌++◌, map, slice_get, IsTrue, Option, Some, None, is_some, option_and_then}
 use Rattle.std.specs.BTreeMap.{BTreeMap, get}
 use Rattle.std.specs.Ordering.{nat_cmp, ordering_then}
 use Rattle.std.specs.declared.cmp.Ordering.{Ordering}
@@ -16,6 +16,10 @@ use Rattle.squares.specs.declared.sq.Sq.{Sq}
 
 abbrev pub nodes_of : List Record → List Node
 nodes_of records = map (λ (r : Record). r.node) records
+
+-- the records and one of this node, whose result isn't known
+abbrev pub with_node : List Record → Node → List Record
+with_node records node = records ++ record { node = node; future = None } ∷ []
 
 -- the node that has this number
 abbrev pub node_at : List Node → ℕ → Option Node

@@ -3,15 +3,15 @@
 ghost use Rattle.std.specs.Prelude.{◌≡◌, ◌<◌, ◌+◌, ◌-◌, IfOk, OnOk, OnErr, IfErr, IfSome, IfNone, IsOk, Some, MatchOption, All};
 ghost use Rattle.std.specs.List.{AllByRecursion};
 ghost use Rattle.plane.specs.Square.{bits_plane};
-ghost use Rattle.squares.specs.Book.{Book, IsBook, IsKnown, Shows, IsEmpty, IsFuture, HasResult, Keeps, KeepsResults, Learns, AddsResult, AreSubsquares, AreQuarters, MayRefuse, joined_squares, numbered, nth};
+ghost use Rattle.squares.specs.Book.{AddsResult, AddsSquares, AreQuarters, AreSubsquares, Book, HasResult, IsBook, IsEmpty, IsFuture, IsKnown, Keeps, KeepsResults, Learns, MayRefuse, Shows, joined_squares, nth, numbered};
 ghost use Rattle.squares.specs.Overlaps.{AreOverlaps};
 
 use crate::sq::Sq;
 use plane::Refusal;
 use rule_text::Rule;
 
-/// Squares that can be read, and where none is made. Number 0 is known at each level, and two known squares of one
-/// level have one number exactly if they have the same cells.
+/// Squares that can be read, and where none is made. Number 0 is known at each level, and two known
+/// squares of one level have one number exactly if they have the same cells.
 pub trait Look {
     // What is known.
     ghost book: { Self → Book };
@@ -49,27 +49,24 @@ pub trait Squares {
     fn read_bits(&mut self, sq: Sq) -> u64
         requires { IsKnown (book self.old) 3 sq }
         ensures value { Shows (book self.old) 3 (bits_plane result) sq }
-        ensures keeps { Keeps (book self.old) (book self.new) }
-        ensures results { KeepsResults (book self.old) (book self.new) };
+        ensures adds { AddsSquares (book self.old) (book self.new) };
 
     /// The quarters of a square above level 3: upper left, upper right, lower left, lower right.
     fn read_parts(&mut self, sq: Sq) -> [Sq; 4]
         requires known { IsKnown (book self.old) sq.level sq }
         requires level { 3 < sq.level }
         ensures value { AreQuarters (book self.new) sq.level ((book self.old).cells sq) result }
-        ensures keeps { Keeps (book self.old) (book self.new) }
-        ensures results { KeepsResults (book self.old) (book self.new) };
+        ensures adds { AddsSquares (book self.old) (book self.new) };
 
     /// The square of level 3 with these cells. That without a live cell is never refused.
     fn leaf(&mut self, word: u64) -> Result<Sq, Refusal>
         ensures ok { IfOk result (Shows (book self.new) 3 (bits_plane word)) }
         ensures empty { word ≡ 0 → IsOk result }
         ensures refusal { IfErr result (MayRefuse (book self.new)) }
-        ensures keeps { Keeps (book self.old) (book self.new) }
-        ensures results { KeepsResults (book self.old) (book self.new) };
+        ensures adds { AddsSquares (book self.old) (book self.new) };
 
-    /// The square with these quarters: upper left, upper right, lower left, lower right. That of four
-    /// empty ones is never refused.
+    /// The square with these quarters: upper left, upper right, lower left, lower right. That of
+    /// four empty ones is never refused.
     fn quad(&mut self, quarters: [Sq; 4]) -> Result<Sq, Refusal>
         requires level { (nth quarters 0).level < 65 }
         requires known { AllByRecursion (IsKnown (book self.old) (nth quarters 0).level) quarters }
@@ -77,28 +74,26 @@ pub trait Squares {
             (joined_squares (book self.old) (nth quarters 0).level quarters)) }
         ensures empty { AllByRecursion IsEmpty quarters → IsOk result }
         ensures refusal { IfErr result (MayRefuse (book self.new)) }
-        ensures keeps { Keeps (book self.old) (book self.new) }
-        ensures results { KeepsResults (book self.old) (book self.new) };
+        ensures adds { AddsSquares (book self.old) (book self.new) };
 
-    /// The nine overlapping squares of a square above level 4, row by row from the top, each with half
-    /// its side: they begin at 0, a quarter and a half of its side in each direction.
+    /// The nine overlapping squares of a square above level 4, row by row from the top, each with
+    /// half its side: they begin at 0, a quarter and a half of its side in each direction.
     fn nine(&mut self, sq: Sq) -> Result<[Sq; 9], Refusal>
         requires known { IsKnown (book self.old) sq.level sq }
         requires level { 4 < sq.level }
-        ensures ok { IfOk result (AreSubsquares (book self.new) sq.level ((book self.old).cells sq)) }
+        ensures ok { IfOk result
+            (AreSubsquares (book self.new) sq.level ((book self.old).cells sq)) }
         ensures refusal { IfErr result (MayRefuse (book self.new)) }
-        ensures keeps { Keeps (book self.old) (book self.new) }
-        ensures results { KeepsResults (book self.old) (book self.new) };
+        ensures adds { AddsSquares (book self.old) (book self.new) };
 
-    /// Of nine squares of one level in three rows, the four that neighbours make: those at the upper
-    /// left, the upper right, the lower left and the lower right.
+    /// Of nine squares of one level in three rows, the four that neighbours make: those at the
+    /// upper left, the upper right, the lower left and the lower right.
     fn overlaps(&mut self, level: u8, nine: [Sq; 9]) -> Result<[Sq; 4], Refusal>
         requires known { All (IsKnown (book self.old) level) nine }
         requires level { level < 65 }
         ensures ok { IfOk result (AreOverlaps (book self.new) level nine) }
         ensures refusal { IfErr result (MayRefuse (book self.new)) }
-        ensures keeps { Keeps (book self.old) (book self.new) }
-        ensures results { KeepsResults (book self.old) (book self.new) };
+        ensures adds { AddsSquares (book self.old) (book self.new) };
 
     /// The result of a square, if it is known: its centre after 2^exponent generations, or after
     /// 2^(level - 2) if that is less. The result of an empty square is known to be empty.
@@ -113,7 +108,8 @@ pub trait Squares {
             (λ _. Learns (book self.old) (book self.new) sq) }
         ensures keeps { Keeps (book self.old) (book self.new) };
 
-    /// Keeps the second square as the result of the first. For an empty square there is nothing to do.
+    /// Keeps the second square as the result of the first. For an empty square there is nothing
+    /// to do.
     fn keep(&mut self, sq: Sq, future: Sq) -> Result<(), Refusal>
         requires known { IsKnown (book self.old) sq.level sq }
         requires level { 3 < sq.level }

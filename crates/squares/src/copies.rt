@@ -1,14 +1,14 @@
 //! Squares copied from one book into another.
 
-ghost use Rattle.std.specs.Prelude.{◌≡◌, ◌⊎◌, IfOk, IfErr, OnOk, OnErr, IsOkUnless, Some};
+ghost use Rattle.std.specs.Prelude.{◌≡◌, IfOk, IfErr, OnOk, OnErr, IsOkUnless, Some};
 ghost use Rattle.std.specs.HashMap.{IsUnchanged, Updates};
-ghost use Rattle.squares.specs.Book.{IsKnown, Keeps, KeepsResults, MayRefuse, Shows};
+ghost use Rattle.squares.specs.Book.{AddsSquares, IsKnown, LacksMemoryOr, MayRefuse, Shows};
 ghost use Rattle.squares.specs.Copies.{AreKnownCopies};
 ghost use Rattle.squares.specs.Noted.{is_same_key};
 
 use crate::book::{Look, Squares};
 use crate::reading::{Looked, Reading};
-use crate::sq::{Num, Sq};
+use crate::sq::{LEAF_LEVEL, Num, Sq};
 use plane::Refusal;
 use std::alloc::Global;
 use std::collections::HashMap;
@@ -17,9 +17,10 @@ use std::collections::HashMap;
 type Copies = HashMap<(u8, u32), Num>;
 
 // Notes the copy of a square.
-fn noted(copies: &mut Copies, sq: Sq, copy: Sq) -> Result<Sq, Refusal>
+fn note_copy(copies: &mut Copies, sq: Sq, copy: Sq) -> Result<Sq, Refusal>
     ensures ok { IfOk result (λ noted. noted ≡ copy) }
-    ensures updates { OnOk result (Updates is_same_key copies.old copies.new (sq.level, sq.num.0) (Some copy.num)) }
+    ensures updates { OnOk result
+        (Updates is_same_key copies.old copies.new (sq.level, sq.num.0) (Some copy.num)) }
     ensures err { OnErr result (IsUnchanged copies.old copies.new) }
     ensures memory { IsOkUnless result Refusal.NoMemory }
 {
@@ -27,8 +28,8 @@ fn noted(copies: &mut Copies, sq: Sq, copy: Sq) -> Result<Sq, Refusal>
     Ok(copy)
 }
 
-// Copies a square, and notes the copies that are made on the way, but for those of leaves: a note costs more
-// than a leaf that the book knows.
+// Copies a square, and notes the copies that are made on the way, but for those of leaves: a note
+// costs more than a leaf that the book knows.
 fn copy_read<A: Reading, B: Squares>(
     from: &mut A,
     sq: Sq,
@@ -39,17 +40,15 @@ fn copy_read<A: Reading, B: Squares>(
     requires copies { AreKnownCopies (A.book from.old) (B.book to.old) copies.old }
     ensures ok { IfOk result (Shows (B.book to.new) sq.level ((A.book from.old).cells sq)) }
     ensures copies { AreKnownCopies (A.book from.new) (B.book to.new) copies.new }
-    ensures refusal { IfErr result (λ refusal. (refusal ≡ Refusal.NoMemory) ⊎ MayRefuse (B.book to.new) refusal) }
-    ensures from { Keeps (A.book from.old) (A.book from.new) }
-    ensures from_results { KeepsResults (A.book from.old) (A.book from.new) }
-    ensures keeps { Keeps (B.book to.old) (B.book to.new) }
-    ensures results { KeepsResults (B.book to.old) (B.book to.new) }
+    ensures refusal { IfErr result (LacksMemoryOr (MayRefuse (B.book to.new))) }
+    ensures from { AddsSquares (A.book from.old) (A.book from.new) }
+    ensures adds { AddsSquares (B.book to.old) (B.book to.new) }
 {
     let level = sq.level;
     if sq.is_empty() {
         return Ok(sq);
     }
-    if level == 3 {
+    if level == LEAF_LEVEL {
         return to.leaf(from.cells_of(sq));
     }
     if let Some(num) = copies.get(&(level, sq.num.0)) {
@@ -60,11 +59,12 @@ fn copy_read<A: Reading, B: Squares>(
         *quarter = copy_read(from, *quarter, to, copies)?;
     }
     let copy = to.quad(quarters)?;
-    noted(copies, sq, copy)
+    note_copy(copies, sq, copy)
 }
 
-/// The square with the same level and the same cells in another book; each number of a larger square than a
-/// leaf is read and copied once. `NoMemory` where memory ran out, and what that book refuses.
+/// The square with the same level and the same cells in another book; each number of a larger
+/// square than a leaf is read and copied once. `NoMemory` where memory ran out, and what that book
+/// refuses.
 pub fn copy_square<B: Look, S: Squares>(
     alloc: Global,
     from: &B,
@@ -73,16 +73,15 @@ pub fn copy_square<B: Look, S: Squares>(
 ) -> Result<Sq, Refusal>
     requires { IsKnown (B.book from.now) sq.level sq }
     ensures ok { IfOk result (Shows (S.book to.new) sq.level ((B.book from.now).cells sq)) }
-    ensures refusal { IfErr result (λ refusal. (refusal ≡ Refusal.NoMemory) ⊎ MayRefuse (S.book to.new) refusal) }
-    ensures keeps { Keeps (S.book to.old) (S.book to.new) }
-    ensures results { KeepsResults (S.book to.old) (S.book to.new) }
+    ensures refusal { IfErr result (LacksMemoryOr (MayRefuse (S.book to.new))) }
+    ensures adds { AddsSquares (S.book to.old) (S.book to.new) }
 {
     let mut copies = HashMap::new(alloc);
     copy_read(&mut Looked(from), sq, to, &mut copies)
 }
 
-/// The same from a book that makes squares too, which goes on knowing what it knew. `NoMemory` where memory ran
-/// out, and what the second book refuses.
+/// The same from a book that makes squares too, which goes on knowing what it knew. `NoMemory`
+/// where memory ran out, and what the second book refuses.
 pub fn copy_between<A: Squares, B: Squares>(
     alloc: Global,
     from: &mut A,
@@ -91,11 +90,9 @@ pub fn copy_between<A: Squares, B: Squares>(
 ) -> Result<Sq, Refusal>
     requires { IsKnown (A.book from.old) sq.level sq }
     ensures ok { IfOk result (Shows (B.book to.new) sq.level ((A.book from.old).cells sq)) }
-    ensures refusal { IfErr result (λ refusal. (refusal ≡ Refusal.NoMemory) ⊎ MayRefuse (B.book to.new) refusal) }
-    ensures from { Keeps (A.book from.old) (A.book from.new) }
-    ensures from_results { KeepsResults (A.book from.old) (A.book from.new) }
-    ensures keeps { Keeps (B.book to.old) (B.book to.new) }
-    ensures results { KeepsResults (B.book to.old) (B.book to.new) }
+    ensures refusal { IfErr result (LacksMemoryOr (MayRefuse (B.book to.new))) }
+    ensures from { AddsSquares (A.book from.old) (A.book from.new) }
+    ensures adds { AddsSquares (B.book to.old) (B.book to.new) }
 {
     let mut copies = HashMap::new(alloc);
     copy_read(from, sq, to, &mut copies)

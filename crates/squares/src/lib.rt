@@ -7,6 +7,7 @@
 
 mod book;
 mod borders;
+mod build;
 mod copies;
 mod leaves;
 mod node;
@@ -19,10 +20,11 @@ mod subsquares;
 
 pub use book::{Look, Squares};
 pub use borders::has_empty_border;
+pub use build::Build;
 pub use copies::{copy_between, copy_square};
-pub use leaves::{leaf_centre, read_leaves};
+pub use leaves::{join_leaves, leaf_centre, read_leaves};
 pub use plain_book::PlainBook;
 pub use reading::{Looked, Reading};
 pub use runs::{cells_to_square, runs_to_square};
-pub use sq::{Num, Sq};
+pub use sq::{HIGHEST_ROOT_LEVEL, LEAF_LEVEL, LOWEST_ROOT_LEVEL, Num, Sq, half_side};
 pub use subsquares::centre;

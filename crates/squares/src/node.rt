@@ -34,7 +34,8 @@ impl Quarters {
 
     /// Whether all four are empty.
     pub fn are_empty(&self) -> bool
-        ensures { IsTrue result ↔ (self.now.nw.0 + self.now.ne.0 + self.now.sw.0 + self.now.se.0 ≡ 0) }
+        ensures { IsTrue result
+            ↔ (self.now.nw.0 + self.now.ne.0 + self.now.sw.0 + self.now.se.0 ≡ 0) }
     {
         self.nw.0 == 0 && self.ne.0 == 0 && self.sw.0 == 0 && self.se.0 == 0
     }

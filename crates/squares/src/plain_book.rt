@@ -1,15 +1,15 @@
 //! A book of squares in one owner's hands.
 
-ghost use Rattle.std.specs.Prelude.{◌≡◌, ◌-◌, ◌++◌, ◌∷◌, suc, length, vec_len, [], IsTrue, is_some, slice_get, Some, IfOk, OnErr, IsOkUnless};
+ghost use Rattle.std.specs.Prelude.{◌≡◌, ◌-◌, suc, length, vec_len, IsTrue, is_some, slice_get, Some, IfOk, OnErr, IsOkUnless};
 ghost use Rattle.std.specs.BTreeMap.{IsUnchanged, Updates};
-ghost use Rattle.squares.specs.Book.{IsBook, IsFresh, numbered};
-ghost use Rattle.squares.specs.Nodes.{AreFutures, HasNumbers, IsGood, node_at, nodes_of, plain_book, quarters_order};
+ghost use Rattle.squares.specs.Book.{IsBook, IsFresh};
+ghost use Rattle.squares.specs.Nodes.{AreFutures, HasNumbers, IsGood, node_at, nodes_of, plain_book, quarters_order, with_node};
 ghost use Rattle.squares.specs.declared.node.Node.TheVariants.{Leaf, Inner};
 ghost use Rattle.std.specs.Ordering.{nat_cmp};
 
 use crate::book::{Look, Squares};
 use crate::node::{Node, Quarters, Record};
-use crate::sq::{Num, Sq};
+use crate::sq::{LEAF_LEVEL, Num, Sq};
 use plane::Refusal;
 use rule_text::Rule;
 use std::alloc::Global;
@@ -35,7 +35,7 @@ pub struct PlainBook {
 fn push_node(records: &mut Vec<Record>, node: Node) -> Result<Num, Refusal>
     ensures number { IfOk result (λ num. num.0 ≡ suc (length records.old.items)) }
     ensures len { IfOk result (λ num. vec_len records.new ≡ num.0) }
-    ensures ok { IfOk result (λ num. records.new.items ≡ records.old.items ++ record { node = node; future = None } ∷ []) }
+    ensures ok { IfOk result (λ _. records.new.items ≡ with_node records.old.items node) }
     ensures err { OnErr result (records.new.items ≡ records.old.items) }
     ensures memory { IsOkUnless result Refusal.NoMemory }
 {
@@ -55,7 +55,7 @@ fn add_node<K: Ord + Drop>(
     key: K,
 ) -> Result<Num, Refusal>
     ensures number { IfOk result (λ num. num.0 ≡ suc (length records.old.items)) }
-    ensures ok { IfOk result (λ num. records.new.items ≡ records.old.items ++ record { node = node; future = None } ∷ []) }
+    ensures ok { IfOk result (λ _. records.new.items ≡ with_node records.old.items node) }
     ensures noted { IfOk result (λ num. Updates K.cmp numbers.old numbers.new key (Some num)) }
     ensures err { OnErr result (records.new.items ≡ records.old.items) }
     ensures same { OnErr result (IsUnchanged numbers.old numbers.new) }
@@ -158,16 +158,19 @@ impl Squares for PlainBook {
 
     fn leaf(&mut self, word: u64) -> Result<Sq, Refusal> {
         if word == 0 {
-            return Ok(Sq::empty(3));
+            return Ok(Sq::empty(LEAF_LEVEL));
         }
         if let Some(num) = self.leaves.get(&word) {
             return Ok(Sq {
-                level: 3,
+                level: LEAF_LEVEL,
                 num: *num,
             });
         }
         let num = add_node(&mut self.records, &mut self.leaves, Node::Leaf(word), word)?;
-        Ok(Sq { level: 3, num })
+        Ok(Sq {
+            level: LEAF_LEVEL,
+            num,
+        })
     }
 
     fn quad(&mut self, quarters: [Sq; 4]) -> Result<Sq, Refusal> {

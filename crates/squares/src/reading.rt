@@ -2,7 +2,7 @@
 
 ghost use Rattle.plane.specs.Square.{bits_plane};
 ghost use Rattle.std.specs.Prelude.{◌<◌};
-ghost use Rattle.squares.specs.Book.{AreQuarters, Book, IsBook, IsKnown, Keeps, KeepsResults, Shows};
+ghost use Rattle.squares.specs.Book.{AddsSquares, AreQuarters, Book, IsBook, IsKnown, Shows};
 
 use crate::book::{Look, Squares};
 use crate::sq::Sq;
@@ -16,16 +16,14 @@ pub trait Reading {
     fn cells_of(&mut self, sq: Sq) -> u64
         requires { IsKnown (book self.old) 3 sq }
         ensures value { Shows (book self.old) 3 (bits_plane result) sq }
-        ensures keeps { Keeps (book self.old) (book self.new) }
-        ensures results { KeepsResults (book self.old) (book self.new) };
+        ensures adds { AddsSquares (book self.old) (book self.new) };
 
     /// The quarters of a square above level 3: upper left, upper right, lower left, lower right.
     fn quarters_of(&mut self, sq: Sq) -> [Sq; 4]
         requires known { IsKnown (book self.old) sq.level sq }
         requires level { 3 < sq.level }
         ensures value { AreQuarters (book self.new) sq.level ((book self.old).cells sq) result }
-        ensures keeps { Keeps (book self.old) (book self.new) }
-        ensures results { KeepsResults (book self.old) (book self.new) };
+        ensures adds { AddsSquares (book self.old) (book self.new) };
 
     ghost is_book: { (s : Self) → IsBook (book s) };
 }

@@ -1,19 +1,19 @@
 //! The square of some runs of live cells, or of a set of cells.
 
-ghost use Rattle.std.specs.Prelude.{◌≡◌, ◌⊎◌, ◌+◌, ◌-◌, ◌^◌, ◌<◌, ◌≤◌, ◌↔◌, IfOk, IfErr, IsOkUnless, IsTrue, map};
+ghost use Rattle.std.specs.Prelude.{◌≡◌, ◌-◌, ◌^◌, ◌≤◌, ◌↔◌, IfOk, IfErr, IsOkUnless, IsTrue, map};
 ghost use Rattle.std.specs.List.{AllByRecursion};
 ghost use Rattle.plane.specs.Centred.{IsSmallestLevel};
 ghost use Rattle.plane.specs.CellSet.{IsCellSet};
 ghost use Rattle.plane.specs.Listing.{plane_of};
 ghost use Rattle.plane.specs.Runs.{IsRun, runs_plane};
 ghost use Rattle.plane.specs.Square.{cut};
-ghost use Rattle.squares.specs.Book.{IsKnown, Keeps, KeepsResults, MayRefuse, Shows};
+ghost use Rattle.squares.specs.Book.{AddsSquares, LacksMemoryOr, MayRefuse, Shows};
 ghost use Rattle.squares.specs.Rounds.{IsRound};
 ghost use Rattle.squares.specs.Spans.{FitsRound, in_spans, marked, single_run};
 
 use crate::book::Squares;
-use crate::spans::{Span, distance, half_side, leaf_bits, quartered, spans_of};
-use crate::sq::Sq;
+use crate::spans::{Span, distance, leaf_bits, spans_of, split_spans};
+use crate::sq::{HIGHEST_ROOT_LEVEL, LEAF_LEVEL, LOWEST_ROOT_LEVEL, Sq, half_side};
 use plane::{Cell, CellSet, Refusal};
 use std::alloc::Global;
 
@@ -31,19 +31,6 @@ fn fits(run: (Cell, u64), half: u64) -> bool
     distance(cell.x, half) + count <= 2 * half
 }
 
-fn all_fit(runs: &[(Cell, u64)], half: u64) -> bool
-    requires half { half ≤ 2 ^ 62 }
-    requires runs { AllByRecursion IsRun runs.now }
-    ensures { IsTrue result ↔ AllByRecursion (FitsRound half) runs.now }
-{
-    for run in runs {
-        if !fits(*run, half) {
-            return false;
-        }
-    }
-    true
-}
-
 // The smallest level of at least 4 whose square round (0,0) has all the runs.
 fn smallest_level(runs: &[(Cell, u64)]) -> u8
     requires { AllByRecursion IsRun runs.now }
@@ -51,12 +38,13 @@ fn smallest_level(runs: &[(Cell, u64)]) -> u8
     ensures fits { AllByRecursion (FitsRound (2 ^ (result - 1))) runs.now }
     ensures high { result ≤ 63 }
 {
-    for level in 4..63 {
-        if all_fit(runs, half_side(level)) {
+    for level in LOWEST_ROOT_LEVEL..HIGHEST_ROOT_LEVEL {
+        let half = half_side(level);
+        if runs.iter().all(|run| fits(*run, half)) {
             return level;
         }
     }
-    63
+    HIGHEST_ROOT_LEVEL
 }
 
 // The square of this level with the spans' cells, made from the quarters up.
@@ -67,18 +55,18 @@ fn spans_to_square<S: Squares>(
     level: u8,
 ) -> Result<Sq, Refusal>
     requires level { (3 ≤ level) × (level ≤ 63) }
-    ensures ok { IfOk result (Shows (S.book book.new) level (cut (2 ^ level) 0 0 (marked (in_spans spans.items)))) }
-    ensures refusal { IfErr result (λ refusal. (refusal ≡ Refusal.NoMemory) ⊎ MayRefuse (S.book book.new) refusal) }
-    ensures keeps { Keeps (S.book book.old) (S.book book.new) }
-    ensures results { KeepsResults (S.book book.old) (S.book book.new) }
+    ensures ok { IfOk result (Shows (S.book book.new) level
+        (cut (2 ^ level) 0 0 (marked (in_spans spans.items)))) }
+    ensures refusal { IfErr result (LacksMemoryOr (MayRefuse (S.book book.new))) }
+    ensures adds { AddsSquares (S.book book.old) (S.book book.new) }
 {
     if spans.is_empty() {
         return Ok(Sq::empty(level));
     }
-    if level == 3 {
+    if level == LEAF_LEVEL {
         return book.leaf(leaf_bits(&spans));
     }
-    let quarters = quartered(alloc, &spans, half_side(level))?;
+    let quarters = split_spans(alloc, &spans, half_side(level))?;
     drop(spans);
     let nw = spans_to_square(alloc, book, quarters.nw, level - 1)?;
     let ne = spans_to_square(alloc, book, quarters.ne, level - 1)?;
@@ -87,9 +75,9 @@ fn spans_to_square<S: Squares>(
     book.quad([nw, ne, sw, se])
 }
 
-/// The square of the runs' cells, at the smallest level of at least 4 round (0,0): a square of level
-/// n has the cells from -2^(n-1) to 2^(n-1) - 1, so the level is at most 63. `NoMemory` where memory
-/// ran out, and what the book refuses.
+/// The square of the runs' cells, at the smallest level of at least 4 round (0,0): a square of
+/// level n has the cells from -2^(n-1) to 2^(n-1) - 1, so the level is at most 63. `NoMemory` where
+/// memory ran out, and what the book refuses.
 pub fn runs_to_square<S: Squares>(
     alloc: Global,
     book: &mut S,
@@ -98,9 +86,8 @@ pub fn runs_to_square<S: Squares>(
     requires { AllByRecursion IsRun runs.now }
     ensures ok { IfOk result (IsRound (S.book book.new) (runs_plane runs.now)) }
     ensures high { IfOk result (λ sq. sq.level ≤ 63) }
-    ensures refusal { IfErr result (λ refusal. (refusal ≡ Refusal.NoMemory) ⊎ MayRefuse (S.book book.new) refusal) }
-    ensures keeps { Keeps (S.book book.old) (S.book book.new) }
-    ensures results { KeepsResults (S.book book.old) (S.book book.new) }
+    ensures refusal { IfErr result (LacksMemoryOr (MayRefuse (S.book book.new))) }
+    ensures adds { AddsSquares (S.book book.old) (S.book book.new) }
 {
     let level = smallest_level(runs);
     let spans = spans_of(alloc, runs, half_side(level))?;
@@ -129,9 +116,8 @@ pub fn cells_to_square<S: Squares>(
 ) -> Result<Sq, Refusal>
     ensures ok { IfOk result (IsRound (S.book book.new) (plane_of cells.now)) }
     ensures high { IfOk result (λ sq. sq.level ≤ 63) }
-    ensures refusal { IfErr result (λ refusal. (refusal ≡ Refusal.NoMemory) ⊎ MayRefuse (S.book book.new) refusal) }
-    ensures keeps { Keeps (S.book book.old) (S.book book.new) }
-    ensures results { KeepsResults (S.book book.old) (S.book book.new) }
+    ensures refusal { IfErr result (LacksMemoryOr (MayRefuse (S.book book.new))) }
+    ensures adds { AddsSquares (S.book book.old) (S.book book.new) }
 {
     let runs = runs_of(alloc, cells)?;
     runs_to_square(alloc, book, &runs)

@@ -1,9 +1,10 @@
-//! Live cells of one row of a square, counted from its upper left corner, and what parts of the square have of them.
+//! Live cells of one row of a square, counted from its upper left corner, and what parts of the
+//! square have of them.
 
 ghost use Rattle.std.specs.Prelude.{◌≡◌, ℕ, ◌+◌, ◌-◌, ◌*◌, ◌^◌, ◌<◌, ◌≤◌, false, MatchOption, IfSome, IfOk, IsOkUnless, pos, ◌+ℤ◌, ◌-ℤ◌, ◌≤ℤ◌, ◌<ℤ◌, unsigned_abs, map};
 ghost use Rattle.std.specs.List.{AllByRecursion};
-ghost use Rattle.plane.specs.Square.{IsSame, bit, bits_plane, cut};
-ghost use Rattle.squares.specs.Spans.{AreQuarterSpans, FitsRound, HasCells, HasCellOf, HaveCellsOfQuarters, in_span, in_spans, marked, span_of};
+ghost use Rattle.plane.specs.Square.{bit};
+ghost use Rattle.squares.specs.Spans.{AreQuarterSpans, FitsRound, HasCells, HasCellOf, HaveCellsOfQuarters, in_span, in_spans, span_of};
 
 use plane::{Cell, Refusal};
 use std::alloc::Global;
@@ -17,16 +18,8 @@ pub struct Span {
     pub end: u64,
 }
 
-/// Half the side of a square of this level.
-pub fn half_side(level: u8) -> u64
-    requires { (1 ≤ level) × (level ≤ 63) }
-    ensures value { result ≡ 2 ^ (level - 1) }
-    ensures bound { result ≤ 2 ^ 62 }
-{
-    1 << (level - 1)
-}
-
-/// The distance of a coordinate from the left or upper side of a square of this half side round (0,0).
+/// The distance of a coordinate from the left or upper side of a square of this half side round
+/// (0,0).
 pub fn distance(coordinate: i64, half: u64) -> u64
     requires half { half ≤ 2 ^ 62 }
     requires low { (pos 0 -ℤ pos half) ≤ℤ coordinate }
@@ -59,7 +52,8 @@ impl Span {
         requires tall { top + side < 2 ^ 64 }
         ensures cells { MatchOption result
             ((x y : ℕ) → x < side → y < side → in_span (x + left) (y + top) self ≡ false)
-            (λ part. (x y : ℕ) → x < side → y < side → in_span x y part ≡ in_span (x + left) (y + top) self) }
+            (λ part. (x y : ℕ) → x < side → y < side →
+            in_span x y part ≡ in_span (x + left) (y + top) self) }
         ensures some { HasCells self → IfSome result (HasCellOf side) }
     {
         if self.row < top
@@ -90,7 +84,7 @@ impl Span {
 }
 
 /// What the part of a square has of the spans, counted from the part's upper left corner.
-pub fn clipped(
+pub fn clip_spans(
     alloc: Global,
     spans: &[Span],
     left: u64,
@@ -101,7 +95,8 @@ pub fn clipped(
     requires tall { top + side < 2 ^ 64 }
     ensures ok { IfOk result (λ parts. (x y : ℕ) → x < side → y < side →
         in_spans parts.items x y ≡ in_spans spans.now (x + left) (y + top)) }
-    ensures some { AllByRecursion HasCells spans.now → IfOk result (λ parts. AllByRecursion (HasCellOf side) parts.items) }
+    ensures some { AllByRecursion HasCells spans.now →
+        IfOk result (λ parts. AllByRecursion (HasCellOf side) parts.items) }
     ensures memory { IsOkUnless result Refusal.NoMemory }
 {
     let mut parts = Vec::new(alloc);
@@ -124,17 +119,17 @@ pub struct QuarterSpans {
 }
 
 /// What the quarters of a square of this half side have of the spans.
-pub fn quartered(alloc: Global, spans: &[Span], half: u64) -> Result<QuarterSpans, Refusal>
+pub fn split_spans(alloc: Global, spans: &[Span], half: u64) -> Result<QuarterSpans, Refusal>
     requires half { half ≤ 2 ^ 62 }
     ensures ok { IfOk result (AreQuarterSpans half spans.now) }
     ensures some { AllByRecursion HasCells spans.now → IfOk result (HaveCellsOfQuarters half) }
     ensures memory { IsOkUnless result Refusal.NoMemory }
 {
     Ok(QuarterSpans {
-        nw: clipped(alloc, spans, 0, 0, half)?,
-        ne: clipped(alloc, spans, half, 0, half)?,
-        sw: clipped(alloc, spans, 0, half, half)?,
-        se: clipped(alloc, spans, half, half, half)?,
+        nw: clip_spans(alloc, spans, 0, 0, half)?,
+        ne: clip_spans(alloc, spans, half, 0, half)?,
+        sw: clip_spans(alloc, spans, 0, half, half)?,
+        se: clip_spans(alloc, spans, half, half, half)?,
     })
 }
 

@@ -1,7 +1,26 @@
 //! A square of a book: its level and its number.
 
-ghost use Rattle.std.specs.Prelude.{◌≡◌, ◌↔◌, IsTrue};
+ghost use Rattle.std.specs.Prelude.{◌≡◌, ◌↔◌, ◌-◌, ◌^◌, ◌≤◌, IsTrue};
 ghost use Rattle.squares.specs.Book.{IsEmpty, numbered};
+
+/// The level of a leaf, which has 8 by 8 cells.
+pub const LEAF_LEVEL: u8 = 3;
+
+/// The lowest level of a square round (0,0).
+pub const LOWEST_ROOT_LEVEL: u8 = 4;
+
+/// The highest level of a square round (0,0) whose cells come from a file or from a set.
+pub const HIGHEST_ROOT_LEVEL: u8 = 63;
+
+/// Half the side of a square of this level, which is from 1 to 63: 2^(level - 1), so at most 2^62.
+/// The square round (0,0) has the coordinates from -2^(level - 1) to 2^(level - 1) - 1.
+pub fn half_side(level: u8) -> u64
+    requires { (1 ≤ level) × (level ≤ 63) }
+    ensures value { result ≡ 2 ^ (level - 1) }
+    ensures bound { result ≤ 2 ^ 62 }
+{
+    1 << (level - 1)
+}
 
 /// The number of a square in its book. Number 0 is the empty square of each level.
 #[derive(Clone, Copy, Debug, PartialEq, Eq, PartialOrd, Ord)]

@@ -1,13 +1,13 @@
 //! The square at the centre of a square.
 
 ghost use Rattle.std.specs.Prelude.{◌≡◌, ◌-◌, ◌<◌, IfOk, IfErr};
-ghost use Rattle.squares.specs.Book.{IsKnown, Shows, Keeps, KeepsResults, MayRefuse};
+ghost use Rattle.squares.specs.Book.{AddsSquares, IsKnown, MayRefuse, Shows};
 ghost use Rattle.plane.specs.Square.{centre_of};
 ghost use Rattle.squares.specs.Parts.{ArePartsOfParts};
 
 use crate::book::Squares;
 use crate::leaves::leaf_centre;
-use crate::sq::Sq;
+use crate::sq::{LEAF_LEVEL, Sq};
 use plane::Refusal;
 
 /// The square at the centre of a square above level 3, with half its side.
@@ -17,10 +17,9 @@ pub fn centre<S: Squares>(book: &mut S, sq: Sq) -> Result<Sq, Refusal>
     ensures ok { IfOk result (Shows (S.book book.new) (sq.level - 1)
         (centre_of sq.level ((S.book book.old).cells sq))) }
     ensures refusal { IfErr result (MayRefuse (S.book book.new)) }
-    ensures keeps { Keeps (S.book book.old) (S.book book.new) }
-    ensures results { KeepsResults (S.book book.old) (S.book book.new) }
+    ensures adds { AddsSquares (S.book book.old) (S.book book.new) }
 {
-    if sq.level == 4 {
+    if sq.level == LEAF_LEVEL + 1 {
         centre_of_leaves(book, sq)
     } else {
         centre_of_parts(book, sq)
@@ -34,8 +33,7 @@ fn centre_of_leaves<S: Squares>(book: &mut S, sq: Sq) -> Result<Sq, Refusal>
     ensures ok { IfOk result (Shows (S.book book.new) (sq.level - 1)
         (centre_of sq.level ((S.book book.old).cells sq))) }
     ensures refusal { IfErr result (MayRefuse (S.book book.new)) }
-    ensures keeps { Keeps (S.book book.old) (S.book book.new) }
-    ensures results { KeepsResults (S.book book.old) (S.book book.new) }
+    ensures adds { AddsSquares (S.book book.old) (S.book book.new) }
 {
     let leaves = book.read_parts(sq);
     leaf_centre(book, leaves)
@@ -48,8 +46,7 @@ fn centre_of_parts<S: Squares>(book: &mut S, sq: Sq) -> Result<Sq, Refusal>
     ensures ok { IfOk result (Shows (S.book book.new) (sq.level - 1)
         (centre_of sq.level ((S.book book.old).cells sq))) }
     ensures refusal { IfErr result (MayRefuse (S.book book.new)) }
-    ensures keeps { Keeps (S.book book.old) (S.book book.new) }
-    ensures results { KeepsResults (S.book book.old) (S.book book.new) }
+    ensures adds { AddsSquares (S.book book.old) (S.book book.new) }
 {
     let parts = read_twice(book, sq);
     let [_, _, _, nw] = parts.nw;
@@ -74,8 +71,7 @@ fn read_twice<S: Squares>(book: &mut S, sq: Sq) -> Parts
     requires known { IsKnown (S.book book.old) sq.level sq }
     requires level { 4 < sq.level }
     ensures value { ArePartsOfParts (S.book book.new) sq.level ((S.book book.old).cells sq) result }
-    ensures keeps { Keeps (S.book book.old) (S.book book.new) }
-    ensures results { KeepsResults (S.book book.old) (S.book book.new) }
+    ensures adds { AddsSquares (S.book book.old) (S.book book.new) }
 {
     let whole = book.read_parts(sq);
     let nw = book.read_parts(whole[0]);

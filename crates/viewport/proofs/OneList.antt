@@ -4,7 +4,7 @@ use Rattle.std.specs.Prelude.{int_lt}
 use Rattle.std.specs.List.{AllByRecursion, list_any}
 use Rattle.std.proofs.lemmas.Bool.{false≢true}
 use Rattle.std.proofs.lemmas.Int.{ints}
-use Rattle.plane.proofs.Turns.{AllByRecursion-weaker}
+use Rattle.plane.proofs.Elements.{AllByRecursion-weaker}
 use Rattle.viewport.specs.RowRuns.{AreApart, OneListOfRuns, end_of, is_in_run, is_in_some}
 use Rattle.squares.proofs.NumberMaps.{by_cases}
 

@@ -21,9 +21,7 @@ high_row : (n side : ℕ) (j : ℤ) → side ≡ n + n → int_lt j (pos 0 -ℤ 
 high_row n side j twice e out = grind (arith, ints)
 
 blocks_in_half : (level e f : ℕ) → 1 ≤ level → f ≡ min e (level - 1) → 2 ^ (level - 1) ≡ 2 ^ (level - f - 1) * 2 ^ f
-blocks_in_half level e f least is =
-    let less : level - 1 - f ≡ level - f - 1 = omega arith in
-    side_of_blocks level f least (omega (arith, is)) ∙ ap (λ k. 2 ^ k * 2 ^ f) less
+blocks_in_half level e f least is = side_of_blocks level f least (omega (arith, is))
 
 module _ (level e f : ℕ) (cells : Plane) (least : 1 ≤ level) (is : f ≡ min e (level - 1)) (square : IsSquare (2 ^ level) cells) where
   -- a row of blocks outside the square

@@ -4,7 +4,7 @@ use Rattle.std.specs.List.{AllByRecursion, list_any}
 use Rattle.std.proofs.lemmas.Int.{ints}
 use Rattle.std.proofs.lemmas.List.Folds.{list_any-append}
 use Rattle.plane.specs.Square.{spans}
-use Rattle.plane.proofs.Turns.{AllByRecursion-append, AllByRecursion-weaker}
+use Rattle.plane.proofs.Elements.{AllByRecursion-append, AllByRecursion-weaker}
 use Rattle.viewport.specs.RowRuns.{AddsCells, AreApart, EndBy, end_of, is_in_run, is_in_some, run_cells}
 use Rattle.viewport.proofs.BoxesRound.{or_false}
 

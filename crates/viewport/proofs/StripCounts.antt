@@ -113,14 +113,12 @@ module _ (n e : ℕ) (plane first second : Plane) (strip : Strip) (there : ℕ) 
   halves_counts left right are = rw (are.left_row, are.left_from, are.left_end, are.right_row, are.right_from, are.right_end) counts_beside
 
 -- a quarter's side, in cells
-pub side_of_blocks : (level e : ℕ) → 1 ≤ level → e ≤ level - 1 → 2 ^ (level - 1) ≡ 2 ^ (level - 1 - e) * 2 ^ e
-side_of_blocks level e least low = let sum : level - 1 ≡ (level - 1 - e) + e = omega arith in ap (λ n. 2 ^ n) sum ∙ pow-add 2 (level - 1 - e) e
+pub side_of_blocks : (level e : ℕ) → 1 ≤ level → e ≤ level - 1 → 2 ^ (level - 1) ≡ 2 ^ (level - e - 1) * 2 ^ e
+side_of_blocks level e least low = let sum : level - 1 ≡ (level - e - 1) + e = omega arith in ap (λ n. 2 ^ n) sum ∙ pow-add 2 (level - e - 1) e
 
-pub blocks_of_half : (level e n : ℕ) → e < level → n ≡ 2 ^ (level - 1 - e) → 2 ^ (level - e) ≡ n + n
+pub blocks_of_half : (level e n : ℕ) → e < level → n ≡ 2 ^ (level - e - 1) → 2 ^ (level - e) ≡ n + n
 blocks_of_half level e n low side =
-    let twice = twice_half (level - e) (omega arith) in
-    let less : level - e - 1 ≡ level - 1 - e = omega arith in
-    let same = ap (λ k. 2 ^ k) less in omega (arith, twice, same, side)
+    let twice = twice_half (level - e) (omega arith) in omega (arith, twice, side)
 
 module _ (n there : ℕ) (strip left right : Strip) (in_blocks : IsInBlocks (n + n) strip) (inside : there < n) (are : AreParts n there strip left right) where
   pub left_in_blocks : IsInBlocks n left
@@ -136,7 +134,7 @@ module _ (n there : ℕ) (strip left right : Strip) (in_blocks : IsInBlocks (n +
       record { row = omega (arith, row); order = omega (arith, order, from, end); end = omega (arith, end, most) }
 
 -- a strip of a square, by its parts in the two quarters that have its row
-pub strip_in_halves : (book : Book) (level e n there : ℕ) (plane : Plane) (first second : Sq) (strip left right : Strip) → IsBook book → e < level → n ≡ 2 ^ (level - 1 - e) →
+pub strip_in_halves : (book : Book) (level e n there : ℕ) (plane : Plane) (first second : Sq) (strip left right : Strip) → IsBook book → e < level → n ≡ 2 ^ (level - e - 1) →
     IsInBlocks (2 ^ (level - e)) strip → IsKnown book (level - 1) first → IsKnown book (level - 1) second →
     IsHalfOfBlocks n (2 ^ (level - 1)) plane (book.cells first) (book.cells second) strip.row there → AreParts n there strip left right →
     strip_counts plane e strip ≡ strip_counts (book.cells first) e left ++ strip_counts (book.cells second) e right

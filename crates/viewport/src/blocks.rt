@@ -9,7 +9,7 @@ ghost use Rattle.viewport.specs.Strips.{AreBeside, IsNearRange};
 
 use crate::populations::Counts;
 use crate::shades::add_shades;
-use crate::sides::{half_side, place};
+use crate::sides::{place, signed_half_side};
 use crate::strips::{Strip, add_dead, count_strip};
 use plane::Refusal;
 use squares::{Look, Looked, Reading, Sq};
@@ -50,7 +50,8 @@ pub fn block_shades<L: Look>(
     requires exponent { blocks.exponent ≤ 62 }
     requires columns { IsBlockRange blocks.exponent blocks.left blocks.width }
     requires rows { IsBlockRange blocks.exponent blocks.top blocks.height }
-    ensures ok { IfOk result (λ shades. shades.items ≡ block_shades (centred sq.level ((L.book look.now).cells sq)) blocks) }
+    ensures ok { IfOk result (λ shades. shades.items
+        ≡ block_shades (centred sq.level ((L.book look.now).cells sq)) blocks) }
     ensures memory { IsOkUnless result Refusal.NoMemory }
 {
     let mut from = Looked(look);
@@ -88,7 +89,9 @@ fn count_row<R: Reading>(
     requires level { sq.level ≤ 63 }
     requires columns { IsNearRange blocks.now.left blocks.now.width }
     requires counted { AreCounts (R.book from.old) counts.old }
-    ensures ok { OnOk result (found.new.items ≡ found.old.items ++ block_counts (centred sq.level ((R.book from.old).cells sq)) blocks.now.exponent j blocks.now.left blocks.now.width) }
+    ensures ok { OnOk result (found.new.items ≡ found.old.items
+        ++ block_counts (centred sq.level ((R.book from.old).cells sq)) blocks.now.exponent j
+        blocks.now.left blocks.now.width) }
     ensures counted { AreCounts (R.book from.new) counts.new }
     ensures memory { IsOkUnless result Refusal.NoMemory }
     ensures keeps { Keeps (R.book from.old) (R.book from.new) }
@@ -99,7 +102,7 @@ fn count_row<R: Reading>(
         add_dead(u64::from(blocks.width), found)?;
         return Ok(());
     };
-    let columns = columns_beside(blocks.left, blocks.width, half_side(level));
+    let columns = columns_beside(blocks.left, blocks.width, signed_half_side(level));
     let strip = Strip {
         row,
         from: columns.from,

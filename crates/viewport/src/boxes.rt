@@ -4,12 +4,12 @@ ghost use Rattle.std.specs.Prelude.{◌≡◌, ◌≤◌, ◌<◌, ◌-◌, ◌^
 ghost use Rattle.std.specs.Option.{ForSome};
 ghost use Rattle.plane.specs.Centred.{centred};
 ghost use Rattle.plane.specs.Square.{bits_plane};
-ghost use Rattle.squares.specs.Book.{IsKnown, Keeps, KeepsResults};
+ghost use Rattle.squares.specs.Book.{AddsSquares, IsKnown};
 ghost use Rattle.viewport.specs.BoundingBox.{AreBoxes, FitsMoved, HasBounds, IsInside, IsLocalBox, box_round, joined_boxes, moved_box};
 
-use crate::sides::half_side;
+use crate::sides::signed_half_side;
 use plane::{Bounds, Refusal};
-use squares::{Look, Looked, Reading, Sq};
+use squares::{LEAF_LEVEL, Look, Looked, Reading, Sq};
 use std::alloc::Global;
 use std::collections::HashMap;
 
@@ -35,12 +35,11 @@ pub fn bounds_at<R: Reading>(alloc: Global, book: &mut R, sq: Sq) -> Result<Opti
     requires level { sq.level ≤ 63 }
     ensures ok { IfOk result (HasBounds (centred sq.level ((R.book book.old).cells sq))) }
     ensures memory { IsOkUnless result Refusal.NoMemory }
-    ensures keeps { Keeps (R.book book.old) (R.book book.new) }
-    ensures results { KeepsResults (R.book book.old) (R.book book.new) }
+    ensures adds { AddsSquares (R.book book.old) (R.book book.new) }
 {
     let mut boxes = HashMap::new(alloc);
     let local = local_box(book, sq, &mut boxes)?;
-    let half = half_side(sq.level);
+    let half = signed_half_side(sq.level);
     Ok(moved(local, -half, -half))
 }
 
@@ -53,13 +52,12 @@ fn local_box<R: Reading>(book: &mut R, sq: Sq, boxes: &mut Boxes) -> Result<Opti
     ensures ok { IfOk result (IsLocalBox (2 ^ sq.level) ((R.book book.old).cells sq)) }
     ensures boxed { AreBoxes (R.book book.new) boxes.new }
     ensures memory { IsOkUnless result Refusal.NoMemory }
-    ensures keeps { Keeps (R.book book.old) (R.book book.new) }
-    ensures results { KeepsResults (R.book book.old) (R.book book.new) }
+    ensures adds { AddsSquares (R.book book.old) (R.book book.new) }
 {
-    if sq.num.0 == 0 {
+    if sq.is_empty() {
         return Ok(None);
     }
-    if sq.level == 3 {
+    if sq.level == LEAF_LEVEL {
         return Ok(leaf_box(book.cells_of(sq)));
     }
     let key = (sq.level, sq.num.0);
@@ -85,8 +83,7 @@ fn quarters_box<R: Reading>(
     ensures ok { IfOk result (IsLocalBox (2 ^ sq.level) ((R.book book.old).cells sq)) }
     ensures boxed { AreBoxes (R.book book.new) boxes.new }
     ensures memory { IsOkUnless result Refusal.NoMemory }
-    ensures keeps { Keeps (R.book book.old) (R.book book.new) }
-    ensures results { KeepsResults (R.book book.old) (R.book book.new) }
+    ensures adds { AddsSquares (R.book book.old) (R.book book.new) }
 {
     let [nw, ne, sw, se] = book.quarters_of(sq);
     let nw = local_box(book, nw, boxes)?;
@@ -112,7 +109,7 @@ fn box_of_quarters(
     requires se { ForSome se (IsInside (2 ^ (level - 1))) }
     ensures { result ≡ joined_boxes (2 ^ (level - 1)) nw ne sw se }
 {
-    let half = half_side(level);
+    let half = signed_half_side(level);
     let upper = round(nw, moved(ne, half, 0));
     let lower = round(moved(sw, 0, half), moved(se, half, half));
     round(upper, lower)

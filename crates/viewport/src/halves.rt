@@ -4,8 +4,7 @@ ghost use Rattle.std.specs.Prelude.{◌≡◌, ◌<◌, ◌≤◌, ◌+◌, ◌-
 ghost use Rattle.squares.specs.Book.{IsKnown, Keeps, nth};
 ghost use Rattle.viewport.specs.Halves.{IsHalfOfBlocks, IsHalfRow};
 
-use crate::sides::side;
-use squares::{Look, Reading, Sq};
+use squares::{Look, Reading, Sq, half_side};
 
 // The two quarters of a square that have one of its rows, from left to right, and the row there.
 pub fn half_with_row<B: Look>(book: &B, sq: Sq, y: u64) -> (Sq, Sq, u64)
@@ -15,9 +14,10 @@ pub fn half_with_row<B: Look>(book: &B, sq: Sq, y: u64) -> (Sq, Sq, u64)
     requires row { y < 2 ^ sq.level }
     ensures first { IsKnown (B.book book.now) (sq.level - 1) result.0 }
     ensures second { IsKnown (B.book book.now) (sq.level - 1) result.1 }
-    ensures row { IsHalfRow (2 ^ (sq.level - 1)) ((B.book book.now).cells sq) ((B.book book.now).cells result.0) ((B.book book.now).cells result.1) y result.2 }
+    ensures row { IsHalfRow (2 ^ (sq.level - 1)) ((B.book book.now).cells sq)
+        ((B.book book.now).cells result.0) ((B.book book.now).cells result.1) y result.2 }
 {
-    half_of(book.parts(sq), y, side(sq.level - 1))
+    half_of(book.parts(sq), y, half_side(sq.level))
 }
 
 // The two quarters of a square that have one of its rows of blocks, from left to right, and the row
@@ -28,7 +28,8 @@ pub fn half_with_blocks<R: Reading>(from: &mut R, sq: Sq, row: u64, half: u64) -
     requires row { row < half + half }
     ensures first { IsKnown (R.book from.new) (sq.level - 1) result.0 }
     ensures second { IsKnown (R.book from.new) (sq.level - 1) result.1 }
-    ensures row { IsHalfOfBlocks half (2 ^ (sq.level - 1)) ((R.book from.old).cells sq) ((R.book from.new).cells result.0) ((R.book from.new).cells result.1) row result.2 }
+    ensures row { IsHalfOfBlocks half (2 ^ (sq.level - 1)) ((R.book from.old).cells sq)
+        ((R.book from.new).cells result.0) ((R.book from.new).cells result.1) row result.2 }
     ensures keeps { Keeps (R.book from.old) (R.book from.new) }
 {
     half_of(from.quarters_of(sq), row, half)

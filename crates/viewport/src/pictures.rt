@@ -1,16 +1,16 @@
 //! The picture of a window on a square.
 
-ghost use Rattle.std.specs.Prelude.{◌≡◌, ◌≤◌, ◌<◌, ◌+◌, ◌^◌, [], ◌∷◌, pos, ◌+ℤ◌, length, OnOk, IfErr};
+ghost use Rattle.std.specs.Prelude.{◌≡◌, ◌≤◌, ◌<◌, ◌+◌, ◌^◌, [], ◌∷◌, pos, ◌+ℤ◌, length, OnOk};
 ghost use Rattle.std.specs.Io.KnownBytes.{Appends};
 ghost use Rattle.plane.specs.Centred.{centred};
-ghost use Rattle.plane.specs.Device.{IsWriteRefusal};
+ghost use Rattle.plane.specs.Device.{TellsFailure};
 ghost use Rattle.squares.specs.Book.{IsKnown};
 ghost use Rattle.viewport.specs.Picture.{mark_of, picture_text, row_text};
 
 use crate::halves::half_with_row;
-use crate::sides::{place, side};
+use crate::sides::place;
 use plane::{Refusal, Sink, WINDOW_SIDE_LIMIT, Window, write_all};
-use squares::{Look, Sq};
+use squares::{LEAF_LEVEL, Look, Sq, half_side};
 
 // Room for the widest row and its line end.
 const LINE_ROOM: usize = WINDOW_SIDE_LIMIT as usize + 1;
@@ -28,8 +28,7 @@ pub fn picture<B: Look, W: Sink>(
     requires level { sq.level ≤ 63 }
     ensures drawn { OnOk result (Appends (W.taken sink.old) (W.taken sink.new)
         (picture_text (centred sq.level ((B.book book.now).cells sq)) window.now)) }
-    ensures unfailed { OnOk result (W.failure_count sink.new ≡ W.failure_count sink.old) }
-    ensures refused { IfErr result (IsWriteRefusal (W.failure_count sink.old) (W.failure_count sink.new)) }
+    ensures failure { TellsFailure (W.failure_count sink.old) (W.failure_count sink.new) result }
 {
     let mut room = [0; LINE_ROOM];
     let line = &mut room[..window.width() as usize + 1];
@@ -46,7 +45,8 @@ fn draw_row<B: Look>(book: &B, sq: Sq, window: &Window, row: u32, line: &mut [u8
     requires level { sq.level ≤ 63 }
     requires row { row < window.now.height }
     requires line { length line.old ≡ window.now.width + 1 }
-    ensures { line.new ≡ row_text (centred sq.level ((B.book book.now).cells sq)) (window.now.y +ℤ pos row) window.now.x window.now.width }
+    ensures { line.new ≡ row_text (centred sq.level ((B.book book.now).cells sq))
+        (window.now.y +ℤ pos row) window.now.x window.now.width }
 {
     let y = window.y() + i64::from(row);
     for column in 0..window.width() {
@@ -86,14 +86,14 @@ fn has_cell<B: Look>(book: &B, sq: Sq, x: u64, y: u64) -> bool
     requires row { y < 2 ^ sq.level }
     ensures { result ≡ (B.book book.now).cells sq (pos x) (pos y) }
 {
-    if sq.num.0 == 0 {
+    if sq.is_empty() {
         return false;
     }
-    if sq.level == 3 {
+    if sq.level == LEAF_LEVEL {
         return (book.bits(sq) >> (8 * y + x)) & 1 == 1;
     }
     let (first, second, row) = half_with_row(book, sq, y);
-    let half = side(sq.level - 1);
+    let half = half_side(sq.level);
     let (quarter, column) = if x < half {
         (first, x)
     } else {

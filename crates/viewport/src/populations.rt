@@ -3,11 +3,11 @@
 ghost use Rattle.std.specs.Prelude.{◌≡◌, ◌≤◌, ◌<◌, IfOk, IsOkUnless};
 ghost use Rattle.plane.specs.Centred.{centred};
 ghost use Rattle.plane.specs.Square.{bits_plane};
-ghost use Rattle.squares.specs.Book.{IsKnown, Keeps, KeepsResults};
+ghost use Rattle.squares.specs.Book.{AddsSquares, IsKnown};
 ghost use Rattle.viewport.specs.Population.{AreCounts, HasPopulation, IsCount, cell_count};
 
 use plane::Refusal;
-use squares::{Look, Looked, Reading, Sq, Squares};
+use squares::{LEAF_LEVEL, Look, Looked, Reading, Sq, Squares};
 use std::alloc::Global;
 use std::collections::HashMap;
 
@@ -36,8 +36,7 @@ pub fn population_at<S: Squares>(alloc: Global, book: &mut S, sq: Sq) -> Result<
     requires level { sq.level ≤ 63 }
     ensures ok { IfOk result (HasPopulation (centred sq.level ((S.book book.old).cells sq))) }
     ensures memory { IsOkUnless result Refusal.NoMemory }
-    ensures keeps { Keeps (S.book book.old) (S.book book.new) }
-    ensures results { KeepsResults (S.book book.old) (S.book book.new) }
+    ensures adds { AddsSquares (S.book book.old) (S.book book.new) }
 {
     let mut counts = HashMap::new(alloc);
     count(book, sq, &mut counts)
@@ -52,13 +51,12 @@ pub fn count<R: Reading>(from: &mut R, sq: Sq, counts: &mut Counts) -> Result<u1
     ensures ok { IfOk result (IsCount (R.book from.old) sq) }
     ensures counted { AreCounts (R.book from.new) counts.new }
     ensures memory { IsOkUnless result Refusal.NoMemory }
-    ensures keeps { Keeps (R.book from.old) (R.book from.new) }
-    ensures results { KeepsResults (R.book from.old) (R.book from.new) }
+    ensures adds { AddsSquares (R.book from.old) (R.book from.new) }
 {
-    if sq.num.0 == 0 {
+    if sq.is_empty() {
         return Ok(0);
     }
-    if sq.level == 3 {
+    if sq.level == LEAF_LEVEL {
         return Ok(leaf_count(from.cells_of(sq)));
     }
     if sq.level < LOWEST_NOTED {
@@ -83,8 +81,7 @@ fn count_quarters<R: Reading>(from: &mut R, sq: Sq, counts: &mut Counts) -> Resu
     ensures ok { IfOk result (IsCount (R.book from.old) sq) }
     ensures counted { AreCounts (R.book from.new) counts.new }
     ensures memory { IsOkUnless result Refusal.NoMemory }
-    ensures keeps { Keeps (R.book from.old) (R.book from.new) }
-    ensures results { KeepsResults (R.book from.old) (R.book from.new) }
+    ensures adds { AddsSquares (R.book from.old) (R.book from.new) }
 {
     let [nw, ne, sw, se] = from.quarters_of(sq);
     let upper = count(from, nw, counts)? + count(from, ne, counts)?;

@@ -1,14 +1,14 @@
 //! The first row of a square with a live cell.
 
-ghost use Rattle.std.specs.Prelude.{◌≡◌, ◌≤◌, ◌<◌, ◌^◌};
+ghost use Rattle.std.specs.Prelude.{◌≤◌, ◌<◌, ◌^◌};
 ghost use Rattle.plane.specs.Centred.{centred};
 ghost use Rattle.plane.specs.Square.{bits_plane};
 ghost use Rattle.squares.specs.Book.{IsKnown};
 ghost use Rattle.viewport.specs.Halves.{beside};
 ghost use Rattle.viewport.specs.Rows.{IsFirstRow, IsFirstRowBelow};
 
-use crate::sides::{half_side, row_at, rows_above, side};
-use squares::{Look, Sq};
+use crate::sides::{row_at, rows_above, side, signed_half_side};
+use squares::{LEAF_LEVEL, Look, Sq, half_side};
 
 /// The first row, from row y on downwards, in which a square of a level up to 63 has a live cell.
 /// Empty squares are passed over, so that its time follows what the square has near the rows from y to
@@ -18,7 +18,7 @@ pub fn first_row<B: Look>(book: &B, sq: Sq, y: i64) -> Option<i64>
     requires level { sq.level ≤ 63 }
     ensures { IsFirstRow (centred sq.level ((B.book book.now).cells sq)) y result }
 {
-    let half = half_side(sq.level);
+    let half = signed_half_side(sq.level);
     if y >= half {
         return None;
     }
@@ -34,13 +34,13 @@ fn first_row_below<B: Look>(book: &B, sq: Sq, from: u64, end: u64) -> Option<u64
     requires level { sq.level ≤ 63 }
     ensures { IsFirstRowBelow ((B.book book.now).cells sq) from end result }
 {
-    if sq.num.0 == 0 || end <= from {
+    if sq.is_empty() || end <= from {
         return None;
     }
-    if sq.level == 3 {
+    if sq.level == LEAF_LEVEL {
         return first_leaf_row(book.bits(sq), from, end);
     }
-    let half = side(sq.level - 1);
+    let half = half_side(sq.level);
     let [nw, ne, sw, se] = book.parts(sq);
     let upper = first_row_beside(book, nw, ne, from, end.min(half));
     if upper.is_some() {
@@ -58,7 +58,8 @@ fn first_row_beside<B: Look>(book: &B, left: Sq, right: Sq, from: u64, end: u64)
     requires left { IsKnown (B.book book.now) left.level left }
     requires right { IsKnown (B.book book.now) left.level right }
     requires level { left.level ≤ 63 }
-    ensures { IsFirstRowBelow (beside (2 ^ left.level) ((B.book book.now).cells left) ((B.book book.now).cells right)) from end result }
+    ensures { IsFirstRowBelow (beside (2 ^ left.level)
+        ((B.book book.now).cells left) ((B.book book.now).cells right)) from end result }
 {
     let found = first_row_below(book, left, from, end);
     first_row_below(book, right, from, found.unwrap_or(end)).or(found)

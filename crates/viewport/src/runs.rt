@@ -7,9 +7,9 @@ ghost use Rattle.squares.specs.Book.{IsKnown};
 ghost use Rattle.viewport.specs.RowRuns.{AddsCells, AreRowRuns, EndBy, cells_at, end_of, is_in_some, run_cells};
 
 use crate::halves::half_with_row;
-use crate::sides::{half_side, place, side};
+use crate::sides::{place, signed_half_side};
 use plane::Refusal;
-use squares::{Look, Sq};
+use squares::{LEAF_LEVEL, Look, Sq, half_side};
 use std::alloc::{AllocError, Global};
 
 /// The runs of live cells in row y of a square of a level up to 63, from left to right, each as long
@@ -23,14 +23,15 @@ pub fn row_runs<B: Look>(
 ) -> Result<Vec<(i64, u64)>, Refusal>
     requires known { IsKnown (B.book book.now) sq.level sq }
     requires level { sq.level ≤ 63 }
-    ensures ok { IfOk result (λ runs. AreRowRuns (centred sq.level ((B.book book.now).cells sq)) y runs.items) }
+    ensures ok { IfOk result (λ runs.
+        AreRowRuns (centred sq.level ((B.book book.now).cells sq)) y runs.items) }
     ensures memory { IsOkUnless result Refusal.NoMemory }
 {
     let mut runs = Vec::new(alloc);
     let Some(row) = place(y, sq.level) else {
         return Ok(runs);
     };
-    add_row(book, sq, -half_side(sq.level), row, &mut runs)?;
+    add_row(book, sq, -signed_half_side(sq.level), row, &mut runs)?;
     Ok(runs)
 }
 
@@ -47,19 +48,20 @@ fn add_row<B: Look>(
     requires row { y < 2 ^ sq.level }
     requires room { (left +ℤ pos (2 ^ sq.level)) ≤ℤ pos (2 ^ 62) }
     requires before { EndBy left runs.old.items }
-    ensures ok { OnOk result (AddsCells left (2 ^ sq.level) (cells_at ((B.book book.now).cells sq) left y) runs.old.items runs.new.items) }
+    ensures ok { OnOk result (AddsCells left (2 ^ sq.level)
+        (cells_at ((B.book book.now).cells sq) left y) runs.old.items runs.new.items) }
 {
-    if sq.num.0 == 0 {
+    if sq.is_empty() {
         return Ok(());
     }
-    if sq.level == 3 {
+    if sq.level == LEAF_LEVEL {
         return add_leaf_row(book.bits(sq), left, y, runs);
     }
     let (first, second, row) = half_with_row(book, sq, y);
-    let middle = left + half_side(sq.level);
+    let middle = left + signed_half_side(sq.level);
     add_row(book, first, left, row, runs)?;
     if second == first && is_covered(runs, left, middle) {
-        return add_run(middle, side(sq.level - 1), runs);
+        return add_run(middle, half_side(sq.level), runs);
     }
     add_row(book, second, middle, row, runs)
 }
@@ -79,7 +81,8 @@ fn add_leaf_row(word: u64, left: i64, y: u64, runs: &mut Vec<(i64, u64)>) -> Res
     requires row { y < 8 }
     requires room { (left +ℤ pos 8) ≤ℤ pos (2 ^ 62) }
     requires before { EndBy left runs.old.items }
-    ensures ok { OnOk result (AddsCells left 8 (cells_at (bits_plane word) left y) runs.old.items runs.new.items) }
+    ensures ok { OnOk result (AddsCells left 8
+        (cells_at (bits_plane word) left y) runs.old.items runs.new.items) }
 {
     let mut rest = (word >> (8 * y)) & 255;
     let mut x = 0;
@@ -98,7 +101,8 @@ fn add_run(first: i64, count: u64, runs: &mut Vec<(i64, u64)>) -> Result<(), All
     requires some { 0 < count }
     requires room { (first +ℤ pos count) ≤ℤ pos (2 ^ 62) }
     requires before { EndBy first runs.old.items }
-    ensures ok { OnOk result (AddsCells first count (run_cells first count) runs.old.items runs.new.items) }
+    ensures ok { OnOk result (AddsCells first count
+        (run_cells first count) runs.old.items runs.new.items) }
 {
     if let Some(last) = runs.last_mut() {
         if ends_at(*last, first) {

@@ -1,6 +1,6 @@
 //! How a number of live cells is drawn.
 
-ghost use Rattle.std.specs.Prelude.{◌≡◌, ◌≤◌, ◌++◌, map, OnOk};
+ghost use Rattle.std.specs.Prelude.{◌≡◌, ◌++◌, map, OnOk};
 ghost use Rattle.viewport.specs.Blocks.{shade_of};
 
 use std::alloc::AllocError;
@@ -14,7 +14,8 @@ const LIGHTEST: u32 = 160;
 
 // Adds the shades of blocks with so many live cells.
 pub fn add_shades(exponent: u8, counts: &[u128], shades: &mut Vec<u8>) -> Result<(), AllocError>
-    ensures ok { OnOk result (shades.new.items ≡ shades.old.items ++ map (shade_of exponent) counts.now) }
+    ensures ok { OnOk result (shades.new.items
+        ≡ shades.old.items ++ map (shade_of exponent) counts.now) }
 {
     for count in counts {
         shades.push(shade(exponent, *count))?;

@@ -4,23 +4,24 @@ ghost use Rattle.std.specs.Prelude.{◌≡◌, ◌≤◌, ◌<◌, ◌-◌, ◌^
 ghost use Rattle.std.specs.Int.{int_max};
 ghost use Rattle.viewport.specs.Places.{IsPlace};
 
+use squares::half_side;
+
 // The side of a square of this level.
 pub fn side(level: u8) -> u64
     requires { level ≤ 63 }
-    ensures side { result ≡ 2 ^ level }
-    ensures half { level ≤ 62 → result ≤ 2 ^ 62 }
+    ensures { result ≡ 2 ^ level }
 {
     1 << level
 }
 
-// How far (0,0) lies from the left side and from the top of a square of this level.
-pub fn half_side(level: u8) -> i64
+// Half the side of a square of this level, as a coordinate.
+pub fn signed_half_side(level: u8) -> i64
     requires low { 1 ≤ level }
     requires high { level ≤ 63 }
     ensures side { result ≡ pos (2 ^ (level - 1)) }
     ensures small { 2 ^ (level - 1) ≤ 2 ^ 62 }
 {
-    side(level - 1) as i64
+    half_side(level) as i64
 }
 
 // How far a column or a row lies from the left side or from the top of a square of this level, if the
@@ -30,7 +31,7 @@ pub fn place(z: i64, level: u8) -> Option<u64>
     requires high { level ≤ 63 }
     ensures { IsPlace level z result }
 {
-    let half = half_side(level);
+    let half = signed_half_side(level);
     if z < -half || z >= half {
         return None;
     }

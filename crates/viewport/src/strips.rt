@@ -11,7 +11,7 @@ use crate::halves::half_with_blocks;
 use crate::populations::{Counts, count};
 use crate::sides::side;
 use plane::Refusal;
-use squares::{Reading, Sq};
+use squares::{LEAF_LEVEL, Reading, Sq, half_side};
 use std::alloc::AllocError;
 
 // Neighbouring blocks of a row of a square: how many rows lie above it, and its columns from one to
@@ -38,7 +38,8 @@ pub fn count_strip<R: Reading>(
     requires exponent { exponent ≤ sq.level }
     requires strip { IsInBlocks (2 ^ (sq.level - exponent)) strip }
     requires counted { AreCounts (R.book from.old) counts.old }
-    ensures ok { OnOk result (found.new.items ≡ found.old.items ++ strip_counts ((R.book from.old).cells sq) exponent strip) }
+    ensures ok { OnOk result (found.new.items ≡ found.old.items
+        ++ strip_counts ((R.book from.old).cells sq) exponent strip) }
     ensures counted { AreCounts (R.book from.new) counts.new }
     ensures memory { IsOkUnless result Refusal.NoMemory }
     ensures keeps { Keeps (R.book from.old) (R.book from.new) }
@@ -46,7 +47,7 @@ pub fn count_strip<R: Reading>(
     if strip.from == strip.end {
         return Ok(());
     }
-    if sq.num.0 == 0 {
+    if sq.is_empty() {
         add_dead(strip.end - strip.from, found)?;
         return Ok(());
     }
@@ -54,11 +55,11 @@ pub fn count_strip<R: Reading>(
         found.push(count(from, sq, counts)?)?;
         return Ok(());
     }
-    if sq.level == 3 {
+    if sq.level == LEAF_LEVEL {
         count_leaf_strip(from.cells_of(sq), exponent, strip, found)?;
         return Ok(());
     }
-    let half = side(sq.level - 1 - exponent);
+    let half = half_side(sq.level - exponent);
     let (first, second, row) = half_with_blocks(from, sq, strip.row, half);
     count_strip(
         from,
@@ -113,7 +114,8 @@ fn count_leaf_strip(
 ) -> Result<(), AllocError>
     requires exponent { exponent < 3 }
     requires strip { IsInBlocks (2 ^ (3 - exponent)) strip }
-    ensures ok { OnOk result (found.new.items ≡ found.old.items ++ strip_counts (bits_plane word) exponent strip) }
+    ensures ok { OnOk result (found.new.items ≡ found.old.items
+        ++ strip_counts (bits_plane word) exponent strip) }
 {
     for column in strip.from..strip.end {
         found.push(u128::from(count_in_leaf(word, exponent, column, strip.row)))?;

@@ -6,9 +6,6 @@ use Rattle.squares.proofs.FourKnown.{each_known}
 use Rattle.hashlife_step.proofs.FourCentres.{middle_later}
 use Rattle.hashlife_step.proofs.centres.leaf_centres.Goals as goal
 
-pub returns-in_err-lower_right-clause-keeps : goal.returns-in_err-lower_right-clause-keeps
-returns-in_err-lower_right-clause-keeps g c = keeps_trans c.leaf_centre.ensures.keeps (keeps_trans c.leaf_centre-2.ensures.keeps (keeps_trans c.leaf_centre-3.ensures.keeps c.leaf_centre-4.ensures.keeps))
-
 pub leaf_centre-requires : goal.leaf_centre-requires
 leaf_centre-requires g c =
     let nine : length c.args.nine ≡ 9 = search rules in
@@ -17,26 +14,26 @@ leaf_centre-requires g c =
 pub leaf_centre-requires-2 : goal.leaf_centre-requires-2
 leaf_centre-requires-2 g c =
     let nine : length c.args.nine ≡ 9 = search rules in
-    let k = c.leaf_centre.ensures.keeps in
+    let k = c.leaf_centre.ensures.adds.keeps in
     record { known = each_known (known_kept k (c.requires.known 1 (numbered 0 0) (omega arith))) (known_kept k (c.requires.known 2 (numbered 0 0) (omega arith))) (known_kept k (c.requires.known 4 (numbered 0 0) (omega arith))) (known_kept k (c.requires.known 5 (numbered 0 0) (omega arith))) }
 
 pub leaf_centre-requires-3 : goal.leaf_centre-requires-3
 leaf_centre-requires-3 g c =
     let nine : length c.args.nine ≡ 9 = search rules in
-    let k = keeps_trans c.leaf_centre.ensures.keeps c.leaf_centre-2.ensures.keeps in
+    let k = keeps_trans c.leaf_centre.ensures.adds.keeps c.leaf_centre-2.ensures.adds.keeps in
     record { known = each_known (known_kept k (c.requires.known 3 (numbered 0 0) (omega arith))) (known_kept k (c.requires.known 4 (numbered 0 0) (omega arith))) (known_kept k (c.requires.known 6 (numbered 0 0) (omega arith))) (known_kept k (c.requires.known 7 (numbered 0 0) (omega arith))) }
 
 pub leaf_centre-requires-4 : goal.leaf_centre-requires-4
 leaf_centre-requires-4 g c =
     let nine : length c.args.nine ≡ 9 = search rules in
-    let k = keeps_trans c.leaf_centre.ensures.keeps (keeps_trans c.leaf_centre-2.ensures.keeps c.leaf_centre-3.ensures.keeps) in
+    let k = keeps_trans c.leaf_centre.ensures.adds.keeps (keeps_trans c.leaf_centre-2.ensures.adds.keeps c.leaf_centre-3.ensures.adds.keeps) in
     record { known = each_known (known_kept k (c.requires.known 4 (numbered 0 0) (omega arith))) (known_kept k (c.requires.known 5 (numbered 0 0) (omega arith))) (known_kept k (c.requires.known 7 (numbered 0 0) (omega arith))) (known_kept k (c.requires.known 8 (numbered 0 0) (omega arith))) }
 
 pub returns-clause-ok : goal.returns-clause-ok
 returns-clause-ok g c =
     let book = g.S.Squares.book in
     let nine : length c.args.nine ≡ 9 = search rules in
-    let k1 = c.leaf_centre.ensures.keeps in let k2 = c.leaf_centre-2.ensures.keeps in let k3 = c.leaf_centre-3.ensures.keeps in let k4 = c.leaf_centre-4.ensures.keeps in
+    let k1 = c.leaf_centre.ensures.adds.keeps in let k2 = c.leaf_centre-2.ensures.adds.keeps in let k3 = c.leaf_centre-3.ensures.adds.keeps in let k4 = c.leaf_centre-4.ensures.adds.keeps in
     let known = λ (b : Book) (keeps : Keeps (book c.args.book.now) b) (i : ℕ) (d : Sq) (less : i < length c.args.nine). known_kept keeps (c.requires.known i d less) in
     record {
       nw = middle_later _ _ _ 3 0 c.args.nine _ c.requires.known (omega arith) k1 (keeps_trans k2 (keeps_trans k3 k4)) c.in_ok-upper_left.ensures.ok;
@@ -44,6 +41,3 @@ returns-clause-ok g c =
       sw = middle_later _ _ _ 3 3 c.args.nine _ (known _ (keeps_trans k1 k2)) (omega arith) k3 k4 c.in_ok-lower_left.ensures.ok;
       se = middle_later _ _ _ 3 4 c.args.nine _ (known _ (keeps_trans k1 (keeps_trans k2 k3))) (omega arith) k4 (keeps_none _) c.in_ok-lower_right.ensures.ok;
     }
-
-pub returns-clause-keeps : goal.returns-clause-keeps
-returns-clause-keeps g c = keeps_trans c.leaf_centre.ensures.keeps (keeps_trans c.leaf_centre-2.ensures.keeps (keeps_trans c.leaf_centre-3.ensures.keeps c.leaf_centre-4.ensures.keeps))

@@ -1,6 +1,6 @@
 use Rattle.std.proofs.Common.{◌≡◌, length, arith, rules}
 use Rattle.squares.specs.Book.{numbered}
-use Rattle.squares.proofs.Kept.{keeps_none, keeps_trans, results_trans}
+use Rattle.squares.proofs.Kept.{keeps_none, keeps_trans}
 use Rattle.hashlife_step.proofs.RowsRead.{row_known, rows_read}
 use Rattle.hashlife_step.proofs.centres.read_nine.Goals as goal
 
@@ -12,20 +12,14 @@ read_row-requires-clause-known g c =
 pub read_row-requires-2-clause-known : goal.read_row-requires-2-clause-known
 read_row-requires-2-clause-known g c =
     let nine : length c.args.nine ≡ 9 = search rules in
-    row_known c.read_row.ensures.keeps (c.requires.known 3 (numbered 0 0) (omega arith)) (c.requires.known 4 (numbered 0 0) (omega arith)) (c.requires.known 5 (numbered 0 0) (omega arith))
+    row_known c.read_row.ensures.adds.keeps (c.requires.known 3 (numbered 0 0) (omega arith)) (c.requires.known 4 (numbered 0 0) (omega arith)) (c.requires.known 5 (numbered 0 0) (omega arith))
 
 pub read_row-requires-3-clause-known : goal.read_row-requires-3-clause-known
 read_row-requires-3-clause-known g c =
     let nine : length c.args.nine ≡ 9 = search rules in
-    row_known (keeps_trans c.read_row.ensures.keeps c.read_row-2.ensures.keeps) (c.requires.known 6 (numbered 0 0) (omega arith)) (c.requires.known 7 (numbered 0 0) (omega arith)) (c.requires.known 8 (numbered 0 0) (omega arith))
+    row_known (keeps_trans c.read_row.ensures.adds.keeps c.read_row-2.ensures.adds.keeps) (c.requires.known 6 (numbered 0 0) (omega arith)) (c.requires.known 7 (numbered 0 0) (omega arith)) (c.requires.known 8 (numbered 0 0) (omega arith))
 
 pub returns-clause-value : goal.returns-clause-value
 returns-clause-value g c =
     let nine : length c.args.nine ≡ 9 = search rules in
-    rows_read nine c.requires.known c.read_row.ensures.keeps c.read_row-2.ensures.keeps c.read_row-3.ensures.keeps c.read_row.ensures.value c.read_row-2.ensures.value c.read_row-3.ensures.value
-
-pub returns-clause-keeps : goal.returns-clause-keeps
-returns-clause-keeps g c = keeps_trans c.read_row.ensures.keeps (keeps_trans c.read_row-2.ensures.keeps c.read_row-3.ensures.keeps)
-
-pub returns-clause-results : goal.returns-clause-results
-returns-clause-results g c = results_trans c.read_row.ensures.results (results_trans c.read_row-2.ensures.results c.read_row-3.ensures.results)
+    rows_read nine c.requires.known c.read_row.ensures.adds.keeps c.read_row-2.ensures.adds.keeps c.read_row-3.ensures.adds.keeps c.read_row.ensures.value c.read_row-2.ensures.value c.read_row-3.ensures.value

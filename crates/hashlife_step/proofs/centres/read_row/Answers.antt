@@ -1,6 +1,6 @@
 use Rattle.std.proofs.Common.{◌≡◌, length, arith, rules}
 use Rattle.squares.specs.Book.{numbered}
-use Rattle.squares.proofs.Kept.{keeps_none, keeps_trans, results_trans}
+use Rattle.squares.proofs.Kept.{keeps_none, keeps_trans}
 use Rattle.hashlife_step.proofs.RowsRead.{own, row_read}
 use Rattle.hashlife_step.proofs.centres.read_row.Goals as goal
 
@@ -18,7 +18,7 @@ read_parts-requires-clause-level g c =
 pub read_parts-requires-2-clause-known : goal.read_parts-requires-2-clause-known
 read_parts-requires-2-clause-known g c =
     let three : length c.args.row ≡ 3 = search rules in
-    own c.read_parts.ensures.keeps (c.requires.known 1 (numbered 0 0) (omega arith))
+    own c.read_parts.ensures.adds.keeps (c.requires.known 1 (numbered 0 0) (omega arith))
 
 pub read_parts-requires-2-clause-level : goal.read_parts-requires-2-clause-level
 read_parts-requires-2-clause-level g c =
@@ -29,7 +29,7 @@ read_parts-requires-2-clause-level g c =
 pub read_parts-requires-3-clause-known : goal.read_parts-requires-3-clause-known
 read_parts-requires-3-clause-known g c =
     let three : length c.args.row ≡ 3 = search rules in
-    own (keeps_trans c.read_parts.ensures.keeps c.read_parts-2.ensures.keeps) (c.requires.known 2 (numbered 0 0) (omega arith))
+    own (keeps_trans c.read_parts.ensures.adds.keeps c.read_parts-2.ensures.adds.keeps) (c.requires.known 2 (numbered 0 0) (omega arith))
 
 pub read_parts-requires-3-clause-level : goal.read_parts-requires-3-clause-level
 read_parts-requires-3-clause-level g c =
@@ -40,10 +40,4 @@ read_parts-requires-3-clause-level g c =
 pub returns-clause-value : goal.returns-clause-value
 returns-clause-value g c =
     let three : length c.args.row ≡ 3 = search rules in
-    row_read three c.requires.known c.read_parts.ensures.keeps c.read_parts-2.ensures.keeps c.read_parts-3.ensures.keeps c.read_parts.ensures.value c.read_parts-2.ensures.value c.read_parts-3.ensures.value
-
-pub returns-clause-keeps : goal.returns-clause-keeps
-returns-clause-keeps g c = keeps_trans c.read_parts.ensures.keeps (keeps_trans c.read_parts-2.ensures.keeps c.read_parts-3.ensures.keeps)
-
-pub returns-clause-results : goal.returns-clause-results
-returns-clause-results g c = results_trans c.read_parts.ensures.results (results_trans c.read_parts-2.ensures.results c.read_parts-3.ensures.results)
+    row_read three c.requires.known c.read_parts.ensures.adds.keeps c.read_parts-2.ensures.adds.keeps c.read_parts-3.ensures.adds.keeps c.read_parts.ensures.value c.read_parts-2.ensures.value c.read_parts-3.ensures.value

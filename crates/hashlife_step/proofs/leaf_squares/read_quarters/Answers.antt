@@ -9,5 +9,5 @@ returns-clause-value g c =
     quarters_shown 6 c.args.sq.level ((book c.args.book.now).cells c.args.sq) (book c.read_parts.new.self) (book c.read_sixteen-upper_left.new.book) (book c.read_sixteen-upper_right.new.book) (book c.read_sixteen-lower_left.new.book)
     c.read_parts.result (sixteen_plane c.read_sixteen-upper_left.result) (sixteen_plane c.read_sixteen-upper_right.result) (sixteen_plane c.read_sixteen-lower_left.result) (sixteen_plane c.read_sixteen-lower_right.result)
     refl c.requires.level ((g.met.S.Squares.is_book c.args.book.now).square c.args.sq c.requires.known.known)
-    c.read_parts.ensures.value c.read_sixteen-upper_left.ensures.keeps c.read_sixteen-upper_right.ensures.keeps c.read_sixteen-lower_left.ensures.keeps
+    c.read_parts.ensures.value c.read_sixteen-upper_left.ensures.adds.keeps c.read_sixteen-upper_right.ensures.adds.keeps c.read_sixteen-lower_left.ensures.adds.keeps
     c.read_sixteen-upper_left.ensures.value c.read_sixteen-upper_right.ensures.value c.read_sixteen-lower_left.ensures.value c.read_sixteen-lower_right.ensures.value

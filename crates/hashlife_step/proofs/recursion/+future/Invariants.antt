@@ -1,7 +1,6 @@
 use Rattle.std.proofs.Common.{◌+◌, ◌*◌}
 use Rattle.plane.specs.Square.{future}
-use Rattle.squares.specs.Book.{Keeps}
-use Rattle.hashlife_step.specs.Tallies.{Tallies}
+use Rattle.hashlife_step.specs.Tallies.{MakesResults, Tallies}
 use Rattle.hashlife_step.proofs.Replaced.{IsReplaced}
 use Rattle.hashlife_step.proofs.recursion.+future.Given as goal
 
@@ -27,4 +26,4 @@ invariant-replace_by_futures-loop-i g l =
 
 abbrev pub invariant-ask_ahead-loop-k : goal.invariant-ask_ahead-loop-k
 invariant-ask_ahead-loop-k g l =
-    Keeps (g.S.Squares.book l.fn.book) (g.S.Squares.book l.book) × Tallies (g.S.Squares.book l.fn.book) (g.S.Squares.book l.book) l.fn.level l.fn.tally.expansions l.tally.expansions
+    MakesResults (g.S.Squares.book l.fn.book) (g.S.Squares.book l.book) l.fn.level l.fn.tally.expansions l.tally.expansions

@@ -7,7 +7,7 @@ use Rattle.plane.specs.Plane.{Plane, after}
 use Rattle.plane.proofs.Same.{plane_equal}
 use Rattle.squares.proofs.Kept.{keeps_trans}
 use Rattle.hashlife_step.specs.Round.{ShowsRound}
-use Rattle.hashlife_step.proofs.Counted.{made_between, results_none, tallies_none}
+use Rattle.hashlife_step.proofs.Counted.{makes_none, makes_trans, makes_up_to}
 use Rattle.hashlife_step.proofs.RoundSquares.{round_as}
 use Rattle.hashlife_step.proofs.Stepped.{future_round}
 use Rattle.hashlife_step.proofs.steps.step.Given as given
@@ -25,20 +25,19 @@ next_shown g c =
     let book = g.S.Squares.book in
     let old = book c.args.book.now in
     let plane : Plane = centred c.args.root.level (old.cells c.args.root) in
-    let keeps = keeps_trans c.pad.ensures.keeps c.future.ensures.keeps in
+    let keeps = keeps_trans c.pad.ensures.adds.keeps c.future.ensures.makes.keeps in
     let level = c.in_ok-padded.ensures.level in
     let shown = future_round (book c.pad.new.book) (book c.future.new.book) old.rule c.exponent-exponent.result plane c.in_ok-padded.padded c.in_ok-next.next
-    c.in_ok-padded.ensures.cells c.future.ensures.keeps (omega arith) keeps.rule (keeps.exponent ∙ sym c.exponent-exponent.ensures) c.in_ok-padded.ensures.room c.in_ok-next.ensures.ok in
+    c.in_ok-padded.ensures.cells c.future.ensures.makes.keeps (omega arith) keeps.rule (keeps.exponent ∙ sym c.exponent-exponent.ensures) c.in_ok-padded.ensures.room c.in_ok-next.ensures.ok in
     subst (λ n. ShowsRound (book c.future.new.book) (after old.rule plane (2 ^ n)) c.in_ok-next.next) c.exponent-exponent.ensures shown
 
-pub returns-in_err-padded-clause-tally : goal.returns-in_err-padded-clause-tally
-returns-in_err-padded-clause-tally g c = tallies_none _ _ 65 _ c.pad.ensures.results
+pub returns-in_err-padded-clause-makes : goal.returns-in_err-padded-clause-makes
+returns-in_err-padded-clause-makes g c = makes_none c.pad.ensures.adds
 
-pub returns-in_err-next-clause-tally : goal.returns-in_err-next-clause-tally
-returns-in_err-next-clause-tally g c =
-    let book = g.S.Squares.book in
+pub returns-in_err-next-clause-makes : goal.returns-in_err-next-clause-makes
+returns-in_err-next-clause-makes g c =
     let level = c.in_ok-padded.ensures.level in let high = c.requires.high in let exponent = c.exponent-exponent.ensures in
-    made_between (book c.args.book.now) (book c.pad.new.book) (book c.future.new.book) (book c.future.new.book) c.in_ok-padded.padded.level 65 _ _ (omega arith) c.pad.ensures.results c.future.ensures.tally (results_none _)
+    makes_trans (makes_none c.pad.ensures.adds) (makes_up_to (omega arith) c.future.ensures.makes)
 
 pub returns-clause-ok : goal.returns-clause-ok
 returns-clause-ok g c =
@@ -47,8 +46,7 @@ returns-clause-ok g c =
     let smallest = IfOk-weaker c.trim.result _ _ (λ trimmed least. subst (IsSmallestLevel trimmed.level) (plane_equal _ _ next.cells) least) c.trim.ensures.level in
     both_ok c.trim.result _ _ _ (λ trimmed shown least. record { known = shown.known; smallest = least; cells = shown.cells }) round smallest
 
-pub returns-clause-tally : goal.returns-clause-tally
-returns-clause-tally g c =
-    let book = g.S.Squares.book in
+pub returns-clause-makes : goal.returns-clause-makes
+returns-clause-makes g c =
     let level = c.in_ok-padded.ensures.level in let high = c.requires.high in let exponent = c.exponent-exponent.ensures in
-    made_between (book c.args.book.now) (book c.pad.new.book) (book c.future.new.book) (book c.trim.new.book) c.in_ok-padded.padded.level 65 _ _ (omega arith) c.pad.ensures.results c.future.ensures.tally c.trim.ensures.results
+    makes_trans (makes_none c.pad.ensures.adds) (makes_trans (makes_up_to (omega arith) c.future.ensures.makes) (makes_none c.trim.ensures.adds))

@@ -4,7 +4,7 @@ use Rattle.std.proofs.lemmas.Result.{IfOk-weaker}
 use Rattle.squares.specs.Book.{IsKnown, Shows, nth}
 use Rattle.squares.specs.declared.sq.Sq.{Sq}
 use Rattle.squares.proofs.CopyMaps.{copies_known, none_copied, one_copied, part_known, quad_copied, empty_copied}
-use Rattle.squares.proofs.Kept.{keeps_none, keeps_trans, known_kept, results_none, results_trans}
+use Rattle.squares.proofs.Kept.{adds_none, adds_trans, keeps_none, keeps_trans, known_kept}
 use Rattle.squares.proofs.KnownCopies.{kept_copies, noted_known_copies, shown_before, shown_later}
 use Rattle.squares.proofs.copies.+copy_read.Goals as goal
 
@@ -15,22 +15,20 @@ returns-then-is_empty-clause-ok g t c =
 pub returns-in-Some-clause-ok : goal.returns-in-Some-clause-ok
 returns-in-Some-clause-ok g t c = c.requires.copies.same.same c.args.sq c.in-Some.num.now (sym c.in-Some.ensures.value)
 
-pub returns-then-level-eq3-clause-ok : goal.returns-then-level-eq3-clause-ok
-returns-then-level-eq3-clause-ok g t c = search rules
+pub returns-then-level-eq-LEAF_LEVEL-clause-ok : goal.returns-then-level-eq-LEAF_LEVEL-clause-ok
+returns-then-level-eq-LEAF_LEVEL-clause-ok g t c = search rules
 
-pub returns-then-level-eq3-clause-copies : goal.returns-then-level-eq3-clause-copies
-returns-then-level-eq3-clause-copies g t c =
-    kept_copies (g.A.Reading.book c.args.from.now) (g.A.Reading.book c.cells_of.new.self) (g.B.Squares.book c.args.to.now) (g.B.Squares.book c.leaf.new.self) c.args.copies.now c.cells_of.ensures.keeps c.leaf.ensures.keeps c.requires.copies
+pub returns-then-level-eq-LEAF_LEVEL-clause-copies : goal.returns-then-level-eq-LEAF_LEVEL-clause-copies
+returns-then-level-eq-LEAF_LEVEL-clause-copies g t c =
+    kept_copies (g.A.Reading.book c.args.from.now) (g.A.Reading.book c.cells_of.new.self) (g.B.Squares.book c.args.to.now) (g.B.Squares.book c.leaf.new.self) c.args.copies.now c.cells_of.ensures.adds.keeps c.leaf.ensures.adds.keeps c.requires.copies
 
 pub loop-quarter-init : goal.loop-quarter-init
 loop-quarter-init g t c = record {
   size = search rules;
   copied = none_copied _ _ _;
-  copies = kept_copies (g.A.Reading.book c.args.from.now) (g.A.Reading.book c.quarters_of-quarters.new.self) (g.B.Squares.book c.args.to.now) (g.B.Squares.book c.args.to.now) c.args.copies.now c.quarters_of-quarters.ensures.keeps (keeps_none _) c.requires.copies;
-  reads = keeps_none _;
-  read_results = results_none _;
-  keeps = keeps_none _;
-  results = results_none _;
+  copies = kept_copies (g.A.Reading.book c.args.from.now) (g.A.Reading.book c.quarters_of-quarters.new.self) (g.B.Squares.book c.args.to.now) (g.B.Squares.book c.args.to.now) c.args.copies.now c.quarters_of-quarters.ensures.adds.keeps (keeps_none _) c.requires.copies;
+  reads = adds_none _;
+  adds = adds_none _;
 }
 
 pub copy_read-requires : goal.copy_read-requires
@@ -41,7 +39,7 @@ copy_read-requires g t c κs within =
     let below : c.loop-quarter.quarter-index < 4 = c.loop-quarter-test.true in
     let part = part_known first c.args.sq.level ((g.A.Reading.book c.args.from.now).cells c.args.sq) c.quarters_of-quarters.result c.loop-quarter.quarter-index below c.quarters_of-quarters.ensures.value in
     let same = c.loop-quarter.invariant.copied.left c.loop-quarter.quarter-index (omega arith) in
-    let known : IsKnown book (c.args.sq.level - 1) next = known_kept c.loop-quarter.invariant.reads (subst (IsKnown first (c.args.sq.level - 1)) (sym same) part) in
+    let known : IsKnown book (c.args.sq.level - 1) next = known_kept c.loop-quarter.invariant.reads.keeps (subst (IsKnown first (c.args.sq.level - 1)) (sym same) part) in
     let own : IsKnown book next.level next = subst (λ n. IsKnown book n next) (sym known.at_level) known in
     let at_level = known.at_level in
     let low = c.requires.known.low in
@@ -60,15 +58,13 @@ loop-quarter-preserved g t c =
     let square = h.copied.left c.loop-quarter.quarter-index (omega arith) in
     let part = part_known first c.args.sq.level ((g.A.Reading.book c.args.from.now).cells c.args.sq) c.quarters_of-quarters.result c.loop-quarter.quarter-index below c.quarters_of-quarters.ensures.value in
     let shown = subst (λ (sq : Sq). Shows to sq.level (from.cells sq) c.in_ok-quarter.field-0) square c.in_ok-quarter.ensures.ok in
-    let early = shown_before first from to _ (nth c.quarters_of-quarters.result c.loop-quarter.quarter-index) c.in_ok-quarter.field-0 h.reads part.known shown in
+    let early = shown_before first from to _ (nth c.quarters_of-quarters.result c.loop-quarter.quarter-index) c.in_ok-quarter.field-0 h.reads.keeps part.known shown in
     record {
       size = length-set c.loop-quarter.quarter-items c.loop-quarter.quarter-index c.in_ok-quarter.field-0 ∙ h.size;
-      copied = one_copied first _ _ c.quarters_of-quarters.result c.loop-quarter.quarter-index c.loop-quarter.quarter-items c.in_ok-quarter.field-0 made.keeps within h.copied early;
+      copied = one_copied first _ _ c.quarters_of-quarters.result c.loop-quarter.quarter-index c.loop-quarter.quarter-items c.in_ok-quarter.field-0 made.adds.keeps within h.copied early;
       copies = made.copies;
-      reads = keeps_trans h.reads made.from;
-      read_results = results_trans h.read_results made.from_results;
-      keeps = keeps_trans h.keeps made.keeps;
-      results = results_trans h.results made.results;
+      reads = adds_trans h.reads made.from;
+      adds = adds_trans h.adds made.adds;
     }
 
 pub quad-requires-clause-known : goal.quad-requires-clause-known
@@ -87,7 +83,7 @@ quad-requires-clause-level g t c =
 
 pub returns-in_err-copy-clause-copies : goal.returns-in_err-copy-clause-copies
 returns-in_err-copy-clause-copies g t c =
-    kept_copies (g.A.Reading.book c.loop-quarter.from) (g.A.Reading.book c.loop-quarter.from) (g.B.Squares.book c.loop-quarter.to) (g.B.Squares.book c.quad.new.self) c.loop-quarter.copies (keeps_none _) c.quad.ensures.keeps c.loop-quarter.invariant.copies
+    kept_copies (g.A.Reading.book c.loop-quarter.from) (g.A.Reading.book c.loop-quarter.from) (g.B.Squares.book c.loop-quarter.to) (g.B.Squares.book c.quad.new.self) c.loop-quarter.copies (keeps_none _) c.quad.ensures.adds.keeps c.loop-quarter.invariant.copies
 
 pub returns-clause-ok : goal.returns-clause-ok
 returns-clause-ok g t c =
@@ -96,10 +92,10 @@ returns-clause-ok g t c =
     let to = g.B.Squares.book c.loop-quarter.to in
     let sq = c.args.sq in
     let low = c.requires.known.low in
-    let more = c.if-level-eq3.false in
+    let more = c.if-level-eq-LEAF_LEVEL.false in
     let shown = quad_copied first to (g.B.Squares.book c.quad.new.self) sq.level (was.cells sq) c.quarters_of-quarters.result c.loop-quarter.quarter-items _ c.in_ok-copy.copy (omega arith)
     ((g.met.A.Reading.is_book c.args.from.now).square sq c.requires.known.known) c.quarters_of-quarters.ensures.value (omega arith) c.loop-quarter.invariant.copied c.in_ok-copy.ensures.ok in
-    IfOk-weaker c.noted.result _ _ (λ (noted : Sq) same. subst (Shows (g.B.Squares.book c.quad.new.self) sq.level (was.cells sq)) (sym same) shown) c.noted.ensures.ok
+    IfOk-weaker c.note_copy.result _ _ (λ (noted : Sq) same. subst (Shows (g.B.Squares.book c.quad.new.self) sq.level (was.cells sq)) (sym same) shown) c.note_copy.ensures.ok
 
 pub returns-clause-copies : goal.returns-clause-copies
 returns-clause-copies g t c =
@@ -110,10 +106,10 @@ returns-clause-copies g t c =
     let now = g.B.Squares.book c.quad.new.self in
     let sq = c.args.sq in
     let low = c.requires.known.low in
-    let more = c.if-level-eq3.false in
-    let reads = keeps_trans c.quarters_of-quarters.ensures.keeps c.loop-quarter.invariant.reads in
+    let more = c.if-level-eq-LEAF_LEVEL.false in
+    let reads = keeps_trans c.quarters_of-quarters.ensures.adds.keeps c.loop-quarter.invariant.reads.keeps in
     let shown = quad_copied first to now sq.level (was.cells sq) c.quarters_of-quarters.result c.loop-quarter.quarter-items _ c.in_ok-copy.copy (omega arith)
     ((g.met.A.Reading.is_book c.args.from.now).square sq c.requires.known.known) c.quarters_of-quarters.ensures.value (omega arith) c.loop-quarter.invariant.copied c.in_ok-copy.ensures.ok in
-    noted_known_copies from now c.loop-quarter.copies c.noted.new.copies sq c.in_ok-copy.copy c.noted.result c.noted.ensures.updates c.noted.ensures.err (reads.known sq c.requires.known.known)
+    noted_known_copies from now c.loop-quarter.copies c.note_copy.new.copies sq c.in_ok-copy.copy c.note_copy.result c.note_copy.ensures.updates c.note_copy.ensures.err (reads.known sq c.requires.known.known)
     (shown_later was from now sq.level sq c.in_ok-copy.copy reads c.requires.known.known shown)
-    (kept_copies from from to now c.loop-quarter.copies (keeps_none _) c.quad.ensures.keeps c.loop-quarter.invariant.copies)
+    (kept_copies from from to now c.loop-quarter.copies (keeps_none _) c.quad.ensures.adds.keeps c.loop-quarter.invariant.copies)

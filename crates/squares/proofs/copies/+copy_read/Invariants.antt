@@ -1,5 +1,5 @@
 use Rattle.std.proofs.Common.{◌≡◌, length}
-use Rattle.squares.specs.Book.{Keeps, KeepsResults}
+use Rattle.squares.specs.Book.{AddsSquares}
 use Rattle.squares.proofs.CopyMaps.{AreCopied}
 use Rattle.squares.specs.Copies.{AreKnownCopies}
 use Rattle.squares.proofs.copies.+copy_read.Given as goal
@@ -14,8 +14,6 @@ invariant-loop-quarter g l =
       size : length l.quarter-items ≡ 4;
       copied : AreCopied first to l.initial.quarter-items l.quarter-index l.quarter-items;
       copies : AreKnownCopies from to l.copies;
-      reads : Keeps first from;
-      read_results : KeepsResults first from;
-      keeps : Keeps (g.B.Squares.book l.initial.to) to;
-      results : KeepsResults (g.B.Squares.book l.initial.to) to;
+      reads : AddsSquares first from;
+      adds : AddsSquares (g.B.Squares.book l.initial.to) to;
     }

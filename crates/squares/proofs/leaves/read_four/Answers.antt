@@ -8,5 +8,5 @@ returns-clause-value g c =
     let four : length c.args.four ≡ 4 = search rules in
     four_read (book c.args.book.now) (book c.read_bits-upper_left.new.self) (book c.read_bits-upper_right.new.self) (book c.read_bits-lower_left.new.self)
     c.args.four c.read_bits-upper_left.result c.read_bits-upper_right.result c.read_bits-lower_left.result c.read_bits-lower_right.result four c.requires.known
-    c.read_bits-upper_left.ensures.keeps c.read_bits-upper_right.ensures.keeps c.read_bits-lower_left.ensures.keeps
+    c.read_bits-upper_left.ensures.adds.keeps c.read_bits-upper_right.ensures.adds.keeps c.read_bits-lower_left.ensures.adds.keeps
     c.read_bits-upper_left.ensures.value c.read_bits-upper_right.ensures.value c.read_bits-lower_left.ensures.value c.read_bits-lower_right.ensures.value

@@ -6,7 +6,7 @@ use Rattle.plane.specs.Square.{cut}
 use Rattle.squares.specs.Book.{Shows}
 use Rattle.squares.specs.Spans.{in_spans, marked}
 use Rattle.squares.specs.declared.sq.Sq.{Sq}
-use Rattle.squares.proofs.Kept.{keeps_trans, known_kept, results_trans, shows_kept}
+use Rattle.squares.proofs.Kept.{keeps_trans, known_kept, shows_kept}
 use Rattle.squares.proofs.KnownQuarters.{quarters_of_level}
 use Rattle.squares.proofs.SpanSquares.{no_spans, quarters_marked}
 use Rattle.squares.proofs.runs.+spans_to_square.Goals as goal
@@ -24,9 +24,9 @@ returns-then-is_empty-clause-ok g t c =
 pub returns-clause-ok : goal.returns-clause-ok
 returns-clause-ok g t c =
     let book = g.S.Squares.book in
-    let k4 = c.spans_to_square-4.ensures.keeps in
-    let k3 = keeps_trans c.spans_to_square-3.ensures.keeps k4 in
-    let k2 = keeps_trans c.spans_to_square-2.ensures.keeps k3 in
+    let k4 = c.spans_to_square-4.ensures.adds.keeps in
+    let k3 = keeps_trans c.spans_to_square-3.ensures.adds.keeps k4 in
+    let k2 = keeps_trans c.spans_to_square-2.ensures.adds.keeps k3 in
     let low = c.requires.level.0 in
     IfOk-weaker c.quad.result _ _
     (λ (sq : Sq) made. quarters_marked (book c.spans_to_square-4.new.book) (book c.quad.new.self) c.args.level c.half_side.result c.args.spans.items c.deref-2.result.now c.in_ok-quarters.quarters
@@ -36,32 +36,8 @@ returns-clause-ok g t c =
 
 pub quad-requires-clause-known : goal.quad-requires-clause-known
 quad-requires-clause-known g t c =
-    let k4 = c.spans_to_square-4.ensures.keeps in
-    let k3 = keeps_trans c.spans_to_square-3.ensures.keeps k4 in
-    let k2 = keeps_trans c.spans_to_square-2.ensures.keeps k3 in
+    let k4 = c.spans_to_square-4.ensures.adds.keeps in
+    let k3 = keeps_trans c.spans_to_square-3.ensures.adds.keeps k4 in
+    let k2 = keeps_trans c.spans_to_square-2.ensures.adds.keeps k3 in
     quarters_of_level (g.S.Squares.book c.spans_to_square-4.new.book) (c.args.level - 1) c.in_ok-nw.nw c.in_ok-ne.ne c.in_ok-sw.sw c.in_ok-se.se
     (known_kept k2 c.in_ok-nw.ensures.ok.known) (known_kept k3 c.in_ok-ne.ensures.ok.known) (known_kept k4 c.in_ok-sw.ensures.ok.known) c.in_ok-se.ensures.ok.known
-
-pub returns-in_err-ne-clause-keeps : goal.returns-in_err-ne-clause-keeps
-returns-in_err-ne-clause-keeps g t c = keeps_trans c.spans_to_square.ensures.keeps c.spans_to_square-2.ensures.keeps
-
-pub returns-in_err-ne-clause-results : goal.returns-in_err-ne-clause-results
-returns-in_err-ne-clause-results g t c = results_trans c.spans_to_square.ensures.results c.spans_to_square-2.ensures.results
-
-pub returns-in_err-sw-clause-keeps : goal.returns-in_err-sw-clause-keeps
-returns-in_err-sw-clause-keeps g t c = keeps_trans c.spans_to_square.ensures.keeps (keeps_trans c.spans_to_square-2.ensures.keeps c.spans_to_square-3.ensures.keeps)
-
-pub returns-in_err-sw-clause-results : goal.returns-in_err-sw-clause-results
-returns-in_err-sw-clause-results g t c = results_trans c.spans_to_square.ensures.results (results_trans c.spans_to_square-2.ensures.results c.spans_to_square-3.ensures.results)
-
-pub returns-in_err-se-clause-keeps : goal.returns-in_err-se-clause-keeps
-returns-in_err-se-clause-keeps g t c = keeps_trans c.spans_to_square.ensures.keeps (keeps_trans c.spans_to_square-2.ensures.keeps (keeps_trans c.spans_to_square-3.ensures.keeps c.spans_to_square-4.ensures.keeps))
-
-pub returns-in_err-se-clause-results : goal.returns-in_err-se-clause-results
-returns-in_err-se-clause-results g t c = results_trans c.spans_to_square.ensures.results (results_trans c.spans_to_square-2.ensures.results (results_trans c.spans_to_square-3.ensures.results c.spans_to_square-4.ensures.results))
-
-pub returns-clause-keeps : goal.returns-clause-keeps
-returns-clause-keeps g t c = keeps_trans c.spans_to_square.ensures.keeps (keeps_trans c.spans_to_square-2.ensures.keeps (keeps_trans c.spans_to_square-3.ensures.keeps (keeps_trans c.spans_to_square-4.ensures.keeps c.quad.ensures.keeps)))
-
-pub returns-clause-results : goal.returns-clause-results
-returns-clause-results g t c = results_trans c.spans_to_square.ensures.results (results_trans c.spans_to_square-2.ensures.results (results_trans c.spans_to_square-3.ensures.results (results_trans c.spans_to_square-4.ensures.results c.quad.ensures.results)))

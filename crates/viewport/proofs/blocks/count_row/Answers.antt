@@ -22,10 +22,10 @@ count_strip-requires-clause-strip g c =
     let low = c.requires.low in
     let least = c.min-exponent.ensures in
     let left : SFits w64 c.args.blocks.now.left = omega (arith, ints) in
-    let half : SFits w64 c.half_side.result = search rules in
+    let half : SFits w64 c.signed_half_side.result = search rules in
     let are = simp to_z-of_z at c.columns_beside-columns.ensures in
-    inside_strip c.args.sq.level c.min-exponent.result c.in-Some.row c.args.blocks.now.left c.half_side.result c.args.blocks.now.width c.columns_beside-columns.result
-    (omega (arith, low, least)) c.half_side.ensures.side are c.in-Some.ensures.1
+    inside_strip c.args.sq.level c.min-exponent.result c.in-Some.row c.args.blocks.now.left c.signed_half_side.result c.args.blocks.now.width c.columns_beside-columns.result
+    (omega (arith, low, least)) c.signed_half_side.ensures.side are c.in-Some.ensures.1
 
 row_place : (row n : ℕ) (j half : ℤ) → pos row ≡ j +ℤ pos n → half ≡ pos n → j ≡ pos row -ℤ half
 row_place row n j half e side = omega (arith, ints, e, side)
@@ -38,11 +38,11 @@ returns-clause-ok g c =
     let square = known_square book c.args.sq.level c.args.sq (g.met.R.Reading.is_book c.args.from.now) c.requires.known in
     let columns = c.columns_beside-columns.result in
     let left : SFits w64 c.args.blocks.now.left = omega (arith, ints) in
-    let half : SFits w64 c.half_side.result = search rules in
+    let half : SFits w64 c.signed_half_side.result = search rules in
     let are = simp to_z-of_z at c.columns_beside-columns.ensures in
     three_added c.args.found.now.items c.add_dead-2.new.found.items c.count_strip.new.found.items c.add_dead-3.new.found.items
     (replicate columns.before 0) (strip_counts (book.cells c.args.sq) c.min-exponent.result (record { row = c.in-Some.row; from = columns.from; end = columns.end })) (replicate columns.behind 0) _
     c.in_ok-add_dead-2.ensures.ok c.in_ok-count_strip.ensures.ok c.in_ok-add_dead-3.ensures.ok
     (beside_counts c.args.sq.level c.args.blocks.now.exponent c.min-exponent.result (book.cells c.args.sq) (omega (arith, low)) c.min-exponent.ensures square
-    c.args.blocks.now.left c.args.j c.half_side.result c.args.blocks.now.width c.in-Some.row columns c.half_side.ensures.side
-    (row_place c.in-Some.row _ c.args.j c.half_side.result (simp to_z-of_z at c.in-Some.ensures.0) c.half_side.ensures.side) are)
+    c.args.blocks.now.left c.args.j c.signed_half_side.result c.args.blocks.now.width c.in-Some.row columns c.signed_half_side.ensures.side
+    (row_place c.in-Some.row _ c.args.j c.signed_half_side.result (simp to_z-of_z at c.in-Some.ensures.0) c.signed_half_side.ensures.side) are)

@@ -15,19 +15,19 @@ use Rattle.viewport.proofs.Counts.{zero_is_empty}
 use Rattle.viewport.proofs.Quarters.{known_square, of_quarter, quartered}
 use Rattle.viewport.proofs.boxes.+local_box.Goals as goal
 
-pub local_box-returns-then-sq-eq0-clause-ok : goal.local_box-returns-then-sq-eq0-clause-ok
-local_box-returns-then-sq-eq0-clause-ok g t c =
-    let none = zero_is_empty (g.R.Reading.book c.args.book.now) c.args.sq (g.met.R.Reading.is_book c.args.book.now) c.if-sq-eq0.true in
+pub local_box-returns-then-is_empty-clause-ok : goal.local_box-returns-then-is_empty-clause-ok
+local_box-returns-then-is_empty-clause-ok g t c =
+    let none = zero_is_empty (g.R.Reading.book c.args.book.now) c.args.sq (g.met.R.Reading.is_book c.args.book.now) (c.is_empty.ensures.0 c.if-is_empty.true) in
     record { same = λ x y. ap (λ p. p x y) none }
 
 pub local_box-returns-in-Some-clause-ok : goal.local_box-returns-in-Some-clause-ok
 local_box-returns-in-Some-clause-ok g t c = (c.requires.boxed.box c.args.sq c.in-Some.known.now (sym c.in-Some.ensures.value)).1
 
-pub local_box-returns-then-sq-eq3-clause-ok : goal.local_box-returns-then-sq-eq3-clause-ok
-local_box-returns-then-sq-eq3-clause-ok g t c = leaf_as c.args.sq.level _ _ c.leaf_box.result c.if-sq-eq3.true c.cells_of.ensures.value.cells c.leaf_box.ensures
+pub local_box-returns-then-sq-eq-LEAF_LEVEL-clause-ok : goal.local_box-returns-then-sq-eq-LEAF_LEVEL-clause-ok
+local_box-returns-then-sq-eq-LEAF_LEVEL-clause-ok g t c = leaf_as c.args.sq.level _ _ c.leaf_box.result c.if-sq-eq-LEAF_LEVEL.true c.cells_of.ensures.value.cells c.leaf_box.ensures
 
-pub local_box-returns-then-sq-eq3-clause-boxed : goal.local_box-returns-then-sq-eq3-clause-boxed
-local_box-returns-then-sq-eq3-clause-boxed g t c = kept_boxes (g.R.Reading.book c.args.book.now) (g.R.Reading.book c.cells_of.new.self) c.args.boxes.now c.cells_of.ensures.keeps c.requires.boxed
+pub local_box-returns-then-sq-eq-LEAF_LEVEL-clause-boxed : goal.local_box-returns-then-sq-eq-LEAF_LEVEL-clause-boxed
+local_box-returns-then-sq-eq-LEAF_LEVEL-clause-boxed g t c = kept_boxes (g.R.Reading.book c.args.book.now) (g.R.Reading.book c.cells_of.new.self) c.args.boxes.now c.cells_of.ensures.adds.keeps c.requires.boxed
 
 pub local_box-returns-clause-ok : goal.local_box-returns-clause-ok
 local_box-returns-clause-ok g t c = c.in_ok-whole.ensures.ok
@@ -36,7 +36,7 @@ pub local_box-returns-clause-boxed : goal.local_box-returns-clause-boxed
 local_box-returns-clause-boxed g t c =
     let was = g.R.Reading.book c.args.book.now in
     let now = g.R.Reading.book c.quarters_box.new.book in
-    let keeps = c.in_ok-whole.ensures.keeps in
+    let keeps = c.in_ok-whole.ensures.adds.keeps in
     record {
       box = true_of_kept (IsKnownBox now) c.quarters_box.new.boxes c.insert.new.self c.args.sq c.in_ok-whole.whole c.in_ok-whole.ensures.boxed.box
           (keeps.known c.args.sq c.requires.known.known, box_later was now c.args.sq c.in_ok-whole.whole keeps c.requires.known.known c.in_ok-whole.ensures.ok) c.in_ok-insert.ensures.updates;
@@ -49,24 +49,24 @@ quarters_box-local_box-requires g t c κs within =
       (
         search rules,
         of_quarter _ _ _ c.requires.high c.quarters_of.ensures.value.nw.known
-            (kept_boxes (g.R.Reading.book c.args.book.now) (g.R.Reading.book c.quarters_of.new.self) c.args.boxes.now c.quarters_of.ensures.keeps c.requires.boxed),
+            (kept_boxes (g.R.Reading.book c.args.book.now) (g.R.Reading.book c.quarters_of.new.self) c.args.boxes.now c.quarters_of.ensures.adds.keeps c.requires.boxed),
       ),
     )
 
 pub quarters_box-local_box-requires-2 : goal.quarters_box-local_box-requires-2
 quarters_box-local_box-requires-2 g t c κs within =
     let at_level = c.quarters_of.ensures.value.ne.known.at_level in
-    (search rules, (search rules, of_quarter _ _ _ c.requires.high (known_kept c.in_ok-nw.ensures.keeps c.quarters_of.ensures.value.ne.known) c.in_ok-nw.ensures.boxed))
+    (search rules, (search rules, of_quarter _ _ _ c.requires.high (known_kept c.in_ok-nw.ensures.adds.keeps c.quarters_of.ensures.value.ne.known) c.in_ok-nw.ensures.boxed))
 
 pub quarters_box-local_box-requires-3 : goal.quarters_box-local_box-requires-3
 quarters_box-local_box-requires-3 g t c κs within =
     let at_level = c.quarters_of.ensures.value.sw.known.at_level in
-    (search rules, (search rules, of_quarter _ _ _ c.requires.high (known_kept c.in_ok-ne.ensures.keeps (known_kept c.in_ok-nw.ensures.keeps c.quarters_of.ensures.value.sw.known)) c.in_ok-ne.ensures.boxed))
+    (search rules, (search rules, of_quarter _ _ _ c.requires.high (known_kept c.in_ok-ne.ensures.adds.keeps (known_kept c.in_ok-nw.ensures.adds.keeps c.quarters_of.ensures.value.sw.known)) c.in_ok-ne.ensures.boxed))
 
 pub quarters_box-local_box-requires-4 : goal.quarters_box-local_box-requires-4
 quarters_box-local_box-requires-4 g t c κs within =
     let at_level = c.quarters_of.ensures.value.se.known.at_level in
-    (search rules, (search rules, of_quarter _ _ _ c.requires.high (known_kept c.in_ok-sw.ensures.keeps (known_kept c.in_ok-ne.ensures.keeps (known_kept c.in_ok-nw.ensures.keeps c.quarters_of.ensures.value.se.known))) c.in_ok-sw.ensures.boxed))
+    (search rules, (search rules, of_quarter _ _ _ c.requires.high (known_kept c.in_ok-sw.ensures.adds.keeps (known_kept c.in_ok-ne.ensures.adds.keeps (known_kept c.in_ok-nw.ensures.adds.keeps c.quarters_of.ensures.value.se.known))) c.in_ok-sw.ensures.boxed))
 
 pub quarters_box-box_of_quarters-requires-clause-ne : goal.quarters_box-box_of_quarters-requires-clause-ne
 quarters_box-box_of_quarters-requires-clause-ne g t c = λ x e. inside_of _ _ c.in_ok-ne.ne x e (box_level _ _ _ c.in_ok-ne.ne c.quarters_of.ensures.value.ne.known.at_level c.in_ok-ne.ensures.ok)
@@ -85,10 +85,10 @@ quarters_box-returns-clause-ok g t c =
     let two = g.R.Reading.book c.local_box-2.new.book in
     let three = g.R.Reading.book c.local_box-3.new.book in
     let value = c.quarters_of.ensures.value in
-    let k0 = c.quarters_of.ensures.keeps in
-    let k1 = c.in_ok-nw.ensures.keeps in
-    let k2 = keeps_trans k1 c.in_ok-ne.ensures.keeps in
-    let k3 = keeps_trans k2 c.in_ok-sw.ensures.keeps in
+    let k0 = c.quarters_of.ensures.adds.keeps in
+    let k1 = c.in_ok-nw.ensures.adds.keeps in
+    let k2 = keeps_trans k1 c.in_ok-ne.ensures.adds.keeps in
+    let k3 = keeps_trans k2 c.in_ok-sw.ensures.adds.keeps in
     let sq = c.args.sq in
     let known = known_kept k0 c.requires.known in
     let laws = g.met.R.Reading.is_book c.quarters_of.new.self in

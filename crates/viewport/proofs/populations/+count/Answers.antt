@@ -10,15 +10,15 @@ use Rattle.viewport.specs.Population.{IsKnownCount}
 use Rattle.viewport.proofs.CountsLater.{count_before, count_later, kept_counts}
 use Rattle.viewport.proofs.populations.+count.Goals as goal
 
-pub count-returns-then-sq-eq0-clause-ok : goal.count-returns-then-sq-eq0-clause-ok
-count-returns-then-sq-eq0-clause-ok g t c = none_counted (g.R.Reading.book c.args.from.now) c.args.sq (g.met.R.Reading.is_book c.args.from.now) c.if-sq-eq0.true
+pub count-returns-then-is_empty-clause-ok : goal.count-returns-then-is_empty-clause-ok
+count-returns-then-is_empty-clause-ok g t c = none_counted (g.R.Reading.book c.args.from.now) c.args.sq (g.met.R.Reading.is_book c.args.from.now) (c.is_empty.ensures.0 c.if-is_empty.true)
 
-pub count-returns-then-sq-eq3-clause-ok : goal.count-returns-then-sq-eq3-clause-ok
-count-returns-then-sq-eq3-clause-ok g t c =
-    counted_as (g.R.Reading.book c.args.from.now) c.args.sq 3 c.leaf_count.result _ c.if-sq-eq3.true c.cells_of.ensures.value.cells c.leaf_count.ensures.count c.leaf_count.ensures.most
+pub count-returns-then-sq-eq-LEAF_LEVEL-clause-ok : goal.count-returns-then-sq-eq-LEAF_LEVEL-clause-ok
+count-returns-then-sq-eq-LEAF_LEVEL-clause-ok g t c =
+    counted_as (g.R.Reading.book c.args.from.now) c.args.sq 3 c.leaf_count.result _ c.if-sq-eq-LEAF_LEVEL.true c.cells_of.ensures.value.cells c.leaf_count.ensures.count c.leaf_count.ensures.most
 
-pub count-returns-then-sq-eq3-clause-counted : goal.count-returns-then-sq-eq3-clause-counted
-count-returns-then-sq-eq3-clause-counted g t c = kept_counts (g.R.Reading.book c.args.from.now) (g.R.Reading.book c.cells_of.new.self) c.args.counts.now c.cells_of.ensures.keeps c.requires.counted
+pub count-returns-then-sq-eq-LEAF_LEVEL-clause-counted : goal.count-returns-then-sq-eq-LEAF_LEVEL-clause-counted
+count-returns-then-sq-eq-LEAF_LEVEL-clause-counted g t c = kept_counts (g.R.Reading.book c.args.from.now) (g.R.Reading.book c.cells_of.new.self) c.args.counts.now c.cells_of.ensures.adds.keeps c.requires.counted
 
 pub count-returns-in-Some-clause-ok : goal.count-returns-in-Some-clause-ok
 count-returns-in-Some-clause-ok g t c = (c.requires.counted.count c.args.sq c.in-Some.known.now (sym c.in-Some.ensures.value)).1
@@ -27,7 +27,7 @@ pub count-returns-clause-counted : goal.count-returns-clause-counted
 count-returns-clause-counted g t c =
     let was = g.R.Reading.book c.args.from.now in
     let now = g.R.Reading.book c.count_quarters-2.new.from in
-    let keeps = c.in_ok-whole.ensures.keeps in
+    let keeps = c.in_ok-whole.ensures.adds.keeps in
     record {
       count = true_of_kept (IsKnownCount now) c.count_quarters-2.new.counts c.insert.new.self c.args.sq c.in_ok-whole.whole c.in_ok-whole.ensures.counted.count
           (keeps.known c.args.sq c.requires.known.known, count_later was now c.args.sq c.in_ok-whole.whole keeps c.requires.known.known c.in_ok-whole.ensures.ok) c.in_ok-insert.ensures.updates;
@@ -40,24 +40,24 @@ count_quarters-count-requires g t c κs within =
       (
         search rules,
         of_quarter _ _ _ c.requires.high c.quarters_of.ensures.value.nw.known
-            (kept_counts (g.R.Reading.book c.args.from.now) (g.R.Reading.book c.quarters_of.new.self) c.args.counts.now c.quarters_of.ensures.keeps c.requires.counted),
+            (kept_counts (g.R.Reading.book c.args.from.now) (g.R.Reading.book c.quarters_of.new.self) c.args.counts.now c.quarters_of.ensures.adds.keeps c.requires.counted),
       ),
     )
 
 pub count_quarters-count-requires-2 : goal.count_quarters-count-requires-2
 count_quarters-count-requires-2 g t c κs within =
     let at_level = c.quarters_of.ensures.value.ne.known.at_level in
-    (search rules, (search rules, of_quarter _ _ _ c.requires.high (known_kept c.in_ok-count.ensures.keeps c.quarters_of.ensures.value.ne.known) c.in_ok-count.ensures.counted))
+    (search rules, (search rules, of_quarter _ _ _ c.requires.high (known_kept c.in_ok-count.ensures.adds.keeps c.quarters_of.ensures.value.ne.known) c.in_ok-count.ensures.counted))
 
 pub count_quarters-count-requires-3 : goal.count_quarters-count-requires-3
 count_quarters-count-requires-3 g t c κs within =
     let at_level = c.quarters_of.ensures.value.sw.known.at_level in
-    (search rules, (search rules, of_quarter _ _ _ c.requires.high (known_kept c.in_ok-upper.ensures.keeps (known_kept c.in_ok-count.ensures.keeps c.quarters_of.ensures.value.sw.known)) c.in_ok-upper.ensures.counted))
+    (search rules, (search rules, of_quarter _ _ _ c.requires.high (known_kept c.in_ok-upper.ensures.adds.keeps (known_kept c.in_ok-count.ensures.adds.keeps c.quarters_of.ensures.value.sw.known)) c.in_ok-upper.ensures.counted))
 
 pub count_quarters-count-requires-4 : goal.count_quarters-count-requires-4
 count_quarters-count-requires-4 g t c κs within =
     let at_level = c.quarters_of.ensures.value.se.known.at_level in
-    (search rules, (search rules, of_quarter _ _ _ c.requires.high (known_kept c.in_ok-count-2.ensures.keeps (known_kept c.in_ok-upper.ensures.keeps (known_kept c.in_ok-count.ensures.keeps c.quarters_of.ensures.value.se.known))) c.in_ok-count-2.ensures.counted))
+    (search rules, (search rules, of_quarter _ _ _ c.requires.high (known_kept c.in_ok-count-2.ensures.adds.keeps (known_kept c.in_ok-upper.ensures.adds.keeps (known_kept c.in_ok-count.ensures.adds.keeps c.quarters_of.ensures.value.se.known))) c.in_ok-count-2.ensures.counted))
 
 pub count_quarters-overflow_add-upper : goal.count_quarters-overflow_add-upper
 count_quarters-overflow_add-upper g t c =
@@ -87,10 +87,10 @@ count_quarters-returns-clause-ok g t c =
     let two = g.R.Reading.book c.count-2.new.from in
     let three = g.R.Reading.book c.count-3.new.from in
     let value = c.quarters_of.ensures.value in
-    let k0 = c.quarters_of.ensures.keeps in
-    let k1 = c.in_ok-count.ensures.keeps in
-    let k2 = keeps_trans k1 c.in_ok-upper.ensures.keeps in
-    let k3 = keeps_trans k2 c.in_ok-count-2.ensures.keeps in
+    let k0 = c.quarters_of.ensures.adds.keeps in
+    let k1 = c.in_ok-count.ensures.adds.keeps in
+    let k2 = keeps_trans k1 c.in_ok-upper.ensures.adds.keeps in
+    let k3 = keeps_trans k2 c.in_ok-count-2.ensures.adds.keeps in
     let sq = c.args.sq in
     let same = plane_equal (read.cells sq) (was.cells sq) (k0.cells sq c.requires.known.known) in
     let parts = subst (λ (p : Plane). AreQuarters read sq.level p c.quarters_of.result) (sym same) value in

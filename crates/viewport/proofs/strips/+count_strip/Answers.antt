@@ -13,11 +13,11 @@ use Rattle.viewport.proofs.strips.+count_strip.Goals as goal
 pub returns-then-strip-clause-ok : goal.returns-then-strip-clause-ok
 returns-then-strip-clause-ok g t c = no_blocks _ _ c.args.strip _ c.if-strip.true
 
-pub returns-then-sq-eq0-clause-ok : goal.returns-then-sq-eq0-clause-ok
-returns-then-sq-eq0-clause-ok g t c =
+pub returns-then-is_empty-clause-ok : goal.returns-then-is_empty-clause-ok
+returns-then-is_empty-clause-ok g t c =
     let book = g.R.Reading.book c.args.from.now in
     c.in_ok-add_dead.ensures.ok
-    ∙ ap (λ l. c.args.found.now.items ++ l) (sym (empty_blocks (book.cells c.args.sq) c.args.exponent c.args.strip (zero_is_empty book c.args.sq (g.met.R.Reading.is_book c.args.from.now) c.if-sq-eq0.true)))
+    ∙ ap (λ l. c.args.found.now.items ++ l) (sym (empty_blocks (book.cells c.args.sq) c.args.exponent c.args.strip (zero_is_empty book c.args.sq (g.met.R.Reading.is_book c.args.from.now) (c.is_empty.ensures.0 c.if-is_empty.true))))
 
 pub returns-then-sq-exponent-clause-ok : goal.returns-then-sq-exponent-clause-ok
 returns-then-sq-exponent-clause-ok g t c =
@@ -28,17 +28,17 @@ returns-then-sq-exponent-clause-ok g t c =
 
 pub returns-in_err-count_leaf_strip-clause-counted : goal.returns-in_err-count_leaf_strip-clause-counted
 returns-in_err-count_leaf_strip-clause-counted g t c =
-    kept_counts (g.R.Reading.book c.args.from.now) (g.R.Reading.book c.cells_of.new.self) c.args.counts.now c.cells_of.ensures.keeps c.requires.counted
+    kept_counts (g.R.Reading.book c.args.from.now) (g.R.Reading.book c.cells_of.new.self) c.args.counts.now c.cells_of.ensures.adds.keeps c.requires.counted
 
-pub returns-then-sq-eq3-clause-counted : goal.returns-then-sq-eq3-clause-counted
-returns-then-sq-eq3-clause-counted g t c =
-    kept_counts (g.R.Reading.book c.args.from.now) (g.R.Reading.book c.cells_of.new.self) c.args.counts.now c.cells_of.ensures.keeps c.requires.counted
+pub returns-then-sq-eq-LEAF_LEVEL-clause-counted : goal.returns-then-sq-eq-LEAF_LEVEL-clause-counted
+returns-then-sq-eq-LEAF_LEVEL-clause-counted g t c =
+    kept_counts (g.R.Reading.book c.args.from.now) (g.R.Reading.book c.cells_of.new.self) c.args.counts.now c.cells_of.ensures.adds.keeps c.requires.counted
 
 pub half_with_blocks-row-requires-clause-row : goal.half_with_blocks-row-requires-clause-row
 half_with_blocks-row-requires-clause-row g t c =
     let exponent = c.requires.exponent in
     let other = c.if-sq-exponent.false in
-    let side = blocks_of_half c.args.sq.level c.args.exponent c.side-half.result (omega (arith, exponent, other)) c.side-half.ensures.side in
+    let side = blocks_of_half c.args.sq.level c.args.exponent c.half_side-half.result (omega (arith, exponent, other)) c.half_side-half.ensures.value in
     let row = c.requires.strip.row in omega (arith, side, row)
 
 pub count_strip-requires-2 : goal.count_strip-requires-2
@@ -48,9 +48,9 @@ count_strip-requires-2 g t c κs within =
     let half = c.half_with_blocks-row in
     let keeps = c.in_ok-count_strip.ensures.keeps in
     let at_level = half.ensures.second.at_level in
-    let side = c.side-half.ensures.side in
-    let blocks = blocks_of_half c.args.sq.level c.args.exponent c.side-half.result (omega (arith, exponent, other)) side in
-    let less : c.args.sq.level - 1 - c.args.exponent ≡ half.result.1.level - c.args.exponent = omega (arith, at_level) in (
+    let side = c.half_side-half.ensures.value in
+    let blocks = blocks_of_half c.args.sq.level c.args.exponent c.half_side-half.result (omega (arith, exponent, other)) side in
+    let less : c.args.sq.level - c.args.exponent - 1 ≡ half.result.1.level - c.args.exponent = omega (arith, at_level) in (
       search rules,
       (
         search rules,
@@ -62,8 +62,8 @@ count_strip-requires-2 g t c κs within =
               omega (arith, at_level, exponent, other),
               (
                 subst (λ n. IsInBlocks n c.right_part.result) (side ∙ ap (λ n. 2 ^ n) less)
-                    (right_in_blocks c.side-half.result half.result.2 c.args.strip c.left_part.result c.right_part.result (subst (λ n. IsInBlocks n c.args.strip) blocks c.requires.strip) half.ensures.row.inside
-                    (parts_of c.side-half.result half.result.2 c.args.strip c.left_part.result c.right_part.result c.left_part.ensures.row c.left_part.ensures.from c.left_part.ensures.end c.right_part.ensures.row c.right_part.ensures.from c.right_part.ensures.end)),
+                    (right_in_blocks c.half_side-half.result half.result.2 c.args.strip c.left_part.result c.right_part.result (subst (λ n. IsInBlocks n c.args.strip) blocks c.requires.strip) half.ensures.row.inside
+                    (parts_of c.half_side-half.result half.result.2 c.args.strip c.left_part.result c.right_part.result c.left_part.ensures.row c.left_part.ensures.from c.left_part.ensures.end c.right_part.ensures.row c.right_part.ensures.from c.right_part.ensures.end)),
                 c.in_ok-count_strip.ensures.counted,
               ),
             ),
@@ -82,9 +82,9 @@ returns-clause-ok g t c =
     let other = c.if-sq-exponent.false in
     let left = strip_counts (book.cells half.result.0) c.args.exponent c.left_part.result in
     let same : later.cells half.result.1 ≡ book.cells half.result.1 = plane_equal _ _ (c.in_ok-count_strip.ensures.keeps.cells half.result.1 half.ensures.second.known) in
-    let whole = strip_in_halves book c.args.sq.level c.args.exponent c.side-half.result half.result.2 (old.cells c.args.sq) half.result.0 half.result.1 c.args.strip c.left_part.result c.right_part.result
-    (g.met.R.Reading.is_book half.new.from) (omega (arith, exponent, other)) c.side-half.ensures.side c.requires.strip half.ensures.first half.ensures.second half.ensures.row
-    (parts_of c.side-half.result half.result.2 c.args.strip c.left_part.result c.right_part.result c.left_part.ensures.row c.left_part.ensures.from c.left_part.ensures.end c.right_part.ensures.row c.right_part.ensures.from c.right_part.ensures.end) in
+    let whole = strip_in_halves book c.args.sq.level c.args.exponent c.half_side-half.result half.result.2 (old.cells c.args.sq) half.result.0 half.result.1 c.args.strip c.left_part.result c.right_part.result
+    (g.met.R.Reading.is_book half.new.from) (omega (arith, exponent, other)) c.half_side-half.ensures.value c.requires.strip half.ensures.first half.ensures.second half.ensures.row
+    (parts_of c.half_side-half.result half.result.2 c.args.strip c.left_part.result c.right_part.result c.left_part.ensures.row c.left_part.ensures.from c.left_part.ensures.end c.right_part.ensures.row c.right_part.ensures.from c.right_part.ensures.end) in
     on_ok_weaker c.count_strip-2.result
     (λ e. joined_on c.args.found.now.items c.count_strip.new.found.items c.count_strip-2.new.found.items left _ _ c.in_ok-count_strip.ensures.ok
     (e ∙ ap (λ (p : Plane). c.count_strip.new.found.items ++ strip_counts p c.args.exponent c.right_part.result) same) whole)

@@ -10,11 +10,11 @@ small : (e : ℕ) → e < 3 → 2 ^ e < 64
 small e low = let most : 2 ^ e ≤ 2 ^ 2 = pow_mono {i = e} {j = 2} (omega arith) in omega (arith, most)
 
 pub overflow_shl-mask : goal.overflow_shl-mask
-overflow_shl-mask c = let side = c.side-side.ensures.side in let few = small c.args.exponent c.requires.exponent in omega (arith, side, few)
+overflow_shl-mask c = let side = c.side-side.ensures in let few = small c.args.exponent c.requires.exponent in omega (arith, side, few)
 
 pub overflow_sub-mask : goal.overflow_sub-mask
 overflow_sub-mask c =
-    let side = c.side-side.ensures.side in let few = small c.args.exponent c.requires.exponent in
+    let side = c.side-side.ensures in let few = small c.args.exponent c.requires.exponent in
     let shift = one_shl c.side-side.result 64 (omega (arith, side, few)) in
     let some = pow_pos c.side-side.result in omega (arith, shift, some)
 
@@ -23,7 +23,7 @@ loop-step-init c = (no_rows c.args.word (c.args.column * 2 ^ c.args.exponent) (c
 
 pub overflow_shr-sum : goal.overflow_shr-sum
 overflow_shr-sum c =
-    let side = c.side-side.ensures.side in
+    let side = c.side-side.ensures in
     let row = block_fits c.args.exponent c.args.row c.requires.exponent c.requires.row in
     let column = block_fits c.args.exponent c.args.column c.requires.exponent c.requires.column in
     let step : c.loop-step.step < 2 ^ c.args.exponent = omega (arith, side) in
@@ -31,7 +31,7 @@ overflow_shr-sum c =
 
 pub loop-step-preserved : goal.loop-step-preserved
 loop-step-preserved c =
-    let side = c.side-side.ensures.side in let few = small c.args.exponent c.requires.exponent in
+    let side = c.side-side.ensures in let few = small c.args.exponent c.requires.exponent in
     let shift = one_shl c.side-side.result 64 (omega (arith, side, few)) in
     let row = block_fits c.args.exponent c.args.row c.requires.exponent c.requires.row in
     let column = block_fits c.args.exponent c.args.column c.requires.exponent c.requires.column in
@@ -45,7 +45,7 @@ loop-step-preserved c =
 
 pub returns : goal.returns
 returns c =
-    let side = c.side-side.ensures.side in
+    let side = c.side-side.ensures in
     let all : c.loop-step.step ≡ 2 ^ c.args.exponent = omega (arith, side) in
     c.loop-step.invariant.0
     ∙ ap (λ n. length (cells_in (pos (c.args.column * 2 ^ c.args.exponent)) (pos (c.args.row * 2 ^ c.args.exponent)) (2 ^ c.args.exponent) n (bits_plane c.args.word))) all

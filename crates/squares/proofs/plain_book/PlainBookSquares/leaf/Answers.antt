@@ -1,25 +1,20 @@
-use Rattle.std.proofs.Common.{◌≡◌, subst, sym, rules, None, Some, refl}
+use Rattle.std.proofs.Common.{◌≡◌, subst, sym, rules, None, Some}
 use Rattle.std.specs.BTreeMap.{get}
 use Rattle.std.specs.Ordering.{nat_cmp}
 use Rattle.squares.specs.declared.node.Node.TheVariants.{Leaf}
-use Rattle.squares.specs.Book.{Keeps, KeepsResults}
+use Rattle.squares.specs.Book.{AddsSquares}
 use Rattle.squares.specs.Nodes.{nodes_of, plain_book, IsGood}
 use Rattle.squares.proofs.Added.{added_there, leaf_added, one_more}
-use Rattle.squares.proofs.Kept.{keeps_none}
+use Rattle.squares.proofs.Kept.{adds_none}
 use Rattle.squares.proofs.PlainLaws.{book_good, leaf_shows}
-use Rattle.squares.proofs.Pushed.{good_leaf, pushed_keeps, pushed_results}
+use Rattle.squares.proofs.Pushed.{good_leaf, pushed_adds}
 use Rattle.squares.proofs.plain_book.PlainBookSquares.leaf.Goals as goal
 
-pub returns-in_err-num-clause-keeps : goal.returns-in_err-num-clause-keeps
-returns-in_err-num-clause-keeps c =
+pub returns-in_err-num-clause-adds : goal.returns-in_err-num-clause-adds
+returns-in_err-num-clause-adds c =
     let at = c.args.self.now in
     let book = plain_book at.rule at.exponent at.records.items in
-    subst (λ items. Keeps book (plain_book at.rule at.exponent items)) (sym c.in_err-num.ensures.err) (keeps_none book)
-
-pub returns-in_err-num-clause-results : goal.returns-in_err-num-clause-results
-returns-in_err-num-clause-results c =
-    let at = c.args.self.now in
-    subst (λ items. KeepsResults (plain_book at.rule at.exponent at.records.items) (plain_book at.rule at.exponent items)) (sym c.in_err-num.ensures.err) (record { results = refl; learned = refl })
+    subst (λ items. AddsSquares book (plain_book at.rule at.exponent items)) (sym c.in_err-num.ensures.err) (adds_none book)
 
 pub invariant_of-self : goal.invariant_of-self
 invariant_of-self c =
@@ -47,15 +42,10 @@ returns-clause-ok c =
     (good_leaf (nodes_of at.records.items) at.leaves c.args.word c.if-word-eq0.false c.ranges.word.fits at.leaves_listed none at.good) in
     leaf_shows at.rule at.exponent new c.in_ok-num.num.0 c.args.word good (added_there at.records.items new (Leaf c.args.word) c.in_ok-num.num made.number made.ok)
 
-pub returns-clause-keeps : goal.returns-clause-keeps
-returns-clause-keeps c =
+pub returns-clause-adds : goal.returns-clause-adds
+returns-clause-adds c =
     let at = c.args.self.now in
-    subst (λ items. Keeps (plain_book at.rule at.exponent at.records.items) (plain_book at.rule at.exponent items)) (sym c.in_ok-num.ensures.ok) (pushed_keeps at.rule at.exponent at.records.items (Leaf c.args.word) at.good)
-
-pub returns-clause-results : goal.returns-clause-results
-returns-clause-results c =
-    let at = c.args.self.now in
-    subst (λ items. KeepsResults (plain_book at.rule at.exponent at.records.items) (plain_book at.rule at.exponent items)) (sym c.in_ok-num.ensures.ok) (pushed_results at.rule at.exponent at.records.items (Leaf c.args.word) at.good)
+    subst (λ items. AddsSquares (plain_book at.rule at.exponent at.records.items) (plain_book at.rule at.exponent items)) (sym c.in_ok-num.ensures.ok) (pushed_adds at.rule at.exponent at.records.items (Leaf c.args.word) at.good)
 
 pub returns-in-Some-clause-ok : goal.returns-in-Some-clause-ok
 returns-in-Some-clause-ok c =
@@ -63,15 +53,3 @@ returns-in-Some-clause-ok c =
     let num = c.in-Some.num.now in
     let found : get nat_cmp at.leaves c.args.word ≡ Some num = search rules in
     leaf_shows at.rule at.exponent at.records.items num.0 c.args.word at.good (at.leaves_listed.found c.args.word num found)
-
-pub returns-in-Some-clause-keeps : goal.returns-in-Some-clause-keeps
-returns-in-Some-clause-keeps c = keeps_none _
-
-pub returns-in-Some-clause-results : goal.returns-in-Some-clause-results
-returns-in-Some-clause-results c = record { results = refl; learned = refl }
-
-pub returns-then-word-eq0-clause-keeps : goal.returns-then-word-eq0-clause-keeps
-returns-then-word-eq0-clause-keeps c = keeps_none _
-
-pub returns-then-word-eq0-clause-results : goal.returns-then-word-eq0-clause-results
-returns-then-word-eq0-clause-results c = record { results = refl; learned = refl }

@@ -1,18 +1,18 @@
-use Rattle.std.proofs.Common.{◌≡◌, Bool, true, false, refl, ◌+◌, subst, sym, ap, ◌∙◌, rules, None, Some, length, List}
+use Rattle.std.proofs.Common.{◌≡◌, Bool, true, false, ◌+◌, subst, sym, ap, ◌∙◌, rules, None, Some, length, List}
 use Rattle.std.specs.BTreeMap.{get}
 use Rattle.std.specs.List.{AllByRecursion}
 use Rattle.std.proofs.lemmas.Bool.{false≢true}
 use Rattle.squares.specs.declared.node.Node.TheVariants.{Inner}
 use Rattle.squares.specs.declared.node.Quarters.{Quarters}
 use Rattle.squares.specs.declared.sq.Sq.{Sq}
-use Rattle.squares.specs.Book.{IsEmpty, Keeps, KeepsResults, Shows, joined_squares, numbered, nth}
+use Rattle.squares.specs.Book.{AddsSquares, IsEmpty, Keeps, Shows, joined_squares, numbered, nth}
 use Rattle.squares.specs.Nodes.{node_at, nodes_of, plain_book, quarters_order, IsGood}
 use Rattle.squares.specs.Quarters.{quarters_of}
 use Rattle.squares.proofs.Added.{added_there, one_more, quad_added}
-use Rattle.squares.proofs.Kept.{keeps_none}
+use Rattle.squares.proofs.Kept.{adds_none, keeps_none}
 use Rattle.squares.proofs.PlainLaws.{book_good}
 use Rattle.squares.proofs.PlainQuads.{all_four, empty_shows, good_quad, tested_known, sum_of_empty, node_shows}
-use Rattle.squares.proofs.Pushed.{pushed_keeps, pushed_results}
+use Rattle.squares.proofs.Pushed.{pushed_adds, pushed_keeps}
 use Rattle.squares.proofs.plain_book.PlainBookSquares.quad.Goals as goal
 
 -- squares that are not all empty, by the test of their quarters
@@ -34,16 +34,11 @@ returns-then-are_empty-clause-ok c =
 pub returns-in_err-num-clause-empty : goal.returns-in_err-num-clause-empty
 returns-in_err-num-clause-empty c = λ all. absurd (some_cell c.args.quarters c.of-node.result c.are_empty.result (search rules) c.of-node.ensures c.are_empty.ensures.1 c.if-are_empty.false all)
 
-pub returns-in_err-num-clause-keeps : goal.returns-in_err-num-clause-keeps
-returns-in_err-num-clause-keeps c =
+pub returns-in_err-num-clause-adds : goal.returns-in_err-num-clause-adds
+returns-in_err-num-clause-adds c =
     let at = c.args.self.now in
     let book = plain_book at.rule at.exponent at.records.items in
-    subst (λ items. Keeps book (plain_book at.rule at.exponent items)) (sym c.in_err-num.ensures.err) (keeps_none book)
-
-pub returns-in_err-num-clause-results : goal.returns-in_err-num-clause-results
-returns-in_err-num-clause-results c =
-    let at = c.args.self.now in
-    subst (λ items. KeepsResults (plain_book at.rule at.exponent at.records.items) (plain_book at.rule at.exponent items)) (sym c.in_err-num.ensures.err) (record { results = refl; learned = refl })
+    subst (λ items. AddsSquares book (plain_book at.rule at.exponent items)) (sym c.in_err-num.ensures.err) (adds_none book)
 
 pub returns-in-Some-clause-ok : goal.returns-in-Some-clause-ok
 returns-in-Some-clause-ok c =
@@ -74,15 +69,10 @@ invariant_of-self c =
       is_book = book_good at.rule at.exponent new at.is_book.rule sound.good sound.futures;
     }
 
-pub returns-clause-keeps : goal.returns-clause-keeps
-returns-clause-keeps c =
+pub returns-clause-adds : goal.returns-clause-adds
+returns-clause-adds c =
     let at = c.args.self.now in
-    subst (λ items. Keeps (plain_book at.rule at.exponent at.records.items) (plain_book at.rule at.exponent items)) (sym c.in_ok-num.ensures.ok) (pushed_keeps at.rule at.exponent at.records.items (Inner c.of-node.result) at.good)
-
-pub returns-clause-results : goal.returns-clause-results
-returns-clause-results c =
-    let at = c.args.self.now in
-    subst (λ items. KeepsResults (plain_book at.rule at.exponent at.records.items) (plain_book at.rule at.exponent items)) (sym c.in_ok-num.ensures.ok) (pushed_results at.rule at.exponent at.records.items (Inner c.of-node.result) at.good)
+    subst (λ items. AddsSquares (plain_book at.rule at.exponent at.records.items) (plain_book at.rule at.exponent items)) (sym c.in_ok-num.ensures.ok) (pushed_adds at.rule at.exponent at.records.items (Inner c.of-node.result) at.good)
 
 pub returns-clause-ok : goal.returns-clause-ok
 returns-clause-ok c =
@@ -100,15 +90,3 @@ returns-clause-ok c =
     let keeps = subst (λ items. Keeps book (plain_book at.rule at.exponent items)) (sym made.ok) (pushed_keeps at.rule at.exponent at.records.items node at.good) in
     subst (λ (p : Quarters). Shows (plain_book at.rule at.exponent new) ((nth squares 0).level + 1) (joined_squares book (nth squares 0).level squares) (record { level = p.level; num = num })) (sym c.of-node.ensures)
     (node_shows at.rule at.exponent at.records.items squares (search rules) c.requires.known new num.0 good keeps there)
-
-pub returns-in-Some-clause-keeps : goal.returns-in-Some-clause-keeps
-returns-in-Some-clause-keeps c = keeps_none _
-
-pub returns-in-Some-clause-results : goal.returns-in-Some-clause-results
-returns-in-Some-clause-results c = record { results = refl; learned = refl }
-
-pub returns-then-are_empty-clause-keeps : goal.returns-then-are_empty-clause-keeps
-returns-then-are_empty-clause-keeps c = keeps_none _
-
-pub returns-then-are_empty-clause-results : goal.returns-then-are_empty-clause-results
-returns-then-are_empty-clause-results c = record { results = refl; learned = refl }

@@ -1,6 +1,6 @@
 use Rattle.std.proofs.Common.{[], ◌∷◌, get_or}
 use Rattle.leaf_kernels.proofs.FourLeaves.{middle_leaves}
-use Rattle.leaf_kernels.proofs.four_leaves.surrounded.Goals as goal
+use Rattle.leaf_kernels.proofs.four_leaves.surround.Goals as goal
 
 pub returns : goal.returns
 returns c = middle_leaves

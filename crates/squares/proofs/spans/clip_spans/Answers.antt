@@ -4,7 +4,7 @@ use Rattle.std.specs.Prelude.{◌||◌}
 use Rattle.squares.specs.Spans.{HasCells, HasCellOf, in_span, in_spans}
 use Rattle.squares.proofs.Places.{all_at, all_push}
 use Rattle.squares.proofs.SpanCells.{more_in, none_in, or_none, pushed_in}
-use Rattle.squares.proofs.spans.clipped.Goals as goal
+use Rattle.squares.proofs.spans.clip_spans.Goals as goal
 
 pub loop-span-init : goal.loop-span-init
 loop-span-init c = record {

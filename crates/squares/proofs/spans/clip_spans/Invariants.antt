@@ -1,7 +1,7 @@
 use Rattle.std.proofs.Common.{◌≡◌, ℕ, ◌+◌, ◌<◌, take}
 use Rattle.std.specs.List.{AllByRecursion}
 use Rattle.squares.specs.Spans.{HasCells, HasCellOf, in_spans}
-use Rattle.squares.proofs.spans.clipped.Given as goal
+use Rattle.squares.proofs.spans.clip_spans.Given as goal
 
 -- the parts have what the spans so far have, and each has a cell of the square where each span has one
 abbrev pub invariant-loop-span : goal.invariant-loop-span

@@ -1,0 +1,22 @@
+use Rattle.std.proofs.lemmas.Result.{IfOk-weaker}
+use Rattle.std.proofs.Common.{get_or}
+use Rattle.plane.specs.Square.{bits_plane}
+use Rattle.squares.proofs.Kept.{keeps_trans, known_kept}
+use Rattle.squares.proofs.FourKnown.{four_known, numbered_joined}
+use Rattle.squares.proofs.leaves.join_leaves.Goals as goal
+
+pub returns-clause-ok : goal.returns-clause-ok
+returns-clause-ok g c =
+    let book = g.S.Squares.book in
+    IfOk-weaker c.quad.result _ _
+    (λ whole shown. numbered_joined 3 (bits_plane (get_or c.args.leaves 0 0)) (bits_plane (get_or c.args.leaves 1 0)) (bits_plane (get_or c.args.leaves 2 0)) (bits_plane (get_or c.args.leaves 3 0))
+    (book c.leaf.new.self) (book c.leaf-2.new.self) (book c.leaf-3.new.self) (book c.leaf-4.new.self) (book c.quad.new.self)
+    c.in_ok-upper_left.upper_left c.in_ok-upper_right.upper_right c.in_ok-lower_left.lower_left c.in_ok-lower_right.lower_right whole
+    c.leaf-2.ensures.adds.keeps c.leaf-3.ensures.adds.keeps c.leaf-4.ensures.adds.keeps
+    c.in_ok-upper_left.ensures.ok c.in_ok-upper_right.ensures.ok c.in_ok-lower_left.ensures.ok c.in_ok-lower_right.ensures.ok shown)
+    c.quad.ensures.ok
+
+pub quad-requires-clause-known : goal.quad-requires-clause-known
+quad-requires-clause-known g c =
+    let k4 = c.leaf-4.ensures.adds.keeps in let k3 = keeps_trans c.leaf-3.ensures.adds.keeps k4 in let k2 = keeps_trans c.leaf-2.ensures.adds.keeps k3 in
+    four_known (known_kept k2 c.in_ok-upper_left.ensures.ok.known) (known_kept k3 c.in_ok-upper_right.ensures.ok.known) (known_kept k4 c.in_ok-lower_left.ensures.ok.known) c.in_ok-lower_right.ensures.ok.known
