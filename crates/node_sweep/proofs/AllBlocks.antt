@@ -9,7 +9,7 @@ use Rattle.table_core.specs.Layout.{IsSlot, start, result_of}
 use Rattle.table_core.specs.Blocks.{Words, IsBlock, square_rank}
 use Rattle.table_core.specs.Good.{IsGood, HasFuture, IsFutureOf}
 use Rattle.table_core.proofs.Ways.{not_head}
-use Rattle.table_core.proofs.Claims.{same_or_other}
+use Rattle.table_core.proofs.Comparisons.{same_or_other}
 use Rattle.node_sweep.specs.Reaching.{IsWanted}
 use Rattle.node_sweep.specs.Copies.{IsCopy, IsCopyOf, IsLowBlock, IsWantedCopy}
 use Rattle.node_sweep.specs.Copying.{AreCopied}

@@ -21,7 +21,7 @@ use Rattle.node_sweep.specs.Collects.{Collects, HasWantedResult, IsResultCopied}
 use Rattle.node_sweep.specs.Copies.{HasNoRoom, IsCopy, IsCopyOf}
 use Rattle.node_sweep.specs.EnlargedStills.{HasTwinIn, HasResultIn}
 use Rattle.node_sweep.specs.Reaching.{IsWanted}
-use Rattle.node_sweep.specs.SweptStills.{IsResized, IsTransferOf}
+use Rattle.node_sweep.specs.SweptStills.{IsResized}
 use Rattle.node_sweep.specs.Transfers.{HasNoRoomLeft}
 use Rattle.node_sweep.specs.declared.transfer.Ends.{Ends}
 use Rattle.node_sweep.specs.declared.transfer.Transfer.{Transfer}
@@ -29,7 +29,7 @@ use Rattle.node_sweep.specs.declared.transfer.Wish.TheVariants.{Collected}
 use Rattle.node_sweep.proofs.Carried.{known_at, square_slot}
 use Rattle.node_sweep.proofs.SameBlocks.{copy_none}
 use Rattle.node_sweep.proofs.Squares.{known_shows, shown_as}
-use Rattle.node_sweep.proofs.Transferred.{at_rest}
+use Rattle.node_sweep.proofs.Transferred.{IsTransferOf, at_rest}
 
 module _ (still now : Still) (wanted : ℕ → Type 0) (h : Collects (key_of still) (key_of now) (words_of still) wanted (items_of now)) where
   carried_square : (sq : Sq) → IsTrue ((book_in still).knows sq) → wanted sq.num.0 → HasTwinIn (book_in still) (book_in now) sq

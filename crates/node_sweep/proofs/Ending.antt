@@ -7,7 +7,7 @@ use Rattle.table_core.specs.Layout.{start, result_of}
 use Rattle.table_core.specs.Blocks.{Words, IsBlock, square_rank}
 use Rattle.table_core.specs.Good.{IsFutureOf, KeepsWords}
 use Rattle.table_core.proofs.Blocks.{one_rank}
-use Rattle.table_core.proofs.Claims.{same_or_other}
+use Rattle.table_core.proofs.Comparisons.{same_or_other}
 use Rattle.table_core.proofs.Ways.{not_head}
 use Rattle.node_sweep.specs.Copies.{IsLowBlock}
 use Rattle.node_sweep.specs.Ends.{AreEndsCopied, IsEndCopied, IsFinishedCopied, IsSmallCopied}

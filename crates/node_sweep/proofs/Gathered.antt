@@ -7,7 +7,7 @@ use Rattle.table_core.specs.declared.shape.Kind.TheVariants.{Pair}
 use Rattle.table_core.specs.Layout.{IsSlot}
 use Rattle.table_core.specs.Blocks.{Words, IsBlock, square_rank}
 use Rattle.table_core.specs.Good.{HasFuture, IsFutureOf, IsGood}
-use Rattle.table_core.proofs.Claims.{same_or_other}
+use Rattle.table_core.proofs.Comparisons.{same_or_other}
 use Rattle.table_core.proofs.Ways.{not_head}
 use Rattle.node_sweep.specs.Collects.{Collects, IsResultCopiedOrGone}
 use Rattle.node_sweep.specs.Copies.{IsCopy, IsCopyOf, IsWantedCopy}

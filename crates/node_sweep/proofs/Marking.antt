@@ -8,7 +8,7 @@ use Rattle.table_core.specs.Layout.{IsSlot, result_of, first_part, second_part, 
 use Rattle.table_core.specs.Blocks.{Words, IsBlock, square_rank}
 use Rattle.table_core.specs.Good.{HasFuture, IsFutureOf, IsGood}
 use Rattle.table_core.proofs.Blocks.{one_rank}
-use Rattle.table_core.proofs.Claims.{same_or_other}
+use Rattle.table_core.proofs.Comparisons.{same_or_other}
 use Rattle.table_core.proofs.Lists.{length_set}
 use Rattle.table_core.proofs.Ways.{not_head}
 use Rattle.node_sweep.specs.Copies.{IsLowBlock, IsSomeBlock}

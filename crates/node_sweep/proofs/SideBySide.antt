@@ -8,7 +8,7 @@ use Rattle.table_core.specs.declared.shape.Kind.TheVariants.{Leaf, Pair}
 use Rattle.table_core.specs.Layout.{IsSlot, start, way, first_part, second_part}
 use Rattle.table_core.specs.Blocks.{Words, IsBlock}
 use Rattle.table_core.specs.Good.{KeepsWords}
-use Rattle.table_core.proofs.Claims.{same_or_other}
+use Rattle.table_core.proofs.Comparisons.{same_or_other}
 use Rattle.table_core.proofs.Ways.{not_head}
 use Rattle.node_sweep.specs.Blocks.{pair_at, AreCopiedTo, AreFirstFound, ArePairedCopies, ArePairs, AreReady, AreWantedTo, AreWordsNeeded}
 use Rattle.node_sweep.specs.Copies.{IsCopy, IsWordOf}

@@ -7,7 +7,7 @@ use Rattle.table_core.specs.declared.shape.Kind.TheVariants.{Pair}
 use Rattle.table_core.specs.Layout.{IsSlot, start, result_of}
 use Rattle.table_core.specs.Blocks.{Words}
 use Rattle.table_core.specs.Good.{HasFuture, IsFutureOf, IsGood}
-use Rattle.table_core.proofs.Claims.{same_or_other}
+use Rattle.table_core.proofs.Comparisons.{same_or_other}
 use Rattle.node_sweep.specs.Keeping.{AreResultWords, IsCopiedResult, IsKeeping, IsResultWord}
 use Rattle.node_sweep.proofs.Futures.{gone_on, told_on}
 

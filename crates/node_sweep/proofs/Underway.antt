@@ -5,7 +5,7 @@ use Rattle.std.proofs.lemmas.List.{get_or-set_same}
 use Rattle.table_core.specs.declared.shape.Kind.{Kind}
 use Rattle.table_core.specs.Blocks.{Words, IsBlock}
 use Rattle.table_core.specs.Good.{KeepsWords}
-use Rattle.table_core.proofs.Claims.{same_or_other}
+use Rattle.table_core.proofs.Comparisons.{same_or_other}
 use Rattle.table_core.proofs.Lists.{length_set}
 use Rattle.node_sweep.specs.Copies.{IsCopy, IsLowBlock, IsWantedCopy}
 use Rattle.node_sweep.specs.Copying.{AreCopied}
@@ -25,7 +25,7 @@ module _ (transfer : Transfer) (fresh : Fresh) (underway : IsUnderway transfer f
   empty_noted number empty = record {
     made = empty_copy_of (old_bits transfer) (new_bits transfer) (old_words transfer) (fresh_words fresh) number empty;
     noted = ap (slice_index fresh.copies.items) empty
-        ∙ zero_noted transfer.from.now transfer.to (old_words transfer) (wants transfer) fresh.words.items fresh.copies.items transfer.good.good underway.copying;
+        ∙ zero_noted transfer.old.key.now transfer.to (old_words transfer) (wants transfer) fresh.words.items fresh.copies.items transfer.old.good.good underway.copying;
   }
 
   -- each block has a note
@@ -49,7 +49,7 @@ module _ (transfer : Transfer) (fresh : Fresh) (underway : IsUnderway transfer f
   pub copy_some : (number copy rank : ℕ) → IsCopyNoted transfer fresh number copy → IsBlock (old_bits transfer) (old_words transfer) rank number → number ≢ 0 →
       slice_index fresh.copies.items number ≢ 0
   copy_some number copy rank noted block some z =
-      some (copy_none transfer.from.now transfer.to (old_words transfer) (fresh_words fresh) transfer.good.good underway.copying.good.good rank number copy (noted.made.at_rank rank block) (sym noted.noted ∙ z))
+      some (copy_none transfer.old.key.now transfer.to (old_words transfer) (fresh_words fresh) transfer.old.good.good underway.copying.good.good rank number copy (noted.made.at_rank rank block) (sym noted.noted ∙ z))
 
   pub copy_there : (number copy rank : ℕ) → IsCopyNoted transfer fresh number copy → IsBlock (old_bits transfer) (old_words transfer) rank number →
       (number ≡ 0) ⊎ (slice_index fresh.copies.items number ≢ 0)
@@ -64,13 +64,13 @@ module _ (transfer : Transfer) (fresh : Fresh) (underway : IsUnderway transfer f
 
     inside : number < length fresh.copies.items
     inside =
-        let below = number_inside transfer.from.now transfer.to (old_words transfer) (wants transfer) fresh.words.items transfer.good.good underway.copying.good kind number word some needed in
+        let below = number_inside transfer.old.key.now transfer.to (old_words transfer) (wants transfer) fresh.words.items transfer.old.good.good underway.copying.good kind number word some needed in
         let long = underway.long in
         omega arith
 
     pub still_underway : IsUnderway transfer now
     still_underway = record {
-      copying = copying_still transfer.from.now transfer.to (old_words transfer) (wants transfer) fresh.words.items transfer.good.good underway.copying.good fresh.copies.items underway.copying
+      copying = copying_still transfer.old.key.now transfer.to (old_words transfer) (wants transfer) fresh.words.items transfer.old.good.good underway.copying.good fresh.copies.items underway.copying
           kind number word index now.words.items now.copies.items some inside wanted needed placed is;
       long = ap (λ (cs : List ℕ). length cs) is ∙ length_set fresh.copies.items number index ∙ underway.long;
     }
@@ -78,7 +78,7 @@ module _ (transfer : Transfer) (fresh : Fresh) (underway : IsUnderway transfer f
     pub now_noted : IsCopyNoted transfer now number index
     now_noted = record {
       made = copy_of_all (old_bits transfer) (new_bits transfer) (old_words transfer) (fresh_words now) (wants transfer) number index some
-          (copy_made transfer.from.now transfer.to (old_words transfer) (wants transfer) fresh.words.items transfer.good.good underway.copying.good fresh.copies.items underway.copying
+          (copy_made transfer.old.key.now transfer.to (old_words transfer) (wants transfer) fresh.words.items transfer.old.good.good underway.copying.good fresh.copies.items underway.copying
           kind number word index now.words.items now.copies.items some inside wanted needed placed is);
       noted = ap (λ (cs : List ℕ). slice_index cs number) is ∙ get_or-set_same fresh.copies.items number index 0 inside;
     }
@@ -87,7 +87,7 @@ module _ (transfer : Transfer) (fresh later : Fresh) (before : IsUnderway transf
   -- what has a copy keeps one
   pub noted_still : (n : ℕ) → slice_index fresh.copies.items n ≢ 0 → slice_index later.copies.items n ≢ 0
   noted_still n some =
-      let from = transfer.from.now in
+      let from = transfer.old.key.now in
       let to = transfer.to in
       let old = old_words transfer in
       let copy = slice_index fresh.copies.items n in
@@ -96,7 +96,7 @@ module _ (transfer : Transfer) (fresh later : Fresh) (before : IsUnderway transf
       let there = block_some to.shape.bits (fresh_words fresh) c.rank copy some c.shown.now in
       let m = after.copying.each kind.0 copy kind.1 (λ z. there (sym (keeps.kept copy there) ∙ z)) in
       let d : IsWantedCopy from.shape.bits to.shape.bits old (fresh_words later) (wants transfer) m.0 (slice_index later.copies.items m.0) = after.copying.copied m.0 (λ z. some (sym m.1 ∙ z)) in
-      let same : m.0 ≡ n = same_original from to old (fresh_words later) transfer.good.good after.copying.good.good d.rank c.rank m.0 n copy
+      let same : m.0 ≡ n = same_original from to old (fresh_words later) transfer.old.good.good after.copying.good.good d.rank c.rank m.0 n copy
       (subst (IsCopy from.shape.bits to.shape.bits old (fresh_words later) d.rank m.0) m.1 d.shown)
       (copy_later from.shape.bits to.shape.bits old (fresh_words fresh) (fresh_words later) c.rank n copy keeps c.shown) some in
       λ z. some (sym m.1 ∙ ap (slice_index later.copies.items) same ∙ z)

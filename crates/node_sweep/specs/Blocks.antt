@@ -2,10 +2,13 @@
 use Rattle.std.specs.Prelude.{◌≡◌, ◌≢◌, ℕ, ◌+◌, ◌<◌, ◌⊎◌, List, length, slice_index}
 use Rattle.table_core.specs.declared.shape.Kind.TheVariants.{Pair}
 use Rattle.table_core.specs.Layout.{start, way, first_part, second_part}
-use Rattle.node_sweep.specs.Orders.{IsPairAbove}
+use Rattle.node_sweep.specs.Orders.{AreRanked, HavePartsBefore, IsPairAbove}
 use Rattle.node_sweep.specs.Ranks.{IsPart}
 use Rattle.node_sweep.specs.Transfers.{IsWordNeeded, new_bits, old_bits, old_words, wants}
+use Rattle.node_sweep.specs.declared.order.Order.{Order}
+use Rattle.node_sweep.specs.declared.transfer.Fresh.{Fresh}
 use Rattle.node_sweep.specs.declared.transfer.Transfer.{Transfer}
+use Rattle.table_core.specs.declared.rank.TheConstants.{LARGEST_RANK}
 
 -- the number of the pair at a place
 abbrev pub pair_at : Transfer → List ℕ → ℕ → ℕ
@@ -41,3 +44,25 @@ pub record AreCopiedTo (transfer : Transfer) (slots copies : List ℕ) (end : �
 -- and is wanted
 pub record AreWantedTo (transfer : Transfer) (slots : List ℕ) (end : ℕ) : Type 0 where
   pub wanted : (place : ℕ) → place < end → wants transfer (pair_at transfer slots place)
+
+-- each of these pairs has a copy
+abbrev pub HaveCopies : Transfer → List ℕ → Fresh → Type 0
+HaveCopies transfer slots fresh = AreCopiedTo transfer slots fresh.copies.items (length slots)
+
+-- ---- pairs in an order
+
+-- pairs of the old words, rank by rank
+abbrev pub IsRankOrder : Transfer → Order → Type 0
+IsRankOrder transfer order = AreRanked (old_bits transfer) (old_words transfer) order.slots.items order.ends
+
+-- each part of them is 0, has a copy, or stands among pairs of a lower rank
+abbrev pub HasPartsBefore : Transfer → Order → Fresh → Type 0
+HasPartsBefore transfer order fresh = HavePartsBefore (old_bits transfer) (old_words transfer) order.slots.items order.ends fresh.copies.items
+
+-- all of them are wanted
+abbrev pub IsOrderWanted : Transfer → Order → Type 0
+IsOrderWanted transfer order = AreWantedTo transfer order.slots.items (slice_index order.ends LARGEST_RANK)
+
+-- those up to this rank have copies
+abbrev pub AreCopiedUpTo : Transfer → Order → Fresh → ℕ → Type 0
+AreCopiedUpTo transfer order fresh rank = AreCopiedTo transfer order.slots.items fresh.copies.items (slice_index order.ends rank)

@@ -6,8 +6,10 @@ pub mod Copying
 pub mod Ends
 pub mod EnlargedStills
 pub mod Enlarges
+pub mod Filled
 pub mod Keeping
 pub mod Marks
+pub mod OldWords
 pub mod Orders
 pub mod Placing
 pub mod Ranks

@@ -1,13 +1,15 @@
 -- Marks of the numbers that a collection copies.
-use Rattle.std.specs.Prelude.{◌≡◌, ◌≢◌, ℕ, ◌+◌, ◌-◌, ◌<◌, ◌≤◌, ◌⊎◌, List, length, slice_index}
+use Rattle.std.specs.Prelude.{◌≡◌, ◌≢◌, ℕ, ◌+◌, ◌-◌, ◌^◌, ◌<◌, ◌≤◌, ◌⊎◌, List, length, slice_index}
 use Rattle.table_core.specs.declared.shape.Kind.TheVariants.{Pair}
 use Rattle.table_core.specs.Layout.{IsSlot, start}
 use Rattle.table_core.specs.Blocks.{Words, IsBlock}
 use Rattle.node_sweep.specs.Copies.{IsLowBlock, IsSomeBlock}
-use Rattle.node_sweep.specs.Ends.{IsEndCopied}
+use Rattle.node_sweep.specs.Ends.{IsEndCopied, IsFinishedCopied, IsFinishedFrom, IsSmallCopied, IsUnfinished}
 use Rattle.node_sweep.specs.Orders.{IsOrderOf}
 use Rattle.node_sweep.specs.Ranks.{IsPart}
 use Rattle.node_sweep.specs.Transfers.{number_count, old_bits, old_words, wants}
+use Rattle.node_sweep.specs.declared.collecting.Kept.{Kept}
+use Rattle.node_sweep.specs.declared.transfer.Ends.{Ends}
 use Rattle.node_sweep.specs.declared.transfer.Transfer.{Transfer}
 
 -- the number has a mark
@@ -64,3 +66,42 @@ pub record AreKept (transfer : Transfer) (root low high : ℕ) (marks slots ends
   pub root_marked : IsMarked marks root
   pub visited : AreVisited (old_bits transfer) (old_words transfer) low high marks 0
   pub order : IsOrderOf (old_bits transfer) (old_words transfer) (IsMarked marks) slots ends
+
+-- ---- marks of a transfer
+
+-- the result of a pair of this rank, which is large
+abbrev pub IsLargeResult : Transfer → Ends → (rank pair future : ℕ) → Type 0
+IsLargeResult transfer ends rank pair future = IsFinishedFrom (old_bits transfer) (old_words transfer) ends.high rank pair future
+
+-- the pair isn't large or has no result
+abbrev pub HasNoLargeResult : Transfer → Ends → ℕ → Type 0
+HasNoLargeResult transfer ends pair = IsUnfinished (old_bits transfer) (old_words transfer) ends.high pair
+
+-- the pair has a mark, if it is small
+abbrev pub IsMarkedIfSmall : Transfer → Ends → List ℕ → ℕ → Type 0
+IsMarkedIfSmall transfer ends marks pair = IsSmallCopied (old_bits transfer) (old_words transfer) ends.low marks pair
+
+-- the pair and its result have marks, if it is large and has one
+abbrev pub IsMarkedIfFinished : Transfer → Ends → List ℕ → ℕ → Type 0
+IsMarkedIfFinished transfer ends marks pair = IsFinishedCopied (old_bits transfer) (old_words transfer) ends.high marks pair
+
+-- no mark is gone; a new one is that of the pair of this rank or of a block of a lower one
+abbrev pub MarksAtMost : Transfer → (rank pair : ℕ) → (old new : List ℕ) → Type 0
+MarksAtMost transfer rank pair old new = GetsMarks (old_bits transfer) (old_words transfer) rank pair old new
+
+-- the pair was visited
+abbrev pub IsPairVisited : Transfer → Ends → List ℕ → ℕ → Type 0
+IsPairVisited transfer ends marks pair = IsVisited (old_bits transfer) (old_words transfer) ends.low ends.high marks pair
+
+-- each pair above this rank was visited
+abbrev pub ArePairsVisited : Transfer → Ends → List ℕ → ℕ → Type 0
+ArePairsVisited transfer ends marks rank = AreVisited (old_bits transfer) (old_words transfer) ends.low ends.high marks rank
+
+-- of all ranks only those of marked pairs are left
+abbrev pub KeepsMarkedRanks : Transfer → List ℕ → (old new : List ℕ) → Type 0
+KeepsMarkedRanks transfer marks old new = KeepsMarked (old_bits transfer) marks old new (2 ^ old_bits transfer)
+
+-- what is wanted has marks, and its pairs stand in order
+abbrev pub KeepsWanted : Transfer → Ends → Kept → Type 0
+KeepsWanted transfer ends kept =
+    AreKept transfer ends.root ends.low ends.high kept.marks.items kept.order.slots.items kept.order.ends

@@ -10,6 +10,7 @@ use Rattle.node_table.specs.Stills.{key_of, items_of, words_of, book_in}
 use Rattle.node_sweep.specs.Reaching.{Reaches, ReachesFew}
 use Rattle.node_sweep.specs.Copies.{HasNoRoom}
 use Rattle.node_sweep.specs.Sweeps.{Sweeps}
+use Rattle.node_sweep.specs.declared.transfer.OldWords.{OldWords}
 use Rattle.node_sweep.specs.declared.transfer.Transfer.{Transfer}
 use Rattle.node_sweep.specs.declared.transfer.Wish.{Wish}
 
@@ -19,12 +20,17 @@ pub record IsResized (from to : Key) (pairs : ℕ) : Type 0 where
   pub rule : to.rule ≡ from.rule
   pub exponent : to.exponent ≡ from.exponent
 
+-- the words of a closed table
+pub record AreWordsOf (still : Still) (old : OldWords) : Type 0 where
+  pub key : old.key.now ≡ key_of still
+  pub words : old.words.now ≡ items_of still
+
 -- out of these words, what is wished, into words of so many pair slots
-pub record IsTransferOf (still : Still) (wish : Wish) (pairs : ℕ) (transfer : Transfer) : Type 0 where
-  pub from : transfer.from.now ≡ key_of still
-  pub old : transfer.old.now ≡ items_of still
+pub record IsTransferFrom (old : OldWords) (wish : Wish) (pairs : ℕ) (transfer : Transfer) : Type 0 where
+  pub key : transfer.old.key.now ≡ old.key.now
+  pub words : transfer.old.words.now ≡ old.words.now
   pub wanted : transfer.wish ≡ wish
-  pub resized : IsResized (key_of still) transfer.to pairs
+  pub resized : IsResized old.key.now transfer.to pairs
 
 -- fresh words under the old rule and exponent, with what the root reaches and nothing else; the new root has the old
 -- one's level and cells

@@ -1,27 +1,27 @@
 -- What is copied into fresh words, while it is copied.
 use Rattle.std.specs.Prelude.{◌≡◌, ℕ, ◌+◌, ◌^◌, List, length, slice_index}
 use Rattle.plane.specs.declared.refusal.Refusal.{Refusal}
-use Rattle.plane.specs.declared.refusal.Refusal.TheVariants.{NodesFull}
 use Rattle.table_core.specs.declared.shape.Kind.{Kind}
 use Rattle.table_core.specs.declared.shape.Kind.TheVariants.{Pair}
 use Rattle.table_core.specs.Layout.{IsSlot, start}
 use Rattle.table_core.specs.Blocks.{Words, IsBlock}
-use Rattle.node_sweep.specs.Copies.{HasNoRoom, IsCopyOf, IsWordOf}
-use Rattle.node_sweep.specs.Copying.{IsCopying}
-use Rattle.node_sweep.specs.Keeping.{IsKeeping}
+use Rattle.node_sweep.specs.Copies.{HasNoRoom, IsCopyOf, IsWordOf, SaysFull}
+use Rattle.node_sweep.specs.Copying.{AreCopied, IsCopying}
+use Rattle.node_sweep.specs.Keeping.{AreResultWords, IsKeeping}
+use Rattle.node_sweep.specs.OldWords.{bits_in, words_in}
 use Rattle.node_sweep.specs.Reaching.{IsWanted}
 use Rattle.node_sweep.specs.declared.transfer.Fresh.{Fresh}
 use Rattle.node_sweep.specs.declared.transfer.Transfer.{Transfer}
 
 abbrev pub old_words : Transfer → Words
-old_words transfer = slice_index transfer.old.now
+old_words transfer = words_in transfer.old
 
 abbrev pub fresh_words : Fresh → Words
 fresh_words fresh = slice_index fresh.words.items
 
 -- the sizes of both tables, as powers of two
 abbrev pub old_bits : Transfer → ℕ
-old_bits transfer = transfer.from.now.shape.bits
+old_bits transfer = bits_in transfer.old
 
 abbrev pub new_bits : Transfer → ℕ
 new_bits transfer = transfer.to.shape.bits
@@ -36,12 +36,28 @@ wants transfer = IsWanted (old_bits transfer) (old_words transfer) transfer.wish
 
 -- the fresh words hold the copies that are noted, and nothing else; there is a note for each old leaf and pair
 pub record IsUnderway (transfer : Transfer) (fresh : Fresh) : Type 0 where
-  pub copying : IsCopying transfer.from.now transfer.to (old_words transfer) (wants transfer) fresh.words.items fresh.copies.items
+  pub copying : IsCopying transfer.old.key.now transfer.to (old_words transfer) (wants transfer) fresh.words.items fresh.copies.items
   pub long : length fresh.copies.items ≡ number_count transfer
 
 -- all is copied, and the results of so many pairs were gone through
 abbrev pub AreResultsKept : Transfer → List ℕ → List ℕ → ℕ → Type 0
-AreResultsKept transfer copies new done = IsKeeping transfer.from.now transfer.to (old_words transfer) (wants transfer) copies new done
+AreResultsKept transfer copies new done = IsKeeping transfer.old.key.now transfer.to (old_words transfer) (wants transfer) copies new done
+
+-- all is copied, and all results were gone through
+abbrev pub AreAllResultsKept : Transfer → List ℕ → List ℕ → Type 0
+AreAllResultsKept transfer copies new = AreResultsKept transfer copies new (2 ^ old_bits transfer)
+
+-- the words to stand beside the copies of the 64 pairs from this slot on
+abbrev pub AreNextResultWords : Transfer → List ℕ → List ℕ → ℕ → Type 0
+AreNextResultWords transfer copies told from = AreResultWords (old_bits transfer) (old_words transfer) copies told from 64
+
+-- each leaf has a copy
+abbrev pub AreLeavesCopied : Transfer → Fresh → Type 0
+AreLeavesCopied transfer fresh = AreCopied (old_words transfer) fresh.copies.items (start (old_bits transfer) Pair)
+
+-- each leaf that has a mark has a copy
+abbrev pub AreMarkedLeavesCopied : Transfer → List ℕ → Fresh → Type 0
+AreMarkedLeavesCopied transfer marks fresh = AreCopied (slice_index marks) fresh.copies.items (start (old_bits transfer) Pair)
 
 -- the number shows a pair of this rank in the old words
 pub record IsOldPair (transfer : Transfer) (rank pair : ℕ) : Type 0 where
@@ -63,8 +79,8 @@ pub record IsCopyNoted (transfer : Transfer) (fresh : Fresh) (number copy : ℕ)
 
 -- copies of some that are wanted leave no room for another one
 abbrev pub HasNoRoomLeft : Transfer → Type 0
-HasNoRoomLeft transfer = HasNoRoom transfer.from.now transfer.to (old_words transfer) (wants transfer)
+HasNoRoomLeft transfer = HasNoRoom transfer.old.key.now transfer.to (old_words transfer) (wants transfer)
 
 -- the refusal is a full table, and there is no room left
 abbrev pub SaysNoRoom : Transfer → Refusal → Type 0
-SaysNoRoom transfer refusal = (refusal ≡ NodesFull) × HasNoRoomLeft transfer
+SaysNoRoom transfer = SaysFull (HasNoRoomLeft transfer)

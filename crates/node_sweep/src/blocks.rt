@@ -1,8 +1,7 @@
 //! Pairs copied in the order of their ranks, block by block.
 
-ghost use Rattle.std.specs.Prelude.{◌≡◌, ◌<◌, ◌≤◌, ◌+◌, IfOk, IfErr, length, slice_index};
+ghost use Rattle.std.specs.Prelude.{◌≡◌, ◌<◌, ◌≤◌, ◌+◌, IfErr, OnOk, length};
 ghost use Rattle.table_core.specs.Good.{AreGoodWords, KeepsWords};
-ghost use Rattle.node_sweep.specs.Orders.{AreRanked, HavePartsBefore};
 ghost use Rattle.node_sweep.specs.Placing.{AreTried};
 
 use crate::order::Order;
@@ -14,17 +13,18 @@ use table_core::{Kind, LARGEST_RANK, pair_word, parts};
 const BLOCK_LEN: usize = 64;
 
 // How many places of a word's way need no second look, where this was found at the first.
-fn tried(found: u64, word: u64) -> u32
+fn places_tried(found: u64, word: u64) -> u32
     ensures { AreTried found word result }
 {
     if found != 0 && found != word { 1 } else { 0 }
 }
 
 impl Transfer<'_> {
-    ghost use Rattle.node_sweep.specs.Blocks.{AreCopiedTo, AreFirstFound, ArePairedCopies, ArePairs, AreReady, AreWantedTo, AreWordsNeeded};
-    ghost use Rattle.node_sweep.specs.Transfers.{IsUnderway, SaysNoRoom, fresh_words, new_bits, number_count, old_bits, old_words};
+    ghost use Rattle.node_sweep.specs.Blocks.{AreCopiedUpTo, AreFirstFound, ArePairedCopies, ArePairs, AreReady, AreWantedTo, AreWordsNeeded, HasPartsBefore, HaveCopies, IsOrderWanted, IsRankOrder};
+    ghost use Rattle.node_sweep.specs.Transfers.{IsUnderway, SaysNoRoom, fresh_words, number_count};
 
-    // The copies of both parts of each of these pairs, which have the rank above this one, as words.
+    // The copies of both parts of each of these pairs, as words. The pairs have the rank above this
+    // one.
     fn paired_copies(&self, copies: &[u32], slots: &[u32], below: u8, words: &mut [u64])
         requires copies { length copies.now ≡ number_count self.now }
         requires room { length slots.now ≤ length words.old }
@@ -32,8 +32,8 @@ impl Transfer<'_> {
         ensures { ArePairedCopies self.now copies.now slots.now words.new (length slots.now) }
     {
         for i in 0..slots.len() {
-            let pair = self.from.shape.index(Kind::Pair, slots[i]);
-            let (first, second) = parts(self.old.word(pair as usize));
+            let pair = self.old.key.shape.index(Kind::Pair, slots[i]);
+            let (first, second) = parts(self.old.words.word(pair as usize));
             words[i] = pair_word(copies[first as usize], copies[second as usize]);
         }
     }
@@ -63,15 +63,16 @@ impl Transfer<'_> {
         requires room { length words.now ≤ length found.now }
         requires wanted { AreWantedTo self.now slots.now (length slots.now) }
         requires needed { AreWordsNeeded self.now fresh.old.words.items slots.now words.now }
-        requires found { AreFirstFound self.now fresh.old.words.items words.now found.now (length slots.now) }
+        requires found { AreFirstFound self.now fresh.old.words.items words.now found.now
+            (length slots.now) }
         ensures underway { IsUnderway self.now fresh.new }
         ensures keeps { KeepsWords (fresh_words fresh.old) (fresh_words fresh.new) }
-        ensures copied { IfOk result (λ done. AreCopiedTo self.now slots.now fresh.new.copies.items (length slots.now)) }
+        ensures copied { OnOk result (HaveCopies self.now slots.now fresh.new) }
         ensures full { IfErr result (SaysNoRoom self.now) }
     {
         for i in 0..slots.len() {
-            let pair = self.from.shape.index(Kind::Pair, slots[i]);
-            let tried = tried(found[i], words[i]);
+            let pair = self.old.key.shape.index(Kind::Pair, slots[i]);
+            let tried = places_tried(found[i], words[i]);
             self.note(fresh, pair, Kind::Pair, words[i], tried)?;
         }
         Ok(())
@@ -84,7 +85,7 @@ impl Transfer<'_> {
         requires ready { AreReady self.now fresh.old.copies.items below slots.now }
         ensures underway { IsUnderway self.now fresh.new }
         ensures keeps { KeepsWords (fresh_words fresh.old) (fresh_words fresh.new) }
-        ensures copied { IfOk result (λ done. AreCopiedTo self.now slots.now fresh.new.copies.items (length slots.now)) }
+        ensures copied { OnOk result (HaveCopies self.now slots.now fresh.new) }
         ensures full { IfErr result (SaysNoRoom self.now) }
     {
         let mut words = [0u64; BLOCK_LEN];
@@ -97,14 +98,14 @@ impl Transfer<'_> {
     // Copies the pairs of the rank above this one.
     fn copy_rank(&self, fresh: &mut Fresh, order: &Order, below: u8) -> Result<(), Refusal>
         requires underway { IsUnderway self.now fresh.old }
-        requires order { AreRanked (old_bits self.now) (old_words self.now) order.now.slots.items order.now.ends }
-        requires before { HavePartsBefore (old_bits self.now) (old_words self.now) order.now.slots.items order.now.ends fresh.old.copies.items }
-        requires wanted { AreWantedTo self.now order.now.slots.items (slice_index order.now.ends LARGEST_RANK) }
-        requires done { AreCopiedTo self.now order.now.slots.items fresh.old.copies.items (slice_index order.now.ends below) }
+        requires order { IsRankOrder self.now order.now }
+        requires before { HasPartsBefore self.now order.now fresh.old }
+        requires wanted { IsOrderWanted self.now order.now }
+        requires done { AreCopiedUpTo self.now order.now fresh.old below }
         requires low { below < LARGEST_RANK }
         ensures underway { IsUnderway self.now fresh.new }
         ensures keeps { KeepsWords (fresh_words fresh.old) (fresh_words fresh.new) }
-        ensures copied { IfOk result (λ done. AreCopiedTo self.now order.now.slots.items fresh.new.copies.items (slice_index order.now.ends (below + 1))) }
+        ensures copied { OnOk result (AreCopiedUpTo self.now order.now fresh.new (below + 1)) }
         ensures full { IfErr result (SaysNoRoom self.now) }
     {
         let slots = order.slots.as_slice();
@@ -121,12 +122,12 @@ impl Transfer<'_> {
     /// Copies pairs rank by rank, each after its parts.
     pub(crate) fn copy_ranks(&self, fresh: &mut Fresh, order: &Order) -> Result<(), Refusal>
         requires underway { IsUnderway self.now fresh.old }
-        requires order { AreRanked (old_bits self.now) (old_words self.now) order.now.slots.items order.now.ends }
-        requires before { HavePartsBefore (old_bits self.now) (old_words self.now) order.now.slots.items order.now.ends fresh.old.copies.items }
-        requires wanted { AreWantedTo self.now order.now.slots.items (slice_index order.now.ends LARGEST_RANK) }
+        requires order { IsRankOrder self.now order.now }
+        requires before { HasPartsBefore self.now order.now fresh.old }
+        requires wanted { IsOrderWanted self.now order.now }
         ensures underway { IsUnderway self.now fresh.new }
         ensures keeps { KeepsWords (fresh_words fresh.old) (fresh_words fresh.new) }
-        ensures copied { IfOk result (λ done. AreCopiedTo self.now order.now.slots.items fresh.new.copies.items (slice_index order.now.ends LARGEST_RANK)) }
+        ensures copied { OnOk result (AreCopiedUpTo self.now order.now fresh.new LARGEST_RANK) }
         ensures full { IfErr result (SaysNoRoom self.now) }
     {
         for below in 0..LARGEST_RANK {

@@ -2,7 +2,7 @@
 
 ghost use Rattle.std.specs.Prelude.{◌≡◌, ◌^◌, length};
 
-use crate::transfer::{Ends, Transfer};
+use crate::transfer::{Ends, OldWords};
 use table_core::{Kind, LARGEST_RANK};
 
 // Small squares take at most one pair slot in this many.
@@ -11,8 +11,8 @@ const SMALL_SHARE: u32 = 4;
 // Large squares that have results take at most one pair slot in this many.
 const LARGE_SHARE: u32 = 128;
 
-// No small square is kept where pairs of leaves take more than one pair slot in this many: their leaves
-// would leave too few leaf slots for others.
+// No small square is kept where pairs of leaves take more than one pair slot in this many: their
+// leaves would leave too few leaf slots for others.
 const LEAVES_SHARE: u32 = 16;
 
 /// How many pairs of each rank there are, and how many of them have results.
@@ -22,27 +22,28 @@ pub(crate) struct Census {
     results: [u32; 256],
 }
 
-/// How many squares of each size had results when words were collected, and from which size on all of these were kept.
+/// How many squares of each size had results when words were collected, and from which size on all
+/// of these were kept.
 #[derive(Clone, Copy)]
 pub struct Finished {
     results: [u32; 256],
     high: u8,
 }
 
-impl Transfer<'_> {
-    ghost use Rattle.node_sweep.specs.Transfers.{old_bits};
+impl OldWords<'_> {
+    ghost use Rattle.node_sweep.specs.OldWords.{bits_in};
 
     // Counts the pairs of which these are the ranks.
     pub(crate) fn census(&self, ranks: &[u8]) -> Census
-        requires { length ranks.now ≡ 2 ^ old_bits self.now }
+        requires { length ranks.now ≡ 2 ^ bits_in self.now }
     {
         let mut pairs = [0u32; 256];
         let mut results = [0u32; 256];
-        for slot in 0..self.from.shape.slot_count(Kind::Pair) {
+        for slot in 0..self.key.shape.slot_count(Kind::Pair) {
             let rank = ranks[slot as usize] as usize;
             pairs[rank] = pairs[rank].saturating_add(1);
-            let pair = self.from.shape.index(Kind::Pair, slot);
-            if self.old.word(self.from.shape.result_index(pair) as usize) != 0 {
+            let pair = self.key.shape.index(Kind::Pair, slot);
+            if self.result_beside(pair) != 0 {
                 results[rank] = results[rank].saturating_add(1);
             }
         }
@@ -89,7 +90,7 @@ impl Census {
     }
 
     // What was finished before a collection that keeps these.
-    pub(crate) fn finished(self, ends: Ends) -> Finished {
+    pub(crate) fn into_finished(self, ends: Ends) -> Finished {
         let results = self.results;
         Finished {
             results,
@@ -99,8 +100,8 @@ impl Census {
 }
 
 impl Finished {
-    /// Whether more large squares are finished than before an earlier collection, of those that it kept all of:
-    /// by one in 32 at least.
+    /// Whether more large squares are finished than before an earlier collection, of those that it
+    /// kept all of: by one in 32 at least.
     pub fn is_beyond(&self, earlier: &Finished) -> bool {
         let before = earlier.results_from(earlier.high);
         self.results_from(earlier.high) > before.saturating_add(before / 32)

@@ -1,13 +1,14 @@
 //! Small squares, and large ones that have results, copied beside what the root reaches.
 
-ghost use Rattle.std.specs.Prelude.{◌≡◌, ◌≢◌, ◌⊎◌, ◌^◌, IfOk, IfErr, IsOkUnless, OnOk, length, slice_index};
+ghost use Rattle.std.specs.Prelude.{◌≡◌, IfOk, IfErr, OnOk};
+ghost use Rattle.squares.specs.Book.{LacksMemoryOr};
 ghost use Rattle.table_core.specs.Blocks.{IsBlock};
-ghost use Rattle.node_sweep.specs.Ranks.{AreAllRanks};
+ghost use Rattle.node_sweep.specs.OldWords.{AreRanksOf};
 
 use crate::order::Order;
 use crate::transfer::{Ends, Fresh, Transfer, Wish};
 use plane::Refusal;
-use std::alloc::Global;
+use std::alloc::{AllocError, Global};
 
 // What a collection keeps: a mark for each number of it, and its pairs in the order of their ranks.
 #[derive(Drop)]
@@ -17,20 +18,22 @@ struct Kept {
 }
 
 impl Transfer<'_> {
-    ghost use Rattle.node_sweep.specs.Collects.{Collects};
-    ghost use Rattle.node_sweep.specs.Ends.{AreEndsCopied};
-    ghost use Rattle.node_sweep.specs.Marks.{AreKept};
-    ghost use Rattle.node_sweep.specs.Reaching.{IsCollected};
+    ghost use Rattle.node_sweep.specs.Filled.{AreAllEndsCopied, CollectsInto, IsRootCopied};
+    ghost use Rattle.node_sweep.specs.Marks.{KeepsWanted};
     ghost use Rattle.node_sweep.specs.Transfers.{IsCopyMade, IsUnderway, SaysNoRoom, old_bits, old_words};
 
     // Marks what is wanted, and orders the pairs of it.
-    fn kept(&self, alloc: Global, ends: Ends, ranks: Vec<u8>, rank: u8) -> Result<Kept, Refusal>
+    fn mark_and_order(
+        &self,
+        alloc: Global,
+        ends: Ends,
+        ranks: Vec<u8>,
+        rank: u8,
+    ) -> Result<Kept, AllocError>
         requires wish { self.now.wish ≡ Wish.Collected ends }
-        requires ranks { AreAllRanks (old_bits self.now) (old_words self.now) ranks.items (2 ^ old_bits self.now) }
-        requires each { length ranks.items ≡ 2 ^ old_bits self.now }
+        requires ranks { AreRanksOf self.now.old ranks.items }
         requires block { IsBlock (old_bits self.now) (old_words self.now) rank ends.root }
-        ensures ok { IfOk result (λ kept. AreKept self.now ends.root ends.low ends.high kept.marks.items kept.order.slots.items kept.order.ends) }
-        ensures memory { IsOkUnless result Refusal.NoMemory }
+        ensures { IfOk result (KeepsWanted self.now ends) }
     {
         let mut ranks = ranks;
         let all = Order::of_ranks(alloc, ranks.as_slice())?;
@@ -44,10 +47,10 @@ impl Transfer<'_> {
     // Copies what is kept. The marks are dropped before the pairs are copied.
     fn copy_kept(&self, fresh: &mut Fresh, ends: Ends, kept: Kept) -> Result<(), Refusal>
         requires underway { IsUnderway self.now fresh.old }
-        requires kept { AreKept self.now ends.root ends.low ends.high kept.marks.items kept.order.slots.items kept.order.ends }
+        requires kept { KeepsWanted self.now ends kept }
         ensures underway { IsUnderway self.now fresh.new }
-        ensures root { OnOk result ((ends.root ≡ 0) ⊎ (slice_index fresh.new.copies.items ends.root ≢ 0)) }
-        ensures ends { OnOk result (AreEndsCopied (old_bits self.now) (old_words self.now) ends.low ends.high fresh.new.copies.items (2 ^ old_bits self.now)) }
+        ensures root { OnOk result (IsRootCopied ends fresh.new) }
+        ensures ends { OnOk result (AreAllEndsCopied self.now ends fresh.new) }
         ensures full { IfErr result (SaysNoRoom self.now) }
     {
         let Kept { marks, order } = kept;
@@ -57,8 +60,9 @@ impl Transfer<'_> {
         Ok(())
     }
 
-    // Fresh words with what is collected, and the number of the copy of the root, which has this rank.
-    pub(crate) fn collected(
+    // Fresh words with what is collected, and the number of the copy of the root, which has this
+    // rank.
+    pub(crate) fn collect(
         &self,
         alloc: Global,
         ends: Ends,
@@ -66,19 +70,17 @@ impl Transfer<'_> {
         rank: u8,
     ) -> Result<(Vec<u64>, u32), Refusal>
         requires wish { self.now.wish ≡ Wish.Collected ends }
-        requires ranks { AreAllRanks (old_bits self.now) (old_words self.now) ranks.items (2 ^ old_bits self.now) }
-        requires each { length ranks.items ≡ 2 ^ old_bits self.now }
+        requires ranks { AreRanksOf self.now.old ranks.items }
         requires block { IsBlock (old_bits self.now) (old_words self.now) rank ends.root }
-        ensures ok { IfOk result (λ made. Collects self.now.from.now self.now.to (old_words self.now) (IsCollected (old_bits self.now) (old_words self.now) ends.root ends.low ends.high) made.0.items) }
+        ensures ok { IfOk result (λ made. CollectsInto self.now ends made.0.items) }
         ensures root { IfOk result (λ made. IsCopyMade self.now made.0.items ends.root made.1) }
-        ensures refusal { IfErr result (λ refusal. (refusal ≡ Refusal.NoMemory) ⊎ SaysNoRoom self.now refusal) }
+        ensures refusal { IfErr result (LacksMemoryOr (SaysNoRoom self.now)) }
     {
-        let kept = self.kept(alloc, ends, ranks, rank)?;
+        let kept = self.mark_and_order(alloc, ends, ranks, rank)?;
         let mut fresh = self.begin(alloc)?;
         self.copy_kept(&mut fresh, ends, kept)?;
-        let root = ends.root;
-        let number = fresh.copies[root as usize];
-        let words = self.with_results(fresh);
+        let number = fresh.copies[ends.root as usize];
+        let Fresh { words, .. } = self.with_results(fresh);
         Ok((words, number))
     }
 }

@@ -56,8 +56,8 @@ impl Transfer<'_> {
         if done != 0 {
             return Ok(done);
         }
-        let word = self.old.word(number as usize);
-        if number < self.from.shape.index(Kind::Pair, 0) {
+        let word = self.old.words.word(number as usize);
+        if number < self.old.key.shape.index(Kind::Pair, 0) {
             return self.note(fresh, number, Kind::Leaf, word, 0);
         }
         let (first, second) = parts(word);

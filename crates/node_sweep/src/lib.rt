@@ -1,5 +1,6 @@
-//! Squares copied into fresh words: a copying garbage collection. A sweep keeps what one square reaches, a
-//! collection keeps small squares and finished large ones too, and enlarging keeps all that there is.
+//! Squares copied into fresh words: a copying garbage collection. A sweep keeps what one square
+//! reaches, a collection keeps small squares and finished large ones too, and enlarging keeps all
+//! that there is.
 #![tactic(auto)]
 
 mod blocks;
@@ -17,4 +18,4 @@ mod stills;
 mod transfer;
 
 pub use census::Finished;
-pub use stills::{Collected, collect, enlarge, sweep};
+pub use stills::{Collected, collect, enlarge, enlarge_still, sweep};

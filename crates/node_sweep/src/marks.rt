@@ -1,16 +1,13 @@
 //! Marks of the numbers that a collection copies.
 
-ghost use Rattle.std.specs.Prelude.{◌≡◌, ◌<◌, ◌+◌, ◌^◌, IfOk, IfSome, IfNone, IsOkUnless, length};
+ghost use Rattle.std.specs.Prelude.{◌≡◌, ◌<◌, ◌+◌, ◌^◌, IfOk, IfSome, IfNone, length};
 ghost use Rattle.node_sweep.specs.Copies.{IsSomeBlock};
-ghost use Rattle.node_sweep.specs.Ends.{IsFinishedCopied, IsFinishedFrom, IsSmallCopied, IsUnfinished};
 ghost use Rattle.node_sweep.specs.Marks.{IsMarkSet};
-ghost use Rattle.node_sweep.specs.Orders.{IsOrderOf};
-ghost use Rattle.node_sweep.specs.Reaching.{IsAny};
+ghost use Rattle.node_sweep.specs.OldWords.{IsOrderOfAll};
 
 use crate::order::Order;
 use crate::transfer::{Ends, Transfer, Wish};
-use plane::Refusal;
-use std::alloc::Global;
+use std::alloc::{AllocError, Global};
 use table_core::{Kind, LARGEST_RANK, parts};
 
 // Marks a number.
@@ -22,19 +19,19 @@ fn mark(marks: &mut [u8], number: u32)
 }
 
 impl Transfer<'_> {
-    ghost use Rattle.node_sweep.specs.Marks.{AreMarks, ArePartsMarked, AreVisited, GetsMarks, IsMarked, IsVisited, KeepsMarked, KeepsMarks};
+    ghost use Rattle.node_sweep.specs.Marks.{AreMarks, ArePairsVisited, ArePartsMarked, HasNoLargeResult, IsLargeResult, IsMarked, IsMarkedIfFinished, IsMarkedIfSmall, IsPairVisited, KeepsMarkedRanks, KeepsMarks, MarksAtMost};
     ghost use Rattle.node_sweep.specs.Transfers.{IsOldPair, number_count, old_bits, old_words};
 
     // The result of a pair of this rank, if it is large and has one.
-    fn finished(&self, ends: Ends, pair: u32, rank: u8) -> Option<u32>
+    fn large_result(&self, ends: Ends, pair: u32, rank: u8) -> Option<u32>
         requires { IsOldPair self.now rank pair }
-        ensures some { IfSome result (IsFinishedFrom (old_bits self.now) (old_words self.now) ends.high rank pair) }
-        ensures none { IfNone result (IsUnfinished (old_bits self.now) (old_words self.now) ends.high pair) }
+        ensures some { IfSome result (IsLargeResult self.now ends rank pair) }
+        ensures none { IfNone result (HasNoLargeResult self.now ends pair) }
     {
         if rank < ends.high {
             return None;
         }
-        let result = self.old.word(self.from.shape.result_index(pair) as usize);
+        let result = self.old.result_beside(pair);
         if result == 0 {
             return None;
         }
@@ -48,8 +45,8 @@ impl Transfer<'_> {
         requires marks { AreMarks self.now marks.old }
         requires pair { IsOldPair self.now rank pair }
         ensures marks { AreMarks self.now marks.new }
-        ensures small { IsSmallCopied (old_bits self.now) (old_words self.now) ends.low marks.new pair }
-        ensures gets { GetsMarks (old_bits self.now) (old_words self.now) rank pair marks.old marks.new }
+        ensures small { IsMarkedIfSmall self.now ends marks.new pair }
+        ensures gets { MarksAtMost self.now rank pair marks.old marks.new }
     {
         if rank > ends.low {
             return;
@@ -63,10 +60,10 @@ impl Transfer<'_> {
         requires marks { AreMarks self.now marks.old }
         requires pair { IsOldPair self.now rank pair }
         ensures marks { AreMarks self.now marks.new }
-        ensures finished { IsFinishedCopied (old_bits self.now) (old_words self.now) ends.high marks.new pair }
-        ensures gets { GetsMarks (old_bits self.now) (old_words self.now) rank pair marks.old marks.new }
+        ensures finished { IsMarkedIfFinished self.now ends marks.new pair }
+        ensures gets { MarksAtMost self.now rank pair marks.old marks.new }
     {
-        let Some(future) = self.finished(ends, pair, rank) else {
+        let Some(future) = self.large_result(ends, pair, rank) else {
             return;
         };
         mark(marks, pair);
@@ -79,24 +76,25 @@ impl Transfer<'_> {
         requires pair { IsOldPair self.now rank pair }
         ensures marks { AreMarks self.now marks.new }
         ensures parts { ArePartsMarked (old_words self.now) marks.new pair }
-        ensures gets { GetsMarks (old_bits self.now) (old_words self.now) rank pair marks.old marks.new }
+        ensures gets { MarksAtMost self.now rank pair marks.old marks.new }
     {
         if marks[pair as usize] == 0 {
             return;
         }
-        let (first, second) = parts(self.old.word(pair as usize));
+        let (first, second) = parts(self.old.words.word(pair as usize));
         mark(marks, first);
         mark(marks, second);
     }
 
-    // Marks a pair of this rank if it is wanted without being reached, and what it brings with it if it is marked.
+    // Marks a pair of this rank if it is wanted without being reached, and what it brings with it
+    // if it is marked.
     fn visit(&self, marks: &mut [u8], ends: Ends, pair: u32, rank: u8)
         requires wish { self.now.wish ≡ Wish.Collected ends }
         requires marks { AreMarks self.now marks.old }
         requires pair { IsOldPair self.now rank pair }
         ensures marks { AreMarks self.now marks.new }
-        ensures visited { IsVisited (old_bits self.now) (old_words self.now) ends.low ends.high marks.new pair }
-        ensures gets { GetsMarks (old_bits self.now) (old_words self.now) rank pair marks.old marks.new }
+        ensures visited { IsPairVisited self.now ends marks.new pair }
+        ensures gets { MarksAtMost self.now rank pair marks.old marks.new }
     {
         self.mark_small(marks, ends, pair, rank);
         self.mark_finished(marks, ends, pair, rank);
@@ -107,16 +105,16 @@ impl Transfer<'_> {
     fn mark_rank(&self, marks: &mut [u8], ends: Ends, order: &Order, below: u8)
         requires wish { self.now.wish ≡ Wish.Collected ends }
         requires marks { AreMarks self.now marks.old }
-        requires order { IsOrderOf (old_bits self.now) (old_words self.now) IsAny order.now.slots.items order.now.ends }
+        requires order { IsOrderOfAll self.now.old order.now }
         requires low { below < LARGEST_RANK }
-        requires visited { AreVisited (old_bits self.now) (old_words self.now) ends.low ends.high marks.old (below + 1) }
+        requires visited { ArePairsVisited self.now ends marks.old (below + 1) }
         ensures marks { AreMarks self.now marks.new }
-        ensures visited { AreVisited (old_bits self.now) (old_words self.now) ends.low ends.high marks.new below }
+        ensures visited { ArePairsVisited self.now ends marks.new below }
         ensures kept { KeepsMarks marks.old marks.new }
     {
         let slots = order.slots.as_slice();
         for place in order.ends[below as usize]..order.ends[below as usize + 1] {
-            let pair = self.from.shape.index(Kind::Pair, slots[place]);
+            let pair = self.old.key.shape.index(Kind::Pair, slots[place]);
             self.visit(marks, ends, pair, below + 1);
         }
     }
@@ -126,10 +124,10 @@ impl Transfer<'_> {
         requires wish { self.now.wish ≡ Wish.Collected ends }
         requires marks { AreMarks self.now marks.old }
         requires block { IsSomeBlock (old_bits self.now) (old_words self.now) ends.root }
-        requires order { IsOrderOf (old_bits self.now) (old_words self.now) IsAny order.now.slots.items order.now.ends }
+        requires order { IsOrderOfAll self.now.old order.now }
         ensures marks { AreMarks self.now marks.new }
         ensures root { IsMarked marks.new ends.root }
-        ensures visited { AreVisited (old_bits self.now) (old_words self.now) ends.low ends.high marks.new 0 }
+        ensures visited { ArePairsVisited self.now ends marks.new 0 }
     {
         mark(marks, ends.root);
         for above in 0..LARGEST_RANK {
@@ -138,18 +136,20 @@ impl Transfer<'_> {
     }
 
     /// A mark for each number that is wanted.
-    pub(crate) fn marks(&self, alloc: Global, ends: Ends, order: &Order) -> Result<Vec<u8>, Refusal>
+    pub(crate) fn marks(
+        &self,
+        alloc: Global,
+        ends: Ends,
+        order: &Order,
+    ) -> Result<Vec<u8>, AllocError>
         requires wish { self.now.wish ≡ Wish.Collected ends }
         requires block { IsSomeBlock (old_bits self.now) (old_words self.now) ends.root }
-        requires order { IsOrderOf (old_bits self.now) (old_words self.now) IsAny order.now.slots.items order.now.ends }
+        requires order { IsOrderOfAll self.now.old order.now }
         ensures marks { IfOk result (λ marks. AreMarks self.now marks.items) }
         ensures root { IfOk result (λ marks. IsMarked marks.items ends.root) }
-        ensures visited { IfOk result (λ marks. AreVisited (old_bits self.now) (old_words self.now) ends.low ends.high marks.items 0) }
-        ensures memory { IsOkUnless result Refusal.NoMemory }
+        ensures visited { IfOk result (λ marks. ArePairsVisited self.now ends marks.items 0) }
     {
-        let Ok(mut marks) = vec![in alloc; 0u8; self.number_count()] else {
-            return Err(Refusal::NoMemory);
-        };
+        let mut marks = vec![in alloc; 0u8; self.number_count()]?;
         self.mark_wanted(marks.as_mut_slice(), ends, order);
         Ok(marks)
     }
@@ -158,10 +158,10 @@ impl Transfer<'_> {
     pub(crate) fn keep_marked(&self, ranks: &mut [u8], marks: &[u8])
         requires ranks { length ranks.old ≡ 2 ^ old_bits self.now }
         requires marks { length marks.now ≡ number_count self.now }
-        ensures { KeepsMarked (old_bits self.now) marks.now ranks.old ranks.new (2 ^ old_bits self.now) }
+        ensures { KeepsMarkedRanks self.now marks.now ranks.old ranks.new }
     {
-        for slot in 0..self.from.shape.slot_count(Kind::Pair) {
-            let pair = self.from.shape.index(Kind::Pair, slot);
+        for slot in 0..self.old.key.shape.slot_count(Kind::Pair) {
+            let pair = self.old.key.shape.index(Kind::Pair, slot);
             if marks[pair as usize] == 0 {
                 ranks[slot as usize] = 0;
             }

@@ -2,19 +2,32 @@
 
 ghost use Rattle.std.specs.Prelude.{◌≡◌, ◌+◌, ◌^◌, ◌≤◌, length};
 ghost use Rattle.table_core.specs.declared.shape.Kind.TheVariants.{Pair};
-ghost use Rattle.table_core.specs.Layout.{IsSlot, start};
-ghost use Rattle.node_sweep.specs.Keeping.{AreResultWords, IsResultWord};
+ghost use Rattle.table_core.specs.Layout.{IsSlot, result_of, start};
+ghost use Rattle.node_sweep.specs.Keeping.{IsResultWord};
 
-use crate::transfer::{Fresh, Transfer};
+use crate::transfer::{Fresh, OldWords, Transfer};
 use table_core::{Kind, parts, result_word};
 
 // How many results are read, and then told, side by side, so that they wait for memory together.
 const BLOCK_LEN: u32 = 64;
 
-impl Transfer<'_> {
-    ghost use Rattle.node_sweep.specs.Transfers.{AreResultsKept, IsUnderway, number_count, old_bits, old_words};
+impl OldWords<'_> {
+    ghost use Rattle.node_sweep.specs.OldWords.{bits_in, words_in};
 
-    // The word to stand beside the copy of a pair: that of the copy of its result, and 0 where one of both has no copy.
+    /// The word beside a pair, which tells its result; 0 where it has none.
+    pub(crate) fn result_beside(&self, pair: u32) -> u64
+        requires { IsSlot (bits_in self.now) Pair pair }
+        ensures { result ≡ words_in self.now (result_of (bits_in self.now) pair) }
+    {
+        self.words.word(self.key.shape.result_index(pair) as usize)
+    }
+}
+
+impl Transfer<'_> {
+    ghost use Rattle.node_sweep.specs.Transfers.{AreAllResultsKept, AreNextResultWords, AreResultsKept, IsUnderway, number_count, old_bits, old_words};
+
+    // The word to stand beside the copy of a pair: that of the copy of its result, and 0 where one
+    // of both has no copy.
     fn kept_result(&self, copies: &[u32], pair: u32) -> u64
         requires long { length copies.now ≡ number_count self.now }
         requires pair { IsSlot (old_bits self.now) Pair pair }
@@ -23,7 +36,7 @@ impl Transfer<'_> {
         if copies[pair as usize] == 0 {
             return 0;
         }
-        let result = self.old.word(self.from.shape.result_index(pair) as usize);
+        let result = self.old.result_beside(pair);
         if result == 0 {
             return 0;
         }
@@ -40,10 +53,10 @@ impl Transfer<'_> {
         requires long { length copies.now ≡ number_count self.now }
         requires few { length told.old ≡ 64 }
         requires inside { from + 64 ≤ 2 ^ old_bits self.now }
-        ensures { AreResultWords (old_bits self.now) (old_words self.now) copies.now told.new from 64 }
+        ensures { AreNextResultWords self.now copies.now told.new from }
     {
         for i in 0..BLOCK_LEN {
-            let pair = self.from.shape.index(Kind::Pair, from + i);
+            let pair = self.old.key.shape.index(Kind::Pair, from + i);
             told[i as usize] = self.kept_result(copies, pair);
         }
     }
@@ -69,29 +82,30 @@ impl Transfer<'_> {
         requires long { length copies.now ≡ number_count self.now }
         requires few { length told.now ≡ 64 }
         requires inside { from + 64 ≤ 2 ^ old_bits self.now }
-        requires told { AreResultWords (old_bits self.now) (old_words self.now) copies.now told.now from 64 }
+        requires told { AreNextResultWords self.now copies.now told.now from }
         requires kept { AreResultsKept self.now copies.now words.old from }
         ensures { AreResultsKept self.now copies.now words.new (from + 64) }
     {
         for i in 0..BLOCK_LEN {
-            let pair = self.from.shape.index(Kind::Pair, from + i);
+            let pair = self.old.key.shape.index(Kind::Pair, from + i);
             self.tell_result(words, copies, from + i, pair, told[i as usize]);
         }
     }
 
     // The fresh words, with the result of each pair beside its copy, where both have one.
-    pub(crate) fn with_results(&self, fresh: Fresh) -> Vec<u64>
+    pub(crate) fn with_results(&self, fresh: Fresh) -> Fresh
         requires { IsUnderway self.now fresh }
-        ensures { AreResultsKept self.now fresh.copies.items result.items (2 ^ old_bits self.now) }
+        ensures kept { AreAllResultsKept self.now fresh.copies.items result.words.items }
+        ensures copies { result.copies.items ≡ fresh.copies.items }
     {
         let Fresh { mut words, copies } = fresh;
         let mut told = [0u64; BLOCK_LEN as usize];
-        let count = self.from.shape.slot_count(Kind::Pair);
+        let count = self.old.key.shape.slot_count(Kind::Pair);
         for block in 0..count / BLOCK_LEN {
             let from = BLOCK_LEN * block;
             self.kept_results(copies.as_slice(), from, &mut told);
             self.tell_results(words.as_mut_slice(), copies.as_slice(), from, &told);
         }
-        words
+        Fresh { words, copies }
     }
 }

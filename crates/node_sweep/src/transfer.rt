@@ -29,20 +29,27 @@ pub(crate) enum Wish {
     Collected(Ends),
 }
 
+/// Words that are copied from.
+#[derive(Clone, Copy)]
+pub(crate) struct OldWords<'a> {
+    /// Their head.
+    pub(crate) key: &'a Key,
+    /// The words.
+    pub(crate) words: &'a Held,
+    ghost good: { AreGoodWords key.now words.now } by { good_prop key.now words.now },
+}
+
 /// What is copied into fresh words, under the same rule and exponent.
 #[derive(Clone, Copy)]
 pub(crate) struct Transfer<'a> {
-    /// The head of the old words.
-    pub(crate) from: &'a Key,
-    /// The old words.
-    pub(crate) old: &'a Held,
+    /// The words that are copied from.
+    pub(crate) old: OldWords<'a>,
     /// Which numbers are copied.
     pub(crate) wish: Wish,
     /// The head of the fresh words.
     pub(crate) to: Key,
-    ghost good: { AreGoodWords from.now old.now } by { good_prop from.now old.now },
-    ghost same_rule: { to.rule ≡ from.now.rule },
-    ghost same_exponent: { to.exponent ≡ from.now.exponent },
+    ghost same_rule: { to.rule ≡ old.key.now.rule },
+    ghost same_exponent: { to.exponent ≡ old.key.now.exponent },
 }
 
 /// Words that blocks are copied into, and under which numbers they stand there.

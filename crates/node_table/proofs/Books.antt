@@ -19,7 +19,7 @@ use Rattle.table_core.specs.declared.knowledge.Knowledge.{Knowledge}
 use Rattle.table_core.specs.Blocks.{square_rank, width, height}
 use Rattle.table_core.specs.declared.rank.TheConstants.{LARGEST_RANK}
 use Rattle.table_core.specs.Knowledge.{KnowsBlock, KnowsSquareOf, Grows}
-use Rattle.table_core.proofs.Claims.{same_or_other}
+use Rattle.table_core.proofs.Comparisons.{same_or_other}
 use Rattle.table_core.proofs.FullShards.{full_later, full_shard_is_seen}
 use Rattle.table_core.proofs.Knowing.{knows_same, knows_more}
 use Rattle.table_core.proofs.Lists.{all_contains, contains_here}

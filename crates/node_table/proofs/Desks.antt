@@ -18,7 +18,7 @@ use Rattle.table_core.specs.Knowledge.{KnowsBlock, Grows}
 use Rattle.table_core.specs.Lawful.{KnowsParts}
 use Rattle.table_core.specs.Learning.{MeetsWord}
 use Rattle.table_core.specs.FullShards.{KnowsFullShard, knows_full_shard}
-use Rattle.table_core.proofs.Claims.{same_or_other}
+use Rattle.table_core.proofs.Comparisons.{same_or_other}
 use Rattle.table_core.proofs.FullShards.{full_shard, full_shard_is_seen}
 use Rattle.table_core.proofs.Knowing.{knows_grown}
 use Rattle.table_core.proofs.Ways.{slot_below, size_fits}

@@ -1,5 +1,5 @@
 -- Entries of what a desk knows, as squares of its book.
-use Rattle.std.proofs.Common.{◌≡◌, ℕ, zero, suc, ◌-◌, ◌<◌, ◌≤◌, Bool, true, false, cond, List, [], ◌∷◌, length, ◌∙◌, ap, subst, arith, refl, inl, inr, ⊎_elim}
+use Rattle.std.proofs.Common.{◌≡◌, ◌≢◌, ◌↔◌, ℕ, zero, suc, ◌-◌, ◌<◌, ◌≤◌, Bool, true, false, cond, List, [], ◌∷◌, length, sym, ◌∙◌, ap, subst, arith, refl, inl, inr, ⊎_elim}
 use Rattle.std.specs.Prelude.{IsTrue, ◌==◌, ◌&&◌, nat_le, slice_index_or, Option, Some, is_some}
 use Rattle.std.proofs.lemmas.Bool.{eqb-true, leb-true, le-leb, eq-eqb, false≢true}
 use Rattle.std.proofs.lemmas.List.Elements.{Contains-append_right}
@@ -15,6 +15,10 @@ use Rattle.table_core.specs.Blocks.{square_rank}
 use Rattle.table_core.specs.Knowledge.{Says, Lists, KnowsBlock}
 use Rattle.table_core.proofs.Booleans.{and_both}
 use Rattle.node_table.specs.Books.{entry_at, cells_there, knows_in, cells_in}
+
+-- a square that is not the empty one of its level has a number other than 0
+pub has_number : {empty : Bool} {number : ℕ} → IsTrue empty ↔ (number ≡ 0) → empty ≡ false → number ≢ 0
+has_number is_empty not_empty none = false≢true (sym not_empty ∙ is_empty.1 none)
 
 later : (x : KnownBlock) (xs : List KnownBlock) (rank n : ℕ) (plane : Plane) → Lists xs rank n plane → Lists (x ∷ xs) rank n plane
 later x xs rank n plane h = (h.0, Contains-append_right (x ∷ []) xs h.0 h.1, h.2)

@@ -7,7 +7,7 @@ use Rattle.table_core.specs.Layout.{start, size, first_part, second_part}
 use Rattle.table_core.specs.Blocks.{Words, IsBlock}
 use Rattle.table_core.specs.declared.rank.TheConstants.{LARGEST_RANK}
 use Rattle.table_core.proofs.Blocks.{parts_equal}
-use Rattle.table_core.proofs.Claims.{same_or_other}
+use Rattle.table_core.proofs.Comparisons.{same_or_other}
 use Rattle.table_core.proofs.Ways.{slot_below}
 
 -- from a number that shows a block one comes to this number by so many parts, each other than 0

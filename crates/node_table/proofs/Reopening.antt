@@ -11,7 +11,7 @@ use Rattle.table_core.specs.Blocks.{IsBlock, square_rank}
 use Rattle.table_core.specs.Good.{head}
 use Rattle.table_core.specs.Opening.{KeepsResult, StaysOrGoes, Reopens}
 use Rattle.table_core.proofs.Blocks.{one_rank}
-use Rattle.table_core.proofs.Claims.{same_or_other}
+use Rattle.table_core.proofs.Comparisons.{same_or_other}
 use Rattle.table_core.proofs.Ways.{not_head, not_result}
 use Rattle.node_table.specs.declared.still.Still.{Still}
 use Rattle.rule_text.specs.CountRule.{CountRule}

@@ -11,7 +11,7 @@ use Rattle.table_core.specs.Layout.{IsSlot, way, first_part, second_part}
 use Rattle.table_core.specs.Knowledge.{HasSeen, Grows}
 use Rattle.table_core.specs.Lawful.{KnowsBoth, KnowsPartsFor, MayClaim}
 use Rattle.table_core.specs.Learning.{LearnsWord, MeetsWord}
-use Rattle.table_core.proofs.Claims.{same_or_other}
+use Rattle.table_core.proofs.Comparisons.{same_or_other}
 use Rattle.table_core.proofs.Knowing.{grows_refl, grows_trans, knows_grown}
 use Rattle.table_core.proofs.Ways.{way_is_slot}
 use Rattle.table_core.specs.FullWays.{HasSeenAnother, KnowsFullWay}

@@ -1,6 +1,6 @@
 -- The words of a table without a square.
-use Rattle.std.proofs.Common.{◌≡◌, ℕ, zero, suc, ◌+◌, ◌*◌, ◌^◌, ◌<◌, List, [], ◌∷◌, length, sym, ◌∙◌, ap, subst, arith, refl, Ok}
-use Rattle.std.specs.Prelude.{Result, replicate, slice_index}
+use Rattle.std.proofs.Common.{◌≡◌, ℕ, zero, suc, ◌+◌, ◌*◌, ◌^◌, ◌<◌, List, length, sym, ◌∙◌, ap, subst, arith, refl}
+use Rattle.std.specs.Prelude.{replicate, slice_index}
 use Rattle.rule_text.specs.CountRule.{CountRule, dead}
 use Rattle.rule_text.specs.RuleCode.{code_of}
 use Rattle.table_core.specs.declared.key.Key.{Key}

@@ -1,20 +1,29 @@
 -- What a desk at work knows is what the desk knows.
-use Rattle.std.proofs.Common.{ℕ, ◌+◌, ◌-◌, ◌*◌, All, List, [], ◌∷◌, ⊎_elim, inl, inr}
+use Rattle.std.proofs.Common.{ℕ, ◌+◌, ◌-◌, ◌*◌, All, List, [], ◌∷◌, map, ap, ⊎_elim, inl, inr}
 use Rattle.std.specs.List.{AllByRecursion}
 use Rattle.plane.specs.Plane.{Plane}
 use Rattle.squares.specs.declared.sq.Sq.{Sq}
-use Rattle.squares.specs.Book.{Keeps, Shows, IsKnown, Learns, AddsResult, AreSubsquares, AreQuarters, nth}
+use Rattle.squares.specs.Book.{Keeps, AddsSquares, Shows, IsKnown, Learns, AddsResult, AreSubsquares, AreQuarters, nth}
 use Rattle.squares.specs.Overlaps.{AreOverlaps}
 use Rattle.table_core.specs.Knowledge.{Grows}
 use Rattle.node_table.specs.declared.desk.Desk.{Desk}
 use Rattle.node_table.specs.declared.table.NodeTable.{NodeTable}
+use Rattle.node_table.specs.Books.{square_of}
 use Rattle.node_table.specs.Desks.{IsDeskOf, book_at, work_store, work_at}
+use Rattle.node_table.specs.Halves.{LearnsBlocks}
 use Rattle.node_table.proofs.Books.{grows_keeps}
 use Rattle.node_table.proofs.Desks.{coherent_at}
 
 -- a desk that learns at work keeps its book
 pub keeps_working : (expansions : ℕ) (table : NodeTable) (old new : Desk) → IsDeskOf table new → Grows old.seat.me.0.known new.seat.me.0.known → Keeps (work_at expansions table old) (work_at expansions table new)
 keeps_working expansions table old new d grows = grows_keeps (work_store expansions table) table.key old.seat.me.0.known new.seat.me.0.known (coherent_at table new d) grows
+
+-- a desk that learns blocks at work adds squares to its book
+pub squares_working : (expansions : ℕ) (table : NodeTable) (old new : Desk) → LearnsBlocks table old new → AddsSquares (work_at expansions table old) (work_at expansions table new)
+squares_working expansions table old new learns = record {
+  keeps = keeps_working expansions table old new learns.of_table learns.grows;
+  results = record { results = ap (map square_of) learns.told.results; learned = learns.told.learned };
+}
 
 pub known_at : (expansions : ℕ) (table : NodeTable) (desk : Desk) {level : ℕ} {sq : Sq} → IsKnown (work_at expansions table desk) level sq → IsKnown (book_at table desk) level sq
 known_at expansions table desk h = record { known = h.known; at_level = h.at_level; low = h.low; high = h.high }

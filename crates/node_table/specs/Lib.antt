@@ -7,6 +7,7 @@ pub mod Held
 pub mod Numbers
 pub mod Rule
 pub mod Shared
+pub mod StillBooks
 pub mod Stills
 pub mod Teams
 pub mod Openings

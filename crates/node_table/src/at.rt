@@ -2,7 +2,7 @@
 ghost use Rattle.std.specs.Prelude.{◌≡◌, ◌<◌, ◌+◌, All, IfOk, IfErr, OnErr, OnOk, IsOk, IsErr};
 ghost use Rattle.std.specs.List.{AllByRecursion};
 ghost use Rattle.plane.specs.Square.{bits_plane};
-ghost use Rattle.squares.specs.Book.{AddsResult, AreSubsquares, IsFuture, IsKnown, Shows, IsEmpty, Keeps, KeepsResults, MayRefuse, numbered, joined_squares, nth};
+ghost use Rattle.squares.specs.Book.{AddsResult, AddsSquares, AreSubsquares, IsEmpty, IsFuture, IsKnown, Keeps, KeepsResults, MayRefuse, Shows, joined_squares, nth, numbered};
 ghost use Rattle.squares.specs.Overlaps.{AreOverlaps};
 ghost use Rattle.table_core.specs.declared.shape.Kind.TheVariants.{Leaf};
 ghost use Rattle.node_table.specs.Desks.{IsDeskOf, work_store};
@@ -12,13 +12,14 @@ use crate::desk::Desk;
 use crate::table::NodeTable;
 use plane::Refusal;
 use rule_text::Rule;
-use squares::{Num, Sq, Squares};
+use squares::{LEAF_LEVEL, Num, Sq, Squares};
 use table_core::{Kind, parts};
 
 /// A desk at work at its table. Its calls wait for nobody, take no memory and always return,
-/// whatever other desks do meanwhile. `leaf`, `quad`, `nine` and `overlaps` refuse `NodesFull` alone, and only where
-/// the desk saw another word in each of the 256 slots of the way of a word that they need; `leaf` and `quad` refuse
-/// wherever it saw that before the call. `keep` refuses nothing.
+/// whatever other desks do meanwhile. `leaf`, `quad`, `nine` and `overlaps` refuse `NodesFull`
+/// alone, and only where the desk saw another word in each of the 256 slots of the way of a word
+/// that they need; `leaf` and `quad` refuse wherever it saw that before the call. `keep` refuses
+/// nothing.
 #[derive(Drop)]
 pub struct At<'t> {
     pub(crate) table: &'t NodeTable,
@@ -70,7 +71,7 @@ impl Squares for At<'_> {
     }
 
     fn read_bits(&mut self, sq: Sq) -> u64 {
-        if sq.num.0 == 0 {
+        if sq.is_empty() {
             return 0;
         }
         self.desk.look(self.table, sq.num.0)
@@ -87,29 +88,30 @@ impl Squares for At<'_> {
         ensures refusal { IfErr result (MayRefuse (book_here self.new)) }
         ensures full { OnErr result (HasNoRoom self.new.table.now self.new.desk Leaf word) }
         ensures refused { HasNoRoom self.old.table.now self.old.desk Leaf word → IsErr result }
-        ensures keeps { Keeps (book_here self.old) (book_here self.new) }
-        ensures results { KeepsResults (book_here self.old) (book_here self.new) }
+        ensures adds { AddsSquares (book_here self.old) (book_here self.new) }
     {
         if word == 0 {
-            return Ok(square(3, 0));
+            return Ok(Sq::empty(LEAF_LEVEL));
         }
         let Some(number) = self.desk.number(self.table, Kind::Leaf, word) else {
             return Err(Refusal::NodesFull);
         };
-        Ok(square(3, number))
+        Ok(square(LEAF_LEVEL, number))
     }
 
     fn quad(&mut self, quarters: [Sq; 4]) -> Result<Sq, Refusal>
         requires level { (nth quarters 0).level < 65 }
-        requires known { AllByRecursion (IsKnown (book_here self.old) (nth quarters 0).level) quarters }
+        requires known { AllByRecursion
+            (IsKnown (book_here self.old) (nth quarters 0).level) quarters }
         ensures ok { IfOk result (Shows (book_here self.new) ((nth quarters 0).level + 1)
             (joined_squares (book_here self.old) (nth quarters 0).level quarters)) }
         ensures empty { AllByRecursion IsEmpty quarters → IsOk result }
         ensures refusal { IfErr result (MayRefuse (book_here self.new)) }
-        ensures full { OnErr result (HasNoRoomForQuad self.new.table.now self.old.desk self.new.desk quarters) }
-        ensures refused { HasNoRoomForQuad self.old.table.now self.old.desk self.old.desk quarters → IsErr result }
-        ensures keeps { Keeps (book_here self.old) (book_here self.new) }
-        ensures results { KeepsResults (book_here self.old) (book_here self.new) }
+        ensures full { OnErr result
+            (HasNoRoomForQuad self.new.table.now self.old.desk self.new.desk quarters) }
+        ensures refused { HasNoRoomForQuad self.old.table.now self.old.desk self.old.desk quarters
+            → IsErr result }
+        ensures adds { AddsSquares (book_here self.old) (book_here self.new) }
     {
         let [nw, ne, sw, se] = quarters;
         self.table.prefetch_half(nw, ne);
@@ -122,11 +124,12 @@ impl Squares for At<'_> {
     fn nine(&mut self, sq: Sq) -> Result<[Sq; 9], Refusal>
         requires known { IsKnown (book_here self.old) sq.level sq }
         requires level { 4 < sq.level }
-        ensures ok { IfOk result (AreSubsquares (book_here self.new) sq.level ((book_here self.old).cells sq)) }
+        ensures ok { IfOk result
+            (AreSubsquares (book_here self.new) sq.level ((book_here self.old).cells sq)) }
         ensures refusal { IfErr result (MayRefuse (book_here self.new)) }
-        ensures full { OnErr result (HasNoRoomForSubsquare self.new.table.now self.new.desk sq.level ((book_here self.old).cells sq)) }
-        ensures keeps { Keeps (book_here self.old) (book_here self.new) }
-        ensures results { KeepsResults (book_here self.old) (book_here self.new) }
+        ensures full { OnErr result (HasNoRoomForSubsquare self.new.table.now self.new.desk sq.level
+            ((book_here self.old).cells sq)) }
+        ensures adds { AddsSquares (book_here self.old) (book_here self.new) }
     {
         self.desk.nine(self.table, sq)
     }
@@ -137,16 +140,15 @@ impl Squares for At<'_> {
         ensures ok { IfOk result (AreOverlaps (book_here self.new) level nine) }
         ensures refusal { IfErr result (MayRefuse (book_here self.new)) }
         ensures full { OnErr result (HasNoRoomForOverlap self.new.table.now self.new.desk nine) }
-        ensures keeps { Keeps (book_here self.old) (book_here self.new) }
-        ensures results { KeepsResults (book_here self.old) (book_here self.new) }
+        ensures adds { AddsSquares (book_here self.old) (book_here self.new) }
     {
         self.desk.overlaps(self.table, level, nine)
     }
 
     fn recall(&mut self, sq: Sq) -> Option<Sq> {
         let level = sq.level - 1;
-        if sq.num.0 == 0 {
-            return Some(square(level, 0));
+        if sq.is_empty() {
+            return Some(Sq::empty(level));
         }
         let index = self.table.key.shape.result_index(sq.num.0);
         let word = self.desk.ask(self.table, index);
@@ -167,12 +169,14 @@ impl Squares for At<'_> {
         ensures refusal { IfErr result (MayRefuse (book_here self.new)) }
         ensures keeps { Keeps (book_here self.old) (book_here self.new) }
     {
-        if sq.num.0 != 0 {
+        if !sq.is_empty() {
             let index = self.table.key.shape.result_index(sq.num.0);
             self.desk.tell(self.table, index, future.num.0);
         }
         Ok(())
     }
 
-    ghost is_book = { λ s. (s.desk.sound s.table.now.key s.of_table.same_key).book (work_store s.expansions s.table.now) };
+    ghost is_book = { λ s.
+        (s.desk.sound s.table.now.key s.of_table.same_key).book
+        (work_store s.expansions s.table.now) };
 }

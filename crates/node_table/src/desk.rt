@@ -27,7 +27,8 @@ impl Desk {
 
     /// Adds a tally to the desk's number of expansions. A number that is full stays.
     pub fn count(&mut self, tally: &Tally)
-        ensures expansions { expansions_of self.new ≡ min u64.MAX (expansions_of self.old + tally.now.expansions) }
+        ensures expansions { expansions_of self.new
+            ≡ min u64.MAX (expansions_of self.old + tally.now.expansions) }
         ensures desk { IsSameDesk self.old self.new }
     {
         self.expansions = self.expansions.saturating_add(tally.expansions);
@@ -59,7 +60,8 @@ impl Desk {
         requires range { index < table.now.table.shared.table_id.words }
         requires lawful { IsLawful table.now.key self.old.seat.me.0.known (Claim 0 index word) }
         ensures table { IsDeskOf table.now self.new }
-        ensures met { Met table.now.key (Claim 0 index word) self.old.seat.me (if result == 0 then word else result) self.new.seat.me }
+        ensures met { Met table.now.key (Claim 0 index word) self.old.seat.me
+            (if result == 0 then word else result) self.new.seat.me }
     {
         table
             .table
@@ -87,7 +89,8 @@ impl Desk {
         requires range { index < table.now.table.shared.table_id.words }
         requires lawful { IsLawful table.now.key self.old.seat.me.0.known (Tell 0 index number) }
         ensures table { IsDeskOf table.now self.new }
-        ensures met { Met table.now.key (Tell 0 index number) self.old.seat.me (if result == 0 then 2 ^ 32 + number else result) self.new.seat.me }
+        ensures met { Met table.now.key (Tell 0 index number) self.old.seat.me
+            (if result == 0 then 2 ^ 32 + number else result) self.new.seat.me }
     {
         let word = result_word(number);
         table

@@ -28,7 +28,8 @@ impl Desk {
         requires squares { AreBeside (book_at table.now self.old) left right }
         ensures desk { LearnsBlocks table.now self.old self.new }
         ensures ok { IfOk result (IsHalfOf table.now self.new left right) }
-        ensures empty { IsEmpty left → IsEmpty right → result ≡ Ok (record { left = left; right = right; number = 0 }) }
+        ensures empty { IsEmpty left → IsEmpty right
+            → result ≡ Ok (record { left = left; right = right; number = 0 }) }
         ensures refusal { IfErr result (MayRefuse (book_at table.now self.new)) }
         ensures full { OnErr result (HasNoRoom table.now self.new Pair (word_of left right)) }
         ensures refused { HasNoRoom table.now self.old Pair (word_of left right) → IsErr result }
@@ -52,11 +53,14 @@ impl Desk {
         requires halves { MakeSquare table.now self.old upper lower }
         ensures desk { LearnsBlocks table.now self.old self.new }
         ensures ok { IfOk result (Shows (book_at table.now self.new) (upper.left.level + 1)
-            (joined_squares (book_at table.now self.old) upper.left.level (squares_of upper lower))) }
+            (joined_squares (book_at table.now self.old) upper.left.level
+            (squares_of upper lower))) }
         ensures empty { upper.number ≡ 0 → lower.number ≡ 0 → IsOk result }
         ensures refusal { IfErr result (MayRefuse (book_at table.now self.new)) }
-        ensures full { OnErr result (HasNoRoom table.now self.new Pair (pair_of upper.number lower.number)) }
-        ensures refused { HasNoRoom table.now self.old Pair (pair_of upper.number lower.number) → IsErr result }
+        ensures full { OnErr result
+            (HasNoRoom table.now self.new Pair (pair_of upper.number lower.number)) }
+        ensures refused { HasNoRoom table.now self.old Pair (pair_of upper.number lower.number)
+            → IsErr result }
     {
         let number = self.pair(table, upper.number, lower.number)?;
         Ok(square(upper.left.level + 1, number))
@@ -68,7 +72,8 @@ impl Desk {
         requires known { IsKnown (book_at table.now self.old) sq.level sq }
         requires level { 3 < sq.level }
         ensures desk { LearnsBlocks table.now self.old self.new }
-        ensures value { AreHalves table.now self.new sq.level ((book_at table.now self.old).cells sq) result.0 result.1 }
+        ensures value { AreHalves table.now self.new sq.level
+            ((book_at table.now self.old).cells sq) result.0 result.1 }
     {
         let level = sq.level - 1;
         let (upper, lower) = self.read_pair(table, sq.num.0);

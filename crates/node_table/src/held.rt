@@ -7,8 +7,8 @@ use atomic_table::Closed;
 use std::alloc::{AllocError, Global};
 use std::marker::Model;
 
-/// Words in one owner's hands: those of a vector, or those of a table that no thread shares any more, where
-/// the table had them.
+/// Words in one owner's hands: those of a vector, or those of a table that no thread shares any
+/// more, where the table had them.
 pub struct Held {
     holder: Holder,
 }

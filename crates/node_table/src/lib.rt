@@ -1,7 +1,7 @@
 //! The running table of squares: words that threads share, and the desks at which they work.
 //!
-//! A desk has a seat at a table of `atomic_table`, and at the seat a view of what it has seen. Each atomic step on a word is
-//! one that the table's rule allows, and adds to the view.
+//! A desk has a seat at a table of `atomic_table`, and at the seat a view of what it has seen. Each
+//! atomic step on a word is one that the table's rule allows, and adds to the view.
 //!
 //! - [`Desk`]: a thread's handle at the shared hash-consing table.
 //! - [`Still`]: the table's words when no thread uses it.

@@ -38,7 +38,8 @@ impl Desk {
         ensures first { IfOk result (λ halves. IsHalfOf table.now self.new left middle halves.0) }
         ensures last { IfOk result (λ halves. IsHalfOf table.now self.new middle right halves.1) }
         ensures refusal { IfErr result (MayRefuse (book_at table.now self.new)) }
-        ensures full { OnErr result (HasNoRoom table.now self.new Pair (word_of left middle) ⊎ HasNoRoom table.now self.new Pair (word_of middle right)) }
+        ensures full { OnErr result (HasNoRoom table.now self.new Pair (word_of left middle)
+            ⊎ HasNoRoom table.now self.new Pair (word_of middle right)) }
     {
         let first = self.half(table, left, middle)?;
         let last = self.half(table, middle, right)?;
@@ -77,8 +78,8 @@ impl Desk {
         })
     }
 
-    // Of nine squares of one level in three rows, the four that neighbours make. The halves of the middle row serve
-    // the squares above and below it.
+    // Of nine squares of one level in three rows, the four that neighbours make. The halves of the
+    // middle row serve the squares above and below it.
     pub(crate) fn overlaps(
         &mut self,
         table: &NodeTable,

@@ -7,7 +7,7 @@ ghost use Rattle.table_core.specs.Lawful.{KnowsParts};
 ghost use Rattle.table_core.specs.Layout.{pair_of};
 ghost use Rattle.node_table.specs.Numbers.{KeepsTold, IsPair, KnowsSomePair, KnowsPairOf};
 ghost use Rattle.node_table.specs.Desks.{IsDeskOf, book_at};
-ghost use Rattle.node_table.specs.Refusals.{HasNoRoom};
+ghost use Rattle.node_table.specs.Refusals.{HasNoRoom, known_by};
 
 use crate::desk::Desk;
 use crate::table::NodeTable;
@@ -24,11 +24,11 @@ impl Desk {
         second: u32,
     ) -> Result<u32, Refusal>
         requires table { IsDeskOf table.now self.old }
-        requires parts { KnowsParts self.old.seat.me.0.known (pair_of first second) }
+        requires parts { KnowsParts (known_by self.old) (pair_of first second) }
         ensures table { IsDeskOf table.now self.new }
-        ensures grows { Grows self.old.seat.me.0.known self.new.seat.me.0.known }
-        ensures told { KeepsTold self.old.seat.me.0.known self.new.seat.me.0.known }
-        ensures ok { IfOk result (IsPair self.old.seat.me.0.known self.new.seat.me.0.known first second) }
+        ensures grows { Grows (known_by self.old) (known_by self.new) }
+        ensures told { KeepsTold (known_by self.old) (known_by self.new) }
+        ensures ok { IfOk result (IsPair (known_by self.old) (known_by self.new) first second) }
         ensures empty { first ≡ 0 → second ≡ 0 → result ≡ Ok 0 }
         ensures refusal { IfErr result (MayRefuse (book_at table.now self.new)) }
         ensures full { OnErr result (HasNoRoom table.now self.new Pair (pair_of first second)) }
@@ -46,11 +46,12 @@ impl Desk {
     // The two blocks of a block that is no square of level 3.
     pub(crate) fn read_pair(&mut self, table: &NodeTable, number: u32) -> (u32, u32)
         requires table { IsDeskOf table.now self.old }
-        requires known { KnowsSomePair self.old.seat.me.0.known number }
+        requires known { KnowsSomePair (known_by self.old) number }
         ensures table { IsDeskOf table.now self.new }
-        ensures grows { Grows self.old.seat.me.0.known self.new.seat.me.0.known }
-        ensures told { KeepsTold self.old.seat.me.0.known self.new.seat.me.0.known }
-        ensures parts { KnowsPairOf self.old.seat.me.0.known self.new.seat.me.0.known number result.0 result.1 }
+        ensures grows { Grows (known_by self.old) (known_by self.new) }
+        ensures told { KeepsTold (known_by self.old) (known_by self.new) }
+        ensures parts { KnowsPairOf (known_by self.old) (known_by self.new) number
+            result.0 result.1 }
     {
         if number == 0 {
             return (0, 0);

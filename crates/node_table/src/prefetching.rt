@@ -1,4 +1,5 @@
-//! Slots that are loaded before they are searched, so that searches for several words wait for memory together.
+//! Slots that are loaded before they are searched, so that searches for several words wait for
+//! memory together.
 
 ghost use Rattle.std.specs.Prelude.{◌<◌};
 ghost use Rattle.squares.specs.Book.{IsKnown};
@@ -32,7 +33,7 @@ impl NodeTable {
         requires known { IsKnown (book_at self.now desk.now) sq.level sq }
         requires level { 3 < sq.level }
     {
-        if sq.num.0 != 0 {
+        if !sq.is_empty() {
             let index = self.key.shape.result_index(sq.num.0);
             self.table.shared.peek(index as usize);
         }

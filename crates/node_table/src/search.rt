@@ -4,7 +4,7 @@ ghost use Rattle.table_core.specs.Knowledge.{Grows};
 ghost use Rattle.table_core.specs.Lawful.{KnowsPartsFor};
 ghost use Rattle.node_table.specs.Numbers.{KeepsTold, IsNumber};
 ghost use Rattle.node_table.specs.Desks.{IsDeskOf};
-ghost use Rattle.node_table.specs.Refusals.{HasNoRoom};
+ghost use Rattle.node_table.specs.Refusals.{HasNoRoom, known_by};
 
 use crate::desk::Desk;
 use crate::table::NodeTable;
@@ -16,11 +16,12 @@ impl Desk {
     pub(crate) fn number(&mut self, table: &NodeTable, kind: Kind, word: u64) -> Option<u32>
         requires table { IsDeskOf table.now self.old }
         requires some { word ≢ 0 }
-        requires parts { KnowsPartsFor self.old.seat.me.0.known kind word }
+        requires parts { KnowsPartsFor (known_by self.old) kind word }
         ensures table { IsDeskOf table.now self.new }
-        ensures grows { Grows self.old.seat.me.0.known self.new.seat.me.0.known }
-        ensures told { KeepsTold self.old.seat.me.0.known self.new.seat.me.0.known }
-        ensures some { IfSome result (IsNumber table.now.key.shape.bits self.old.seat.me.0.known self.new.seat.me.0.known kind word) }
+        ensures grows { Grows (known_by self.old) (known_by self.new) }
+        ensures told { KeepsTold (known_by self.old) (known_by self.new) }
+        ensures some { IfSome result (IsNumber table.now.key.shape.bits
+            (known_by self.old) (known_by self.new) kind word) }
         ensures none { IfNone result (HasNoRoom table.now self.new kind word) }
         ensures refused { HasNoRoom table.now self.old kind word → IsNone result }
     {

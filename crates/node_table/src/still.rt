@@ -26,7 +26,6 @@ pub struct Still {
 const RANK_COUNT: u8 = LARGEST_RANK + 1;
 
 impl Still {
-    ghost use Rattle.table_core.specs.Opening.{KeepsResult};
     ghost use Rattle.node_table.specs.Shared.{book_shown};
     ghost use Rattle.node_table.specs.Stills.{IsVacant, IsReopened, HasRank, KeepsAtRank, HasWords, book_in, key_of, items_of};
 

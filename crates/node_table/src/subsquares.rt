@@ -28,7 +28,8 @@ impl Desk {
         requires known { IsKnown (book_at table.now self.old) sq.level sq }
         requires level { 4 < sq.level }
         ensures desk { LearnsBlocks table.now self.old self.new }
-        ensures value { AreHalvesOfQuarters table.now self.new sq.level ((book_at table.now self.old).cells sq) result }
+        ensures value { AreHalvesOfQuarters table.now self.new sq.level
+            ((book_at table.now self.old).cells sq) result }
     {
         let (upper, lower) = self.read_halves(table, sq);
         let nw = self.read_halves(table, upper.left);
@@ -51,9 +52,11 @@ impl Desk {
         requires known { IsKnown (book_at table.now self.old) sq.level sq }
         requires level { 4 < sq.level }
         ensures desk { LearnsBlocks table.now self.old self.new }
-        ensures ok { IfOk result (AreSubsquares (book_at table.now self.new) sq.level ((book_at table.now self.old).cells sq)) }
+        ensures ok { IfOk result (AreSubsquares (book_at table.now self.new) sq.level
+            ((book_at table.now self.old).cells sq)) }
         ensures refusal { IfErr result (MayRefuse (book_at table.now self.new)) }
-        ensures full { OnErr result (HasNoRoomForSubsquare table.now self.new sq.level ((book_at table.now self.old).cells sq)) }
+        ensures full { OnErr result (HasNoRoomForSubsquare table.now self.new sq.level
+            ((book_at table.now self.old).cells sq)) }
     {
         let parts = self.read_halves_of_quarters(table, sq);
         let [nw, ne, sw, se] = parts.quarters;

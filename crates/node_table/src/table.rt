@@ -39,8 +39,8 @@ impl NodeTable {
 
     /// A running table of these words under a rule and an exponent, and its first desk, which knows
     /// all that the words then say. The results that are the same under both heads stay, and no
-    /// other. If an allocation fails, the words come back as they were. Words under the table's own head stand
-    /// in memory twice at most meanwhile, and others three times.
+    /// other. If an allocation fails, the words come back as they were. Words under the table's own
+    /// head stand in memory twice at most meanwhile, and others three times.
     pub fn open(
         alloc: Global,
         still: Still,
@@ -48,7 +48,8 @@ impl NodeTable {
         exponent: u8,
     ) -> Result<(NodeTable, Desk), (Still, Refusal)>
         ensures ok { IfOk result (λ opened. Opens still rule exponent opened.0 opened.1) }
-        ensures err { IfErr result (λ refused. (refused.0 ≡ still) × (refused.1 ≡ Refusal.NoMemory)) }
+        ensures err { IfErr result (λ refused.
+            (refused.0 ≡ still) × (refused.1 ≡ Refusal.NoMemory)) }
     {
         let key = Key {
             shape: still.key.shape,
@@ -70,7 +71,8 @@ impl NodeTable {
         }
     }
 
-    // A running table of these words, under their own head. Where memory is wanting, the words come back.
+    // A running table of these words, under their own head. Where memory is wanting, the words come
+    // back.
     fn of_still(alloc: Global, still: Still) -> Result<(NodeTable, Desk), Still>
         ensures ok { IfOk result (λ opened. StartsFrom still opened.0 opened.1) }
         ensures err { IfErr result (λ same. same ≡ still) }
@@ -82,8 +84,8 @@ impl NodeTable {
         }
     }
 
-    // A running table of these words, under their own head. There is none where no vector holds the words, or
-    // memory is wanting.
+    // A running table of these words, under their own head. There is none where no vector holds the
+    // words, or memory is wanting.
     fn of_vector(alloc: Global, still: &Still) -> Option<(NodeTable, Desk)>
         ensures { IfSome result (λ opened. StartsFrom still.now opened.0 opened.1) }
     {
@@ -101,8 +103,8 @@ impl NodeTable {
         ))
     }
 
-    /// The words in one owner's hands, where the table had them: nothing is copied, and no memory is taken.
-    /// They say all that the desk knew.
+    /// The words in one owner's hands, where the table had them: nothing is copied, and no memory
+    /// is taken. They say all that the desk knew.
     pub fn close(self, desk: Desk) -> Still
         requires { IsDeskOf self desk }
         ensures { Closes self desk result }
@@ -119,7 +121,8 @@ impl NodeTable {
     /// The desk, at work at its table.
     pub fn at(&self, desk: Desk) -> At<'_>
         requires { IsDeskOf self.now desk }
-        ensures { ⟦<At<'static> as Squares>⟧.book result ≡ work_at (expansions_of desk) self.now desk }
+        ensures { ⟦<At<'static> as Squares>⟧.book result
+            ≡ work_at (expansions_of desk) self.now desk }
     {
         let Desk { seat, expansions } = desk;
         At {
@@ -137,8 +140,10 @@ impl NodeTable {
     pub fn split(&self, desk: Desk) -> (Desk, Desk)
         requires { IsDeskOf self.now desk }
         ensures tables { IsDeskOf self.now result.0 × IsDeskOf self.now result.1 }
-        ensures books { (book_at self.now result.0 ≡ book_at self.now desk) × (book_at self.now result.1 ≡ book_at self.now desk) }
-        ensures expansions { (expansions_of result.0 ≡ expansions_of desk) × (expansions_of result.1 ≡ 0) }
+        ensures books { (book_at self.now result.0 ≡ book_at self.now desk)
+            × (book_at self.now result.1 ≡ book_at self.now desk) }
+        ensures expansions { (expansions_of result.0 ≡ expansions_of desk)
+            × (expansions_of result.1 ≡ 0) }
     {
         let mut desk = desk;
         let other = desk.split_off(self);
@@ -153,7 +158,8 @@ impl NodeTable {
         ensures table { IsDeskOf self.now result }
         ensures first { Keeps (book_at self.now first) (book_at self.now result) }
         ensures second { Keeps (book_at self.now second) (book_at self.now result) }
-        ensures expansions { expansions_of result ≡ min u64.MAX (expansions_of first + expansions_of second) }
+        ensures expansions { expansions_of result
+            ≡ min u64.MAX (expansions_of first + expansions_of second) }
     {
         let mut desk = first;
         desk.join(self, second);

@@ -28,14 +28,16 @@ impl Desk {
         }
     }
 
-    /// The desk knows then what either knew. The numbers of expansions are added, and a number that is full stays.
+    /// The desk knows then what either knew. The numbers of expansions are added, and a number that
+    /// is full stays.
     pub(crate) fn join(&mut self, table: &NodeTable, other: Desk)
         requires own { IsDeskOf table.now self.old }
         requires other { IsDeskOf table.now other }
         ensures table { IsDeskOf table.now self.new }
         ensures first { Keeps (book_at table.now self.old) (book_at table.now self.new) }
         ensures second { Keeps (book_at table.now other) (book_at table.now self.new) }
-        ensures expansions { expansions_of self.new ≡ min u64.MAX (expansions_of self.old + expansions_of other) }
+        ensures expansions { expansions_of self.new
+            ≡ min u64.MAX (expansions_of self.old + expansions_of other) }
     {
         let Desk { seat, expansions } = other;
         table

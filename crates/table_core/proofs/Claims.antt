@@ -1,6 +1,5 @@
 -- A word that comes to a zero slot keeps the words good.
 use Rattle.std.proofs.Common.{◌≡◌, ◌≢◌, ℕ, zero, suc, ◌+◌, ◌-◌, ◌^◌, ◌<◌, ◌≤◌, ◌⊎◌, sym, ◌∙◌, ap, subst, arith, refl, inl, inr, ⊎_elim}
-use Rattle.std.proofs.lemmas.Bool.Decides.{eqb_tells}
 use Rattle.plane.specs.Square.{future}
 use Rattle.table_core.specs.declared.shape.Kind.{Kind}
 use Rattle.table_core.specs.declared.shape.Kind.TheVariants.{Pair}
@@ -10,16 +9,8 @@ use Rattle.table_core.specs.declared.rank.TheConstants.{LARGEST_RANK}
 use Rattle.table_core.specs.declared.key.Key.{Key}
 use Rattle.table_core.specs.Good.{IsOnWay, IsFutureOf, IsGood, KeepsWords, Fills, PartsStand, MayStand}
 use Rattle.table_core.proofs.Ways.{one_kind, not_head, not_result, way_is_slot}
+use Rattle.table_core.proofs.Comparisons.{ordered, same_or_other}
 use Rattle.table_core.proofs.Blocks.{block_kept, cells_kept, shows_kept}
-
-pub same_or_other : (i j : ℕ) → (i ≡ j) ⊎ (i ≢ j)
-same_or_other i j = ⊎_elim (λ t. inl t.1) (λ t. inr t.1) (eqb_tells i j)
-
-pub ordered : (a b : ℕ) → (a < b) ⊎ ((a ≡ b) ⊎ (b < a))
-ordered zero zero = inr (inl refl)
-ordered zero (suc b) = inl (omega arith)
-ordered (suc a) zero = inr (inr (omega arith))
-ordered (suc a) (suc b) = ⊎_elim (λ t. inl (omega arith)) (λ t. ⊎_elim (λ u. inr (inl (ap suc u))) (λ u. inr (inr (omega arith))) t) (ordered a b)
 
 pub fills_keeps : (old new : Words) (index word : ℕ) → Fills old new index word → KeepsWords old new
 fills_keeps old new index word h = record {

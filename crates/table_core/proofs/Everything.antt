@@ -16,7 +16,7 @@ use Rattle.table_core.specs.Knowledge.{HasSeen, KnowsBlock, IsTrueResult, KnowsS
 use Rattle.table_core.specs.Laws.{GoodWordsCanBeKnown}
 use Rattle.table_core.proofs.Ways.{slot_below}
 use Rattle.table_core.proofs.Blocks.{one_rank, empty_cells, cells_inside}
-use Rattle.table_core.proofs.Claims.{same_or_other}
+use Rattle.table_core.proofs.Comparisons.{same_or_other}
 use Rattle.table_core.proofs.Lists.{all_append, contains_here}
 use Rattle.table_core.proofs.Results.{with_result_keeps, with_result_all, with_result_once, with_result_has, same_result}
 use Rattle.table_core.proofs.Knowing.{nothing_true, squares_more, grows_refl, grows_trans, knows_grown}

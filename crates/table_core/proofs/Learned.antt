@@ -19,7 +19,7 @@ use Rattle.table_core.specs.Events.{index_of}
 use Rattle.table_core.specs.Knowledge.{Says, KnowsBlock, IsTrueOf, IsTrueResult, KnowsSquareOf, Grows}
 use Rattle.table_core.specs.Lawful.{MayAsk, IsLawful}
 use Rattle.table_core.specs.Learning.{KnowsWhole, Follows, as_leaf, as_pair, as_first_part, as_second_part, with_word, LearnsWord, with_future, LearnsFuture, MeetsWord, MeetsResult, Learns}
-use Rattle.table_core.proofs.Claims.{same_or_other}
+use Rattle.table_core.proofs.Comparisons.{same_or_other}
 use Rattle.table_core.proofs.Lists.{all_weaker, all_append}
 use Rattle.table_core.proofs.Results.{with_result_keeps, with_result_all, with_result_once}
 use Rattle.table_core.proofs.Knowing.{shown_as, block_true, squares_more, knows_more, grows_refl}

@@ -1,6 +1,7 @@
 pub mod Blocks
 pub mod Booleans
 pub mod Claims
+pub mod Comparisons
 pub mod Consistency
 pub mod Entries
 pub mod Everything

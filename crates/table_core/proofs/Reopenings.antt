@@ -13,7 +13,7 @@ use Rattle.table_core.specs.Blocks.{Words, IsBlock, cells_of, square_rank, Shows
 use Rattle.table_core.specs.Good.{IsOnWay, IsFutureOf, IsGood, KeepsSlots}
 use Rattle.table_core.specs.Opening.{KeepsResult, AreOpening, Reopens, EveryFreshTable, EveryReopening}
 use Rattle.table_core.proofs.Ways.{not_head, way_is_slot}
-use Rattle.table_core.proofs.Claims.{same_or_other}
+use Rattle.table_core.proofs.Comparisons.{same_or_other}
 use Rattle.table_core.proofs.Blocks.{one_rank, block_stays, cells_stay, shows_stay}
 
 pub every_fresh_table : EveryFreshTable

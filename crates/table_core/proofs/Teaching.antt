@@ -27,7 +27,7 @@ use Rattle.table_core.specs.Learning.{KnowsWhole, Follows, as_leaf, as_pair, as_
 use Rattle.table_core.specs.Laws.{EveryEventTeaches}
 use Rattle.table_core.proofs.Ways.{not_head}
 use Rattle.table_core.proofs.Blocks.{parts_equal, paired_same, paired_inside, leaf_no_pair, cells_inside}
-use Rattle.table_core.proofs.Claims.{same_or_other}
+use Rattle.table_core.proofs.Comparisons.{same_or_other}
 use Rattle.table_core.proofs.Lists.{all_append, all_contains, contains_here}
 use Rattle.table_core.proofs.Results.{one_level}
 use Rattle.table_core.proofs.Knowing.{seen_true, block_true, knows_same, lists_same}

@@ -48,7 +48,8 @@ pub fn step(words: &mut [u64], event: Event) -> u64
 // Places a word where 0 stands, and answers the word that stood there.
 fn place(words: &mut [u64], index: usize, word: u64) -> u64
     requires { index < length words.old }
-    ensures words { words.new ≡ slice_set words.old index (if slice_index words.old index == 0 then word else slice_index words.old index) }
+    ensures words { words.new ≡ slice_set words.old index
+        (if slice_index words.old index == 0 then word else slice_index words.old index) }
     ensures found { result ≡ slice_index words.old index }
 {
     let found = words[index];

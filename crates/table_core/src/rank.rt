@@ -7,6 +7,9 @@ ghost use Rattle.table_core.specs.declared.rank.TheConstants.{LARGEST_RANK};
 /// The rank of the largest squares, those of level 65.
 pub const LARGEST_RANK: u8 = 124;
 
+/// The level of a leaf, whose side is 2^3.
+const LEAF_LEVEL: u8 = 3;
+
 /// The rank of a square of this level: two for each level above 3, since a half has a rank of its own.
 pub fn square_rank(level: u8) -> u8
     requires { (3 ≤ level) × (level ≤ 65) }
@@ -14,5 +17,5 @@ pub fn square_rank(level: u8) -> u8
     ensures most { result ≤ LARGEST_RANK }
     ensures largest { level ≡ 65 → result ≡ LARGEST_RANK }
 {
-    2 * (level - 3)
+    2 * (level - LEAF_LEVEL)
 }

@@ -25,16 +25,16 @@ returns-then-done-ne0-clause-ok t c =
 
 pub note-requires-clause-word : goal.note-requires-clause-word
 note-requires-clause-word t c =
-    let first : c.index.result ≡ start c.args.self.now.from.now.shape.bits Pair + 0 = c.index.ensures.index in
+    let first : c.index.result ≡ start c.args.self.now.old.key.now.shape.bits Pair + 0 = c.index.ensures.index in
     let low = c.if-number-index.true in (
-      leaf_below c.args.self.now.from.now.shape.bits (slice_index c.args.self.now.old.now) c.requires.block.0 c.args.number c.if-number-eq0.false (omega arith) c.requires.block.2,
+      leaf_below c.args.self.now.old.key.now.shape.bits (slice_index c.args.self.now.old.words.now) c.requires.block.0 c.args.number c.if-number-eq0.false (omega arith) c.requires.block.2,
       c.word-word.ensures,
     )
 
 pub copy-requires : goal.copy-requires
 copy-requires t c =
-    let from = c.args.self.now.from.now.shape.bits in
-    let old = slice_index c.args.self.now.old.now in
+    let from = c.args.self.now.old.key.now.shape.bits in
+    let old = slice_index c.args.self.now.old.words.now in
     let n = c.args.number in
     let start_is : c.index.result ≡ start from Pair + 0 = c.index.ensures.index in
     let not_low = c.if-number-index.false in
@@ -54,8 +54,8 @@ copy-requires t c =
 
 pub copy-requires-2 : goal.copy-requires-2
 copy-requires-2 t c =
-    let from = c.args.self.now.from.now.shape.bits in
-    let old = slice_index c.args.self.now.old.now in
+    let from = c.args.self.now.old.key.now.shape.bits in
+    let old = slice_index c.args.self.now.old.words.now in
     let n = c.args.number in
     let start_is : c.index.result ≡ start from Pair + 0 = c.index.ensures.index in
     let not_low = c.if-number-index.false in
@@ -75,9 +75,9 @@ copy-requires-2 t c =
 
 pub note-requires-2-clause-word : goal.note-requires-2-clause-word
 note-requires-2-clause-word t c =
-    let from = c.args.self.now.from.now.shape.bits in
+    let from = c.args.self.now.old.key.now.shape.bits in
     let to = c.args.self.now.to.shape.bits in
-    let old = slice_index c.args.self.now.old.now in
+    let old = slice_index c.args.self.now.old.words.now in
     let between = fresh_words c.copy.new.fresh in
     let new = fresh_words c.copy-2.new.fresh in
     let n = c.args.number in
@@ -102,7 +102,7 @@ note-requires-2-clause-word t c =
 pub word-word-requires : goal.word-word-requires
 word-word-requires t c =
     let below = block_below (old_bits c.args.self.now) (old_words c.args.self.now) c.requires.block.0 c.args.number c.requires.block.2 in
-    let long = c.args.self.now.good.long in
+    let long = c.args.self.now.old.good.long in
     omega arith
 
 pub note-requires-clause-tried : goal.note-requires-clause-tried

@@ -11,7 +11,7 @@ mark-requires c = marked_inside c.args.self.now c.args.marks.now c.args.rank c.a
 pub mark-requires-2 : goal.mark-requires-2
 mark-requires-2 c =
     let transfer = c.args.self.now in
-    let low = future_of transfer.from.now (old_words transfer) c.args.rank c.args.pair c.in-Some.future transfer.good.good c.in-Some.ensures.some.finished in
+    let low = future_of transfer.old.key.now (old_words transfer) c.args.rank c.args.pair c.in-Some.future transfer.old.good.good c.in-Some.ensures.some.finished in
     let inside = marked_inside transfer c.args.marks.now low.0 c.in-Some.future c.requires.marks low.2 in
     let long = c.mark.ensures.long in
     omega arith
@@ -20,7 +20,7 @@ pub returns-clause-marks : goal.returns-clause-marks
 returns-clause-marks c =
     let transfer = c.args.self.now in
     let f = c.in-Some.ensures.some in
-    let low = future_of transfer.from.now (old_words transfer) c.args.rank c.args.pair c.in-Some.future transfer.good.good f.finished in
+    let low = future_of transfer.old.key.now (old_words transfer) c.args.rank c.args.pair c.in-Some.future transfer.old.good.good f.finished in
     let first = marks_on transfer c.args.marks.now c.mark.new.marks c.args.pair c.requires.marks c.mark.ensures (c.args.rank, c.requires.pair.block)
     (wants_end (old_bits transfer) (old_words transfer) transfer.wish c.args.ends c.args.pair c.requires.wish (high_pair c.args.rank c.args.pair c.in-Some.future f.finished f.large)) in
     marks_on transfer c.mark.new.marks c.mark-2.new.marks c.in-Some.future first c.mark-2.ensures (low.0, low.2)
@@ -40,7 +40,7 @@ returns-clause-gets c =
     gets_both bits old c.args.rank c.args.pair c.args.marks.now c.mark.new.marks c.mark-2.new.marks
     (gets_pair bits old c.args.rank c.args.pair c.args.marks.now c.mark.new.marks c.mark.ensures)
     (gets_low bits old c.args.rank c.args.pair c.in-Some.future c.mark.new.marks c.mark-2.new.marks c.mark-2.ensures
-    (future_of transfer.from.now old c.args.rank c.args.pair c.in-Some.future transfer.good.good c.in-Some.ensures.some.finished))
+    (future_of transfer.old.key.now old c.args.rank c.args.pair c.in-Some.future transfer.old.good.good c.in-Some.ensures.some.finished))
 
 pub returns-in_default-clause-finished : goal.returns-in_default-clause-finished
 returns-in_default-clause-finished c = none_finished (old_bits c.args.self.now) (old_words c.args.self.now) c.args.ends.high c.args.pair c.args.marks.now (search rules)

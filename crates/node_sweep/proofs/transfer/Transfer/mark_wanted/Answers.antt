@@ -16,7 +16,7 @@ loop-above-init c =
       marks = marks_on transfer c.args.marks.now c.mark.new.marks c.args.ends.root c.requires.marks c.mark.ensures c.requires.block
           (wants_end (old_bits transfer) (old_words transfer) transfer.wish c.args.ends c.args.ends.root c.requires.wish the_root);
       root = c.mark.ensures.now;
-      visited = none_above transfer.from.now (old_words transfer) c.args.ends.low c.args.ends.high 124 c.mark.new.marks transfer.good.good (omega arith);
+      visited = none_above transfer.old.key.now (old_words transfer) c.args.ends.low c.args.ends.high 124 c.mark.new.marks transfer.old.good.good (omega arith);
     }
 
 pub mark_rank-requires-clause-visited : goal.mark_rank-requires-clause-visited

@@ -11,13 +11,13 @@ use Rattle.node_sweep.proofs.transfer.Transfer.note.Goals as goal
 pub place-requires-clause-some : goal.place-requires-clause-some
 place-requires-clause-some c =
     let transfer = c.args.self.now in
-    word_nonzero transfer.from.now transfer.to (old_words transfer) (wants transfer) c.args.fresh.now.words.items transfer.good.good c.requires.underway.copying.good c.args.kind c.args.number c.args.word c.requires.some c.requires.word
+    word_nonzero transfer.old.key.now transfer.to (old_words transfer) (wants transfer) c.args.fresh.now.words.items transfer.old.good.good c.requires.underway.copying.good c.args.kind c.args.number c.args.word c.requires.some c.requires.word
 
 pub place-requires-clause-parts : goal.place-requires-clause-parts
 place-requires-clause-parts c =
     let transfer = c.args.self.now in
     subst (λ (ws : List ℕ). PartsStand (new_bits transfer) (slice_index ws) c.args.kind c.args.word) (sym c.as_mut_slice.ensures.value)
-    (parts_stand transfer.from.now transfer.to (old_words transfer) (wants transfer) c.args.fresh.now.words.items transfer.good.good c.requires.underway.copying.good c.args.kind c.args.number c.args.word c.requires.some c.requires.word)
+    (parts_stand transfer.old.key.now transfer.to (old_words transfer) (wants transfer) c.args.fresh.now.words.items transfer.old.good.good c.requires.underway.copying.good c.args.kind c.args.number c.args.word c.requires.some c.requires.word)
 
 pub returns-clause-underway : goal.returns-clause-underway
 returns-clause-underway c =

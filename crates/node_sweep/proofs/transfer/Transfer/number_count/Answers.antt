@@ -6,5 +6,5 @@ pub overflow_add-result : goal.overflow_add-result
 overflow_add-result c =
     let first = c.index.ensures.index in
     let count = c.slot_count.ensures in
-    let fits = size_fits c.args.self.now.from.now.shape.bits c.args.self.now.from.now.shape.range.1 in
+    let fits = size_fits c.args.self.now.old.key.now.shape.bits c.args.self.now.old.key.now.shape.range.1 in
     omega arith

@@ -32,8 +32,8 @@ pub note-requires-clause-tried : goal.note-requires-clause-tried
 note-requires-clause-tried c =
     let transfer = c.args.self.now in
     let less : c.loop-i.i < length c.args.slots.now = omega arith in
-    sought_tried (new_bits transfer) c.args.fresh.now.words.items c.loop-i.fresh.words.items Pair (slice_index c.args.words.now c.loop-i.i) (slice_index c.args.found.now c.loop-i.i) c.tried-tried.result
-    c.loop-i.invariant.keeps (c.requires.found.there c.loop-i.i less) c.tried-tried.ensures
+    sought_tried (new_bits transfer) c.args.fresh.now.words.items c.loop-i.fresh.words.items Pair (slice_index c.args.words.now c.loop-i.i) (slice_index c.args.found.now c.loop-i.i) c.places_tried-tried.result
+    c.loop-i.invariant.keeps (c.requires.found.there c.loop-i.i less) c.places_tried-tried.ensures
 
 pub loop-i-preserved : goal.loop-i-preserved
 loop-i-preserved c =

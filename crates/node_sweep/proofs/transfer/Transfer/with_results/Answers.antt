@@ -8,7 +8,7 @@ use Rattle.node_sweep.proofs.transfer.Transfer.with_results.Goals as goal
 pub loop-block-init : goal.loop-block-init
 loop-block-init c =
     let transfer = c.args.self.now in
-    keeping_start transfer.from.now transfer.to (old_words transfer) (wants transfer) c.args.fresh.words.items c.args.fresh.copies.items transfer.good.good c.requires.copying
+    keeping_start transfer.old.key.now transfer.to (old_words transfer) (wants transfer) c.args.fresh.words.items c.args.fresh.copies.items transfer.old.good.good c.requires.copying
 
 pub kept_results-requires-clause-inside : goal.kept_results-requires-clause-inside
 kept_results-requires-clause-inside c =
@@ -32,13 +32,13 @@ loop-block-preserved c =
     subst (λ (ws : List ℕ). AreResultsKept transfer c.args.fresh.copies.items ws (64 * (block + 1)))
     (sym (with_items_is c.loop-block.words c.tell_results.new.words (c.tell_results.auto.words ∙ c.as_mut_slice.ensures.len))) in_copies
 
-pub returns : goal.returns
-returns c =
+pub returns-clause-kept : goal.returns-clause-kept
+returns-clause-kept c =
     let bits = old_bits c.args.self.now in
     let count : c.slot_count-count.result ≡ 2 ^ bits = c.slot_count-count.ensures in
     let far = c.loop-block-test.false in
     let near = c.loop-block.auto.block-end in
-    let range = c.args.self.now.from.now.shape.range.0 in
+    let range = c.args.self.now.old.key.now.shape.range.0 in
     let shards = whole bits (bits - 8) (omega arith) in
     let all : 64 * c.loop-block.block ≡ 2 ^ bits = omega arith in
     subst (AreResultsKept c.args.self.now c.args.fresh.copies.items c.loop-block.words.items) all c.loop-block.invariant

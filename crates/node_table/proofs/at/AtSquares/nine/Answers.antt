@@ -1,5 +1,5 @@
 use Rattle.std.proofs.lemmas.Result.{IfOk-weaker}
-use Rattle.node_table.proofs.Working.{keeps_working, known_at, subsquares_working}
+use Rattle.node_table.proofs.Working.{known_at, squares_working, subsquares_working}
 use Rattle.node_table.proofs.at.AtSquares.nine.Goals as goal
 
 pub nine-requires-clause-known : goal.nine-requires-clause-known
@@ -10,7 +10,7 @@ returns-clause-ok c =
     let at = c.args.self.now in
     IfOk-weaker c.nine.result _ _ (λ squares are. subsquares_working at.expansions at.table.now c.nine.new.self c.args.sq.level _ squares are) c.nine.ensures.ok
 
-pub returns-clause-keeps : goal.returns-clause-keeps
-returns-clause-keeps c =
+pub returns-clause-adds : goal.returns-clause-adds
+returns-clause-adds c =
     let at = c.args.self.now in
-    keeps_working at.expansions at.table.now at.desk c.nine.new.self c.nine.ensures.desk.of_table c.nine.ensures.desk.grows
+    squares_working at.expansions at.table.now at.desk c.nine.new.self c.nine.ensures.desk

@@ -1,5 +1,5 @@
 use Rattle.std.proofs.lemmas.Result.{IfOk-weaker}
-use Rattle.node_table.proofs.Working.{keeps_working, each_known_at, overlaps_working}
+use Rattle.node_table.proofs.Working.{each_known_at, overlaps_working, squares_working}
 use Rattle.node_table.proofs.at.AtSquares.overlaps.Goals as goal
 
 pub overlaps-requires-clause-known : goal.overlaps-requires-clause-known
@@ -10,7 +10,7 @@ returns-clause-ok c =
     let at = c.args.self.now in
     IfOk-weaker c.overlaps.result _ _ (λ four are. overlaps_working at.expansions at.table.now c.overlaps.new.self c.args.level c.args.nine four are) c.overlaps.ensures.ok
 
-pub returns-clause-keeps : goal.returns-clause-keeps
-returns-clause-keeps c =
+pub returns-clause-adds : goal.returns-clause-adds
+returns-clause-adds c =
     let at = c.args.self.now in
-    keeps_working at.expansions at.table.now at.desk c.overlaps.new.self c.overlaps.ensures.desk.of_table c.overlaps.ensures.desk.grows
+    squares_working at.expansions at.table.now at.desk c.overlaps.new.self c.overlaps.ensures.desk

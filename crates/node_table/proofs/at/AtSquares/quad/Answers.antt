@@ -9,7 +9,7 @@ use Rattle.table_core.specs.Layout.{pair_of}
 use Rattle.table_core.proofs.Knowing.{grows_refl}
 use Rattle.node_table.specs.Desks.{book_at}
 use Rattle.node_table.specs.Refusals.{HasNoRoom, known_by}
-use Rattle.node_table.proofs.Working.{keeps_working, all_known_at, shows_working}
+use Rattle.node_table.proofs.Working.{all_known_at, shows_working, squares_working}
 use Rattle.node_table.proofs.Refusing.{lacks, on_err, no_upper_half, no_lower_half, no_whole, room_stays}
 use Rattle.node_table.proofs.TwoHalves.{beside, book_kept, half_before, half_kept, half_of, joined_earlier, joined_of, learns_trans, make_square, same_half}
 use Rattle.node_table.proofs.at.AtSquares.quad.Goals as goal
@@ -44,18 +44,17 @@ returns-clause-ok c =
     (λ sq is. shows_working at.expansions at.table.now c.whole.new.self _ _ sq (joined_earlier keeps four.nw four.ne four.sw four.se (joined_of (book_at at.table.now c.half-2.new.self) (book_at at.table.now c.whole.new.self) c.in_ok-upper.upper c.in_ok-lower.lower sq upper.left upper.right lower.left lower.right is)))
     c.whole.ensures.ok
 
-pub returns-in_err-upper-clause-keeps : goal.returns-in_err-upper-clause-keeps
-returns-in_err-upper-clause-keeps c = keeps_working c.args.self.now.expansions c.args.self.now.table.now c.args.self.now.desk c.half.new.self c.half.ensures.desk.of_table c.half.ensures.desk.grows
+pub returns-in_err-upper-clause-adds : goal.returns-in_err-upper-clause-adds
+returns-in_err-upper-clause-adds c = squares_working c.args.self.now.expansions c.args.self.now.table.now c.args.self.now.desk c.half.new.self c.half.ensures.desk
 
-pub returns-in_err-lower-clause-keeps : goal.returns-in_err-lower-clause-keeps
-returns-in_err-lower-clause-keeps c =
-    let learns = learns_trans c.half.ensures.desk c.half-2.ensures.desk in
-    keeps_working c.args.self.now.expansions c.args.self.now.table.now c.args.self.now.desk c.half-2.new.self learns.of_table learns.grows
+pub returns-in_err-lower-clause-adds : goal.returns-in_err-lower-clause-adds
+returns-in_err-lower-clause-adds c =
+    squares_working c.args.self.now.expansions c.args.self.now.table.now c.args.self.now.desk c.half-2.new.self (learns_trans c.half.ensures.desk c.half-2.ensures.desk)
 
-pub returns-clause-keeps : goal.returns-clause-keeps
-returns-clause-keeps c =
-    let learns = learns_trans c.half.ensures.desk (learns_trans c.half-2.ensures.desk c.whole.ensures.desk) in
-    keeps_working c.args.self.now.expansions c.args.self.now.table.now c.args.self.now.desk c.whole.new.self learns.of_table learns.grows
+pub returns-clause-adds : goal.returns-clause-adds
+returns-clause-adds c =
+    squares_working c.args.self.now.expansions c.args.self.now.table.now c.args.self.now.desk c.whole.new.self
+    (learns_trans c.half.ensures.desk (learns_trans c.half-2.ensures.desk c.whole.ensures.desk))
 
 pub returns-in_err-upper-clause-full : goal.returns-in_err-upper-clause-full
 returns-in_err-upper-clause-full c =

@@ -2,15 +2,16 @@ use Rattle.std.proofs.Common.{subst}
 use Rattle.table_core.specs.Blocks.{square_rank}
 use Rattle.table_core.specs.Knowledge.{KnowsBlock}
 use Rattle.node_table.specs.Books.{cells_in}
-use Rattle.node_table.proofs.Entries.{block_of}
+use Rattle.node_table.proofs.Entries.{block_of, has_number}
 use Rattle.node_table.proofs.Desks.{coherent_at, in_table, leaf_slot, leaf_read}
-use Rattle.node_table.proofs.Working.{keeps_working}
+use Rattle.node_table.proofs.Searching.{meets_told}
+use Rattle.node_table.proofs.Working.{squares_working}
 use Rattle.node_table.proofs.at.AtSquares.read_bits.Goals as goal
 
 pub look-requires-clause-range : goal.look-requires-clause-range
 look-requires-clause-range c =
     let at = c.args.self.now in
-    in_table at.table.now at.desk (square_rank c.args.sq.level) c.args.sq.num.0 (cells_in at.desk.seat.me.0.known c.args.sq) at.of_table c.if-sq-eq0.false (block_of at.desk.seat.me.0.known c.args.sq c.requires.known)
+    in_table at.table.now at.desk (square_rank c.args.sq.level) c.args.sq.num.0 (cells_in at.desk.seat.me.0.known c.args.sq) at.of_table (has_number c.is_empty.ensures c.if-is_empty.false) (block_of at.desk.seat.me.0.known c.args.sq c.requires.known)
 
 pub returns-clause-value : goal.returns-clause-value
 returns-clause-value c =
@@ -23,8 +24,12 @@ returns-clause-value c =
     record {
       known = c.requires;
       cells = leaf_read at.table.now.key known c.look.new.self.seat.me.0.known n c.look.result plane (coherent_at at.table.now c.look.new.self c.look.ensures.table)
-          c.if-sq-eq0.false (leaf_slot at.table.now.key.shape.bits known n plane (coherent_at at.table.now at.desk at.of_table) c.if-sq-eq0.false knows) knows (met.stands 0 plane c.if-sq-eq0.false knows) met.grows met.learns;
+          (has_number c.is_empty.ensures c.if-is_empty.false) (leaf_slot at.table.now.key.shape.bits known n plane (coherent_at at.table.now at.desk at.of_table) (has_number c.is_empty.ensures c.if-is_empty.false) knows) knows (met.stands 0 plane (has_number c.is_empty.ensures c.if-is_empty.false) knows) met.grows met.learns;
     }
 
-pub returns-clause-keeps : goal.returns-clause-keeps
-returns-clause-keeps c = keeps_working c.args.self.now.expansions c.args.self.now.table.now c.args.self.now.desk c.look.new.self c.look.ensures.table c.look.ensures.met.grows
+pub returns-clause-adds : goal.returns-clause-adds
+returns-clause-adds c =
+    let at = c.args.self.now in
+    let met = c.look.ensures.met in
+    let told = meets_told at.table.now.key at.desk.seat.me.0.known c.look.new.self.seat.me.0.known c.args.sq.num.0 c.look.result met.learns in
+    squares_working at.expansions at.table.now at.desk c.look.new.self (record { of_table = c.look.ensures.table; grows = met.grows; told = told })

@@ -1,0 +1,24 @@
+-- The words that are copied from, the ranks of their pairs, and the order of these.
+use Rattle.std.specs.Prelude.{◌≡◌, ℕ, ◌^◌, List, length, slice_index}
+use Rattle.table_core.specs.Blocks.{Words}
+use Rattle.node_sweep.specs.Orders.{IsOrderOf}
+use Rattle.node_sweep.specs.Ranks.{AreAllRanks}
+use Rattle.node_sweep.specs.Reaching.{IsAny}
+use Rattle.node_sweep.specs.declared.order.Order.{Order}
+use Rattle.node_sweep.specs.declared.transfer.OldWords.{OldWords}
+
+abbrev pub words_in : OldWords → Words
+words_in old = slice_index old.words.now
+
+-- the size of the table, as a power of two
+abbrev pub bits_in : OldWords → ℕ
+bits_in old = old.key.now.shape.bits
+
+-- the rank of each pair is noted at its slot
+pub record AreRanksOf (old : OldWords) (ranks : List ℕ) : Type 0 where
+  pub long : length ranks ≡ 2 ^ bits_in old
+  pub all : AreAllRanks (bits_in old) (words_in old) ranks (2 ^ bits_in old)
+
+-- all pairs, in the order of their ranks
+abbrev pub IsOrderOfAll : OldWords → Order → Type 0
+IsOrderOfAll old order = IsOrderOf (bits_in old) (words_in old) IsAny order.slots.items order.ends
