@@ -23,7 +23,7 @@ no_room NoRoom (Err refusal) full (inl memory) = absurd cc
 no_room NoRoom (Err refusal) full (inr why) = why.1
 
 pub enlarged_is : (old new : RootedStill) (pairs : ℕ) → IsEnlargedFrom old pairs new → IsCopied old pairs new
-enlarged_is old new pairs is = record { cells = shown_cells (book_in (still_of old)) (book_in (still_of new)) (root_of old) (root_of new) is.shown; resized = is.resized }
+enlarged_is old new pairs is = record { cells = shown_cells (book_in (still_of old)) (book_in (still_of new)) (root_of old) (root_of new) is.shown; resized = is.all.resized }
 
 pub swept_is : (old new : RootedStill) (pairs : ℕ) → IsSweptFrom old pairs new → IsCopied old pairs new
 swept_is old new pairs is = record { cells = shown_cells (book_in (still_of old)) (book_in (still_of new)) (root_of old) (root_of new) is.shown; resized = is.resized }

@@ -16,7 +16,8 @@ use Rattle.node_table.specs.Desks.{book_at}
 use Rattle.node_table.specs.Openings.{Opens}
 use Rattle.node_table.specs.Stills.{IsVacant, book_in, key_of}
 use Rattle.node_sweep.specs.SweptStills.{IsSwept}
-use Rattle.universe.specs.Cells.{exponent_of, limit_of, live_cells, root_of, rule_of, square_plane, still_of}
+use Rattle.squares.specs.Rounds.{square_plane}
+use Rattle.universe.specs.Cells.{exponent_of, limit_of, live_cells, root_of, rule_of, still_of}
 use Rattle.universe.specs.Runs.{IsAttempt, IsFullAtLimit, IsFullFromAlone, IsFullInPlace, IsAtExponent}
 use Rattle.universe.specs.Stills.{IsOpenedAt, IsSweptFrom}
 use Rattle.universe.specs.Tables.{HasFilledUp, IsFreshTable, IsOpened, StaysOpen, key_at, known_at}

@@ -16,7 +16,7 @@ use Rattle.plane.specs.declared.cell.Cell.{Cell}
 use Rattle.plane.proofs.Around.{live_cell}
 use Rattle.plane.proofs.Boxes.{box_at, coordinate_between, some_box, within_bounds}
 use Rattle.plane.proofs.Paddings.{quiet}
-use Rattle.plane.proofs.Turns.{AllByRecursion-weaker}
+use Rattle.plane.proofs.Elements.{AllByRecursion-weaker}
 use Rattle.plane.proofs.Parts.{after_same}
 use Rattle.plane.proofs.Same.{same_sym, same_trans}
 use Rattle.viewport.specs.BoundingBox.{HasBounds}

@@ -1,13 +1,12 @@
 -- Squares round (0,0).
-use Rattle.std.proofs.Common.{◌≡◌, ◌↔◌, eqb, IsTrue, ℕ, ◌-◌, ◌^◌, ℤ, ◌-ℤ◌, pos, ◌+ℤ◌, Bool, true, false, ◌&&◌, refl, sym, ◌∙◌, ap, subst, arith}
-use Rattle.std.proofs.lemmas.Bool.{eqb-true}
+use Rattle.std.proofs.Common.{◌≡◌, ◌↔◌, ℕ, ◌-◌, ◌^◌, ℤ, ◌-ℤ◌, pos, ◌+ℤ◌, Bool, true, false, ◌&&◌, refl, sym, ◌∙◌, ap, subst, arith}
 use Rattle.std.proofs.lemmas.Int.{ints}
 use Rattle.plane.specs.Centred.{Holds, centred}
 use Rattle.plane.specs.Plane.{Plane}
 use Rattle.plane.specs.Range.{IsCoordinate}
 use Rattle.plane.specs.Square.{IsSame, empty, spans}
 use Rattle.plane.proofs.Same.{same_sym, same_trans}
-use Rattle.squares.specs.Book.{Book, IsBook, IsKnown, numbered}
+use Rattle.squares.specs.Book.{Book, IsBook, IsEmpty, IsKnown, numbered}
 use Rattle.squares.specs.declared.sq.Sq.{Sq}
 
 pub held_same : (level : ℕ) (plane other : Plane) → IsSame plane other → Holds level plane → Holds level other
@@ -42,9 +41,9 @@ empty_centred level plane none = record {
       ∙ none.same (x -ℤ pos (2 ^ (level - 1))) (y -ℤ pos (2 ^ (level - 1)));
 }
 
--- a square has number 0 exactly if it has no cell
-pub zero_is_empty : (book : Book) (sq : Sq) → IsBook book → IsKnown book sq.level sq → IsTrue (eqb sq.num.0 0) ↔ IsSame (centred sq.level (book.cells sq)) empty
-zero_is_empty book sq laws known = (
-  λ is. centred_empty sq.level (book.cells sq) (number_empty book sq laws (eqb-true sq.num.0 0 is)),
-  λ none. let is : sq.num.0 ≡ 0 = empty_number book sq laws known (empty_centred sq.level (book.cells sq) none) in rw is refl,
+-- a square is the empty one exactly if it has no cell
+pub is_without_cells : (book : Book) (sq : Sq) → IsBook book → IsKnown book sq.level sq → IsEmpty sq ↔ IsSame (centred sq.level (book.cells sq)) empty
+is_without_cells book sq laws known = (
+  λ is. centred_empty sq.level (book.cells sq) (number_empty book sq laws is),
+  λ none. empty_number book sq laws known (empty_centred sq.level (book.cells sq) none),
 )

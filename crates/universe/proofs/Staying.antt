@@ -7,7 +7,8 @@ use Rattle.plane.specs.Square.{IsSame}
 use Rattle.squares.specs.Book.{Book, IsKnown, Shows}
 use Rattle.squares.specs.declared.sq.Sq.{Sq}
 use Rattle.table_core.specs.declared.key.Key.{Key}
-use Rattle.universe.specs.Cells.{exponent_of, live_cells, next_cells, square_plane}
+use Rattle.squares.specs.Rounds.{square_plane}
+use Rattle.universe.specs.Cells.{exponent_of, live_cells, next_cells}
 use Rattle.universe.specs.Runs.{IsAtExponent, IsLater}
 use Rattle.universe.specs.Tables.{StaysOpen, key_at, known_at}
 use Rattle.universe.specs.declared.tables.OpenTable.{OpenTable}

@@ -1,21 +1,16 @@
 -- The live cells of a universe.
 use Rattle.std.specs.Prelude.{ℕ, ◌+◌, ◌^◌}
 use Rattle.rule_text.specs.CountRule.{CountRule}
-use Rattle.plane.specs.Centred.{centred}
 use Rattle.plane.specs.Plane.{Plane, after}
 use Rattle.node_table.specs.declared.still.Still.{Still}
 use Rattle.node_table.specs.Stills.{book_in}
-use Rattle.squares.specs.Book.{Book}
+use Rattle.squares.specs.Rounds.{square_plane}
 use Rattle.squares.specs.declared.sq.Sq.{Sq}
 use Rattle.universe.specs.declared.rooted_still.RootedStill.{RootedStill}
 use Rattle.universe.specs.declared.tables.OpenTable.{OpenTable}
 use Rattle.universe.specs.declared.universe.Universe.{Universe}
 use Rattle.universe.specs.Sums.{pair_sum}
 use Rattle.universe.specs.Tables.{key_at, known_at, pairs_in}
-
--- the cells of a square of a book, round (0,0)
-abbrev pub square_plane : Book → Sq → Plane
-square_plane book sq = centred sq.level (book.cells sq)
 
 -- the words, and the square in them
 abbrev pub still_of : RootedStill → Still

@@ -11,6 +11,10 @@ IfMade result P = IfOk result (λ made. IfSome made P)
 abbrev pub IfNoRoom : {T E : Type 0} → Result (Option T) E → Type 0 → Type 0
 IfNoRoom result P = IfOk result (λ made. IfNone made P)
 
+-- what holds if a table is full
+abbrev pub WhereFull : Type 0 → Refusal → Type 0
+WhereFull P refusal = refusal ≡ NodesFull → P
+
 -- memory ran out, or a table is full
 abbrev pub LacksMemoryOrRoom : Refusal → Type 0
 LacksMemoryOrRoom refusal = (refusal ≡ NoMemory) ⊎ (refusal ≡ NodesFull)

@@ -8,7 +8,8 @@ use Rattle.plane.specs.Plane.{after}
 use Rattle.plane.specs.Square.{IsSame}
 use Rattle.squares.specs.Book.{IsKnown}
 use Rattle.squares.specs.declared.sq.Sq.{Sq}
-use Rattle.universe.specs.Cells.{exponent_of, limit_of, live_cells, rule_of, square_plane}
+use Rattle.squares.specs.Rounds.{square_plane}
+use Rattle.universe.specs.Cells.{exponent_of, limit_of, live_cells, rule_of}
 use Rattle.universe.specs.Tables.{HasFilledUp, StaysOpen, known_at, pairs_in}
 use Rattle.universe.specs.declared.attempts.Attempt.{Attempt}
 use Rattle.universe.specs.declared.attempts.Attempt.TheVariants.{Done, Full}

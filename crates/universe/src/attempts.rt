@@ -69,11 +69,9 @@ impl Universe {
         ensures full { retry ≡ Retry.CellsAlone → IfOk result IsFullAtLimit }
     {
         let limit = self.others.limit;
+        let own = self.here.table.key().shape;
         match retry {
-            Retry::Swept => {
-                let shape = self.here.table.key().shape;
-                self.step_in(team, shape, Keep::CellsAlone)
-            }
+            Retry::Swept => self.step_in(team, own, Keep::CellsAlone),
             Retry::Enlarged(shape) => self.step_in(team, shape, Keep::Everything),
             Retry::Collected(_) => self.step_in(team, limit, Keep::Collected),
             Retry::CellsAlone => self.step_in(team, limit, Keep::CellsAlone),
@@ -107,17 +105,14 @@ impl Universe {
         requires step { MayStep self }
         requires shape { 2 ^ shape.bits ≤ limit_of self }
         ensures ok { IfOk result (IsAttempt self) }
-        ensures full { keep ≡ CellsAlone → 2 ^ shape.bits ≡ limit_of self → IfOk result IsFullAtLimit }
+        ensures full { keep ≡ CellsAlone → 2 ^ shape.bits ≡ limit_of self
+            → IfOk result IsFullAtLimit }
     {
-        let Universe {
-            here,
-            root,
-            mut others,
-        } = self;
+        let mut others = self.others;
         others.make_room(pair_count(shape));
-        let exponent = here.table.key().exponent;
-        let history = here.history;
-        let start = here.close(root);
+        let exponent = self.here.table.key().exponent;
+        let history = self.here.history;
+        let start = self.here.close(self.root);
         match start.copy(team.alloc, shape, keep, history)? {
             Some((fresh, history)) => {
                 drop(start);

@@ -3,10 +3,9 @@
 ghost use Rattle.std.specs.Prelude.{◌≡◌, ◌⊎◌, ◌^◌, IfErr, IfOk};
 ghost use Rattle.plane.specs.Square.{IsSame};
 ghost use Rattle.table_core.specs.Sizes.{IsPairCount};
-ghost use Rattle.universe.specs.Outcomes.{LacksMemoryOrRoom};
+ghost use Rattle.universe.specs.Outcomes.{LacksMemoryOrRoom, WhereFull};
 ghost use Rattle.universe.specs.Tables.{HasFullTable};
 
-use crate::build::Build;
 use crate::history::TableHistory;
 use crate::other_tables::OtherTables;
 use crate::refusals::unless_full;
@@ -15,7 +14,7 @@ use crate::tables::OpenTable;
 use crate::universe::Universe;
 use plane::Refusal;
 use rule_text::Rule;
-use squares::Sq;
+use squares::{Build, Sq};
 use std::alloc::Global;
 use table_core::Shape;
 
@@ -35,8 +34,10 @@ impl Universe {
         ensures ok { IfOk result (λ universe. IsSame (live_cells universe) (B.live source.now)) }
         ensures rule { IfOk result (λ universe. rule_of universe ≡ rule.now) }
         ensures limit { IfOk result (λ universe. limit_of universe ≡ limit) }
-        ensures refusal { IfErr result (λ refusal. (refusal ≡ Refusal.NoMemory) ⊎ (refusal ≡ Refusal.NodesFull)) }
-        ensures full { IfErr result (λ refusal. refusal ≡ Refusal.NodesFull → HasFullTable rule.now limit) }
+        ensures refusal { IfErr result
+            (λ refusal. (refusal ≡ Refusal.NoMemory) ⊎ (refusal ≡ Refusal.NodesFull)) }
+        ensures full { IfErr result
+            (λ refusal. refusal ≡ Refusal.NodesFull → HasFullTable rule.now limit) }
     {
         let limit = Shape::new(limit);
         let mut shape = smallest(limit);
@@ -62,9 +63,10 @@ impl OpenTable {
         shape: Shape,
     ) -> Result<(OpenTable, Sq), Refusal>
         requires { B.is_lawful source.now }
-        ensures ok { IfOk result (λ made. IsBuilt rule.now (B.live source.now) (2 ^ shape.bits) made.0 made.1) }
+        ensures ok { IfOk result
+            (λ made. IsBuilt rule.now (B.live source.now) (2 ^ shape.bits) made.0 made.1) }
         ensures refusal { IfErr result LacksMemoryOrRoom }
-        ensures full { IfErr result (λ refusal. refusal ≡ Refusal.NodesFull → HasFullTable rule.now (2 ^ shape.bits)) }
+        ensures full { IfErr result (WhereFull (HasFullTable rule.now (2 ^ shape.bits))) }
     {
         let mut opened = OpenTable::fresh(alloc, shape, rule, 0, TableHistory::new())?;
         let desk = opened.desk;

@@ -27,11 +27,10 @@ impl Universe {
             Attempt::Done(there) => return Ok(there),
             Attempt::Full(start) => start,
         };
-        let Universe { here, root, others } = start;
-        let history = here.history;
-        let compacted = here.close(root).compact(alloc)?;
+        let history = start.here.history;
+        let compacted = start.here.close(start.root).compact(alloc)?;
         let history = history.for_new_table(compacted.still.key().shape.bits);
-        compacted.open_at(alloc, exponent, history, others)
+        compacted.open_at(alloc, exponent, history, start.others)
     }
 
     // Moves the cells to the open table of this exponent, or to a new one, if the limit leaves room for both.
@@ -89,12 +88,9 @@ impl Universe {
             return self.enlarge_and_move(alloc, reached);
         };
         self.others.push(left)?;
-        let there = Universe {
-            here: reached,
-            root,
-            others: self.others,
-        };
-        Ok(Attempt::Done(there))
+        self.here = reached;
+        self.root = root;
+        Ok(Attempt::Done(self))
     }
 
     // Enlarges another table that is full, if the limit leaves room, and copies the cells there.

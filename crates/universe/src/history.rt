@@ -60,44 +60,37 @@ impl TableHistory {
     /// table that isn't large also takes over how many squares the last step expanded; at a large one the next
     /// step may be long.
     pub(crate) fn for_new_table(self, bits: u8) -> TableHistory {
-        TableHistory {
-            expansions: if bits < LARGE_BITS {
-                self.expansions
-            } else {
-                None
-            },
-            ..TableHistory::new()
+        let mut history = TableHistory::new();
+        if bits < LARGE_BITS {
+            history.expansions = self.expansions;
         }
+        history
     }
 
     /// For a new table of 2^bits pair slots that takes over what was collected from this one, when this much
     /// was finished.
     pub(crate) fn for_collected_table(self, bits: u8, finished: Finished) -> TableHistory {
-        TableHistory {
-            collections: Collections::Collected(finished),
-            ..self.for_new_table(bits)
-        }
+        let mut history = self.for_new_table(bits);
+        history.collections = Collections::Collected(finished);
+        history
     }
 
     /// For this table, from which nothing more is collected before the next step.
-    pub(crate) fn without_collections(self) -> TableHistory {
-        TableHistory {
-            collections: Collections::All,
-            ..self
-        }
+    pub(crate) fn without_collections(mut self) -> TableHistory {
+        self.collections = Collections::All;
+        self
     }
 
     /// For this table, after a try of one more step. A try that met a full table is no step, and doesn't tell
     /// whether the step is short.
-    pub(crate) fn after_try(self, is_taken: bool, expansions: u64) -> TableHistory {
-        let mut history = self;
-        history.last_try = expansions;
+    pub(crate) fn after_try(mut self, is_taken: bool, expansions: u64) -> TableHistory {
+        self.last_try = expansions;
         if is_taken {
-            history.steps = history.steps.saturating_add(1);
-            history.expansions = Some(expansions);
-            history.collections = Collections::None;
+            self.steps = self.steps.saturating_add(1);
+            self.expansions = Some(expansions);
+            self.collections = Collections::None;
         }
-        history
+        self
     }
 
     /// Whether a collection may help the next step at a full table of so many pair slots: there was none for it

@@ -2,7 +2,6 @@
 #![tactic(auto)]
 
 mod attempts;
-mod build;
 mod building;
 mod digits;
 mod exponents;
@@ -16,6 +15,5 @@ mod steps;
 mod tables;
 mod universe;
 
-pub use build::Build;
 pub use rooted_still::RootedStill;
 pub use universe::Universe;

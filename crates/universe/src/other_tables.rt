@@ -47,7 +47,8 @@ impl OtherTables {
         requires sum { pair_sum self.old.tables.items < 2 ^ 64 }
         requires room { pairs ≤ 2 ^ self.old.limit.bits }
         ensures limit { self.new.limit ≡ self.old.limit }
-        ensures tables { AreLast self.old.tables.items self.new.tables.items (2 ^ self.old.limit.bits - pairs) }
+        ensures tables { AreLast self.old.tables.items self.new.tables.items
+            (2 ^ self.old.limit.bits - pairs) }
     {
         let room = pair_count(self.limit) - pairs;
         'evicting: while self.pairs() > room {

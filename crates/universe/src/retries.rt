@@ -6,7 +6,7 @@ use crate::history::TableHistory;
 use crate::sizes::larger;
 use table_core::Shape;
 
-// How often the largest table is collected for one step, at most. No step takes so many collections.
+// After so many collections for one step, the cells alone are tried.
 const MOST_COLLECTIONS: u32 = 1 << 20;
 
 /// How a step is tried again: at a new table of which size, and with what of the table that was full.

@@ -11,7 +11,7 @@ use crate::refusals::unless_full;
 use crate::sizes::{GrowthFactor, larger, smallest};
 use crate::tables::OpenTable;
 use crate::universe::Universe;
-use node_sweep::{Collected, collect, enlarge, sweep};
+use node_sweep::{collect, enlarge, sweep};
 use node_table::Still;
 use plane::{Bounds, Refusal};
 use squares::Sq;
@@ -78,7 +78,8 @@ impl RootedStill {
         history: TableHistory,
         others: OtherTables,
     ) -> Result<Universe, AllocError>
-        requires { 2 ^ (key_of (still_of self)).shape.bits + pair_sum others.tables.items ≤ 2 ^ others.limit.bits }
+        requires { 2 ^ (key_of (still_of self)).shape.bits + pair_sum others.tables.items
+            ≤ 2 ^ others.limit.bits }
         ensures { IfOk result (IsOpenedAt self exponent others) }
     {
         let rule = self.still.key().rule;
@@ -97,8 +98,10 @@ impl RootedStill {
         history: TableHistory,
     ) -> Result<Option<(RootedStill, TableHistory)>, AllocError>
         ensures ok { IfMade result (λ fresh. IsCopied self.now (2 ^ shape.bits) fresh.0) }
-        ensures alone { keep ≡ CellsAlone → IfMade result (λ fresh. IsSweptFrom self.now (2 ^ shape.bits) fresh.0) }
-        ensures full { keep ≡ CellsAlone → IfNoRoom result (HasNoRoomToSweep self.now (2 ^ shape.bits)) }
+        ensures alone { keep ≡ CellsAlone
+            → IfMade result (λ fresh. IsSweptFrom self.now (2 ^ shape.bits) fresh.0) }
+        ensures full { keep ≡ CellsAlone
+            → IfNoRoom result (HasNoRoomToSweep self.now (2 ^ shape.bits)) }
     {
         let made = match keep {
             Keep::Everything => self.enlarge(alloc, shape)?,
@@ -134,15 +137,12 @@ impl RootedStill {
         let Some(collected) = unless_full(made)? else {
             return Ok(None);
         };
-        let Collected {
-            still,
-            root,
-            finished,
-        } = collected;
+        let finished = collected.finished;
         if !history.has_finished_more(&finished) {
             return Ok(None);
         }
         let history = history.for_collected_table(shape.bits, finished);
+        let (still, root) = (collected.still, collected.root);
         Ok(Some((RootedStill { still, root }, history)))
     }
 

@@ -14,9 +14,8 @@ pub(crate) const LARGE_BITS: u8 = 18;
 pub(crate) fn smallest(most: Shape) -> Shape
     ensures { result.bits ≡ min 12 most.bits }
 {
-    Shape {
-        bits: most.bits.min(START_BITS),
-    }
+    let bits = most.bits.min(START_BITS);
+    Shape { bits }
 }
 
 /// By which factor a full table grows, as long as it isn't large.
@@ -30,7 +29,7 @@ pub(crate) enum GrowthFactor {
 /// factor says, after a large one four times as many, and never more than the largest. `None` where the full
 /// one has the largest shape.
 pub(crate) fn larger(shape: Shape, most: Shape, growth_factor: GrowthFactor) -> Option<Shape>
-    ensures some { IfSome result (λ larger. (shape.bits < larger.bits) × (larger.bits ≤ most.bits)) }
+    ensures some { IfSome result (λ next. (shape.bits < next.bits) × (next.bits ≤ most.bits)) }
     ensures none { IfNone result (most.bits ≤ shape.bits) }
 {
     if shape.bits >= most.bits {
@@ -40,9 +39,8 @@ pub(crate) fn larger(shape: Shape, most: Shape, growth_factor: GrowthFactor) -> 
         GrowthFactor::Sixteen if shape.bits < LARGE_BITS => shape.bits + 4,
         _ => shape.bits + 2,
     };
-    Some(Shape {
-        bits: most.bits.min(bits),
-    })
+    let bits = most.bits.min(bits);
+    Some(Shape { bits })
 }
 
 /// How many pair slots a table of this shape has.

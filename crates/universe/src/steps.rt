@@ -4,7 +4,7 @@ ghost use Rattle.std.specs.Prelude.{◌≡◌, ◌⊎◌, ◌≤◌, ◌<◌, �
 ghost use Rattle.plane.specs.Plane.{after};
 ghost use Rattle.plane.specs.Square.{IsSame, empty};
 ghost use Rattle.universe.specs.Held.{StaysHeld};
-ghost use Rattle.universe.specs.Outcomes.{LacksMemoryOrRoom};
+ghost use Rattle.universe.specs.Outcomes.{LacksMemoryOrRoom, WhereFull};
 ghost use Rattle.universe.specs.Runs.{IsLater, IsStuck};
 
 use crate::attempts::Attempt;
@@ -28,13 +28,11 @@ impl Universe {
         requires exponent { exponent ≤ 62 }
         requires held { StaysHeld (rule_of self) (live_cells self) (2 ^ exponent) }
         ensures ok { IfOk result (IsLater self (2 ^ exponent)) }
-        ensures full { IfErr result (λ refusal. refusal ≡ Refusal.NodesFull → IsStuck self (2 ^ exponent)) }
+        ensures full { IfErr result (WhereFull (IsStuck self (2 ^ exponent))) }
         ensures refusal { IfErr result LacksMemoryOrRoom }
     {
-        let start = match self
-            .at_exponent(team.alloc, exponent)?
-            .step_with_growth(team)?
-        {
+        let there = self.at_exponent(team.alloc, exponent)?;
+        let start = match there.step_with_growth(team)? {
             Attempt::Done(later) => return Ok(later),
             Attempt::Full(start) => start,
         };
@@ -55,7 +53,7 @@ impl Universe {
         requires exponent { exponent ≤ 62 }
         requires held { StaysHeld (rule_of self) (live_cells self) (2 ^ exponent) }
         ensures ok { IfOk result (IsLater self (2 ^ exponent)) }
-        ensures full { IfErr result (λ refusal. refusal ≡ Refusal.NodesFull → IsStuck self (2 ^ exponent)) }
+        ensures full { IfErr result (WhereFull (IsStuck self (2 ^ exponent))) }
         ensures refusal { IfErr result LacksMemoryOrRoom }
     {
         if exponent <= table {
@@ -76,12 +74,15 @@ impl Universe {
     ) -> Result<Universe, Refusal>
         requires held { StaysHeld (rule_of self) (live_cells self) generations }
         requires short { (IsSame (live_cells self) empty → ⊥) → generations < 2 ^ 63 }
-        ensures ok { IfOk result (λ later. IsSame (live_cells later) (after (rule_of self) (live_cells self) generations)) }
+        ensures ok { IfOk result (λ later.
+            IsSame (live_cells later) (after (rule_of self) (live_cells self) generations)) }
         ensures rule { IfOk result (λ later. rule_of later ≡ rule_of self) }
         ensures limit { IfOk result (λ later. limit_of later ≡ limit_of self) }
         ensures no_step { IsSame (live_cells self) empty → result ≡ Ok self }
-        ensures full { IfErr result (λ refusal. refusal ≡ Refusal.NodesFull → IsStuck self generations) }
-        ensures refusal { IfErr result (λ refusal. (refusal ≡ Refusal.NoMemory) ⊎ (refusal ≡ Refusal.NodesFull)) }
+        ensures full { IfErr result
+            (λ refusal. refusal ≡ Refusal.NodesFull → IsStuck self generations) }
+        ensures refusal { IfErr result
+            (λ refusal. (refusal ≡ Refusal.NoMemory) ⊎ (refusal ≡ Refusal.NodesFull)) }
     {
         if self.is_empty() {
             return Ok(self);

@@ -5,7 +5,7 @@ ghost use Rattle.node_table.specs.Desks.{IsDeskOf};
 ghost use Rattle.node_table.specs.Stills.{key_of};
 ghost use Rattle.plane.specs.Square.{IsSame};
 ghost use Rattle.squares.specs.Book.{IsKnown, Shows};
-ghost use Rattle.squares.specs.Rounds.{IsRound};
+ghost use Rattle.squares.specs.Rounds.{IsRound, square_plane};
 ghost use Rattle.universe.specs.Outcomes.{IfMade, LacksMemoryOrRoom};
 ghost use Rattle.worker_split.specs.Jobs.{Refuses};
 
@@ -13,11 +13,11 @@ use crate::history::TableHistory;
 use crate::refusals::unless_full;
 use crate::rooted_still::RootedStill;
 use crate::sizes::pair_count;
-use node_sweep::enlarge;
+use node_sweep::enlarge_still;
 use node_table::{Desk, NodeTable, Still};
 use plane::Refusal;
 use rule_text::Rule;
-use squares::{Num, Sq, copy_between};
+use squares::{Sq, copy_between};
 use std::alloc::{AllocError, Global};
 use std::sync::Wait;
 use std::thread::Threads;
@@ -34,7 +34,7 @@ pub(crate) struct OpenTable {
 }
 
 impl OpenTable {
-    ghost use Rattle.universe.specs.Cells.{next_cells, square_plane, still_cells, still_of};
+    ghost use Rattle.universe.specs.Cells.{next_cells, still_cells, still_of};
     ghost use Rattle.universe.specs.Tables.{HasPairs, IsFreshTable, IsOpened, IsTableUnder, StaysOpen, key_at, known_at, pairs_in};
 
     /// A table that is opened of these words, and knows what they show.
@@ -84,12 +84,8 @@ impl OpenTable {
     {
         let Key { rule, exponent, .. } = *self.table.key();
         let still = self.table.close(self.desk);
-        let none = Sq {
-            level: 4,
-            num: Num(0),
-        };
-        let made = enlarge(alloc, &still, none, shape.slot_count(Kind::Pair));
-        let Some((larger, _)) = unless_full(made)? else {
+        let made = enlarge_still(alloc, &still, shape.slot_count(Kind::Pair));
+        let Some(larger) = unless_full(made)? else {
             return Ok(None);
         };
         drop(still);
@@ -157,7 +153,8 @@ impl OpenTable {
         requires known { IsKnown (known_at self) root.level root }
         ensures from { StaysOpen self result.0 }
         ensures to { StaysOpen other result.1 }
-        ensures ok { IfOk result.2 (Shows (known_at result.1) root.level ((known_at self).cells root)) }
+        ensures ok { IfOk result.2
+            (Shows (known_at result.1) root.level ((known_at self).cells root)) }
         ensures refusal { IfErr result.2 LacksMemoryOrRoom }
     {
         let (desk, other_desk) = (self.desk, other.desk);

@@ -36,7 +36,7 @@ impl Universe {
     pub fn is_empty(&self) -> bool
         ensures { IsTrue result ↔ IsSame (live_cells self.now) empty }
     {
-        self.root.num.0 == 0
+        self.root.is_empty()
     }
 
     /// The universe again, and how many cells are live. `NoMemory` where there is no room to count them.

@@ -2,6 +2,7 @@ mod Back
 mod Books
 mod Counting
 mod Cutting
+mod Linking
 mod Pieces
 mod Places
 mod Slots

@@ -9,10 +9,9 @@ use Rattle.squares.specs.declared.sq.Sq.{Sq}
 use Rattle.squares.specs.Book.{Book, Keeps}
 use Rattle.squares.specs.Rounds.{IsRound}
 use Rattle.squares.proofs.Kept.{keeps_trans}
-use Rattle.hashlife_step.specs.Round.{ShowsRound}
+use Rattle.hashlife_step.specs.Round.{IsStepOf, ShowsRound}
 use Rattle.hashlife_step.proofs.Stepped.{future_round}
 use Rattle.worker_split.specs.Jobs.{HasFuture}
-use Rattle.worker_split.specs.Steps.{IsStepOf}
 
 pub on_two : {X E : Type 0} (r : Result X E) (P Q R : X → Type 0) → ((x : X) → P x → Q x → R x) → IfOk r P → IfOk r Q → IfOk r R
 on_two (Ok x) P Q R f p q = f x p q

@@ -3,5 +3,4 @@ pub mod Jobs
 pub mod Queues
 pub mod Rounds
 pub mod Shares
-pub mod Steps
 pub mod Work

@@ -43,6 +43,12 @@ pub record IsIdle (count : ℕ) (member : Member) : Type 0 where
   pub counted : member.solver.tally.expansions ≡ 0
   pub answers : member.solver.answers.items ≡ []
 
+-- as many workers with the same shares; those that were idle stay idle
+pub record StayIdle (old new : List Member) : Type 0 where
+  pub len : length new ≡ length old
+  pub shares : shares_of new ≡ shares_of old
+  pub idle : (count : ℕ) → All (IsIdle count) old → All (IsIdle count) new
+
 -- so many idle workers that share all jobs, an empty place for each job, and room for a future of each
 pub record HasRoom (count workers : ℕ) (room : Room) : Type 0 where
   pub len : length room.members.items ≡ workers

@@ -49,10 +49,12 @@ fn gather_one(
     ensures len { length places.new ≡ length places.old }
     ensures member { StaysMember member.old member.new }
     ensures places { (base : Book) (jobs : List Sq) → IsMember base jobs member.old
-        → PlacesFit jobs (book_here at.old) places.old → PlacesFit jobs (book_here at.new) places.new }
+        → PlacesFit jobs (book_here at.old) places.old
+        → PlacesFit jobs (book_here at.new) places.new }
     // As many desks as were joined before, and one more.
     ensures works { (base : Book) (jobs : List Sq) (joined before : ℕ) → IsBook base
-        → IsMember base jobs member.old → Works joined base (book_here at.old) before tally.old.expansions
+        → IsMember base jobs member.old
+        → Works joined base (book_here at.old) before tally.old.expansions
         → Works (joined + 1) base (book_here at.new) before tally.new.expansions }
 {
     let Some(theirs) = member.at.take() else {
@@ -75,7 +77,8 @@ pub(crate) fn gather(
     requires { AreMembers (book_here at.old) (length places.old) members.old }
     ensures len { length places.new ≡ length places.old }
     ensures places { (jobs : List Sq) → All (IsMember (book_here at.old) jobs) members.old
-        → PlacesFit jobs (book_here at.old) places.old → PlacesFit jobs (book_here at.new) places.new }
+        → PlacesFit jobs (book_here at.old) places.old
+        → PlacesFit jobs (book_here at.new) places.new }
     ensures continues { Continues (length members.old) at.old at.new tally.old tally.new }
 {
     for k in 0..members.len() {

@@ -1,14 +1,10 @@
 //! A worker of a round, as a state.
-ghost use Rattle.std.specs.Prelude.{◌≡◌, ℕ, IfOk};
-ghost use Rattle.worker_split.specs.Rounds.{IsIdle};
-ghost use Rattle.worker_split.specs.Shares.{share_in};
 
 use crate::queues::{JobQueue, JobStealer};
 use hashlife_step::Tally;
 use node_table::At;
 use plane::Refusal;
 use squares::Sq;
-use std::alloc::AllocError;
 
 /// What came of the job at a place.
 #[derive(Clone, Copy, Debug)]
@@ -36,24 +32,4 @@ pub(crate) struct Member<'t> {
     pub(crate) solver: Solver,
     // None before the round, and while it works.
     pub(crate) at: Option<At<'t>>,
-}
-
-impl Member<'_> {
-    /// Another worker's end of this worker's queue.
-    pub(crate) fn stealer(&mut self) -> Result<JobStealer, AllocError>
-        ensures idle { (count : ℕ) → IsIdle count self.old → IsIdle count self.new }
-        ensures share { share_in self.new.own ≡ share_in self.old.own }
-        ensures stealer { IfOk result (λ stealer. stealer.count ≡ self.old.own.count) }
-    {
-        self.own.stealer()
-    }
-
-    /// The worker can steal there.
-    pub(crate) fn add(&mut self, stealer: JobStealer) -> Result<(), AllocError>
-        ensures idle { (count : ℕ) → stealer.count ≡ count → IsIdle count self.old → IsIdle count self.new }
-        ensures own { self.new.own ≡ self.old.own }
-    {
-        self.others.push(stealer)?;
-        Ok(())
-    }
 }

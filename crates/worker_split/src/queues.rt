@@ -119,11 +119,8 @@ impl JobQueue {
     {
         let thief = self.deque.stealer()?;
         let pass = self.deque.another::<SplitPass>();
-        Ok(JobStealer {
-            thief,
-            pass,
-            count: self.count,
-        })
+        let count = self.count;
+        Ok(JobStealer { thief, pass, count })
     }
 }
 

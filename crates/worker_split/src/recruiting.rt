@@ -1,6 +1,6 @@
 //! What a round takes memory for: its workers, the places of their answers, and the list of futures.
-ghost use Rattle.std.specs.Prelude.{◌≡◌, ℕ, ◌+◌, ◌-◌, ◌/◌, ◌<◌, ◌≤◌, All, IfOk, length};
-ghost use Rattle.worker_split.specs.Rounds.{HasRoom, IsIdle};
+ghost use Rattle.std.specs.Prelude.{◌≡◌, ◌<◌, ◌≤◌, All, IfOk, length};
+ghost use Rattle.worker_split.specs.Rounds.{HasRoom, IsIdle, StayIdle};
 ghost use Rattle.worker_split.specs.Shares.{AreShares, jobs_between, share_in, shares_of};
 
 use crate::members::{Member, Solver};
@@ -45,26 +45,17 @@ fn member<'t>(
     })
 }
 
-// Where the next of `rest` shares of the jobs from `low` on ends.
-fn share_end(low: usize, count: usize, rest: usize) -> usize
-    requires { (low ≤ count) × (0 < rest) }
-    ensures range { (low ≤ result) × (result ≤ count) }
-    ensures share { result ≡ low + (count - low) / rest }
-{
-    low + (count - low) / rest
-}
-
 // The workers, each with a contiguous share of the jobs. The lengths of the shares differ by at most one.
 fn members<'t>(alloc: Global, count: usize, workers: usize) -> Result<Vec<Member<'t>>, AllocError>
     requires { workers ≤ 64 }
     ensures len { IfOk result (λ members. length members.items ≡ workers) }
     ensures idle { IfOk result (λ members. All (IsIdle count) members.items) }
-    ensures shares { IfOk result (λ members. 0 < workers → AreShares count (shares_of members.items)) }
+    ensures shares { IfOk result (λ all. 0 < workers → AreShares count (shares_of all.items)) }
 {
     let mut all = Vec::new(alloc);
     let mut low = 0;
     for k in 0..workers {
-        let high = share_end(low, count, workers - k);
+        let high = low + (count - low) / (workers - k);
         all.push(member(alloc, low, high, count, k as u8)?)?;
         low = high;
     }
@@ -74,27 +65,21 @@ fn members<'t>(alloc: Global, count: usize, workers: usize) -> Result<Vec<Member
 // Worker i can steal from worker j.
 fn link(members: &mut [Member<'_>], i: usize, j: usize) -> Result<(), AllocError>
     requires { (i < length members.old) × (j < length members.old) }
-    ensures idle { (count : ℕ) → All (IsIdle count) members.old → All (IsIdle count) members.new }
-    ensures shares { shares_of members.new ≡ shares_of members.old }
-    ensures len { length members.new ≡ length members.old }
+    ensures { StayIdle members.old members.new }
 {
-    let stealer = members[j].stealer()?;
-    members[i].add(stealer)
+    let stealer = members[j].own.stealer()?;
+    members[i].others.push(stealer)?;
+    Ok(())
 }
 
 // Each worker can steal from each other one, and begins with the next one.
 fn link_all(members: &mut [Member<'_>]) -> Result<(), AllocError>
-    ensures idle { (count : ℕ) → All (IsIdle count) members.old → All (IsIdle count) members.new }
-    ensures shares { shares_of members.new ≡ shares_of members.old }
-    ensures len { length members.new ≡ length members.old }
+    ensures { StayIdle members.old members.new }
 {
     let workers = members.len();
     for i in 0..workers {
-        for j in i + 1..workers {
-            link(members, i, j)?;
-        }
-        for j in 0..i {
-            link(members, i, j)?;
+        for k in 1..workers {
+            link(members, i, (i + k) % workers)?;
         }
     }
     Ok(())

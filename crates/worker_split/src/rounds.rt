@@ -1,11 +1,10 @@
 //! A round: all jobs, by a team.
 ghost use Rattle.std.specs.Prelude.{◌≡◌, ◌<◌, ◌⊎◌, All, IfOk, IfErr, IsTrue, length};
-ghost use Rattle.std.specs.List.{AllZip};
 ghost use Rattle.plane.specs.declared.refusal.Refusal.TheVariants.{NoMemory, NodesFull};
 ghost use Rattle.squares.specs.Book.{Book};
 ghost use Rattle.node_table.specs.Desks.{IsDeskOf, book_at};
 ghost use Rattle.node_table.specs.DesksAtWork.{book_here};
-ghost use Rattle.worker_split.specs.Jobs.{ComesBack, HasFuture, HaveFutures, IsJob, RefusesFull};
+ghost use Rattle.worker_split.specs.Jobs.{ComesBack, HaveFutures, IsJob, RefusesFull};
 ghost use Rattle.worker_split.specs.Rounds.{FindsMore, HasQueues, HasRoom, HasRun, IsMember, IsReady};
 ghost use Rattle.worker_split.specs.Work.{Continues};
 
@@ -77,11 +76,7 @@ pub(crate) fn carry_out<'t, R: Threads + Wait + Sync, G: Gate>(
     ensures refusal { IfErr result (RefusesFull (book_here at.new)) }
     ensures continues { Continues team.now.workers at.old at.new tally.old tally.new }
 {
-    let Room {
-        mut members,
-        mut places,
-        futures,
-    } = room;
+    let (mut members, mut places) = (room.members, room.places);
     let members = members.as_mut_slice();
     let places = places.as_mut_slice();
     let shared = Shared {
@@ -92,7 +87,7 @@ pub(crate) fn carry_out<'t, R: Threads + Wait + Sync, G: Gate>(
     hand_out(at, members);
     run_all(&shared, members);
     gather(at, members, places, tally);
-    fill(&shared, at, places, futures, tally)
+    fill(&shared, at, places, room.futures, tally)
 }
 
 /// The futures of all jobs, by a team, and the desk that comes back with all that the team found out.
@@ -107,8 +102,8 @@ pub fn round<R: Threads + Wait + Sync, G: Gate>(
 ) -> (Desk, Result<Vec<Sq>, Refusal>)
     requires desk { IsDeskOf table.now desk }
     requires jobs { All (IsJob (book_at table.now desk)) jobs.now }
-    // There is a future for each job: at a job's place stands its own, and the desk that comes back knows it as the job's result.
-    ensures ok { IfOk result.1 (λ futures. AllZip (HasFuture (book_at table.now result.0)) jobs.now futures.items) }
+    // At each job's place stands its future, and the desk that comes back knows it as the job's result.
+    ensures ok { IfOk result.1 (HaveFutures (book_at table.now result.0) jobs.now) }
     // Memory ran out, and the desk comes back as it was; or the desk that comes back knows a full shard.
     ensures refusal { IfErr result.1 (λ refusal. ((refusal ≡ NoMemory) × (result.0 ≡ desk))
         ⊎ ((refusal ≡ NodesFull) × IsTrue (book_at table.now result.0).is_full)) }

@@ -1,13 +1,10 @@
 //! One step of a run, by a team.
-ghost use Rattle.std.specs.Prelude.{◌+◌, ◌^◌, ◌≤◌, max, IfOk, IfErr};
-ghost use Rattle.plane.specs.Centred.{centred};
-ghost use Rattle.plane.specs.Plane.{after};
+ghost use Rattle.std.specs.Prelude.{◌+◌, ◌≤◌, max, IfOk, IfErr};
 ghost use Rattle.squares.specs.Book.{IsKnown};
-ghost use Rattle.squares.specs.Rounds.{IsRound};
 ghost use Rattle.node_table.specs.Desks.{IsDeskOf, book_at};
 ghost use Rattle.node_table.specs.DesksAtWork.{book_here};
 ghost use Rattle.worker_split.specs.Jobs.{ComesBack, Refuses};
-ghost use Rattle.worker_split.specs.Steps.{IsStepOf};
+ghost use Rattle.hashlife_step.specs.Round.{IsStepOf};
 ghost use Rattle.worker_split.specs.Work.{Continues};
 
 use crate::batches::team_future;
@@ -57,8 +54,8 @@ pub fn step<R: Threads + Wait + Sync, G: Gate>(
     requires desk { IsDeskOf table.now desk }
     requires known { IsKnown (book_at table.now desk) root.level root }
     requires high { max (root.level + 2) ((book_at table.now desk).exponent + 3) ≤ 65 }
-    ensures ok { IfOk result.1 (IsRound (book_at table.now result.0)
-        (after (book_at table.now desk).rule (centred root.level ((book_at table.now desk).cells root)) (2 ^ (book_at table.now desk).exponent))) }
+    ensures ok { IfOk result.1
+        (IsStepOf (book_at table.now desk) (book_at table.now result.0) root) }
     // Memory ran out, or the desk that comes back knows a full shard.
     ensures refusal { IfErr result.1 (Refuses (book_at table.now result.0)) }
     // The desk that comes back knows all that it knew. Its number of expansions only rises, by at most the number of

@@ -5,7 +5,7 @@ use Rattle.worker_split.proofs.Books.{all_known_kept, here_book, works_kept, wor
 use Rattle.worker_split.proofs.batches.expand.Goals as goal
 
 pub returns-in_err-nine-clause-continues : goal.returns-in_err-nine-clause-continues
-returns-in_err-nine-clause-continues g c = works_kept c.args.team.now.workers _ (here_book c.args.at.now) c.nine.ensures.keeps
+returns-in_err-nine-clause-continues g c = works_kept c.args.team.now.workers _ (here_book c.args.at.now) c.nine.ensures.adds.keeps
 
 pub batch-requires-clause-known : goal.batch-requires-clause-known
 batch-requires-clause-known g c κs within =
@@ -13,10 +13,10 @@ batch-requires-clause-known g c κs within =
     subsquares_known (book_here c.nine.new.self) c.args.sq.level _ c.in_ok-nine.nine long c.in_ok-nine.ensures.ok
 
 pub returns-in_err-batch-clause-continues : goal.returns-in_err-batch-clause-continues
-returns-in_err-batch-clause-continues g c = works_then (works_kept c.args.team.now.workers _ (here_book c.args.at.now) c.nine.ensures.keeps) c.batch.ensures.continues
+returns-in_err-batch-clause-continues g c = works_then (works_kept c.args.team.now.workers _ (here_book c.args.at.now) c.nine.ensures.adds.keeps) c.batch.ensures.continues
 
 pub returns-then-exponent-level-clause-continues : goal.returns-then-exponent-level-clause-continues
-returns-then-exponent-level-clause-continues g c = works_then (works_kept c.args.team.now.workers _ (here_book c.args.at.now) c.nine.ensures.keeps) c.batch.ensures.continues
+returns-then-exponent-level-clause-continues g c = works_then (works_kept c.args.team.now.workers _ (here_book c.args.at.now) c.nine.ensures.adds.keeps) c.batch.ensures.continues
 
 pub overlaps_of_futures-requires-clause-known : goal.overlaps_of_futures-requires-clause-known
 overlaps_of_futures-requires-clause-known g c =
@@ -26,10 +26,10 @@ overlaps_of_futures-requires-clause-known g c =
 
 pub returns-in_err-four-clause-continues : goal.returns-in_err-four-clause-continues
 returns-in_err-four-clause-continues g c =
-    let first = works_then (works_kept c.args.team.now.workers _ (here_book c.args.at.now) c.nine.ensures.keeps) c.batch.ensures.continues in
+    let first = works_then (works_kept c.args.team.now.workers _ (here_book c.args.at.now) c.nine.ensures.adds.keeps) c.batch.ensures.continues in
     works_one c.args.team.now.some (here_book c.batch.new.at) first c.overlaps_of_futures.ensures.continues
 
 pub returns-clause-continues : goal.returns-clause-continues
 returns-clause-continues g c =
-    let first = works_then (works_kept c.args.team.now.workers _ (here_book c.args.at.now) c.nine.ensures.keeps) c.batch.ensures.continues in
+    let first = works_then (works_kept c.args.team.now.workers _ (here_book c.args.at.now) c.nine.ensures.adds.keeps) c.batch.ensures.continues in
     works_then (works_one c.args.team.now.some (here_book c.batch.new.at) first c.overlaps_of_futures.ensures.continues) c.batch-2.ensures.continues

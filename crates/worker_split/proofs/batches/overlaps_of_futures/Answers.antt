@@ -19,7 +19,7 @@ overlaps-requires-clause-level c =
     omega (arith, low, high)
 
 pub returns-in_err-replace_by_futures-clause-continues : goal.returns-in_err-replace_by_futures-clause-continues
-returns-in_err-replace_by_futures-clause-continues c = tallied c.replace_by_futures.ensures.keeps c.replace_by_futures.ensures.tally
+returns-in_err-replace_by_futures-clause-continues c = tallied c.replace_by_futures.ensures.makes.keeps c.replace_by_futures.ensures.makes.tally
 
 pub returns-clause-ok : goal.returns-clause-ok
 returns-clause-ok c =
@@ -32,4 +32,4 @@ returns-clause-ok c =
 
 pub returns-clause-continues : goal.returns-clause-continues
 returns-clause-continues c =
-    works_then (tallied c.replace_by_futures.ensures.keeps c.replace_by_futures.ensures.tally) (works_kept 1 _ (here_book c.replace_by_futures.new.book) c.overlaps.ensures.keeps)
+    works_then (tallied c.replace_by_futures.ensures.makes.keeps c.replace_by_futures.ensures.makes.tally) (works_kept 1 _ (here_book c.replace_by_futures.new.book) c.overlaps.ensures.adds.keeps)

@@ -8,4 +8,4 @@ pub returns-clause-refusal : goal.returns-clause-refusal
 returns-clause-refusal c = refuses_full c.future_in_order.new.book c.future_in_order.result c.future_in_order.ensures.refusal
 
 pub returns-clause-continues : goal.returns-clause-continues
-returns-clause-continues c = tallied c.future_in_order.ensures.keeps c.future_in_order.ensures.tally
+returns-clause-continues c = tallied c.future_in_order.ensures.makes.keeps c.future_in_order.ensures.makes.tally

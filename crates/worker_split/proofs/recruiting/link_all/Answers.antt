@@ -1,24 +1,17 @@
-use Rattle.std.proofs.Common.{◌∙◌}
+use Rattle.worker_split.proofs.Linking.{stay_on, stay_same}
 use Rattle.worker_split.proofs.recruiting.link_all.Goals as goal
 
-pub returns-in_err-link-clause-idle : goal.returns-in_err-link-clause-idle
-returns-in_err-link-clause-idle c count all = c.link.ensures.idle count (c.loop-j.invariant.2 count (c.loop-i.invariant.2 count all))
+pub loop-i-init : goal.loop-i-init
+loop-i-init c = stay_same c.args.members.now
 
-pub loop-j-preserved : goal.loop-j-preserved
-loop-j-preserved c = (c.link.ensures.len ∙ c.loop-j.invariant.0, c.link.ensures.shares ∙ c.loop-j.invariant.1, λ count all. c.link.ensures.idle count (c.loop-j.invariant.2 count all))
+pub loop-k-init : goal.loop-k-init
+loop-k-init c = stay_same c.loop-i.members
 
-pub returns-in_err-link-2-clause-idle : goal.returns-in_err-link-2-clause-idle
-returns-in_err-link-2-clause-idle c count all =
-    c.link-in-loop-j-2.ensures.idle count (c.loop-j-2.invariant.2 count (c.loop-j.invariant.2 count (c.loop-i.invariant.2 count all)))
+pub loop-k-preserved : goal.loop-k-preserved
+loop-k-preserved c = stay_on c.loop-k.invariant c.link.ensures
 
-pub loop-j-2-preserved : goal.loop-j-2-preserved
-loop-j-2-preserved c =
-    let link = c.link-in-loop-j-2.ensures in
-    (link.len ∙ c.loop-j-2.invariant.0, link.shares ∙ c.loop-j-2.invariant.1, λ count all. link.idle count (c.loop-j-2.invariant.2 count all))
+pub returns-in_err-link : goal.returns-in_err-link
+returns-in_err-link c = stay_on c.loop-i.invariant (stay_on c.loop-k.invariant c.link.ensures)
 
 pub loop-i-preserved : goal.loop-i-preserved
-loop-i-preserved c =
-    let first = c.loop-i.invariant in
-    let second = c.loop-j.invariant in
-    let last = c.loop-j-2.invariant in
-    (last.0 ∙ (second.0 ∙ first.0), last.1 ∙ (second.1 ∙ first.1), λ count all. last.2 count (second.2 count (first.2 count all)))
+loop-i-preserved c = stay_on c.loop-i.invariant c.loop-k.invariant

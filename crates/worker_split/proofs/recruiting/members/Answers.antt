@@ -1,4 +1,4 @@
-use Rattle.std.proofs.Common.{◌∙◌, ◌++◌, ◌∷◌, [], ◌/◌, ◌-◌, List, ap, map, subst, sym, rules, arith}
+use Rattle.std.proofs.Common.{◌∙◌, ◌++◌, ◌∷◌, [], ◌+◌, ◌/◌, ◌-◌, List, ap, map, refl, subst, sym, rules, arith}
 use Rattle.std.proofs.lemmas.List.{map-append}
 use Rattle.worker_split.specs.declared.members.Member.{Member}
 use Rattle.worker_split.specs.Rounds.{IsIdle}
@@ -12,12 +12,12 @@ loop-k-preserved c =
     let was = c.loop-k.invariant in
     let f = λ (member : Member). share_in member.own in
     let all = c.loop-k.all.items in
-    let high = c.share_end-high.result in
+    let high = c.loop-k.low + (c.args.count - c.loop-k.low) / (c.args.workers - c.loop-k.k) in
     let within = c.loop-k-test.true in (
-      c.share_end-high.ensures.range.1,
+      search rules,
       search rules,
       pushed (IsIdle c.args.count) _ _ _ _ c.push.ensures.items was.2 c.in_ok-member.ensures.idle,
-      λ some. next_cut (c.args.count / c.args.workers) c.args.count (c.args.workers - c.loop-k.k) _ c.loop-k.low high (shares_of all) _ (omega (arith, within)) (was.3 some) c.share_end-high.ensures.share
+      λ some. next_cut (c.args.count / c.args.workers) c.args.count (c.args.workers - c.loop-k.k) _ c.loop-k.low high (shares_of all) _ (omega (arith, within)) (was.3 some) refl
           (ap (map f) c.in_ok-push.ensures.items ∙ (map-append f all _ ∙ ap (λ s. map f all ++ s ∷ []) c.in_ok-member.ensures.share)),
     )
 

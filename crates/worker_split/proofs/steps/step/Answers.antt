@@ -3,7 +3,7 @@ use Rattle.std.proofs.lemmas.Result.{IfOk-weaker}
 use Rattle.squares.specs.Book.{Book}
 use Rattle.node_table.specs.DesksAtWork.{book_here}
 use Rattle.node_table.proofs.AtWork.{known_at_work}
-use Rattle.worker_split.specs.Steps.{IsStepOf}
+use Rattle.hashlife_step.specs.Round.{IsStepOf}
 use Rattle.worker_split.proofs.Back.{comes_back, is_left, on_err, refusal_left, round_left}
 use Rattle.worker_split.proofs.steps.step.Goals as goal
 

@@ -9,25 +9,25 @@ use Rattle.universe.proofs.Onward.{held_on, may_step, none_later, same_then, sti
 use Rattle.universe.proofs.universe.Universe.+step.Goals as goal
 
 pub step_with_growth-requires-after_bounds : goal.step_with_growth-requires-after_bounds
-step_with_growth-requires-after_bounds g t c κs within = may_step c.args.exponent c.requires.exponent c.requires.held c.in_ok-at_exponent.ensures
+step_with_growth-requires-after_bounds g t c κs within = may_step c.args.exponent c.requires.exponent c.requires.held c.in_ok-there.ensures
 
 pub returns-in-Done-clause-ok : goal.returns-in-Done-clause-ok
 returns-in-Done-clause-ok g t c =
-    let made = subst (λ (a : Attempt). IsAttempt c.in_ok-at_exponent.field-0 a) c.in-Done.is c.in_ok-later.ensures.ok in
-    step_at_exponent c.args.exponent c.in_ok-at_exponent.ensures made
+    let made = subst (λ (a : Attempt). IsAttempt c.in_ok-there.there a) c.in-Done.is c.in_ok-later.ensures.ok in
+    step_at_exponent c.args.exponent c.in_ok-there.ensures made
 
 pub step-requires-clause-held : goal.step-requires-clause-held
 step-requires-clause-held g t c κs within =
-    let full = subst (λ (a : Attempt). IsAttempt c.in_ok-at_exponent.field-0 a) c.in-Full.is c.in_ok-later.ensures.ok in
-    let same : IsSameUniverse c.args.self c.in-Full.start = still_same c.in_ok-at_exponent.ensures.same full.same in
+    let full = subst (λ (a : Attempt). IsAttempt c.in_ok-there.there a) c.in-Full.is c.in_ok-later.ensures.ok in
+    let same : IsSameUniverse c.args.self c.in-Full.start = still_same c.in_ok-there.ensures.same full.same in
     let some = c.if-exponent-eq0.false in
     let whole = two_halves c.args.exponent some in
     held_on (2 ^ c.args.exponent) 0 (2 ^ (c.args.exponent - 1)) c.requires.held (none_later same) (omega (arith, whole))
 
 pub step-requires-2-clause-held : goal.step-requires-2-clause-held
 step-requires-2-clause-held g t c κs within =
-    let full = subst (λ (a : Attempt). IsAttempt c.in_ok-at_exponent.field-0 a) c.in-Full.is c.in_ok-later.ensures.ok in
-    let same : IsSameUniverse c.args.self c.in-Full.start = still_same c.in_ok-at_exponent.ensures.same full.same in
+    let full = subst (λ (a : Attempt). IsAttempt c.in_ok-there.there a) c.in-Full.is c.in_ok-later.ensures.ok in
+    let same : IsSameUniverse c.args.self c.in-Full.start = still_same c.in_ok-there.ensures.same full.same in
     let half = 2 ^ (c.args.exponent - 1) in
     let first : IsLater c.args.self half c.in_ok-middle.middle = same_then half same c.in_ok-middle.ensures.ok in
     let some = c.if-exponent-eq0.false in
@@ -36,8 +36,8 @@ step-requires-2-clause-held g t c κs within =
 
 pub returns-clause-ok : goal.returns-clause-ok
 returns-clause-ok g t c =
-    let full = subst (λ (a : Attempt). IsAttempt c.in_ok-at_exponent.field-0 a) c.in-Full.is c.in_ok-later.ensures.ok in
-    let same : IsSameUniverse c.args.self c.in-Full.start = still_same c.in_ok-at_exponent.ensures.same full.same in
+    let full = subst (λ (a : Attempt). IsAttempt c.in_ok-there.there a) c.in-Full.is c.in_ok-later.ensures.ok in
+    let same : IsSameUniverse c.args.self c.in-Full.start = still_same c.in_ok-there.ensures.same full.same in
     let half = 2 ^ (c.args.exponent - 1) in
     let first : IsLater c.args.self half c.in_ok-middle.middle = same_then half same c.in_ok-middle.ensures.ok in
     ok_then (IsLater c.in_ok-middle.middle half) (IsLater c.args.self (2 ^ c.args.exponent)) c.step-2.result
@@ -45,15 +45,15 @@ returns-clause-ok g t c =
 
 pub returns-then-exponent-eq0-clause-full : goal.returns-then-exponent-eq0-clause-full
 returns-then-exponent-eq0-clause-full g t c =
-    let at_exponent = c.in_ok-at_exponent.ensures in
-    let full = subst (λ (a : Attempt). IsAttempt c.in_ok-at_exponent.field-0 a) c.in-Full.is c.in_ok-later.ensures.ok in
+    let at_exponent = c.in_ok-there.ensures in
+    let full = subst (λ (a : Attempt). IsAttempt c.in_ok-there.there a) c.in-Full.is c.in_ok-later.ensures.ok in
     let exhausted = subst IsFullAtLimit c.in-Full.is c.in_ok-later.ensures.full in
     λ refusal. stuck_at_once (2 ^ c.args.exponent) (pow_pos c.args.exponent) (still_same at_exponent.same full.same) (full.exponent ∙ at_exponent.exponent ∙ c.if-exponent-eq0.true) exhausted
 
 pub returns-in_err-middle-clause-full : goal.returns-in_err-middle-clause-full
 returns-in_err-middle-clause-full g t c =
-    let full = subst (λ (a : Attempt). IsAttempt c.in_ok-at_exponent.field-0 a) c.in-Full.is c.in_ok-later.ensures.ok in
-    let same : IsSameUniverse c.args.self c.in-Full.start = still_same c.in_ok-at_exponent.ensures.same full.same in
+    let full = subst (λ (a : Attempt). IsAttempt c.in_ok-there.there a) c.in-Full.is c.in_ok-later.ensures.ok in
+    let same : IsSameUniverse c.args.self c.in-Full.start = still_same c.in_ok-there.ensures.same full.same in
     let steps = 2 ^ c.args.exponent in
     let half = 2 ^ (c.args.exponent - 1) in
     let whole = two_halves c.args.exponent c.if-exponent-eq0.false in
@@ -63,8 +63,8 @@ returns-in_err-middle-clause-full g t c =
 
 pub returns-clause-full : goal.returns-clause-full
 returns-clause-full g t c =
-    let full = subst (λ (a : Attempt). IsAttempt c.in_ok-at_exponent.field-0 a) c.in-Full.is c.in_ok-later.ensures.ok in
-    let same : IsSameUniverse c.args.self c.in-Full.start = still_same c.in_ok-at_exponent.ensures.same full.same in
+    let full = subst (λ (a : Attempt). IsAttempt c.in_ok-there.there a) c.in-Full.is c.in_ok-later.ensures.ok in
+    let same : IsSameUniverse c.args.self c.in-Full.start = still_same c.in_ok-there.ensures.same full.same in
     let steps = 2 ^ c.args.exponent in
     let half = 2 ^ (c.args.exponent - 1) in
     let whole = two_halves c.args.exponent c.if-exponent-eq0.false in

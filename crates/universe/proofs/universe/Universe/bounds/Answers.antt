@@ -14,7 +14,7 @@ bounds_at-requires-clause-known c =
 pub invariant_of-self : goal.invariant_of-self
 invariant_of-self c =
     let here = c.args.self.here in
-    let back = is_back here.table here.desk c.leave.result _ _ c.at-at.ensures c.in_ok-bounds.ensures.keeps c.leave.ensures in
+    let back = is_back here.table here.desk c.leave.result _ _ c.at-at.ensures c.in_ok-bounds.ensures.adds.keeps c.leave.ensures in
     record { known = known_kept back.keeps c.args.self.known; level = c.args.self.level; within = c.args.self.within }
 
 pub returns-clause-ok : goal.returns-clause-ok
@@ -26,5 +26,5 @@ pub returns-clause-same : goal.returns-clause-same
 returns-clause-same c =
     let here = c.args.self.here in
     let root = c.args.self.root in
-    let back = is_back here.table here.desk c.leave.result _ _ c.at-at.ensures c.in_ok-bounds.ensures.keeps c.leave.ensures in
+    let back = is_back here.table here.desk c.leave.result _ _ c.at-at.ensures c.in_ok-bounds.ensures.adds.keeps c.leave.ensures in
     centred_same root.level _ _ (back.keeps.cells root c.args.self.known.known)
