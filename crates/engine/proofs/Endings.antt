@@ -19,17 +19,17 @@ use Rattle.plane.specs.declared.refusal.Refusal.TheVariants.{BoxTooLarge, NodesF
 use Rattle.patterns.specs.Meaning.{Meaning, judged, placeless}
 use Rattle.plane.specs.Device.{IsWriteRefusal}
 use Rattle.plane.proofs.Uniqueness.{one_listing_lem}
-use Rattle.patterns.specs.FileText.{HasText, IsFileText, Exceeds, Fits, Writes}
+use Rattle.engine.specs.FileText.{HasText, IsFileText, Exceeds, Fits, Writes}
 use Rattle.engine.specs.Accepted.{IsAccepted, SumsUp}
 use Rattle.engine.specs.Judgement.{Start, ReadsRule}
 use Rattle.engine.specs.Report.{Shows, shown}
 use Rattle.engine.specs.Room.{IsStuckWithin}
-use Rattle.patterns.specs.Drawing.{picture_of}
+use Rattle.engine.specs.Drawing.{picture_of}
 use Rattle.engine.specs.Run.{CanBeWritten, IsAcceptedRun, IsBeginning, IsLast, IsReport, Finishes, HasBegun, HasFinished, HasStopped, IsBegun, IsRun, IsStopped, IsOutOfRoom, last_generation}
 use Rattle.engine.specs.SinkChange.{SinkChange, Fails, IsUnfailed, Takes}
 use Rattle.engine.specs.declared.running.Summary.{Summary}
-use Rattle.patterns.specs.declared.format.Format.{Format}
-use Rattle.patterns.specs.declared.format.Format.TheVariants.{Rle, Macrocell}
+use Rattle.engine.specs.declared.format.Format.{Format}
+use Rattle.engine.specs.declared.format.Format.TheVariants.{Rle, Macrocell}
 use Rattle.pattern_writers.specs.McText.{mc_text}
 use Rattle.pattern_writers.specs.RleText.{rle_text}
 use Rattle.plane.specs.Listing.{plane_of}

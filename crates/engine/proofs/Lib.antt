@@ -1,4 +1,5 @@
 pub mod Acceptance
+mod CellsAtRest
 pub mod Endings
 mod LastPatterns
 mod Onward

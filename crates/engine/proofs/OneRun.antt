@@ -10,14 +10,14 @@ use Rattle.plane.specs.declared.cell.Cell.{Cell}
 use Rattle.plane.specs.declared.fault.Fault.{Fault}
 use Rattle.plane.proofs.Uniqueness.{one_listing_lem}
 use Rattle.patterns.specs.Meaning.{Meaning, judged}
-use Rattle.patterns.specs.FileText.{IsFileText}
-use Rattle.patterns.specs.declared.format.Format.{Format}
-use Rattle.patterns.specs.declared.format.Format.TheVariants.{Rle, Macrocell}
+use Rattle.engine.specs.FileText.{IsFileText}
+use Rattle.engine.specs.declared.format.Format.{Format}
+use Rattle.engine.specs.declared.format.Format.TheVariants.{Rle, Macrocell}
 use Rattle.pattern_writers.specs.McText.{mc_text}
 use Rattle.pattern_writers.proofs.WrittenReadBack.{one_smallest_level}
 use Rattle.engine.specs.Judgement.{Start, IsStart, Judges, StaysInRange, RefusesRange, RefusesRule, ReadsRule, rule_text_of}
 use Rattle.engine.specs.Report.{IsLineAfter, Shows, report_line, shown}
-use Rattle.patterns.specs.Drawing.{picture_of}
+use Rattle.engine.specs.Drawing.{picture_of}
 use Rattle.engine.specs.Run.{Finishes, IsReport, last_generation}
 use Rattle.engine.specs.declared.running.Summary.{Summary}
 use Rattle.engine.specs.declared.options.Options.{Options}

@@ -1,8 +1,11 @@
 pub mod Accepted
 pub mod Devices
+pub mod Drawing
+pub mod FileText
 pub mod Generations
 pub mod Judgement
 pub mod Last
+pub mod Pattern
 pub mod Report
 pub mod Room
 pub mod Run

@@ -9,12 +9,12 @@ use Rattle.plane.specs.declared.fault.Fault.{Fault}
 use Rattle.plane.specs.declared.refusal.Refusal.{Refusal}
 use Rattle.plane.specs.declared.refusal.Refusal.TheVariants.{BoxTooLarge, NodesFull, NoMemory, WriteFailed}
 use Rattle.patterns.specs.Meaning.{Meaning, is_macrocell, judged, placeless}
-use Rattle.patterns.specs.FileText.{HasText, IsFileText}
+use Rattle.engine.specs.FileText.{HasText, IsFileText}
 use Rattle.engine.specs.Judgement.{Start, Judges, ReadsRule}
 use Rattle.engine.specs.Report.{Shows, shown}
 use Rattle.engine.specs.Room.{IsStuckWithin}
 use Rattle.engine.specs.SinkChange.{SinkChange, Fails, IsUnfailed, Takes}
-use Rattle.patterns.specs.Drawing.{picture_of}
+use Rattle.engine.specs.Drawing.{picture_of}
 use Rattle.universe.specs.Tables.{HasFullTable}
 use Rattle.engine.specs.declared.running.Summary.{Summary}
 use Rattle.engine.specs.declared.options.Options.{Options}

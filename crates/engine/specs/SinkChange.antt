@@ -10,6 +10,10 @@ pub record SinkChange (S : Type 0) : Type 0 where
   pub taken : S → Option (List ℕ)
   pub failure_count : S → ℕ
 
+-- that of a sink which was so before and is so after
+abbrev pub change_of : {S : Type 0} → (S → Option (List ℕ)) → (S → ℕ) → S → S → SinkChange S
+change_of taken failure_count old new = record { old = old; new = new; taken = taken; failure_count = failure_count }
+
 -- the sink took this text
 abbrev pub Takes : {S : Type 0} → SinkChange S → List ℕ → Type 0
 Takes sink text = Appends (sink.taken sink.old) (sink.taken sink.new) text

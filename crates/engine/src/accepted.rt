@@ -38,7 +38,9 @@ pub(crate) fn judge<'a>(
     options: &Options,
 ) -> Result<Accepted<'a>, Fault>
     requires { IsPairCount options.now.pairs }
-    ensures accepted { IfOk result (λ run. IsAccepted bytes.now options.now (meaning_of run.text) (rule_of run.universe) (live_cells run.universe)) }
+    ensures accepted { IfOk result (λ run.
+        IsAccepted bytes.now options.now (meaning_of run.text)
+        (rule_of run.universe) (live_cells run.universe)) }
     ensures rule { IfOk result (λ run. rule_of run.universe ≡ run.rule) }
     ensures limit { IfOk result (λ run. limit_of run.universe ≡ options.now.pairs) }
     ensures refused { IfErr result (IsRefused bytes.now options.now) }
@@ -63,12 +65,14 @@ fn universe_of(
     limit: u32,
 ) -> Result<Universe, Refusal>
     requires { IsPairCount limit }
-    ensures ok { IfOk result (λ universe. HasRoomFor (meaning_of text.now) generations (live_cells universe)) }
+    ensures ok { IfOk result (λ universe.
+        HasRoomFor (meaning_of text.now) generations (live_cells universe)) }
     ensures rule { IfOk result (λ universe. rule_of universe ≡ rule.now) }
     ensures limit { IfOk result (λ universe. limit_of universe ≡ limit) }
     ensures refused { IfErr result (λ refusal. IsOutOfRoom refusal
         ⊎ ((refusal ≡ Refusal.TooFar) × LeavesRange (meaning_of text.now) generations)) }
-    ensures full { IfErr result (λ refusal. refusal ≡ Refusal.NodesFull → HasFullTable rule.now limit) }
+    ensures full { IfErr result
+        (λ refusal. refusal ≡ Refusal.NodesFull → HasFullTable rule.now limit) }
 {
     let (universe, bounds) = Universe::of(alloc, rule, text, limit)?.bounds(alloc)?;
     reach(bounds, text.generation(), generations)?;
@@ -77,9 +81,12 @@ fn universe_of(
 
 // The rule that is given, or else the one that the file names, or that of a file that names none.
 fn given_or_named(text: &PatternFile<'_>, given: Option<Rule>) -> Result<Rule, Fault>
-    ensures ok { IfOk result (λ rule. ReadsRule given (meaning_of text.now) (Ok rule) × IsRule rule) }
-    ensures err { IfErr result (λ fault. (rule_fault : RuleFault) × ReadsRule given (meaning_of text.now) (Err rule_fault)
-        × (fault ≡ record { refusal = rule_refusal rule_fault; place = Some (meaning_of text.now).rule_place })) }
+    ensures ok { IfOk result
+        (λ rule. ReadsRule given (meaning_of text.now) (Ok rule) × IsRule rule) }
+    ensures err { IfErr result (λ fault. (rule_fault : RuleFault)
+        × ReadsRule given (meaning_of text.now) (Err rule_fault)
+        × (fault ≡
+        record { refusal = rule_refusal rule_fault; place = Some (meaning_of text.now).rule_place })) }
 {
     if let Some(rule) = given {
         return Ok(rule);

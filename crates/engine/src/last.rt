@@ -4,13 +4,13 @@ ghost use Rattle.std.specs.Prelude.{IfErr, IfOk};
 ghost use Rattle.table_core.specs.Sizes.{IsPairCount};
 ghost use Rattle.engine.specs.Accepted.{IsRefused};
 ghost use Rattle.engine.specs.Last.{EndsWith};
+ghost use Rattle.engine.specs.Pattern.{plane_of};
 ghost use Rattle.engine.specs.Workers.{IsWorkerCount};
-ghost use Rattle.patterns.specs.Pattern.{plane_of};
 
 use crate::accepted::judge;
 use crate::options::Options;
+use crate::pattern::Pattern;
 use crate::running::{Summary, ended, team_of};
-use patterns::Pattern;
 use plane::Fault;
 use std::alloc::Global;
 use std::sync::Wait;

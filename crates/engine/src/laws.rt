@@ -10,12 +10,14 @@ ghost use Rattle.engine.specs.declared.options.Options.{Options};
 
 /// A run has one judgement: it is accepted or refused, and never both.
 pub fn one_judgement()
-    ensures { (bytes : List ℕ) (options : Options) (a b : Result Start Fault) → Judges bytes options a → Judges bytes options b → a ≡ b }
+    ensures { (bytes : List ℕ) (options : Options) (a b : Result Start Fault) →
+        Judges bytes options a → Judges bytes options b → a ≡ b }
 {}
 
 /// An accepted run has one answer, one report and one file.
 pub fn one_ending()
-    ensures { (start : Start) (options : Options) (a b : Summary) (said others drawn other : List ℕ) →
+    ensures { (start : Start) (options : Options) (a b : Summary)
+        (said others drawn other : List ℕ) →
         Finishes start options a said drawn → Finishes start options b others other →
         (a ≡ b) × (said ≡ others) × (drawn ≡ other) }
 {}
@@ -23,9 +25,12 @@ pub fn one_ending()
 /// By every number of workers, and in tables of every size, a run has the same judgement, and an accepted one the same
 /// answer, the same report and the same file.
 pub fn every_number_of_workers()
-    ensures judged { (bytes : List ℕ) (options : Options) (workers pairs : ℕ) (a b : Result Start Fault) →
+    ensures judged { (bytes : List ℕ) (options : Options) (workers pairs : ℕ)
+        (a b : Result Start Fault) →
         Judges bytes options a → Judges bytes (with_workers workers pairs options) b → a ≡ b }
-    ensures ended { (start : Start) (options : Options) (workers pairs : ℕ) (a b : Summary) (said others drawn other : List ℕ) →
-        Finishes start options a said drawn → Finishes start (with_workers workers pairs options) b others other →
+    ensures ended { (start : Start) (options : Options) (workers pairs : ℕ) (a b : Summary)
+        (said others drawn other : List ℕ) →
+        Finishes start options a said drawn →
+        Finishes start (with_workers workers pairs options) b others other →
         (a ≡ b) × (said ≡ others) × (drawn ≡ other) }
 {}

@@ -2,21 +2,24 @@
 #![tactic(auto)]
 
 mod accepted;
+mod format;
 mod input;
 mod last;
 mod laws;
 mod options;
+mod pattern;
 mod report;
 mod reported;
 mod rule_faults;
 mod running;
 mod summary_line;
 
+pub use format::Format;
 pub use input::load;
 pub use last::last_pattern;
 pub use laws::{every_number_of_workers, one_ending, one_judgement};
 pub use options::Options;
-pub use patterns::Format;
+pub use pattern::Pattern;
 pub use rule_faults::rule_refusal;
 pub use running::{Summary, run, run_gated};
 pub use summary_line::write_summary;

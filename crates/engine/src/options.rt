@@ -1,6 +1,6 @@
 //! What a run is asked to do.
 
-use patterns::Format;
+use crate::format::Format;
 use plane::Window;
 use rule_text::Rule;
 

@@ -2,7 +2,7 @@
 
 ghost use Rattle.std.specs.Prelude.{◌≡◌, ◌⊎◌, ℕ, List, IfOk, OnOk, IfErr};
 ghost use Rattle.std.specs.Io.KnownBytes.{Appends};
-ghost use Rattle.plane.specs.Device.{IsWriteRefusal};
+ghost use Rattle.plane.specs.Device.{IsWriteRefusal, TellsFailure};
 ghost use Rattle.universe.specs.Cells.{live_cells};
 ghost use Rattle.engine.specs.Generations.{IsSameRun};
 ghost use Rattle.engine.specs.Report.{IsSaid, report_line};
@@ -26,10 +26,12 @@ pub(crate) fn report_generation<W: Sink>(
     universe: Universe,
 ) -> Result<Universe, Refusal>
     ensures same { IfOk result (IsSameRun universe) }
-    ensures written { OnOk result ((said : List ℕ) × IsSaid quiet generation (live_cells universe) said
+    ensures written { OnOk result
+        ((said : List ℕ) × IsSaid quiet generation (live_cells universe) said
         × Appends (W.taken report.old) (W.taken report.new) said) }
     ensures unfailed { OnOk result (W.failure_count report.new ≡ W.failure_count report.old) }
-    ensures refused { IfErr result (λ refusal. ((refusal ≡ Refusal.NoMemory) × (report.new ≡ report.old))
+    ensures refused { IfErr result (λ refusal.
+        ((refusal ≡ Refusal.NoMemory) × (report.new ≡ report.old))
         ⊎ IsWriteRefusal (W.failure_count report.old) (W.failure_count report.new) refusal) }
 {
     if quiet {
@@ -46,9 +48,9 @@ fn write_report_line<W: Sink>(
     generation: u64,
     population: u128,
 ) -> Result<(), Refusal>
-    ensures written { OnOk result (Appends (W.taken report.old) (W.taken report.new) (report_line generation population)) }
-    ensures unfailed { OnOk result (W.failure_count report.new ≡ W.failure_count report.old) }
-    ensures refused { IfErr result (IsWriteRefusal (W.failure_count report.old) (W.failure_count report.new)) }
+    ensures written { OnOk result (Appends (W.taken report.old) (W.taken report.new)
+        (report_line generation population)) }
+    ensures failure { TellsFailure (W.failure_count report.old) (W.failure_count report.new) result }
 {
     let mut line = ArrayString::<LINE_ROOM>::new();
     line.push_str(Buffer::new().format(generation));

@@ -34,17 +34,21 @@ pub(crate) fn run_reported<R: Threads + Wait + Sync, G: Gate, W: Sink>(
     requires held { StaysHeld (rule_of start) (live_cells start) options.now.gens }
     requires short { (IsSame (live_cells start) empty → ⊥) → options.now.gens < 2 ^ 63 }
     requires last { generation + options.now.gens ≤ GENERATION_LIMIT }
-    ensures cells { IfOk result (λ last. IsSame (live_cells last) (after (rule_of start) (live_cells start) options.now.gens)) }
-    ensures reported { OnOk result ((said : List ℕ) × Shows (rule_of start) (live_cells start) generation (shown options.now) said
+    ensures cells { IfOk result (λ last. IsSame (live_cells last)
+        (after (rule_of start) (live_cells start) options.now.gens)) }
+    ensures reported { OnOk result ((said : List ℕ)
+        × Shows (rule_of start) (live_cells start) generation (shown options.now) said
         × Appends (W.taken report.old) (W.taken report.new) said) }
     ensures unfailed { OnOk result (W.failure_count report.new ≡ W.failure_count report.old) }
     ensures refused { IfErr result (λ refusal.
         (IsOutOfRoom refusal
         × (W.failure_count report.new ≡ W.failure_count report.old)
-        × ((lines : ℕ) × (said : List ℕ) × Shows (rule_of start) (live_cells start) generation (take lines (shown options.now)) said
+        × ((lines : ℕ) × (said : List ℕ)
+        × Shows (rule_of start) (live_cells start) generation (take lines (shown options.now)) said
         × Appends (W.taken report.old) (W.taken report.new) said))
         ⊎ IsWriteRefusal (W.failure_count report.old) (W.failure_count report.new) refusal) }
-    ensures full { IfErr result (λ refusal. refusal ≡ Refusal.NodesFull → IsStuckWithin (rule_of start) (live_cells start) (limit_of start) options.now.gens) }
+    ensures full { IfErr result (λ refusal. refusal ≡ Refusal.NodesFull
+        → IsStuckWithin (rule_of start) (live_cells start) (limit_of start) options.now.gens) }
 {
     let alloc = team.alloc;
     let mut universe = report_generation(alloc, report, options.quiet, generation, start)?;

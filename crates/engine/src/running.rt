@@ -5,14 +5,15 @@ ghost use Rattle.table_core.specs.Sizes.{IsPairCount};
 ghost use Rattle.plane.specs.Square.{IsSame};
 ghost use Rattle.universe.specs.Cells.{live_cells};
 ghost use Rattle.engine.specs.Accepted.{SumsUp};
-ghost use Rattle.patterns.specs.Pattern.{plane_of};
-ghost use Rattle.engine.specs.Workers.{IsWorkerCount};
+ghost use Rattle.engine.specs.Pattern.{plane_of};
 ghost use Rattle.engine.specs.Run.{IsRun};
+ghost use Rattle.engine.specs.SinkChange.{change_of};
+ghost use Rattle.engine.specs.Workers.{IsWorkerCount};
 
 use crate::accepted::judge;
 use crate::options::Options;
+use crate::pattern::Pattern;
 use crate::reported::run_reported;
-use patterns::Pattern;
 use plane::{Bounds, Fault, Refusal, Sink};
 use std::alloc::Global;
 use std::sync::Wait;
@@ -52,8 +53,8 @@ pub fn run<R: Threads + Wait + Sync, W: Sink, V: Sink>(
     requires pairs { IsPairCount options.now.pairs }
     requires workers { IsWorkerCount options.now.workers }
     ensures { IsRun bytes.now options.now
-        (record { old = report.old; new = report.new; taken = W.taken; failure_count = W.failure_count })
-        (record { old = file.old; new = file.new; taken = V.taken; failure_count = V.failure_count }) result }
+        (change_of W.taken W.failure_count report.old report.new)
+        (change_of V.taken V.failure_count file.old file.new) result }
 {
     run_gated(rt, alloc, bytes, options, report, file, &OpenGate)
 }
@@ -72,8 +73,8 @@ pub fn run_gated<R: Threads + Wait + Sync, G: Gate, W: Sink, V: Sink>(
     requires pairs { IsPairCount options.now.pairs }
     requires workers { IsWorkerCount options.now.workers }
     ensures { IsRun bytes.now options.now
-        (record { old = report.old; new = report.new; taken = W.taken; failure_count = W.failure_count })
-        (record { old = file.old; new = file.new; taken = V.taken; failure_count = V.failure_count }) result }
+        (change_of W.taken W.failure_count report.old report.new)
+        (change_of V.taken V.failure_count file.old file.new) result }
 {
     let begun = judge(alloc, bytes, options)?;
     let start = begun.text.generation();

@@ -2,7 +2,7 @@
 
 ghost use Rattle.std.specs.Prelude.{◌≡◌, ◌≤◌, Some, IfErr, OnOk, length};
 ghost use Rattle.std.specs.Io.KnownBytes.{Appends};
-ghost use Rattle.plane.specs.Device.{IsWriteRefusal};
+ghost use Rattle.plane.specs.Device.{TellsFailure};
 ghost use Rattle.engine.specs.SummaryLine.{bounds_text, summary_line};
 
 use crate::running::Summary;
@@ -18,9 +18,9 @@ const LINE_ROOM: usize = 320;
 /// Writes one line with the generation, its population and its bounding box, as `4: 5 cells, x 0 to 2, y 1 to 3`.
 /// `WriteFailed` if the sink failed.
 pub fn write_summary<W: Sink>(out: &mut W, summary: &Summary) -> Result<(), Refusal>
-    ensures written { OnOk result (Appends (W.taken out.old) (W.taken out.new) (summary_line summary.now)) }
-    ensures unfailed { OnOk result (W.failure_count out.new ≡ W.failure_count out.old) }
-    ensures refused { IfErr result (IsWriteRefusal (W.failure_count out.old) (W.failure_count out.new)) }
+    ensures written { OnOk result (Appends (W.taken out.old) (W.taken out.new)
+        (summary_line summary.now)) }
+    ensures failure { TellsFailure (W.failure_count out.old) (W.failure_count out.new) result }
 {
     let line = summary_line(summary);
     write_all(out, line.as_str().as_bytes())

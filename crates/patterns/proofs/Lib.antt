@@ -1,3 +1,2 @@
-mod CellsAtRest
 pub mod Judged
 pub mod NodeSquares

@@ -12,7 +12,7 @@ use Rattle.macrocell_reader.proofs.RangeLemmas.{level_between}
 use Rattle.plane.specs.Plane.{Plane}
 use Rattle.plane.specs.Square.{empty, joined}
 use Rattle.plane.proofs.Same.{plane_equal}
-use Rattle.plane.proofs.Turns.{AllByRecursion-append}
+use Rattle.plane.proofs.Elements.{AllByRecursion-append}
 use Rattle.squares.specs.Book.{Book, IsBook, IsKnown, Keeps, Shows, joined_squares, nth, numbered}
 use Rattle.plane.specs.Centred.{IsSmallestLevel, centred}
 use Rattle.hashlife_step.specs.Round.{ShowsRound}

@@ -4,7 +4,7 @@ ghost use Rattle.std.specs.Prelude.{◌≡◌, ◌⊎◌, ◌+◌, ◌≤◌, �
 ghost use Rattle.macrocell_reader.specs.NodeFaults.{StandInOrder, fault_among};
 ghost use Rattle.macrocell_reader.specs.Nodes.{level_of};
 ghost use Rattle.macrocell_reader.specs.Planes.{node_plane, root_plane};
-ghost use Rattle.squares.specs.Book.{Keeps, KeepsResults, MayRefuse, Shows};
+ghost use Rattle.squares.specs.Book.{AddsSquares, LacksMemoryOr, MayRefuse, Shows};
 ghost use Rattle.squares.specs.Rounds.{IsRound};
 ghost use Rattle.patterns.specs.NodeSquares.{AreKnown, ShowNodes, levels_of, numbered_square, quarters_of, shown_planes};
 
@@ -28,11 +28,11 @@ pub(crate) fn nodes_to_square<S: Squares>(
     lines: NodeLines<'_>,
 ) -> Result<Sq, Refusal>
     requires { StandInOrder [] (map (λ line. line.node) lines) }
-    ensures ok { IfOk result (IsRound (S.book book.new) (root_plane (map (λ line. line.node) lines.entry))) }
+    ensures ok { IfOk result
+        (IsRound (S.book book.new) (root_plane (map (λ line. line.node) lines.entry))) }
     ensures high { IfOk result (λ sq. sq.level ≤ 63) }
-    ensures refusal { IfErr result (λ refusal. (refusal ≡ Refusal.NoMemory) ⊎ MayRefuse (S.book book.new) refusal) }
-    ensures keeps { Keeps (S.book book.old) (S.book book.new) }
-    ensures results { KeepsResults (S.book book.old) (S.book book.new) }
+    ensures refusal { IfErr result (LacksMemoryOr (MayRefuse (S.book book.new))) }
+    ensures adds { AddsSquares (S.book book.old) (S.book book.new) }
 {
     let squares = squares_of(alloc, book, lines)?;
     match squares.last() {
@@ -48,10 +48,10 @@ fn squares_of<S: Squares>(
     lines: NodeLines<'_>,
 ) -> Result<Vec<Sq>, Refusal>
     requires { StandInOrder [] (map (λ line. line.node) lines) }
-    ensures ok { IfOk result (λ squares. ShowNodes (S.book book.new) (map (λ line. line.node) lines.entry) squares.items) }
-    ensures refusal { IfErr result (λ refusal. (refusal ≡ Refusal.NoMemory) ⊎ MayRefuse (S.book book.new) refusal) }
-    ensures keeps { Keeps (S.book book.old) (S.book book.new) }
-    ensures results { KeepsResults (S.book book.old) (S.book book.new) }
+    ensures ok { IfOk result (λ squares.
+        ShowNodes (S.book book.new) (map (λ line. line.node) lines.entry) squares.items) }
+    ensures refusal { IfErr result (LacksMemoryOr (MayRefuse (S.book book.new))) }
+    ensures adds { AddsSquares (S.book book.old) (S.book book.new) }
 {
     let mut squares = Vec::new(alloc);
     'lines: for line in lines {
@@ -65,10 +65,10 @@ fn squares_of<S: Squares>(
 fn node_square<S: Squares>(book: &mut S, squares: &[Sq], node: Node) -> Result<Sq, Refusal>
     requires known { AreKnown (S.book book.old) squares.now }
     requires lawful { fault_among (levels_of squares.now) (Some node) ≡ None }
-    ensures ok { IfOk result (Shows (S.book book.new) (level_of node) (node_plane (shown_planes (S.book book.old) squares.now) node)) }
+    ensures ok { IfOk result (Shows (S.book book.new) (level_of node)
+        (node_plane (shown_planes (S.book book.old) squares.now) node)) }
     ensures refusal { IfErr result (MayRefuse (S.book book.new)) }
-    ensures keeps { Keeps (S.book book.old) (S.book book.new) }
-    ensures results { KeepsResults (S.book book.old) (S.book book.new) }
+    ensures adds { AddsSquares (S.book book.old) (S.book book.new) }
 {
     match node {
         Node::Leaf(bits) => book.leaf(bits),

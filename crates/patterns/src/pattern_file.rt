@@ -9,10 +9,9 @@ use crate::nodes::nodes_to_square;
 use macrocell_reader::McFile;
 use plane::{Fault, Refusal};
 use rle_reader::RleFile;
-use squares::{Sq, Squares, runs_to_square};
+use squares::{Build, Sq, Squares, runs_to_square};
 use std::alloc::Global;
 use text_lines::{Comments, begins_with};
-use universe::Build;
 
 // What a macrocell file begins with.
 const MACROCELL: &[u8] = b"[M2]";

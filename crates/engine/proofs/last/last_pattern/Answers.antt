@@ -2,7 +2,7 @@ use Rattle.std.proofs.Common.{◌≡◌, ◌+◌, ◌≤◌, Err, rules, refl, s
 use Rattle.plane.specs.declared.refusal.Refusal.TheVariants.{NoMemory}
 use Rattle.plane.proofs.Same.{same_refl, same_trans}
 use Rattle.patterns.specs.Meaning.{placeless}
-use Rattle.patterns.specs.Pattern.{plane_of}
+use Rattle.engine.specs.Pattern.{plane_of}
 use Rattle.patterns.specs.PatternFile.{meaning_of}
 use Rattle.universe.proofs.Held.{held, short_run}
 use Rattle.universe.specs.Cells.{live_cells, rule_of}

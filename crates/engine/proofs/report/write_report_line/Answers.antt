@@ -7,6 +7,3 @@ pub returns-clause-written : goal.returns-clause-written
 returns-clause-written g c =
     let text : c.as_bytes.result.now ≡ report_line c.args.generation c.args.population = search rules in
     subst (λ bytes. OnOk c.write_all.result (Appends (g.W.Sink.taken c.args.report.now) (g.W.Sink.taken c.write_all.new.sink) bytes)) text c.write_all.ensures.written
-
-pub returns-clause-unfailed : goal.returns-clause-unfailed
-returns-clause-unfailed g c = c.write_all.ensures.unfailed

@@ -1,6 +1,6 @@
 use Rattle.std.proofs.Common.{refl, subst}
 use Rattle.plane.proofs.Same.{plane_equal, same_sym, same_trans}
-use Rattle.patterns.specs.Pattern.{plane_of}
+use Rattle.engine.specs.Pattern.{plane_of}
 use Rattle.universe.specs.Cells.{live_cells}
 use Rattle.viewport.specs.Population.{HasPopulation}
 use Rattle.engine.proofs.running.ended.Goals as goal

@@ -4,9 +4,9 @@ use Rattle.plane.specs.declared.refusal.Refusal.TheVariants.{NoMemory}
 use Rattle.plane.specs.Device.{HasFailed}
 use Rattle.rule_text.specs.CountRule.{CountRule}
 use Rattle.plane.proofs.Same.{same_trans}
-use Rattle.patterns.specs.FileText.{Writes}
+use Rattle.engine.specs.FileText.{Writes}
 use Rattle.patterns.specs.Meaning.{placeless}
-use Rattle.patterns.specs.Pattern.{plane_of}
+use Rattle.engine.specs.Pattern.{plane_of}
 use Rattle.patterns.specs.PatternFile.{meaning_of}
 use Rattle.engine.proofs.Acceptance.{refused_at_once}
 use Rattle.engine.proofs.Endings.{ends_well, refused_counting, refused_reporting, refused_writing, failed_early}
@@ -53,7 +53,7 @@ returns-in_err-last g c =
 pub returns-in_err-draw : goal.returns-in_err-draw
 returns-in_err-draw g c =
     let is : c.from_residual-in_err-draw.result ≡ Err (placeless c.in_err-draw.field-0.0) = search rules in
-    let refused = c.in_err-draw.ensures.refused in
+    let refused = c.in_err-draw.ensures.failure.refused in
     let failed = subst (λ n. HasFailed n (g.W.Sink.failure_count c.draw.new.report)) c.in_ok-universe.ensures.unfailed refused.1 in
     rw is (failed_early (λ _. refl) refused.0 (inl (failed, refl, (_, c.in_ok-begun.ensures.accepted.accepted))))
 
@@ -62,7 +62,7 @@ returns-in_err-write g c =
     let is : c.from_residual-in_err-write.result ≡ Err (placeless c.in_err-write.field-0.0) = search rules in
     rw is (refused_writing c.args.bytes.now c.args.options.now (meaning_of c.in_ok-begun.begun.text) (rule_of c.in_ok-begun.begun.universe) (live_cells c.in_ok-begun.begun.universe) c.in_ok-begun.ensures.accepted
     _ _ c.generation-start.result (plane_of c.in_ok-last.last) _ c.generation-start.ensures (same_trans c.in_ok-last.ensures.same c.in_ok-universe.ensures.cells) c.in_ok-universe.ensures.reported c.in_ok-draw.ensures.drawn
-    c.args.options.now.format c.in_ok-last.ensures.ok.bounds.cells c.in_err-write.field-0.0 refl c.in_ok-last.ensures.ok.bounds.listing c.in_err-write.ensures.no_format (c.in_ok-draw.ensures.unfailed ∙ c.in_ok-universe.ensures.unfailed) c.in_err-write.ensures.refused)
+    c.args.options.now.format c.in_ok-last.ensures.ok.bounds.cells c.in_err-write.field-0.0 refl c.in_ok-last.ensures.ok.bounds.listing c.in_err-write.ensures.no_format (c.in_ok-draw.ensures.failure.unfailed ∙ c.in_ok-universe.ensures.unfailed) c.in_err-write.ensures.refused)
 
 pub returns : goal.returns
 returns g c =
@@ -70,4 +70,4 @@ returns g c =
     _ _ c.generation-start.result (plane_of c.in_ok-last.last) _ c.generation-start.ensures (same_trans c.in_ok-last.ensures.same c.in_ok-universe.ensures.cells) c.in_ok-universe.ensures.reported c.in_ok-draw.ensures.drawn
     c.comments.result c.in_ok-last.summary c.comments.ensures c.in_ok-last.ensures.ok
     (subst (λ (r : CountRule). Writes c.args.options.now.format (plane_of c.in_ok-last.last) c.comments.result r c.in_ok-last.summary.generation (g.V.Sink.taken c.args.file.now) (g.V.Sink.taken c.write.new.file)) (sym c.in_ok-begun.ensures.rule) c.in_ok-write.ensures.written)
-    c.in_ok-write.ensures.no_format c.in_ok-write.ensures.unfailed (c.in_ok-draw.ensures.unfailed ∙ c.in_ok-universe.ensures.unfailed)
+    c.in_ok-write.ensures.no_format c.in_ok-write.ensures.unfailed (c.in_ok-draw.ensures.failure.unfailed ∙ c.in_ok-universe.ensures.unfailed)

@@ -21,7 +21,7 @@ lines-preserved g c =
     let shows = subst (λ (sqs : List Sq). Shows new (level_of c.in-Some.line.node) (node_plane (shown_planes old sqs) c.in-Some.line.node) c.in_ok-sq.sq) c.as_slice.ensures.value c.in_ok-sq.ensures.ok in
     record {
       read = subst (λ (sqs : List Sq). HaveRead new all (map (λ line. line.node) c.next.new.self) sqs) (sym pushed)
-          (next_read old new all (map (λ line. line.node) c.next.new.self) c.in-Some.line.node c.lines.squares.items c.in_ok-sq.sq c.node_square.ensures.keeps read shows);
-      keeps = keeps_trans c.lines.invariant.keeps c.node_square.ensures.keeps;
-      results = results_trans c.lines.invariant.results c.node_square.ensures.results;
+          (next_read old new all (map (λ line. line.node) c.next.new.self) c.in-Some.line.node c.lines.squares.items c.in_ok-sq.sq c.node_square.ensures.adds.keeps read shows);
+      keeps = keeps_trans c.lines.invariant.keeps c.node_square.ensures.adds.keeps;
+      results = results_trans c.lines.invariant.results c.node_square.ensures.adds.results;
     }

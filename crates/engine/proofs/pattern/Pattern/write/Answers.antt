@@ -6,9 +6,9 @@ use Rattle.plane.specs.declared.refusal.Refusal.TheVariants.{BoxTooLarge, NoMemo
 use Rattle.pattern_writers.specs.RleReading.{IsReadBackFromRle}
 use Rattle.pattern_writers.specs.RleText.{HasRleText, IsTooLarge, WritesRle}
 use Rattle.pattern_writers.specs.Taken.{IfTaken}
-use Rattle.patterns.proofs.CellsAtRest.{shared_cells, shared_known}
-use Rattle.patterns.specs.declared.format.Format.TheVariants.{Rle}
-use Rattle.patterns.proofs.pattern.Pattern.write.Goals as goal
+use Rattle.engine.proofs.CellsAtRest.{shared_cells, shared_known}
+use Rattle.engine.specs.declared.format.Format.TheVariants.{Rle}
+use Rattle.engine.proofs.pattern.Pattern.write.Goals as goal
 
 pub returns-in_ok-shared-in-Some-Rle-clause-written : goal.returns-in_ok-shared-in-Some-Rle-clause-written
 returns-in_ok-shared-in-Some-Rle-clause-written g c =

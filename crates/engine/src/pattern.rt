@@ -22,10 +22,11 @@ pub struct Pattern {
 }
 
 impl Pattern {
-    ghost use Rattle.plane.specs.Device.{IsWriteRefusal};
-    ghost use Rattle.patterns.specs.FileText.{Exceeds, Fits, IsReadBack, Writes};
-    ghost use Rattle.patterns.specs.Pattern.{plane_of};
-    ghost use Rattle.patterns.specs.Drawing.{picture_of};
+    ghost use Rattle.plane.specs.Device.{TellsFailure};
+    ghost use Rattle.pattern_writers.specs.WriterRefusal.{IsWriterRefusal};
+    ghost use Rattle.engine.specs.FileText.{Exceeds, Fits, IsReadBack, Writes};
+    ghost use Rattle.engine.specs.Pattern.{plane_of};
+    ghost use Rattle.engine.specs.Drawing.{picture_of};
     ghost use Rattle.universe.specs.Cells.{still_cells};
     ghost use Rattle.std.specs.Io.KnownBytes.{Appends};
 
@@ -55,9 +56,9 @@ impl Pattern {
 
     /// Draws a window of the pattern, if one is asked for.
     pub fn draw<W: Sink>(&self, window: Option<Window>, report: &mut W) -> Result<(), Refusal>
-        ensures drawn { OnOk result (Appends (W.taken report.old) (W.taken report.new) (picture_of window (plane_of self.now))) }
-        ensures unfailed { OnOk result (W.failure_count report.new ≡ W.failure_count report.old) }
-        ensures refused { IfErr result (IsWriteRefusal (W.failure_count report.old) (W.failure_count report.new)) }
+        ensures drawn { OnOk result (Appends (W.taken report.old) (W.taken report.new)
+            (picture_of window (plane_of self.now))) }
+        ensures failure { TellsFailure (W.failure_count report.old) (W.failure_count report.new) result }
     {
         match window {
             Some(window) => picture(self.cells.still(), self.cells.root(), &window, report),
@@ -79,14 +80,16 @@ impl Pattern {
         generation: u64,
         file: &mut V,
     ) -> Result<(), Refusal>
-        ensures written { OnOk result (Writes format (plane_of self.now) comments.entry rule.now generation (V.taken file.old) (V.taken file.new)) }
-        ensures read_back { OnOk result (IsReadBack format (plane_of self.now) comments.entry rule.now generation (V.taken file.old) (V.taken file.new)) }
+        ensures written { OnOk result (Writes format (plane_of self.now)
+            comments.entry rule.now generation
+            (V.taken file.old) (V.taken file.new)) }
+        ensures read_back { OnOk result (IsReadBack format (plane_of self.now)
+            comments.entry rule.now generation
+            (V.taken file.old) (V.taken file.new)) }
         ensures no_format { format ≡ None → file.new ≡ file.old }
         ensures unfailed { OnOk result (V.failure_count file.new ≡ V.failure_count file.old) }
-        ensures refused { IfErr result (λ refusal.
-            (refusal ≡ Refusal.BoxTooLarge × Exceeds format (plane_of self.now) × file.new ≡ file.old)
-            ⊎ (refusal ≡ Refusal.NoMemory × file.new ≡ file.old)
-            ⊎ (IsWriteRefusal (V.failure_count file.old) (V.failure_count file.new) refusal × Fits format (plane_of self.now))) }
+        ensures refused { IfErr result (IsWriterRefusal V.failure_count file.old file.new
+            (Exceeds format (plane_of self.now)) (Fits format (plane_of self.now))) }
     {
         let (book, root) = (self.cells.still(), self.cells.root());
         match format {

@@ -6,7 +6,8 @@ use Rattle.node_table.specs.declared.shared.SharedStill.{SharedStill}
 use Rattle.node_table.specs.declared.still.Still.{Still}
 use Rattle.squares.specs.Book.{Book, IsKnown}
 use Rattle.squares.specs.declared.sq.Sq.{Sq}
-use Rattle.universe.specs.Cells.{still_cells, root_of, square_plane, still_of}
+use Rattle.squares.specs.Rounds.{square_plane}
+use Rattle.universe.specs.Cells.{still_cells, root_of, still_of}
 use Rattle.universe.specs.declared.rooted_still.RootedStill.{RootedStill}
 
 -- the square and the words of cells at rest show these cells

@@ -14,8 +14,8 @@ use Rattle.pattern_writers.specs.RleReading.{IsReadBackFromRle}
 use Rattle.pattern_writers.specs.RleText as writers
 use Rattle.pattern_writers.specs.RleText.{WritesRle, rle_text}
 use Rattle.pattern_writers.specs.Taken.{IfTaken}
-use Rattle.patterns.specs.declared.format.Format.{Format}
-use Rattle.patterns.specs.declared.format.Format.TheVariants.{Rle, Macrocell}
+use Rattle.engine.specs.declared.format.Format.{Format}
+use Rattle.engine.specs.declared.format.Format.TheVariants.{Rle, Macrocell}
 
 -- the format can hold the cells
 abbrev pub HasText : Option Format → List Cell → Type 0
