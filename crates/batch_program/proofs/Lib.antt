@@ -1,4 +1,3 @@
 pub mod AskedWords
 mod Endings
-mod Stops
 pub mod WindowTexts

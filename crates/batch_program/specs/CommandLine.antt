@@ -4,42 +4,38 @@ use Rattle.std.specs.List.{ends_with}
 use Rattle.std.specs.Option.{option_map}
 use Rattle.clap.specs.Words.{App, Rule, Text, fault_of, new_app, new_rule, with_rule}
 use Rattle.clap.specs.declared.builder.action.ArgAction.TheVariants.{SetTrue}
-use Rattle.clap.specs.declared.builder.value_parser.ValueParser.TheVariants as parser
-use Rattle.plane.specs.declared.refusal.Refusal.{Refusal}
 use Rattle.plane.specs.Window.{IsWindow, Rectangle}
-use Rattle.program_parts.specs.Asking.{IsFaultOf, Refuses, text_in, value_in}
-use Rattle.program_parts.specs.OptionRules.{file_argument, generation_option, node_option, rule_option, window_option, worker_option}
+use Rattle.program_parts.specs.Asking.{CommandLine, IsFaultOf, text_in, value_in}
+use Rattle.program_parts.specs.OptionRules.{file_argument, generation_option, node_option, numeric, rule_option, valued_in_short, window_option, worker_option}
 use Rattle.program_parts.specs.Values.{IsAskedRule, IsNumber, IsPairNumber, IsWorkerNumber}
 use Rattle.program_parts.specs.WindowText.{IsFitWindow, WritesWindow}
 use Rattle.program_parts.specs.declared.misfit.Misfit.{Misfit}
 use Rattle.program_parts.specs.declared.misfit.Misfit.TheVariants.{Ending, Window, Nodes, Other}
 use Rattle.program_parts.specs.declared.words.WordsFault.{WordsFault}
 use Rattle.batch_program.specs.declared.request.Asked.{Asked}
-use Rattle.patterns.specs.declared.format.Format.{Format}
-use Rattle.patterns.specs.declared.format.Format.TheVariants.{Rle, Macrocell}
+use Rattle.engine.specs.declared.format.Format.{Format}
+use Rattle.engine.specs.declared.format.Format.TheVariants.{Rle, Macrocell}
 
 -- `-i N`, `--stepsize N`: a number below 2^64, 0 if it is left out
 abbrev pub step_option : Rule
-step_option = record (new_rule (codes "stepsize")) {
-  short = Some 105;
-  long = Some (codes "stepsize");
-  value_names = 1;
-  defaults = codes "0" ∷ [];
-  parser = Some (parser.Unsigned 0 18446744073709551615);
-}
+step_option = numeric (codes "stepsize") 105
 
 -- `-o NAME`, `--output NAME`
 abbrev pub output_option : Rule
-output_option = record (new_rule (codes "output")) { short = Some 111; long = Some (codes "output"); value_names = 1 }
+output_option = valued_in_short (codes "output") 111
 
 -- `-q`, `--quiet`, which takes no value
 abbrev pub quiet_option : Rule
 quiet_option = record (new_rule (codes "quiet")) { short = Some 113; long = Some (codes "quiet"); action = Some SetTrue }
 
--- the form of the words: the options in this order, and FILE
+-- the options in this order, and FILE
+abbrev pub command_rules : List Rule
+command_rules =
+    generation_option ∷ step_option ∷ output_option ∷ rule_option ∷ quiet_option ∷ window_option ∷ node_option ∷ worker_option ∷ file_argument ∷ []
+
+-- the form of the words
 abbrev pub command_form : App
-command_form = fold with_rule (new_app (codes "lifebatch"))
-    (generation_option ∷ step_option ∷ output_option ∷ rule_option ∷ quiet_option ∷ window_option ∷ node_option ∷ worker_option ∷ file_argument ∷ [])
+command_form = fold with_rule (new_app (codes "lifebatch")) command_rules
 
 -- the text that clap finds for an option or an argument
 abbrev pub text_for : List ℕ → List Text → Option Text
@@ -109,10 +105,10 @@ abbrev pub IsRefusedWindow : Option Text → Type 0
 IsRefusedWindow None = ⊥
 IsRefusedWindow (Some text) = (given : Rectangle) × WritesWindow 32 text given × (IsWindow given → ⊥)
 
--- memory ran out while the words were read, or the rule or the window that they give is refused
-abbrev pub RefusesWords : List Text → Refusal → Type 0
-RefusesWords words refusal = Refuses command_form (IsFit words) IsRefusedWindow words refusal
+-- the form of the words, and the values that are fit
+abbrev pub command_line : CommandLine
+command_line = record { form = command_form; IsFit = IsFit; IsMisfit = IsMisfit; IsRefusedWindow = IsRefusedWindow }
 
 -- why words ask for no run
 abbrev pub IsWordsFault : List Text → WordsFault → Type 0
-IsWordsFault words fault = IsFaultOf command_form (IsFit words) (IsMisfit words) IsRefusedWindow words fault
+IsWordsFault words fault = IsFaultOf command_line words fault

@@ -1,5 +1,5 @@
 pub mod CommandLine
+pub mod FormLaws
 pub mod Matched
 pub mod Status
-pub mod Stops
 pub mod Windows

@@ -1,26 +1,16 @@
--- Exit statuses, and what they mean.
+-- What a run that words ask for ends with.
 use Rattle.std.specs.Prelude.{◌≡◌, ◌⊎◌, ℕ, List, Option, None, Ok, Err}
 use Rattle.std.specs.Io.KnownBytes.{Appends}
-use Rattle.clap.specs.Words.{Text}
 use Rattle.plane.specs.declared.fault.Fault.{Fault}
-use Rattle.plane.specs.declared.refusal.Refusal.{Refusal}
 use Rattle.plane.specs.declared.refusal.Refusal.TheVariants.{BoxTooLarge, NoMemory, ReadFailed, WriteFailed}
-use Rattle.program_parts.specs.Asking.{AsksForHelp, AsksForNothing}
-use Rattle.batch_program.specs.CommandLine.{AsksFor, IsFit, RefusesWords, command_form}
 use Rattle.engine.specs.Judgement.{Start, Judges}
-use Rattle.patterns.specs.Meaning.{placeless}
 use Rattle.engine.specs.Run.{Finishes, IsAcceptedRun, IsStopped, IsTooLarge}
-use Rattle.engine.specs.declared.running.Summary.{Summary}
-use Rattle.batch_program.specs.declared.request.Asked.{Asked}
 use Rattle.engine.specs.declared.options.Options.{Options}
-
--- the words ask for the help
-abbrev pub AskForHelp : List Text → Type 0
-AskForHelp words = AsksForHelp command_form words
-
--- the words ask for nothing
-abbrev pub AskForNothing : List Text → Type 0
-AskForNothing words = AsksForNothing command_form (IsFit words) words
+use Rattle.engine.specs.declared.running.Summary.{Summary}
+use Rattle.patterns.specs.Meaning.{placeless}
+use Rattle.program_parts.specs.Behaviour.{Behaviour}
+use Rattle.batch_program.specs.CommandLine.{AsksFor, command_line}
+use Rattle.batch_program.specs.declared.request.Asked.{Asked}
 
 -- a run of some bytes ended well, and between the two its report went out
 abbrev pub HasRun : Options → Option (List ℕ) → Option (List ℕ) → Type 0
@@ -40,17 +30,11 @@ HasStopped options fault before after unchanged failed =
     ⊎ ((bytes : List ℕ) × (said : List ℕ) × IsStopped bytes options fault said × Appends before after said)
     ⊎ ((fault ≡ placeless WriteFailed) × ((bytes : List ℕ) × IsAcceptedRun bytes options) × (options.format ≡ None → failed))
 
--- what the words ask for was refused: a run stopped; before it memory ran out, or the rule that they give was refused;
--- or the help could not be written
-abbrev pub IsRefused : List Text → Fault → Option (List ℕ) → Option (List ℕ) → Type 0 → Type 0 → Type 0
-IsRefused words fault before after unchanged failed =
-    ((asked : Asked) × AsksFor words asked × HasStopped asked.options fault before after unchanged failed)
-    ⊎ ((refusal : Refusal) × RefusesWords words refusal × (fault ≡ placeless refusal) × unchanged)
-    ⊎ (AskForHelp words × (fault ≡ placeless WriteFailed) × failed)
-
--- between the two a text went out for words that ask for the help, or the report of a run that the words ask for, which
--- ended well
-abbrev pub IsDone : List Text → Option (List ℕ) → Option (List ℕ) → Type 0
-IsDone words before after =
-    (AskForHelp words × ((help : List ℕ) × Appends before after help))
-    ⊎ ((asked : Asked) × AsksFor words asked × HasRun asked.options before after)
+-- what the program does: it runs what words ask for
+abbrev pub behaviour : Behaviour Asked
+behaviour = record {
+  line = command_line;
+  AsksFor = AsksFor;
+  HasDone = λ asked. HasRun asked.options;
+  HasStopped = λ asked. HasStopped asked.options;
+}

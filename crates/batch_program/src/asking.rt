@@ -1,14 +1,15 @@
 //! What the words of a command line ask for.
 
-ghost use Rattle.std.specs.Prelude.{◌≡◌, ℕ, List, map, Option, IfOk, IfErr};
+ghost use Rattle.std.specs.Prelude.{◌≡◌, ℕ, List, Option, IfOk, IfErr};
 ghost use Rattle.std.specs.Borrow.{Bor};
 ghost use Rattle.std.specs.Option.{option_copied};
 ghost use Rattle.clap.specs.Words.{Text, found_of, one_text};
-ghost use Rattle.patterns.specs.declared.format.Format.{Format};
+ghost use Rattle.engine.specs.declared.format.Format.{Format};
+ghost use Rattle.program_parts.specs.Asking.{texts_of};
 ghost use Rattle.batch_program.specs.Matched.{AreMatchesOf, AskForOptions, HasFile};
 ghost use Rattle.batch_program.specs.CommandLine.{AsksFor, IsFlag, IsFormat, IsWordsFault, format_named};
 
-use crate::command_line::command;
+use crate::application::Lifebatch;
 use crate::names::ENDINGS;
 use crate::request::Asked;
 use crate::window_option::{narrow_numbers, window_asked};
@@ -25,17 +26,18 @@ use std::alloc::Global;
 /// `Refused` with `BadRule` or `BirthOnZero` for the rule that is given, then `Refused` with `WindowTooLarge`, and
 /// `Refused` with `NoMemory`.
 pub fn asked<'a>(alloc: Global, words: &'a [&'a str]) -> Result<Asked, WordsFault>
-    ensures asks { IfOk result (AsksFor (map (λ word. word.now) words.entry.now)) }
-    ensures faults { IfErr result (IsWordsFault (map (λ word. word.now) words.entry.now)) }
+    ensures asks { IfOk result (AsksFor (texts_of words.entry.now)) }
+    ensures faults { IfErr result (IsWordsFault (texts_of words.entry.now)) }
 {
-    let matches = command(alloc)?.try_get_matches_from(words)?;
-    asked_by(alloc, &matches)
+    program_parts::asked::<Lifebatch>(alloc, words)
 }
 
 // What words ask for, by the matches that clap has found in them.
-fn asked_by(alloc: Global, matches: &ArgMatches<'_>) -> Result<Asked, WordsFault>
-    ensures asks { (words : List Text) → AreMatchesOf words matches.now → IfOk result (AsksFor words) }
-    ensures faults { (words : List Text) → AreMatchesOf words matches.now → IfErr result (IsWordsFault words) }
+pub(crate) fn asked_by(alloc: Global, matches: &ArgMatches<'_>) -> Result<Asked, WordsFault>
+    ensures asks { (words : List Text) → AreMatchesOf words matches.now →
+        IfOk result (AsksFor words) }
+    ensures faults { (words : List Text) → AreMatchesOf words matches.now →
+        IfErr result (IsWordsFault words) }
 {
     let Some(file) = matches.get_str("file") else {
         return Err(WordsFault::Unfit(Misfit::Other));
@@ -50,8 +52,10 @@ fn asked_by(alloc: Global, matches: &ArgMatches<'_>) -> Result<Asked, WordsFault
 
 // What a run is to do by the words, of which one names a file.
 fn options_by(matches: &ArgMatches<'_>) -> Result<Options, WordsFault>
-    ensures asks { (words : List Text) → AreMatchesOf words matches.now → IfOk result (AskForOptions words) }
-    ensures faults { (words : List Text) → AreMatchesOf words matches.now → HasFile words → IfErr result (IsWordsFault words) }
+    ensures asks { (words : List Text) → AreMatchesOf words matches.now →
+        IfOk result (AskForOptions words) }
+    ensures faults { (words : List Text) → AreMatchesOf words matches.now →
+        HasFile words → IfErr result (IsWordsFault words) }
 {
     let gens = number_for(matches, "generation")?;
     let step = number_for(matches, "stepsize")?;
@@ -83,7 +87,9 @@ fn is_set(matches: &ArgMatches<'_>, name: &str) -> bool
 // The format of the file that is written, by the ending of its name.
 fn format_of(output: Option<&str>) -> Result<Option<Format>, WordsFault>
     ensures ok { IfOk result (IsFormat (option_copied output.entry)) }
-    ensures err { IfErr result (λ fault. (endings : Bor (List ℕ)) × (fault ≡ WordsFault.Unfit (Misfit.Ending endings)) × ((format : Option Format) → ¬ IsFormat (option_copied output.entry) format)) }
+    ensures err { IfErr result (λ fault. (endings : Bor (List ℕ))
+        × (fault ≡ WordsFault.Unfit (Misfit.Ending endings))
+        × ((format : Option Format) → ¬ IsFormat (option_copied output.entry) format)) }
 {
     match output {
         Some(name) => match format_named(name) {

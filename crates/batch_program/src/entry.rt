@@ -1,23 +1,12 @@
 //! The whole program, over any standard output and standard error.
 
-ghost use Rattle.std.specs.Prelude.{◌≡◌, ◌≤◌, ◌⊎◌, ℕ, List, codes, map, Err, OnOk, IfErr};
-ghost use Rattle.std.specs.Io.KnownBytes.{Appends};
-ghost use Rattle.plane.specs.Device.{HasFailed};
-ghost use Rattle.plane.specs.declared.fault.Fault.{Fault};
-ghost use Rattle.engine.specs.Workers.{IsWorkerCount};
-ghost use Rattle.patterns.specs.Meaning.{placeless};
-ghost use Rattle.table_core.specs.Sizes.{IsPairCount};
-ghost use Rattle.program_parts.specs.Messages.{bad_words_text, fault_line, refused_status};
-ghost use Rattle.program_parts.specs.declared.stops.Stop.TheVariants.{Refused};
-ghost use Rattle.batch_program.specs.Status.{AskForNothing, HasRun, HasStopped, IsDone, IsRefused};
-ghost use Rattle.batch_program.specs.Stops.{IsStop};
+ghost use Rattle.std.specs.Prelude.{codes};
+ghost use Rattle.program_parts.specs.Asking.{texts_of};
+ghost use Rattle.program_parts.specs.Behaviour.{EndsProgram};
+ghost use Rattle.batch_program.specs.Status.{behaviour};
 
-use crate::asking::asked;
-use crate::names::NAME;
-use crate::request::Asked;
-use engine::run;
-use plane::{Fault, Refusal, Sink};
-use program_parts::{OutputFile, Stop, end_of_words, read_file, told_status};
+use crate::application::Lifebatch;
+use plane::Sink;
 use std::alloc::Global;
 use std::rt::Files;
 use std::sync::Wait;
@@ -39,69 +28,9 @@ pub fn program<R: Files + Input + Threads + Wait + Sync, O: Sink, E: Sink>(
     out: &mut O,
     err: &mut E,
 ) -> u8
-    ensures status { result ≤ 3 }
-    // Below 3 standard output did not fail.
-    ensures unfailed { result ≤ 2 → O.failure_count out.new ≡ O.failure_count out.old }
-    // At 0 a text for those who ask for the help went out, or the report, and nothing was told.
-    ensures well { result ≡ 0 → IsDone (map (λ word. word.now) words.now) (O.taken out.old) (O.taken out.new)
-        × (O.failure_count out.new ≡ O.failure_count out.old) × (err.new ≡ err.old) }
-    // At 2 the words ask for nothing, and one message said so.
-    ensures bad_words { result ≡ 2 → AskForNothing (map (λ word. word.now) words.now) × (out.new ≡ out.old)
-        × (HasFailed (E.failure_count err.old) (E.failure_count err.new)
-        ⊎ ((why : List ℕ) × Appends (E.taken err.old) (E.taken err.new) (bad_words_text (codes "lifebatch") why))) }
-    // At 1 and at 3 it was refused, and one line said why.
-    ensures refused { (result ≡ 1) ⊎ (result ≡ 3) → (fault : Fault) × (result ≡ refused_status fault.refusal)
-        × IsRefused (map (λ word. word.now) words.now) fault (O.taken out.old) (O.taken out.new) (out.new ≡ out.old)
-        (HasFailed (O.failure_count out.old) (O.failure_count out.new))
-        × (HasFailed (E.failure_count err.old) (E.failure_count err.new)
-        ⊎ Appends (E.taken err.old) (E.taken err.new) (fault_line (codes "lifebatch") fault)) }
+    ensures { EndsProgram behaviour (codes "lifebatch") (texts_of words.now)
+        (record { old = out.old; new = out.new; taken = O.taken; failure_count = O.failure_count })
+        (record { old = err.old; new = err.new; taken = E.taken; failure_count = E.failure_count }) result }
 {
-    let ended = perform(rt, alloc, words, out);
-    told_status(alloc, err, NAME, ended)
-}
-
-// Does what the words ask for. What it then tells has no part in it.
-fn perform<R: Files + Input + Threads + Wait + Sync, O: Sink>(
-    rt: &R,
-    alloc: Global,
-    words: &[&str],
-    out: &mut O,
-) -> Result<(), Stop>
-    ensures done { OnOk result (IsDone (map (λ word. word.now) words.now) (O.taken out.old) (O.taken out.new)) }
-    ensures unfailed { (result ≡ Err (Refused (placeless Refusal.WriteFailed))) ⊎ (O.failure_count out.new ≡ O.failure_count out.old) }
-    ensures stopped { IfErr result (IsStop (map (λ word. word.now) words.now) (O.taken out.old) (O.taken out.new) (out.new ≡ out.old)
-        (HasFailed (O.failure_count out.old) (O.failure_count out.new))) }
-{
-    match asked(alloc, words) {
-        Ok(asked) => Ok(run_asked(rt, alloc, &asked, out)?),
-        Err(fault) => end_of_words(alloc, fault, out),
-    }
-}
-
-// Reads the file and runs it.
-fn run_asked<R: Files + Input + Threads + Wait + Sync, O: Sink>(
-    rt: &R,
-    alloc: Global,
-    asked: &Asked,
-    out: &mut O,
-) -> Result<(), Fault>
-    requires pairs { IsPairCount asked.now.options.pairs }
-    requires workers { IsWorkerCount asked.now.options.workers }
-    ensures ran { OnOk result (HasRun asked.now.options (O.taken out.old) (O.taken out.new)) }
-    ensures unfailed { (result ≡ Err (placeless Refusal.WriteFailed)) ⊎ (O.failure_count out.new ≡ O.failure_count out.old) }
-    ensures stopped { IfErr result (λ fault. HasStopped asked.now.options fault (O.taken out.old) (O.taken out.new) (out.new ≡ out.old)
-        (HasFailed (O.failure_count out.old) (O.failure_count out.new))) }
-{
-    let bytes = read_file(rt, alloc, asked.file.as_str())?;
-    let name = asked.output.as_ref().map_or("", |name| name.as_str());
-    let mut output = OutputFile::new(rt, name);
-    run(
-        rt,
-        alloc,
-        bytes.as_slice(),
-        &asked.options,
-        out,
-        &mut output,
-    )?;
-    Ok(())
+    program_parts::program::<Lifebatch, R, O, E>(rt, alloc, words, out, err)
 }

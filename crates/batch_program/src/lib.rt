@@ -1,6 +1,7 @@
 //! The program as a library: the words of its command line, what it does by them, and its exit status. What a run is stands in [`engine`], whose names are handed on here.
 #![tactic(auto)]
 
+mod application;
 mod asking;
 mod command_line;
 mod entry;

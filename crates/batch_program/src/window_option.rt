@@ -13,7 +13,8 @@ use program_parts::{Misfit, WindowNumbers, WordsFault, window_numbers};
 // and rows have more than 32 bits.
 pub(crate) fn narrow_numbers(text: Option<&str>) -> Result<Option<WindowNumbers>, WordsFault>
     ensures ok { IfOk result (AreNarrow (option_copied text.entry)) }
-    ensures err { IfErr result (λ fault. (fault ≡ WordsFault.Unfit Misfit.Window) × ¬ IsFitWindow 32 (option_copied text.entry)) }
+    ensures err { IfErr result (λ fault.
+        (fault ≡ WordsFault.Unfit Misfit.Window) × ¬ IsFitWindow 32 (option_copied text.entry)) }
 {
     match window_numbers(text)? {
         Some(numbers) if !is_narrow(numbers) => Err(WordsFault::Unfit(Misfit::Window)),
@@ -31,7 +32,8 @@ fn is_narrow(numbers: WindowNumbers) -> bool
 // The window that has these numbers, if one is asked for.
 pub(crate) fn window_asked(numbers: Option<WindowNumbers>) -> Result<Option<Window>, Refusal>
     ensures ok { IfOk result (IsWindowOf numbers) }
-    ensures err { IfErr result (λ refusal. (refusal ≡ Refusal.WindowTooLarge) × HasNoWindow numbers) }
+    ensures err { IfErr result (λ refusal.
+        (refusal ≡ Refusal.WindowTooLarge) × HasNoWindow numbers) }
 {
     match numbers {
         Some(numbers) => Ok(Some(window_of(numbers)?)),
@@ -42,7 +44,8 @@ pub(crate) fn window_asked(numbers: Option<WindowNumbers>) -> Result<Option<Wind
 // The window that has these numbers. `WindowTooLarge` where none has.
 fn window_of(numbers: WindowNumbers) -> Result<Window, Refusal>
     ensures ok { IfOk result (λ window. IsWindow window × (window ≡ rectangle_of numbers)) }
-    ensures too_large { IfErr result (λ refusal. (refusal ≡ Refusal.WindowTooLarge) × ¬ IsWindow (rectangle_of numbers)) }
+    ensures too_large { IfErr result (λ refusal.
+        (refusal ≡ Refusal.WindowTooLarge) × ¬ IsWindow (rectangle_of numbers)) }
 {
     match (u32::try_from(numbers.width), u32::try_from(numbers.height)) {
         (Ok(width), Ok(height)) => Window::new(numbers.x, numbers.y, width, height),

@@ -2,9 +2,6 @@
 //! [`batch_program::program`], and ends with the status that this answers.
 #![tactic(auto)]
 
-#[cfg(test)]
-mod tests;
-
 use batch_program::{NAME, program};
 use plane::{Counted, Sink};
 use program_parts::tell_no_words;

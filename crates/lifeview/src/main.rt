@@ -2,9 +2,6 @@
 //! [`view_program::program`], and ends with the status that this answers.
 #![tactic(auto)]
 
-#[cfg(test)]
-mod tests;
-
 use plane::{Counted, Sink};
 use program_parts::tell_no_words;
 use std::process::ExitCode;

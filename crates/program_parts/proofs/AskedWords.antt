@@ -1,5 +1,5 @@
 -- What the words of a command line ask for, by clap's matches.
-use Rattle.std.proofs.Common.{◌≡◌, ℕ, true, List, [], ◌∷◌, Option, Ok, Err, Result, sym, ◌∙◌, ap, subst, inl, inr}
+use Rattle.std.proofs.Common.{◌≡◌, ℕ, true, List, [], ◌∷◌, Ok, Err, Result, sym, ◌∙◌, ap, subst, inl, inr}
 use Rattle.std.specs.Prelude.{fold, IfErr, IsErrAnd}
 use Rattle.clap.specs.Words.{AddsArg, AddsInTurn, App, Rule, Text, HasKind, HasMatchesOf, FailsBy, IsAmong, app_of, fault_of, first_of, first_value, found_of, is_simple, is_simple_and_free, kind_of, matches_of, one_of, one_text, with_rule}
 use Rattle.clap.specs.declared.builder.arg.Arg.{Arg}
@@ -7,10 +7,9 @@ use Rattle.clap.specs.declared.builder.command.Command.{Command}
 use Rattle.clap.specs.declared.error.Error.{Error}
 use Rattle.clap.specs.declared.parser.matches.ArgMatches.{ArgMatches}
 use Rattle.clap.proofs.WalkLemmas.{first_value-rows, one_text-rows}
-use Rattle.program_parts.specs.Asking.{AreMatchesIn, IsFaultOf, text_in, value_in}
+use Rattle.program_parts.specs.Asking.{AreMatchesIn, CommandLine, IsFaultOf, text_in, value_in}
 use Rattle.program_parts.specs.Faults.{IsToldAs}
 use Rattle.program_parts.specs.OptionRules.{HaveRules}
-use Rattle.program_parts.specs.declared.misfit.Misfit.{Misfit}
 use Rattle.program_parts.specs.declared.words.WordsFault.{WordsFault}
 use Rattle.program_parts.specs.declared.words.WordsFault.TheVariants.{Clap, Unfit, Refused}
 
@@ -29,13 +28,13 @@ fails_by form app words result free is fails =
     subst (λ (a : App). FailsBy (fault_of a words) result) is (fails (ap is_simple_and_free is ∙ free))
 
 -- an error among the faults of the form is told as a fault of the words
-pub told_by : {T : Type 0} (form : App) (fit : Type 0) (is_misfit : Misfit → Type 0) (is_refused : Option Text → Type 0) (words : List Text) (error : Error) (result : Result T WordsFault) →
-    HasKind (fault_of form words) error → IsErrAnd result (IsToldAs error) → IfErr result (IsFaultOf form fit is_misfit is_refused words)
-told_by form fit is_misfit is_refused words error (Ok value) has told = absurd told
-told_by form fit is_misfit is_refused words error (Err (Clap fault)) (inl memory) (same, other) = absurd (other memory)
-told_by form fit is_misfit is_refused words error (Err (Clap fault)) (inr among) (same, other) = subst (λ (e : Error). IsAmong (kind_of e) (fault_of form words)) (sym same) among
-told_by form fit is_misfit is_refused words error (Err (Unfit misfit)) has told = absurd told
-told_by form fit is_misfit is_refused words error (Err (Refused refusal)) has (memory, kind) = inl memory
+pub told_by : {T : Type 0} (line : CommandLine) (words : List Text) (error : Error) (result : Result T WordsFault) →
+    HasKind (fault_of line.form words) error → IsErrAnd result (IsToldAs error) → IfErr result (IsFaultOf line words)
+told_by line words error (Ok value) has told = absurd told
+told_by line words error (Err (Clap fault)) (inl memory) (same, other) = absurd (other memory)
+told_by line words error (Err (Clap fault)) (inr among) (same, other) = subst (λ (e : Error). IsAmong (kind_of e) (fault_of line.form words)) (sym same) among
+told_by line words error (Err (Unfit misfit)) has told = absurd told
+told_by line words error (Err (Refused refusal)) has (memory, kind) = inl memory
 
 -- clap's matches are those of the form
 pub matches_by : (form app : App) (words : List Text) (matches : ArgMatches) → is_simple form ≡ true → is_simple_and_free form ≡ true → app ≡ form → HasMatchesOf app words matches →

@@ -1,4 +1,5 @@
 pub mod Asking
+pub mod Behaviour
 pub mod Faults
 pub mod Messages
 pub mod OptionRules

@@ -29,6 +29,14 @@ refused_status ReadFailed = 3
 refused_status WriteFailed = 3
 refused_status _ = 1
 
+-- between the two the message of a program went out that words are bad, and why
+abbrev pub HasToldBadWords : List ℕ → Option (List ℕ) → Option (List ℕ) → Type 0
+HasToldBadWords program before after = (why : List ℕ) × Appends before after (bad_words_text program why)
+
+-- between the two the line of a program went out that says why a run was refused
+abbrev pub HasToldFault : List ℕ → Fault → Option (List ℕ) → Option (List ℕ) → Type 0
+HasToldFault program fault before after = Appends before after (fault_line program fault)
+
 -- the exit status of a program that did what its words ask for, or stopped
 abbrev pub status_of : {T : Type 0} → Result T Stop → ℕ
 status_of (Ok _) = 0
@@ -37,5 +45,5 @@ status_of (Err (Refused fault)) = refused_status fault.refusal
 
 -- between the two the message of a program went out that says why it stopped
 abbrev pub HasTold : List ℕ → Stop → Option (List ℕ) → Option (List ℕ) → Type 0
-HasTold program (BadWords fault) before after = (why : List ℕ) × Appends before after (bad_words_text program why)
-HasTold program (Refused fault) before after = Appends before after (fault_line program fault)
+HasTold program (BadWords fault) before after = HasToldBadWords program before after
+HasTold program (Refused fault) before after = HasToldFault program fault before after

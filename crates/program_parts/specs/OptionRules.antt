@@ -30,39 +30,26 @@ HaveRules args rules = AllZip HasRule args rules
 
 -- `-m N`, `--generation N`: a number below 2^64, 0 if it is left out
 abbrev pub generation_option : Rule
-generation_option = record (new_rule (codes "generation")) {
-  short = Some 109;
-  long = Some (codes "generation");
-  value_names = 1;
-  defaults = codes "0" ∷ [];
-  parser = Some (parser.Unsigned 0 18446744073709551615);
-}
+generation_option = numeric (codes "generation") 109
 
 -- `-r R`, `--rule R`
 abbrev pub rule_option : Rule
-rule_option = record (new_rule (codes "rule")) { short = Some 114; long = Some (codes "rule"); value_names = 1 }
+rule_option = valued_in_short (codes "rule") 114
 
 -- `--window=X,Y,W,H`
 abbrev pub window_option : Rule
-window_option = record (new_rule (codes "window")) { long = Some (codes "window"); value_names = 1 }
+window_option = valued (codes "window")
 
 -- `--nodes N`: a number from 1024 to 268435456, 4194304 if it is left out
 abbrev pub node_option : Rule
-node_option = record (new_rule (codes "nodes")) {
-  long = Some (codes "nodes");
-  value_names = 1;
+node_option = record (valued (codes "nodes")) {
   defaults = codes "4194304" ∷ [];
   parser = Some (parser.Unsigned 1024 268435456);
 }
 
 -- `--workers N`: a number from 1 to 64, 1 if it is left out
 abbrev pub worker_option : Rule
-worker_option = record (new_rule (codes "workers")) {
-  long = Some (codes "workers");
-  value_names = 1;
-  defaults = codes "1" ∷ [];
-  parser = Some (parser.Unsigned 1 64);
-}
+worker_option = record (valued (codes "workers")) { defaults = codes "1" ∷ []; parser = Some (parser.Unsigned 1 64) }
 
 -- FILE, which has to be there
 abbrev pub file_argument : Rule

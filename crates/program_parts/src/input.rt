@@ -13,7 +13,8 @@ const STANDARD_INPUT: &str = "/dev/stdin";
 
 /// All bytes of a file, or of standard input. `ReadFailed` if it can't be read, and `NoMemory`.
 pub fn read_file<R: Files + Input>(rt: &R, alloc: Global, path: &str) -> Result<Vec<u8>, Refusal>
-    ensures { IfErr result (λ refusal. (refusal ≡ Refusal.ReadFailed) ⊎ (refusal ≡ Refusal.NoMemory)) }
+    ensures { IfErr result (λ refusal.
+        (refusal ≡ Refusal.ReadFailed) ⊎ (refusal ≡ Refusal.NoMemory)) }
 {
     if path == STANDARD_INPUT {
         return load(alloc, &mut Counted::new(rt.reader()));

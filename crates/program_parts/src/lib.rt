@@ -1,7 +1,9 @@
 //! What programs on [`engine`] share: options of their command lines and the values that these give, the files that
-//! they read and write, their messages and their exit statuses.
+//! they read and write, their messages and their exit statuses, and a whole program by its [`Application`].
 #![tactic(auto)]
 
+mod application;
+mod entry;
 mod input;
 mod messages;
 mod misfit;
@@ -13,6 +15,8 @@ mod stops;
 mod window_text;
 mod words;
 
+pub use application::Application;
+pub use entry::{asked, program};
 pub use input::read_file;
 pub use misfit::Misfit;
 pub use numbers::{copied, number_for, pairs_asked, rule_asked, workers_asked};
@@ -21,6 +25,5 @@ pub use options::{
     short_option, worker_option,
 };
 pub use output_file::OutputFile;
-pub use stops::{Stop, end_of_words, told_status};
 pub use window_text::{WindowNumbers, window_numbers};
 pub use words::{WordsFault, tell_no_words};

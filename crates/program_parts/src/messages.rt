@@ -2,8 +2,8 @@
 
 ghost use Rattle.std.specs.Prelude.{◌≡◌, ◌≤◌, ℕ, List, length, OnOk, IfErr};
 ghost use Rattle.std.specs.Io.KnownBytes.{Appends};
-ghost use Rattle.plane.specs.Device.{IsWriteRefusal};
-ghost use Rattle.program_parts.specs.Messages.{bad_words_text, fault_line, refused_status};
+ghost use Rattle.plane.specs.Device.{IsWriteRefusal, TellsFailure};
+ghost use Rattle.program_parts.specs.Messages.{HasToldBadWords, HasToldFault, fault_line, refused_status};
 
 use crate::words::WordsFault;
 use arrayvec::ArrayString;
@@ -22,8 +22,10 @@ pub(crate) fn tell_fault<E: Sink>(
     fault: Fault,
 ) -> Result<(), Refusal>
     requires { length program.now ≤ 32 }
-    ensures told { OnOk result (Appends (E.taken messages.old) (E.taken messages.new) (fault_line program.now fault)) }
-    ensures refused { IfErr result (IsWriteRefusal (E.failure_count messages.old) (E.failure_count messages.new)) }
+    ensures told { OnOk result
+        (HasToldFault program.now fault (E.taken messages.old) (E.taken messages.new)) }
+    ensures refused { IfErr result
+        (IsWriteRefusal (E.failure_count messages.old) (E.failure_count messages.new)) }
 {
     write_all(messages, fault_line(program, fault).as_str().as_bytes())
 }
@@ -64,8 +66,10 @@ pub(crate) fn tell_bad_words<E: Sink>(
     program: &str,
     fault: &WordsFault,
 ) -> Result<(), Refusal>
-    ensures told { OnOk result ((why : List ℕ) × Appends (E.taken messages.old) (E.taken messages.new) (bad_words_text program.now why)) }
-    ensures refused { IfErr result (IsWriteRefusal (E.failure_count messages.old) (E.failure_count messages.new)) }
+    ensures told { OnOk result
+        (HasToldBadWords program.now (E.taken messages.old) (E.taken messages.new)) }
+    ensures refused { IfErr result
+        (IsWriteRefusal (E.failure_count messages.old) (E.failure_count messages.new)) }
 {
     match fault.to_string(alloc) {
         Ok(text) => tell_reason(messages, program, Some(text.as_str())),
@@ -79,8 +83,10 @@ pub(crate) fn tell_reason<E: Sink>(
     program: &str,
     reason: Option<&str>,
 ) -> Result<(), Refusal>
-    ensures told { OnOk result ((why : List ℕ) × Appends (E.taken messages.old) (E.taken messages.new) (bad_words_text program.now why)) }
-    ensures refused { IfErr result (IsWriteRefusal (E.failure_count messages.old) (E.failure_count messages.new)) }
+    ensures told { OnOk result
+        (HasToldBadWords program.now (E.taken messages.old) (E.taken messages.new)) }
+    ensures refused { IfErr result
+        (IsWriteRefusal (E.failure_count messages.old) (E.failure_count messages.new)) }
 {
     write_all(messages, program.as_bytes())?;
     write_all(messages, b": bad words:")?;
@@ -92,9 +98,10 @@ pub(crate) fn tell_reason<E: Sink>(
 
 // Writes the lines of a text up to the first empty one, each behind a space.
 fn tell_first_paragraph<E: Sink>(messages: &mut E, text: &str) -> Result<(), Refusal>
-    ensures told { OnOk result ((why : List ℕ) × Appends (E.taken messages.old) (E.taken messages.new) why) }
-    ensures unfailed { OnOk result (E.failure_count messages.new ≡ E.failure_count messages.old) }
-    ensures refused { IfErr result (IsWriteRefusal (E.failure_count messages.old) (E.failure_count messages.new)) }
+    ensures told { OnOk result
+        ((why : List ℕ) × Appends (E.taken messages.old) (E.taken messages.new) why) }
+    ensures failure { TellsFailure
+        (E.failure_count messages.old) (E.failure_count messages.new) result }
 {
     let text = text.strip_prefix("error: ").unwrap_or(text);
     for line in text.lines() {

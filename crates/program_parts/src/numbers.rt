@@ -18,7 +18,8 @@ use table_core::Shape;
 /// The number that is read for an option. `Unfit` with `Other` if there is none.
 pub fn number_for(matches: &ArgMatches<'_>, name: &str) -> Result<u64, WordsFault>
     ensures ok { IfOk result (IsNumber (one_text (found_of matches.now) name.now)) }
-    ensures err { IfErr result (IsUnfit Misfit.Other (IsNumber (one_text (found_of matches.now) name.now))) }
+    ensures err { IfErr result (IsUnfit Misfit.Other
+        (IsNumber (one_text (found_of matches.now) name.now))) }
 {
     matches
         .get_one::<u64>(name)
@@ -28,7 +29,8 @@ pub fn number_for(matches: &ArgMatches<'_>, name: &str) -> Result<u64, WordsFaul
 /// The most pair slots that the tables may have. `Unfit` with `Nodes` if the number is no power of two from 2^10 to 2^28.
 pub fn pairs_asked(matches: &ArgMatches<'_>) -> Result<u32, WordsFault>
     ensures ok { IfOk result (IsPairNumber (one_text (found_of matches.now) (codes "nodes"))) }
-    ensures err { IfErr result (IsUnfit Misfit.Nodes (IsPairNumber (one_text (found_of matches.now) (codes "nodes")))) }
+    ensures err { IfErr result (IsUnfit Misfit.Nodes
+        (IsPairNumber (one_text (found_of matches.now) (codes "nodes")))) }
 {
     let Some(number) = matches.get_one::<u64>("nodes") else {
         return Err(WordsFault::Unfit(Misfit::Nodes));
@@ -42,7 +44,8 @@ pub fn pairs_asked(matches: &ArgMatches<'_>) -> Result<u32, WordsFault>
 /// How many workers run. `Unfit` with `Other` if it is not from 1 to 64.
 pub fn workers_asked(matches: &ArgMatches<'_>) -> Result<usize, WordsFault>
     ensures ok { IfOk result (IsWorkerNumber (one_text (found_of matches.now) (codes "workers"))) }
-    ensures err { IfErr result (IsUnfit Misfit.Other (IsWorkerNumber (one_text (found_of matches.now) (codes "workers")))) }
+    ensures err { IfErr result (IsUnfit Misfit.Other
+        (IsWorkerNumber (one_text (found_of matches.now) (codes "workers")))) }
 {
     let number = number_for(matches, "workers")?;
     if number == 0 || number > MOST_WORKERS {

@@ -31,10 +31,9 @@ impl From<Fault> for Stop {
     }
 }
 
-/// Tells on one line why a program stopped, if it did, and answers its exit status: 0 if it did not, 2 for bad words, else
-/// 3 where a device failed and 1 where not. A failure of the messages changes nothing
-/// else. The program's name has at most 32 bytes.
-pub fn told_status<E: Sink>(
+// Tells on one line why a program stopped, if it did, and answers its exit status: 0 if it did not, 2 for bad words, else
+// 3 where a device failed and 1 where not. A failure of the messages changes nothing else. The program's name has at most 32 bytes.
+pub(crate) fn told_status<E: Sink>(
     alloc: Global,
     messages: &mut E,
     program: &str,
@@ -43,7 +42,8 @@ pub fn told_status<E: Sink>(
     requires { length program.now ≤ 32 }
     ensures status { result ≡ status_of ended }
     ensures well { OnOk ended (messages.new ≡ messages.old) }
-    ensures told { IfErr ended (λ stop. HasFailed (E.failure_count messages.old) (E.failure_count messages.new)
+    ensures told { IfErr ended (λ stop.
+        HasFailed (E.failure_count messages.old) (E.failure_count messages.new)
         ⊎ HasTold program.now stop (E.taken messages.old) (E.taken messages.new)) }
 {
     match ended {
@@ -59,11 +59,18 @@ pub fn told_status<E: Sink>(
     }
 }
 
-/// Ends a program whose words ask for no run: shows the help where they ask for it, and stops else.
-pub fn end_of_words<O: Sink>(alloc: Global, fault: WordsFault, out: &mut O) -> Result<(), Stop>
-    ensures shown { OnOk result (IsHelp fault × ((text : List ℕ) × Appends (O.taken out.old) (O.taken out.new) text)) }
-    ensures unfailed { (result ≡ Err (Refused (placeless Refusal.WriteFailed))) ⊎ (O.failure_count out.new ≡ O.failure_count out.old) }
-    ensures stopped { IfErr result (IsStopOf fault (out.new ≡ out.old) (HasFailed (O.failure_count out.old) (O.failure_count out.new))) }
+// Ends a program whose words ask for no run: shows the help where they ask for it, and stops else.
+pub(crate) fn end_of_words<O: Sink>(
+    alloc: Global,
+    fault: WordsFault,
+    out: &mut O,
+) -> Result<(), Stop>
+    ensures shown { OnOk result (IsHelp fault
+        × ((text : List ℕ) × Appends (O.taken out.old) (O.taken out.new) text)) }
+    ensures unfailed { (result ≡ Err (Refused (placeless Refusal.WriteFailed)))
+        ⊎ (O.failure_count out.new ≡ O.failure_count out.old) }
+    ensures stopped { IfErr result (IsStopOf fault (out.new ≡ out.old)
+        (HasFailed (O.failure_count out.old) (O.failure_count out.new))) }
 {
     match fault {
         WordsFault::Refused(refusal) => Err(Stop::Refused(Fault::from(refusal))),
@@ -75,9 +82,13 @@ pub fn end_of_words<O: Sink>(alloc: Global, fault: WordsFault, out: &mut O) -> R
 }
 
 fn show_help<O: Sink>(alloc: Global, help: &clap::Error, out: &mut O) -> Result<(), Fault>
-    ensures shown { OnOk result ((text : List ℕ) × Appends (O.taken out.old) (O.taken out.new) text) }
+    ensures shown { OnOk result
+        ((text : List ℕ) × Appends (O.taken out.old) (O.taken out.new) text) }
     ensures unfailed { OnOk result (O.failure_count out.new ≡ O.failure_count out.old) }
-    ensures refused { IfErr result (λ fault. ((fault ≡ placeless Refusal.NoMemory) × (out.new ≡ out.old)) ⊎ ((fault ≡ placeless Refusal.WriteFailed) × HasFailed (O.failure_count out.old) (O.failure_count out.new))) }
+    ensures refused { IfErr result (λ fault.
+        ((fault ≡ placeless Refusal.NoMemory) × (out.new ≡ out.old))
+        ⊎ ((fault ≡ placeless Refusal.WriteFailed)
+        × HasFailed (O.failure_count out.old) (O.failure_count out.new))) }
 {
     let Ok(text) = help.to_string(alloc) else {
         return Err(Fault::from(Refusal::NoMemory));

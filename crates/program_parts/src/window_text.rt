@@ -26,7 +26,8 @@ impl WindowNumbers {
 
     /// The numbers of a text `X,Y,W,H`, if it is one.
     pub fn read(text: &str) -> Option<Self>
-        ensures written { IfSome result (λ numbers. WritesWindow 64 text.now (rectangle_of numbers)) }
+        ensures written { IfSome result (λ numbers.
+            WritesWindow 64 text.now (rectangle_of numbers)) }
         ensures none { result ≡ None → (window : Rectangle) → ¬ WritesWindow 64 text.now window }
     {
         let (x, behind) = text.split_once(',')?;
@@ -44,7 +45,8 @@ impl WindowNumbers {
 /// The numbers of the window that is asked for, if one is. `Unfit` with `Window` where the text is not four numbers.
 pub fn window_numbers(text: Option<&str>) -> Result<Option<WindowNumbers>, WordsFault>
     ensures ok { IfOk result (AreNumbersOf (option_copied text.entry)) }
-    ensures err { IfErr result (λ fault. (fault ≡ WordsFault.Unfit Misfit.Window) × ¬ IsFitWindow 64 (option_copied text.entry)) }
+    ensures err { IfErr result (λ fault.
+        (fault ≡ WordsFault.Unfit Misfit.Window) × ¬ IsFitWindow 64 (option_copied text.entry)) }
 {
     match text {
         Some(text) => match WindowNumbers::read(text) {

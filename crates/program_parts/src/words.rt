@@ -1,11 +1,10 @@
 //! Words that ask for nothing.
 
-ghost use Rattle.std.specs.Prelude.{◌≡◌, ◌≤◌, ◌⊎◌, ℕ, List, length};
-ghost use Rattle.std.specs.Io.KnownBytes.{Appends};
+ghost use Rattle.std.specs.Prelude.{◌≡◌, ◌≤◌, ◌⊎◌, length};
 ghost use Rattle.plane.specs.Device.{HasFailed};
 ghost use Rattle.plane.specs.declared.refusal.Refusal.TheVariants.{NoMemory};
 ghost use Rattle.patterns.specs.Meaning.{placeless};
-ghost use Rattle.program_parts.specs.Messages.{bad_words_text, fault_line};
+ghost use Rattle.program_parts.specs.Messages.{HasToldBadWords, HasToldFault};
 ghost use Rattle.program_parts.specs.Faults.{IsToldAs};
 ghost use Rattle.program_parts.specs.declared.words.WordsFault.TheVariants.{Refused};
 
@@ -72,10 +71,13 @@ impl From<clap::Error> for WordsFault {
 pub fn tell_no_words<E: Sink>(messages: &mut E, program: &str, error: &io::Error) -> u8
     requires { length program.now ≤ 32 }
     ensures status { (result ≡ 1) ⊎ (result ≡ 2) }
-    ensures no_memory { result ≡ 1 → HasFailed (E.failure_count messages.old) (E.failure_count messages.new)
-        ⊎ Appends (E.taken messages.old) (E.taken messages.new) (fault_line program.now (placeless NoMemory)) }
-    ensures bad_words { result ≡ 2 → HasFailed (E.failure_count messages.old) (E.failure_count messages.new)
-        ⊎ ((why : List ℕ) × Appends (E.taken messages.old) (E.taken messages.new) (bad_words_text program.now why)) }
+    ensures no_memory { result ≡ 1 →
+        HasFailed (E.failure_count messages.old) (E.failure_count messages.new)
+        ⊎ HasToldFault program.now (placeless NoMemory)
+        (E.taken messages.old) (E.taken messages.new) }
+    ensures bad_words { result ≡ 2 →
+        HasFailed (E.failure_count messages.old) (E.failure_count messages.new)
+        ⊎ HasToldBadWords program.now (E.taken messages.old) (E.taken messages.new) }
 {
     if error.kind() == io::ErrorKind::InvalidData {
         let _ = tell_reason(messages, program, Some("a word is not UTF-8"));

@@ -1,5 +1,5 @@
 -- How a view ends, as the program tells it.
-use Rattle.std.proofs.Common.{◌≡◌, ◌⊎◌, ℕ, List, Result, Ok, Err, inl, inr}
+use Rattle.std.proofs.Common.{◌≡◌, ℕ, List, Result, Ok, Err, inl, inr}
 use Rattle.std.specs.Prelude.{IfErr, OnOk}
 use Rattle.plane.specs.declared.fault.Fault.{Fault}
 use Rattle.engine.specs.SinkChange.{SinkChange, Fails}

@@ -1,11 +1,11 @@
 -- The box of the live cells of a pattern can be shown.
-use Rattle.std.proofs.Common.{◌≡◌, ℕ, ◌^◌, ℤ, pos, ◌-ℤ◌, ◌≤ℤ◌, Option, None, Some, IfSome, List, [], ◌∷◌, sym, ◌∙◌, subst, arith}
+use Rattle.std.proofs.Common.{◌^◌, pos, ◌-ℤ◌, Option, None, Some, IfSome, List, [], ◌∷◌, sym, ◌∙◌, subst, arith}
 use Rattle.std.specs.List.{AllByRecursion}
 use Rattle.std.proofs.lemmas.Int.{ints}
 use Rattle.node_table.specs.Stills.{book_in}
-use Rattle.patterns.specs.Pattern.{plane_of}
-use Rattle.patterns.specs.declared.pattern.Pattern.{Pattern}
-use Rattle.pattern_picture.specs.Scale.{IsShown, IsShownSide}
+use Rattle.engine.specs.Pattern.{plane_of}
+use Rattle.engine.specs.declared.pattern.Pattern.{Pattern}
+use Rattle.pattern_picture.specs.Scale.{IsShown}
 use Rattle.pattern_writers.proofs.RowsBetween.{found_all}
 use Rattle.pattern_writers.proofs.RowsDown.{live_in_range, square_in_range}
 use Rattle.plane.specs.Bounds.{IsWithin, bounds_of}

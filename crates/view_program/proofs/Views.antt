@@ -1,5 +1,5 @@
 -- How a view ends.
-use Rattle.std.proofs.Common.{◌≡◌, ◌⊎◌, ℕ, Option, List, ◌++◌, Ok, Err, refl, sym, ◌∙◌, ap, subst, inl, inr}
+use Rattle.std.proofs.Common.{◌≡◌, ℕ, Option, List, ◌++◌, Ok, Err, refl, ◌∙◌, ap, subst, inl, inr}
 use Rattle.std.specs.Io.KnownBytes.{Appends}
 use Rattle.std.proofs.KnownBytes.{Appends-trans}
 use Rattle.node_table.specs.Stills.{book_in}
@@ -24,7 +24,8 @@ use Rattle.pattern_picture.specs.declared.scale.Scale.{Scale}
 use Rattle.pattern_picture.proofs.OneScale.{one_scale_lem}
 use Rattle.squares.specs.Book.{Book}
 use Rattle.squares.specs.declared.sq.Sq.{Sq}
-use Rattle.universe.specs.Cells.{root_of, square_plane, still_cells, still_of}
+use Rattle.squares.specs.Rounds.{square_plane}
+use Rattle.universe.specs.Cells.{root_of, still_cells, still_of}
 use Rattle.universe.specs.declared.rooted_still.RootedStill.{RootedStill}
 use Rattle.view_program.specs.PictureLine.{picture_line}
 use Rattle.view_program.specs.Shown.{rectangle_shown}

@@ -1,14 +1,14 @@
 -- What the words of a command line ask for.
 use Rattle.std.specs.Prelude.{◌≡◌, ℕ, nat_eq, true, List, [], ◌∷◌, fold, Option, None, Some, codes, string_bytes}
 use Rattle.std.specs.List.{ends_with}
-use Rattle.clap.specs.Words.{App, Rule, Text, fault_of, new_app, new_rule, with_rule}
+use Rattle.clap.specs.Words.{App, Rule, Text, fault_of, new_app, with_rule}
 use Rattle.clap.specs.declared.builder.value_parser.ValueParser.TheVariants as parser
 use Rattle.plane.specs.Window.{Rectangle}
 use Rattle.plane.specs.declared.cell.Bounds.{Bounds}
-use Rattle.plane.specs.declared.refusal.Refusal.{Refusal}
+use Rattle.engine.specs.declared.options.Options.{Options}
 use Rattle.pattern_picture.specs.Scale.{IsShown, IsSize}
-use Rattle.program_parts.specs.Asking.{IsFaultOf, Refuses, text_in, value_in}
-use Rattle.program_parts.specs.OptionRules.{file_argument, generation_option, node_option, rule_option, window_option, worker_option}
+use Rattle.program_parts.specs.Asking.{CommandLine, IsFaultOf, text_in, value_in}
+use Rattle.program_parts.specs.OptionRules.{file_argument, generation_option, node_option, rule_option, valued, valued_in_short, window_option, worker_option}
 use Rattle.program_parts.specs.Values.{IsAskedRule, IsNumber, IsPairNumber, IsWorkerNumber}
 use Rattle.program_parts.specs.WindowText.{IsFitWindow, WritesWindow}
 use Rattle.program_parts.specs.declared.misfit.Misfit.{Misfit}
@@ -19,21 +19,20 @@ use Rattle.view_program.specs.declared.request.Asked.{Asked}
 
 -- `-o NAME`, `--output NAME`, which has to be there
 abbrev pub output_option : Rule
-output_option = record (new_rule (codes "output")) { short = Some 111; long = Some (codes "output"); value_names = 1; required = true }
+output_option = record (valued_in_short (codes "output") 111) { required = true }
 
 -- `--size N`: a number from 16 to 4096, 1024 if it is left out
 abbrev pub size_option : Rule
-size_option = record (new_rule (codes "size")) {
-  long = Some (codes "size");
-  value_names = 1;
-  defaults = codes "1024" ∷ [];
-  parser = Some (parser.Unsigned 16 4096);
-}
+size_option = record (valued (codes "size")) { defaults = codes "1024" ∷ []; parser = Some (parser.Unsigned 16 4096) }
 
--- the form of the words: the options in this order, and FILE
+-- the options in this order, and FILE
+abbrev pub command_rules : List Rule
+command_rules =
+    generation_option ∷ output_option ∷ window_option ∷ size_option ∷ rule_option ∷ node_option ∷ worker_option ∷ file_argument ∷ []
+
+-- the form of the words
 abbrev pub command_form : App
-command_form = fold with_rule (new_app (codes "lifeview"))
-    (generation_option ∷ output_option ∷ window_option ∷ size_option ∷ rule_option ∷ node_option ∷ worker_option ∷ file_argument ∷ [])
+command_form = fold with_rule (new_app (codes "lifeview")) command_rules
 
 -- the text that clap finds for an option or an argument
 abbrev pub text_for : List ℕ → List Text → Option Text
@@ -57,6 +56,10 @@ IsAskedRectangle None window = window ≡ None
 IsAskedRectangle (Some text) window =
     (given : Rectangle) × WritesWindow 64 text given × IsShown (sides_of given) × (window ≡ Some (sides_of given))
 
+-- the run reports nothing, draws no text and writes no pattern file
+abbrev pub IsSilent : Options → Type 0
+IsSilent options = (options.step ≡ 0) × (options.window ≡ None) × (options.format ≡ None) × (options.quiet ≡ true)
+
 -- the words are of the form, and ask for this
 pub record AsksFor (words : List Text) (asked : Asked) : Type 0 where
   pub form : fault_of command_form words ≡ []
@@ -69,6 +72,7 @@ pub record AsksFor (words : List Text) (asked : Asked) : Type 0 where
   pub size : IsSizeNumber (value_for (codes "size") words) asked.view.size
   pub pairs : IsPairNumber (value_for (codes "nodes") words) asked.view.run.pairs
   pub workers : IsWorkerNumber (value_for (codes "workers") words) asked.view.run.workers
+  pub silent : IsSilent asked.view.run
 
 -- ---- faults of the words
 
@@ -95,10 +99,10 @@ abbrev pub IsRefusedWindow : Option Text → Type 0
 IsRefusedWindow None = ⊥
 IsRefusedWindow (Some text) = (given : Rectangle) × WritesWindow 64 text given × (IsShown (sides_of given) → ⊥)
 
--- memory ran out while the words were read, or the rule or the window that they give is refused
-abbrev pub RefusesWords : List Text → Refusal → Type 0
-RefusesWords words refusal = Refuses command_form (IsFit words) IsRefusedWindow words refusal
+-- the form of the words, and the values that are fit
+abbrev pub command_line : CommandLine
+command_line = record { form = command_form; IsFit = IsFit; IsMisfit = IsMisfit; IsRefusedWindow = IsRefusedWindow }
 
 -- why words ask for no picture
 abbrev pub IsWordsFault : List Text → WordsFault → Type 0
-IsWordsFault words fault = IsFaultOf command_form (IsFit words) (IsMisfit words) IsRefusedWindow words fault
+IsWordsFault words fault = IsFaultOf command_line words fault

@@ -1,12 +1,13 @@
 //! What the words of a command line ask for.
 
-ghost use Rattle.std.specs.Prelude.{◌↔◌, List, codes, map, IfOk, IfErr, IsTrue};
+ghost use Rattle.std.specs.Prelude.{◌↔◌, List, codes, IfOk, IfErr, IsTrue};
 ghost use Rattle.clap.specs.Words.{Text, found_of, one_text};
+ghost use Rattle.program_parts.specs.Asking.{texts_of};
 ghost use Rattle.program_parts.specs.Values.{IsUnfit};
 ghost use Rattle.view_program.specs.Matched.{AreMatchesOf, AskForView, HasFiles};
 ghost use Rattle.view_program.specs.CommandLine.{AsksFor, IsFitName, IsSizeNumber, IsWordsFault};
 
-use crate::command_line::command;
+use crate::application::Lifeview;
 use crate::names::ENDING;
 use crate::request::{Asked, LARGEST_SIZE, SMALLEST_SIZE, View};
 use crate::shown::window_asked;
@@ -23,17 +24,18 @@ use std::alloc::Global;
 /// that is given, then `Refused` with `WindowTooLarge` for a window without cells or with a side beyond 2^62, and `Refused`
 /// with `NoMemory`.
 pub fn asked<'a>(alloc: Global, words: &'a [&'a str]) -> Result<Asked, WordsFault>
-    ensures asks { IfOk result (AsksFor (map (λ word. word.now) words.entry.now)) }
-    ensures faults { IfErr result (IsWordsFault (map (λ word. word.now) words.entry.now)) }
+    ensures asks { IfOk result (AsksFor (texts_of words.entry.now)) }
+    ensures faults { IfErr result (IsWordsFault (texts_of words.entry.now)) }
 {
-    let matches = command(alloc)?.try_get_matches_from(words)?;
-    asked_by(alloc, &matches)
+    program_parts::asked::<Lifeview>(alloc, words)
 }
 
 // What words ask for, by the matches that clap has found in them.
-fn asked_by(alloc: Global, matches: &ArgMatches<'_>) -> Result<Asked, WordsFault>
-    ensures asks { (words : List Text) → AreMatchesOf words matches.now → IfOk result (AsksFor words) }
-    ensures faults { (words : List Text) → AreMatchesOf words matches.now → IfErr result (IsWordsFault words) }
+pub(crate) fn asked_by(alloc: Global, matches: &ArgMatches<'_>) -> Result<Asked, WordsFault>
+    ensures asks { (words : List Text) → AreMatchesOf words matches.now →
+        IfOk result (AsksFor words) }
+    ensures faults { (words : List Text) → AreMatchesOf words matches.now →
+        IfErr result (IsWordsFault words) }
 {
     let Some(file) = matches.get_str("file") else {
         return Err(WordsFault::Unfit(Misfit::Other));
@@ -54,8 +56,10 @@ fn asked_by(alloc: Global, matches: &ArgMatches<'_>) -> Result<Asked, WordsFault
 
 // What is drawn by the words, which name a file, and a picture whose name is fit.
 fn view_by(matches: &ArgMatches<'_>) -> Result<View, WordsFault>
-    ensures asks { (words : List Text) → AreMatchesOf words matches.now → IfOk result (AskForView words) }
-    ensures faults { (words : List Text) → AreMatchesOf words matches.now → HasFiles words → IfErr result (IsWordsFault words) }
+    ensures asks { (words : List Text) → AreMatchesOf words matches.now →
+        IfOk result (AskForView words) }
+    ensures faults { (words : List Text) → AreMatchesOf words matches.now →
+        HasFiles words → IfErr result (IsWordsFault words) }
 {
     let gens = number_for(matches, "generation")?;
     let pairs = pairs_asked(matches)?;
@@ -83,7 +87,8 @@ fn view_by(matches: &ArgMatches<'_>) -> Result<View, WordsFault>
 // The most pixels on a side of the picture.
 fn size_asked(matches: &ArgMatches<'_>) -> Result<u32, WordsFault>
     ensures ok { IfOk result (IsSizeNumber (one_text (found_of matches.now) (codes "size"))) }
-    ensures err { IfErr result (IsUnfit Misfit.Other (IsSizeNumber (one_text (found_of matches.now) (codes "size")))) }
+    ensures err { IfErr result (IsUnfit Misfit.Other
+        (IsSizeNumber (one_text (found_of matches.now) (codes "size")))) }
 {
     let number = number_for(matches, "size")?;
     match u32::try_from(number) {

@@ -1,9 +1,9 @@
 //! The form of the command line: its options, and its help.
 
-ghost use Rattle.std.specs.Prelude.{◌≡◌, [], ◌∷◌, IfOk};
+ghost use Rattle.std.specs.Prelude.{◌≡◌, IfOk};
 ghost use Rattle.clap.specs.Words.{app_of};
-ghost use Rattle.program_parts.specs.OptionRules.{HasRule, HaveRules, file_argument, generation_option, node_option, rule_option, window_option, worker_option};
-ghost use Rattle.view_program.specs.CommandLine.{command_form, output_option, size_option};
+ghost use Rattle.program_parts.specs.OptionRules.{HasRule, HaveRules, window_option};
+ghost use Rattle.view_program.specs.CommandLine.{command_form, command_rules, output_option, size_option};
 
 use crate::names::NAME;
 use crate::request::{LARGEST_SIZE, SMALLEST_SIZE};
@@ -44,8 +44,7 @@ pub(crate) fn command<'a>(alloc: Global) -> Result<Command<'a>, AllocError>
 
 // The options, and FILE.
 fn options<'a>(alloc: Global) -> Result<Vec<Arg<'a>>, AllocError>
-    ensures { IfOk result (λ options. HaveRules options.items
-        (generation_option ∷ output_option ∷ window_option ∷ size_option ∷ rule_option ∷ node_option ∷ worker_option ∷ file_argument ∷ [])) }
+    ensures { IfOk result (λ options. HaveRules options.items command_rules) }
 {
     Ok(vec![in alloc;
         generation_option(alloc),

@@ -2,6 +2,7 @@
 //! status.
 #![tactic(auto)]
 
+mod application;
 mod asking;
 mod command_line;
 mod drawing;

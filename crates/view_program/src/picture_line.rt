@@ -1,8 +1,8 @@
 //! The line that says what a pixel is.
 
-ghost use Rattle.std.specs.Prelude.{◌≡◌, ◌≤◌, ◌+◌, ◌^◌, ◌++◌, IfErr, OnOk, length};
+ghost use Rattle.std.specs.Prelude.{◌≡◌, ◌≤◌, ◌+◌, ◌^◌, ◌++◌, OnOk, length};
 ghost use Rattle.std.specs.Io.KnownBytes.{Appends};
-ghost use Rattle.plane.specs.Device.{IsWriteRefusal};
+ghost use Rattle.plane.specs.Device.{TellsFailure};
 ghost use Rattle.pattern_picture.specs.Scale.{IsScale, IsShown, IsSize, longer_side};
 ghost use Rattle.pattern_picture.specs.declared.scale.Scale.{Scale};
 ghost use Rattle.view_program.specs.PictureLine.{picture_line, pixel_words, product_words, scale_words};
@@ -25,9 +25,9 @@ pub(crate) fn write_picture_line<W: Sink>(
 ) -> Result<(), Refusal>
     requires shown { IsShown shown }
     requires size { IsSize size }
-    ensures written { OnOk result ((scale : Scale) × IsScale shown size scale × Appends (W.taken out.old) (W.taken out.new) (picture_line name.now shown scale)) }
-    ensures unfailed { OnOk result (W.failure_count out.new ≡ W.failure_count out.old) }
-    ensures refused { IfErr result (IsWriteRefusal (W.failure_count out.old) (W.failure_count out.new)) }
+    ensures written { OnOk result ((scale : Scale) × IsScale shown size scale
+        × Appends (W.taken out.old) (W.taken out.new) (picture_line name.now shown scale)) }
+    ensures failure { TellsFailure (W.failure_count out.old) (W.failure_count out.new) result }
 {
     let line = scale_words(shown, Scale::of(shown, size));
     write_all(out, name.as_bytes())?;

@@ -16,7 +16,8 @@ const SIDE_LIMIT: i64 = 1 << 62;
 /// that is too far away.
 pub(crate) fn window_asked(numbers: Option<WindowNumbers>) -> Result<Option<Bounds>, Refusal>
     ensures ok { IfOk result (IsSidesOf numbers) }
-    ensures err { IfErr result (λ refusal. (refusal ≡ Refusal.WindowTooLarge) × HasNoSides numbers) }
+    ensures err { IfErr result (λ refusal.
+        (refusal ≡ Refusal.WindowTooLarge) × HasNoSides numbers) }
 {
     let Some(numbers) = numbers else {
         return Ok(None);
@@ -29,7 +30,8 @@ pub(crate) fn window_asked(numbers: Option<WindowNumbers>) -> Result<Option<Boun
 
 // The sides of the window that has these numbers, if it can be shown.
 fn sides(numbers: WindowNumbers) -> Option<Bounds>
-    ensures { SomeIff result (IsShown (sides_of (rectangle_of numbers))) (sides_of (rectangle_of numbers)) }
+    ensures { SomeIff result (IsShown (sides_of (rectangle_of numbers)))
+        (sides_of (rectangle_of numbers)) }
 {
     Some(Bounds {
         left: numbers.x,

@@ -5,7 +5,7 @@ use Rattle.plane.specs.Device.{HasFailed}
 use Rattle.plane.specs.declared.cell.Bounds.{Bounds}
 use Rattle.plane.specs.declared.refusal.Refusal.TheVariants.{NoMemory}
 use Rattle.patterns.specs.Meaning.{placeless}
-use Rattle.patterns.specs.Pattern.{plane_of}
+use Rattle.engine.specs.Pattern.{plane_of}
 use Rattle.pattern_picture.specs.Drawn.{IsPictureOf}
 use Rattle.pattern_picture.specs.Scale.{IsScale, IsShown}
 use Rattle.pattern_picture.specs.declared.scale.Scale.{Scale}
@@ -39,15 +39,15 @@ pub returns-in_err-write_summary : goal.returns-in_err-write_summary
 returns-in_err-write_summary g c =
     let is : c.from_residual-in_err-write_summary.result ≡ Err (placeless c.in_err-write_summary.field-0.0) = search rules in
     let ends = c.in_ok-last.ensures.ok in
-    rw is (report_failed c.args.bytes.now c.args.view.now c.args.name.now _ _ c.in_err-write_summary.field-0.0 c.in_err-write_summary.ensures.refused.0 (ends.start, ends.accepted)
-    c.in_err-write_summary.ensures.refused.1 refl)
+    rw is (report_failed c.args.bytes.now c.args.view.now c.args.name.now _ _ c.in_err-write_summary.field-0.0 c.in_err-write_summary.ensures.failure.refused.0 (ends.start, ends.accepted)
+    c.in_err-write_summary.ensures.failure.refused.1 refl)
 
 pub returns-in_err-write_picture_line : goal.returns-in_err-write_picture_line
 returns-in_err-write_picture_line g c =
     let is : c.from_residual-in_err-write_picture_line.result ≡ Err (placeless c.in_err-write_picture_line.field-0.0) = search rules in
     let ends = c.in_ok-last.ensures.ok in
-    let refused = c.in_err-write_picture_line.ensures.refused in
-    let failed = subst (λ n. HasFailed n (g.W.Sink.failure_count c.write_picture_line.new.out)) c.in_ok-write_summary.ensures.unfailed refused.1 in
+    let refused = c.in_err-write_picture_line.ensures.failure.refused in
+    let failed = subst (λ n. HasFailed n (g.W.Sink.failure_count c.write_picture_line.new.out)) c.in_ok-write_summary.ensures.failure.unfailed refused.1 in
     rw is (report_failed c.args.bytes.now c.args.view.now c.args.name.now _ _ c.in_err-write_picture_line.field-0.0 refused.0 (ends.start, ends.accepted) failed refl)
 
 pub returns-in_err-write : goal.returns-in_err-write
@@ -63,7 +63,7 @@ returns-in_err-write g c =
     c.in_ok-write_picture_line.ensures.written in
     let is : c.from_residual-in_err-write.result ≡ Err (placeless c.in_err-write.field-0.0) = search rules in
     rw is (file_failed c.args.bytes.now view c.args.name.now _ _ plane answer c.in_ok-last.ensures.ok image shows (g.W.Sink.taken c.write_summary.new.out) c.in_ok-write_summary.ensures.written line
-    c.in_err-write.field-0.0 c.in_err-write.ensures.refused.0 c.in_err-write.ensures.refused.1)
+    c.in_err-write.field-0.0 c.in_err-write.ensures.failure.refused.0 c.in_err-write.ensures.failure.refused.1)
 
 pub returns : goal.returns
 returns g c =
@@ -77,4 +77,4 @@ returns g c =
     let line = subst (λ (box : Bounds). (scale : Scale) × IsScale box view.size scale × Appends (g.W.Sink.taken c.write_summary.new.out) (g.W.Sink.taken c.write_picture_line.new.out) (picture_line c.args.name.now box scale)) same
     c.in_ok-write_picture_line.ensures.written in
     ends_well c.args.bytes.now view c.args.name.now _ _ plane answer c.in_ok-last.ensures.ok image shows (g.W.Sink.taken c.write_summary.new.out) c.in_ok-write_summary.ensures.written line
-    (c.in_ok-write_picture_line.ensures.unfailed ∙ c.in_ok-write_summary.ensures.unfailed) c.in_ok-write.ensures.unfailed c.in_ok-write.ensures.written
+    (c.in_ok-write_picture_line.ensures.failure.unfailed ∙ c.in_ok-write_summary.ensures.failure.unfailed) c.in_ok-write.ensures.failure.unfailed c.in_ok-write.ensures.written

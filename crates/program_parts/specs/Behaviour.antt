@@ -1,0 +1,61 @@
+-- What a program does, by its command line.
+use Rattle.std.specs.Prelude.{◌≡◌, ◌≤◌, ◌⊎◌, ℕ, List, Option}
+use Rattle.std.specs.Io.KnownBytes.{Appends}
+use Rattle.clap.specs.Words.{Text}
+use Rattle.engine.specs.SinkChange.{SinkChange, Fails, IsUnfailed}
+use Rattle.patterns.specs.Meaning.{placeless}
+use Rattle.plane.specs.declared.fault.Fault.{Fault}
+use Rattle.plane.specs.declared.refusal.Refusal.{Refusal}
+use Rattle.plane.specs.declared.refusal.Refusal.TheVariants.{WriteFailed}
+use Rattle.program_parts.specs.Asking.{AsksForHelp, AsksForNothing, CommandLine, Refuses}
+use Rattle.program_parts.specs.Messages.{HasToldBadWords, HasToldFault, refused_status}
+use Rattle.program_parts.specs.declared.stops.Stop.{Stop}
+use Rattle.program_parts.specs.declared.stops.Stop.TheVariants as stop
+
+-- what words ask a program for, and how doing that ends
+pub record Behaviour (Asked : Type 0) : Type 1 where
+  pub line : CommandLine
+  -- words are of the form, and ask for this
+  pub AsksFor : List Text → Asked → Type 0
+  -- it was done, and between the two what is said of it went out
+  pub HasDone : Asked → Option (List ℕ) → Option (List ℕ) → Type 0
+  -- it was stopped by this fault, and between the two what is said of it until then went out; of the last two one says that
+  -- standard output is unchanged, and one that it failed
+  pub HasStopped : Asked → Fault → Option (List ℕ) → Option (List ℕ) → Type 0 → Type 0 → Type 0
+
+module _ {Asked : Type 0} (behaviour : Behaviour Asked) (words : List Text) (before after : Option (List ℕ)) where
+  -- between the two a text went out for words that ask for the help, or what is said of what the words ask for, which was done
+  abbrev pub IsDone : Type 0
+  IsDone =
+      (AsksForHelp behaviour.line words × ((help : List ℕ) × Appends before after help))
+      ⊎ ((asked : Asked) × behaviour.AsksFor words asked × behaviour.HasDone asked before after)
+
+  -- what the words ask for was refused: doing it was stopped; before it memory ran out, or the rule or the window that they
+  -- give was refused; or the help could not be written
+  abbrev pub IsRefused : Type 0 → Type 0 → Fault → Type 0
+  IsRefused unchanged failed fault =
+      ((asked : Asked) × behaviour.AsksFor words asked × behaviour.HasStopped asked fault before after unchanged failed)
+      ⊎ ((refusal : Refusal) × Refuses behaviour.line words refusal × (fault ≡ placeless refusal) × unchanged)
+      ⊎ (AsksForHelp behaviour.line words × (fault ≡ placeless WriteFailed) × failed)
+
+  -- why the program did not do what the words ask for
+  abbrev pub IsStop : Type 0 → Type 0 → Stop → Type 0
+  IsStop unchanged failed (stop.BadWords fault) = AsksForNothing behaviour.line words × unchanged
+  IsStop unchanged failed (stop.Refused fault) = IsRefused unchanged failed fault
+
+-- what a program of this name does to its standard output and to its standard error, and the exit status that it answers
+pub record EndsProgram {Asked O E : Type 0} (behaviour : Behaviour Asked) (name : List ℕ) (words : List Text) (out : SinkChange O) (err : SinkChange E) (answer : ℕ) : Type 0 where
+  pub status : answer ≤ 3
+  -- below 3 standard output did not fail
+  pub unfailed : answer ≤ 2 → IsUnfailed out
+  -- at 0 a text for those who ask for the help went out, or what is said of what they ask for, and nothing was told
+  pub well : answer ≡ 0 → IsDone behaviour words (out.taken out.old) (out.taken out.new) × IsUnfailed out × (err.new ≡ err.old)
+  -- at 2 the words ask for nothing, and one message said so
+  pub bad_words : answer ≡ 2 →
+      AsksForNothing behaviour.line words × (out.new ≡ out.old)
+      × (Fails err ⊎ HasToldBadWords name (err.taken err.old) (err.taken err.new))
+  -- at 1 and at 3 it was refused, and one line said why
+  pub refused : (answer ≡ 1) ⊎ (answer ≡ 3) →
+      (fault : Fault) × (answer ≡ refused_status fault.refusal)
+      × IsRefused behaviour words (out.taken out.old) (out.taken out.new) (out.new ≡ out.old) (Fails out) fault
+      × (Fails err ⊎ HasToldFault name fault (err.taken err.old) (err.taken err.new))

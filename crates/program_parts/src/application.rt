@@ -1,0 +1,69 @@
+//! What makes a program: its command line, and what it does by it.
+
+ghost use Rattle.std.specs.Prelude.{◌≡◌, ◌≤◌, ◌⊎◌, ℕ, List, length, true, Err, IfErr, IfOk, OnOk};
+ghost use Rattle.std.specs.Thread.{IsSync};
+ghost use Rattle.clap.specs.Words.{Text, app_of, is_simple, is_simple_and_free};
+ghost use Rattle.patterns.specs.Meaning.{placeless};
+ghost use Rattle.plane.specs.Device.{HasFailed};
+ghost use Rattle.program_parts.specs.Asking.{AreMatchesIn, IsFaultOf};
+ghost use Rattle.program_parts.specs.Behaviour.{Behaviour};
+ghost use Rattle.program_parts.specs.declared.misfit.Misfit.{Misfit};
+
+use crate::words::WordsFault;
+use clap::{ArgMatches, Command};
+use plane::{Fault, Refusal, Sink};
+use std::alloc::{AllocError, Global};
+use std::rt::Files;
+use std::sync::Wait;
+use std::thread::Threads;
+
+/// A program on [`engine`]: its command line, and what it does where words ask for something.
+pub trait Application {
+    /// What words can ask for.
+    type Asked: Drop;
+
+    // How it is called.
+    ghost name: { List ℕ };
+    // What words ask for, and how doing that ends.
+    ghost behaviour: { Behaviour Self.Asked };
+
+    /// The name of the program, which begins its messages.
+    fn name() -> &'static str
+        ensures is { result.now ≡ name }
+        ensures short { length name ≤ 32 };
+
+    /// The form of the words.
+    fn command<'a>(alloc: Global) -> Result<Command<'a>, AllocError>
+        ensures { IfOk result (λ command. app_of command ≡ behaviour.line.form) };
+
+    /// What words ask for, by the matches that clap has found in them.
+    fn asked_by(alloc: Global, matches: &ArgMatches<'_>) -> Result<Self::Asked, WordsFault>
+        ensures asks { (words : List Text) → AreMatchesIn behaviour.line.form words matches.now →
+            IfOk result (behaviour.AsksFor words) }
+        ensures faults { (words : List Text) → AreMatchesIn behaviour.line.form words matches.now →
+            IfErr result (IsFaultOf behaviour.line words) };
+
+    /// Does what some words ask for, and says of it to `out` what there is to say.
+    fn perform<R: Files + Input + Threads + Wait + Sync, O: Sink>(
+        rt: &R,
+        alloc: Global,
+        asked: &Self::Asked,
+        out: &mut O,
+    ) -> Result<(), Fault>
+        requires sync { IsSync R.row }
+        requires asked { (words : List Text) × behaviour.AsksFor words asked.now }
+        ensures done { OnOk result
+            (behaviour.HasDone asked.now (O.taken out.old) (O.taken out.new)) }
+        ensures unfailed { (result ≡ Err (placeless Refusal.WriteFailed))
+            ⊎ (O.failure_count out.new ≡ O.failure_count out.old) }
+        ensures stopped { IfErr result (λ fault. behaviour.HasStopped asked.now fault
+            (O.taken out.old) (O.taken out.new) (out.new ≡ out.old)
+            (HasFailed (O.failure_count out.old) (O.failure_count out.new))) };
+
+    ghost form_is_simple: { is_simple behaviour.line.form ≡ true };
+
+    ghost form_is_free: { is_simple_and_free behaviour.line.form ≡ true };
+
+    ghost unfit: { (words : List Text) (misfit : Misfit) →
+        behaviour.line.IsMisfit words misfit → behaviour.line.IsFit words → ⊥ };
+}

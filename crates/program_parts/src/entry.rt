@@ -1,0 +1,68 @@
+//! A whole program, over any standard output and standard error.
+
+ghost use Rattle.std.specs.Prelude.{◌≡◌, ◌⊎◌, Err, IfOk, OnOk, IfErr};
+ghost use Rattle.plane.specs.Device.{HasFailed};
+ghost use Rattle.patterns.specs.Meaning.{placeless};
+ghost use Rattle.program_parts.specs.Asking.{IsFaultOf, texts_of};
+ghost use Rattle.program_parts.specs.Behaviour.{EndsProgram, IsDone, IsStop};
+ghost use Rattle.program_parts.specs.declared.stops.Stop.TheVariants.{Refused};
+
+use crate::application::Application;
+use crate::stops::{Stop, end_of_words, told_status};
+use crate::words::WordsFault;
+use plane::{Fault, Refusal, Sink};
+use std::alloc::Global;
+use std::rt::Files;
+use std::sync::Wait;
+use std::thread::Threads;
+
+/// Reads the words of a command line, the program's name first.
+pub fn asked<'a, A: Application>(
+    alloc: Global,
+    words: &'a [&'a str],
+) -> Result<A::Asked, WordsFault>
+    ensures asks { IfOk result (A.behaviour.AsksFor (texts_of words.entry.now)) }
+    ensures faults { IfErr result (IsFaultOf A.behaviour.line (texts_of words.entry.now)) }
+{
+    let matches = A::command(alloc)?.try_get_matches_from(words)?;
+    A::asked_by(alloc, &matches)
+}
+
+/// The whole program. `words` are the arguments, the program's name first. It does what they ask for, or writes the help to
+/// `out`, and messages to `err`, and returns the exit status: 0, 2 for bad words, else 3 where a device failed and 1 where
+/// not. A failure of `err` changes nothing else.
+pub fn program<A: Application, R: Files + Input + Threads + Wait + Sync, O: Sink, E: Sink>(
+    rt: &R,
+    alloc: Global,
+    words: &[&str],
+    out: &mut O,
+    err: &mut E,
+) -> u8
+    ensures { EndsProgram A.behaviour A.name (texts_of words.now)
+        (record { old = out.old; new = out.new; taken = O.taken; failure_count = O.failure_count })
+        (record { old = err.old; new = err.new; taken = E.taken; failure_count = E.failure_count }) result }
+{
+    let ended = perform_words::<A, R, O>(rt, alloc, words, out);
+    told_status(alloc, err, A::name(), ended)
+}
+
+// Does what the words ask for. What the program then tells has no part in it.
+fn perform_words<A: Application, R: Files + Input + Threads + Wait + Sync, O: Sink>(
+    rt: &R,
+    alloc: Global,
+    words: &[&str],
+    out: &mut O,
+) -> Result<(), Stop>
+    ensures done { OnOk result
+        (IsDone A.behaviour (texts_of words.now) (O.taken out.old) (O.taken out.new)) }
+    ensures unfailed { (result ≡ Err (Refused (placeless Refusal.WriteFailed)))
+        ⊎ (O.failure_count out.new ≡ O.failure_count out.old) }
+    ensures stopped { IfErr result (IsStop A.behaviour (texts_of words.now)
+        (O.taken out.old) (O.taken out.new) (out.new ≡ out.old)
+        (HasFailed (O.failure_count out.old) (O.failure_count out.new))) }
+{
+    match asked::<A>(alloc, words) {
+        Ok(asked) => Ok(A::perform::<R, O>(rt, alloc, &asked, out)?),
+        Err(fault) => end_of_words(alloc, fault, out),
+    }
+}

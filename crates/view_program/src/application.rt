@@ -1,0 +1,68 @@
+//! The program, by its command line and by what it does.
+
+ghost use Rattle.std.specs.Prelude.{codes};
+ghost use Rattle.view_program.specs.FormLaws.{form_is_free, form_is_simple, unfit};
+ghost use Rattle.view_program.specs.Status.{behaviour};
+
+use crate::asking::asked_by;
+use crate::command_line::command;
+use crate::drawing::draw;
+use crate::names::NAME;
+use crate::request::Asked;
+use clap::{ArgMatches, Command};
+use plane::{Fault, Sink};
+use program_parts::{Application, OutputFile, WordsFault, read_file};
+use std::alloc::{AllocError, Global};
+use std::rt::Files;
+use std::sync::Wait;
+use std::thread::Threads;
+
+/// The program lifeview.
+pub(crate) struct Lifeview;
+
+impl Application for Lifeview {
+    type Asked = Asked;
+
+    ghost name = { codes "lifeview" };
+
+    ghost behaviour = { behaviour };
+
+    fn name() -> &'static str {
+        NAME
+    }
+
+    fn command<'a>(alloc: Global) -> Result<Command<'a>, AllocError> {
+        command(alloc)
+    }
+
+    fn asked_by(alloc: Global, matches: &ArgMatches<'_>) -> Result<Asked, WordsFault> {
+        asked_by(alloc, matches)
+    }
+
+    // Reads the file, runs it, and writes its picture.
+    fn perform<R: Files + Input + Threads + Wait + Sync, O: Sink>(
+        rt: &R,
+        alloc: Global,
+        asked: &Asked,
+        out: &mut O,
+    ) -> Result<(), Fault> {
+        let bytes = read_file(rt, alloc, asked.file.as_str())?;
+        let name = asked.output.as_str();
+        let mut picture = OutputFile::new(rt, name);
+        draw(
+            rt,
+            alloc,
+            bytes.as_slice(),
+            &asked.view,
+            name,
+            out,
+            &mut picture,
+        )
+    }
+
+    ghost form_is_simple = { form_is_simple };
+
+    ghost form_is_free = { form_is_free };
+
+    ghost unfit = { unfit };
+}
