@@ -7,7 +7,6 @@ mod leaves;
 mod reopened;
 mod steps;
 mod sweeps;
-mod tables;
 mod threads;
 mod two_desks;
 mod universes;

@@ -4,11 +4,12 @@ ghost use Rattle.squares.specs.Book.{Keeps};
 ghost use Rattle.node_table.specs.Desks.{IsDeskOf};
 
 use crate::tests::jobs::BLINKER;
-use crate::tests::tables::{PAIRS, empty_table, jobs_at, of_leaves};
+use crate::tests::tables::jobs_at;
 use node_table::{Desk, NodeTable};
 use plane::Refusal;
-use squares::{Num, Squares};
+use squares::{Num, Squares, join_leaves};
 use std::test::Fail;
+use worked_parts::{PAIRS, empty_table};
 use worker_split::{OpenGate, Team, round};
 
 // Numbers the words 1 to 254: with the two of the blinker, as many as there are leaf slots.
@@ -31,7 +32,7 @@ fn desk_with_words(table: &NodeTable, desk: Desk) -> Desk
 
 // The number of a square's result, where that is known.
 fn result_of<S: Squares>(book: &mut S, leaves: [u64; 4]) -> Result<Option<Num>, Refusal> {
-    let sq = of_leaves(book, leaves)?;
+    let sq = join_leaves(book, leaves)?;
     Ok(book.recall(sq).map(|it| it.num))
 }
 
@@ -40,7 +41,7 @@ const CORNER: [u64; 4] = [1, 0, 0, 0];
 
 #[test]
 fn a_refused_job_does_not_stop_the_other(rt: HostRuntime) -> Result<(), Fail> {
-    let (table, desk) = empty_table(&rt, PAIRS, 0)?;
+    let (table, desk) = empty_table(rt.alloc(), PAIRS, 0)?;
     let team = Team {
         runtime: &rt,
         alloc: rt.alloc(),

@@ -6,16 +6,16 @@ ghost use Rattle.node_table.specs.Desks.{IsDeskOf, book_at};
 ghost use Rattle.node_table.specs.Stills.{book_in};
 ghost use Rattle.worker_split.specs.Jobs.{IsJob};
 
-use crate::tests::tables::{empty_table, of_leaves};
 use hashlife_step::{Tally, future, pad};
 use node_table::{Desk, NodeTable, Still};
 use plane::Refusal;
 use rule_text::Rule;
-use squares::{PlainBook, Sq, Squares, copy_square};
+use squares::{PlainBook, Sq, Squares, copy_square, join_leaves};
 use std::process::Abort;
 use std::sync::Wait;
 use std::test::Fail;
 use std::thread::Threads;
+use worked_parts::empty_table;
 use worker_split::{OpenGate, Team, batch_future};
 
 // The leaves of a square with the R-pentomino in its columns and rows 8 to 10.
@@ -26,7 +26,7 @@ fn padded<S: Squares>(book: &mut S) -> Result<Sq, Refusal>
     ensures known { IfOk result (IsJob (S.book book.new)) }
     ensures keeps { Keeps (S.book book.old) (S.book book.new) }
 {
-    let sq = of_leaves(book, R_PENTOMINO)?;
+    let sq = join_leaves(book, R_PENTOMINO)?;
     pad(book, sq, 9)
 }
 
@@ -56,7 +56,7 @@ fn made_by<R: Threads + Wait + Sync + Abort + AllocGlobal>(
     ensures { IfOk result (λ made. IsKnown (book_in made.words) made.future.level made.future) }
 {
     assert!(rt; workers >= 1 && workers <= 64);
-    let (table, desk) = empty_table(rt, 262144, exponent)?;
+    let (table, desk) = empty_table(rt.alloc(), 262144, exponent)?;
     let team = Team {
         runtime: rt,
         alloc: rt.alloc(),

@@ -1,11 +1,12 @@
 //! Gates that see what other workers do at the same time.
 
-use crate::tests::tables::{PAIRS, empty_table, jobs_at, leaves_of};
+use crate::tests::tables::{jobs_at, leaves_of};
 use std::process::Abort;
 use std::sync::Wait;
 use std::sync::atomic::{AtomicU64, Ordering};
 use std::test::Fail;
 use std::thread::Threads;
+use worked_parts::{PAIRS, empty_table};
 use worker_split::{Gate, Team, round};
 
 const TURNS: u64 = 1_000_000_000;
@@ -84,7 +85,7 @@ fn by_two<R: Threads + Wait + Sync + Abort + AllocGlobal, G: Gate>(
     gate: &G,
     jobs: u64,
 ) -> Result<usize, Fail> {
-    let (table, desk) = empty_table(rt, PAIRS, 0)?;
+    let (table, desk) = empty_table(rt.alloc(), PAIRS, 0)?;
     let team = Team {
         runtime: rt,
         alloc: rt.alloc(),

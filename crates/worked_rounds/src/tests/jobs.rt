@@ -1,8 +1,9 @@
 //! Rounds of no job, of one job, and of as many as there are gates for.
 
-use crate::tests::tables::{PAIRS, empty_table, jobs_at, leaves_of};
+use crate::tests::tables::{jobs_at, leaves_of};
 use std::sync::atomic::{AtomicU64, Ordering};
 use std::test::Fail;
+use worked_parts::{PAIRS, empty_table};
 use worker_split::{Gate, OpenGate, Team, round};
 
 // The leaves of a square with a blinker on its columns 7 to 9, in row 7.
@@ -10,7 +11,7 @@ pub(crate) const BLINKER: [u64; 4] = [0x8000000000000000, 0x0300000000000000, 0,
 
 #[test]
 fn no_jobs_give_no_futures(rt: HostRuntime) -> Result<(), Fail> {
-    let (table, desk) = empty_table(&rt, PAIRS, 0)?;
+    let (table, desk) = empty_table(rt.alloc(), PAIRS, 0)?;
     let team = Team {
         runtime: &rt,
         alloc: rt.alloc(),
@@ -25,7 +26,7 @@ fn no_jobs_give_no_futures(rt: HostRuntime) -> Result<(), Fail> {
 
 #[test]
 fn a_blinker_takes_one_expansion(rt: HostRuntime) -> Result<(), Fail> {
-    let (table, desk) = empty_table(&rt, PAIRS, 0)?;
+    let (table, desk) = empty_table(rt.alloc(), PAIRS, 0)?;
     let team = Team {
         runtime: &rt,
         alloc: rt.alloc(),
@@ -83,7 +84,7 @@ const JOBS: usize = 10000;
 
 #[test]
 fn each_job_is_done_once(rt: HostRuntime) -> Result<(), Fail> {
-    let (table, desk) = empty_table(&rt, 262144, 0)?;
+    let (table, desk) = empty_table(rt.alloc(), 262144, 0)?;
     let gate = Counts {
         begun: zeros(&rt, JOBS)?,
         ended: zeros(&rt, JOBS)?,

@@ -10,7 +10,6 @@ ghost use Rattle.node_table.specs.Desks.{IsDeskOf, book_at};
 ghost use Rattle.worker_split.specs.Jobs.{IsJob};
 
 use crate::tests::futures::job_at;
-use crate::tests::tables::open_table;
 use node_table::{Desk, NodeTable, Still};
 use plane::Refusal;
 use rule_text::Rule;
@@ -20,6 +19,7 @@ use std::sync::Wait;
 use std::test::Fail;
 use std::thread::Threads;
 use table_core::Shape;
+use worked_parts::open_table;
 use worker_split::{OpenGate, Team, batch_future};
 
 // Room for 2^9 generations of the R-pentomino.
@@ -46,7 +46,7 @@ fn opened<R: Abort + AllocGlobal + Print>(rt: &R) -> Result<(NodeTable, Desk), F
         Ok(opened) => Ok(opened),
         Err((same, _)) => {
             println!(rt; "not opened")?;
-            open_table(rt.alloc(), same, 9)
+            open_table(rt.alloc(), same, rule, 9)
         }
     }
 }

@@ -19,18 +19,6 @@ pub(crate) fn book_of(alloc: Global, text: &str, exponent: u8) -> Result<PlainBo
     Ok(PlainBook::new(alloc, rule_of(text)?, exponent))
 }
 
-/// The square of level 4 with these leaves.
-pub(crate) fn square_of<S: Squares>(book: &mut S, words: [u64; 4]) -> Result<Sq, Refusal>
-    ensures { IfOk result (IsKnown (S.book book.new) 4) }
-{
-    let [nw, ne, sw, se] = words;
-    let nw = book.leaf(nw)?;
-    let ne = book.leaf(ne)?;
-    let sw = book.leaf(sw)?;
-    let se = book.leaf(se)?;
-    book.quad([nw, ne, sw, se])
-}
-
 /// The square of the cells round (0,0).
 pub(crate) fn square_round<S: Squares>(
     alloc: Global,

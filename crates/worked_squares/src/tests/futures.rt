@@ -3,13 +3,13 @@
 ghost use Rattle.std.specs.Prelude.{◌≡◌, IfOk};
 ghost use Rattle.squares.specs.Book.{IsKnown};
 
-use crate::tests::books::{book_of, rule_of, square_of, square_round};
+use crate::tests::books::{book_of, rule_of, square_round};
 use crate::tests::places::cell_at;
 use crate::tests::rows::assert_no_row;
 use hashlife_step::{Tally, future, pad, plan, step, trim};
 use plane::{CellSet, Refusal, reach};
 use rule_text::Rule;
-use squares::{Look, PlainBook, Sq, Squares};
+use squares::{Look, PlainBook, Sq, Squares, join_leaves};
 use std::alloc::Global;
 
 // A number of generations, and the exponents of its steps.
@@ -65,7 +65,7 @@ fn root_of<S: Squares>(book: &mut S, level: u8) -> Result<Sq, Refusal>
     if level == 3 {
         return book.leaf(1);
     }
-    let root = square_of(book, [0, 0, 0, 1])?;
+    let root = join_leaves(book, [0, 0, 0, 1])?;
     if level < 7 || level > 65 {
         return Ok(root);
     }
@@ -170,7 +170,7 @@ fn future_bits(book: &mut PlainBook, sq: Sq, tally: &mut Tally) -> Result<u64, R
 // The cells of the future of a square of level 4, and the tally after it was asked for once and twice.
 fn future_twice(alloc: Global, exponent: u8, leaves: [u64; 4]) -> Result<(u64, u64, u64), Refusal> {
     let mut book = book_of(alloc, "B3/S23", exponent)?;
-    let sq = square_of(&mut book, leaves)?;
+    let sq = join_leaves(&mut book, leaves)?;
     let mut tally = Tally { expansions: 0 };
     future_bits(&mut book, sq, &mut tally)?;
     let once = tally.expansions;
@@ -216,7 +216,7 @@ fn stepped<S: Squares>(book: &mut S, root: Sq) -> Result<Sq, Refusal>
 // The level of the square round (0,0) of a glider that began right of and below (0,0), after a step.
 fn level_of_stepped_glider(alloc: Global, exponent: u8) -> Result<u8, Refusal> {
     let mut book = book_of(alloc, "B3/S23", exponent)?;
-    let root = square_of(&mut book, [0, 0, 0, 0x70402])?;
+    let root = join_leaves(&mut book, [0, 0, 0, 0x70402])?;
     Ok(stepped(&mut book, root)?.level)
 }
 

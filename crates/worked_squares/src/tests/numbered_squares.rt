@@ -1,9 +1,9 @@
 //! Squares and their numbers, from cells, runs and leaves.
 
-use crate::tests::books::{book_of, square_of, square_round};
+use crate::tests::books::{book_of, square_round};
 use crate::tests::places::{Place, cells_at};
 use plane::{Cell, Refusal};
-use squares::{Num, PlainBook, Sq, Squares, centre, copy_square, runs_to_square};
+use squares::{Num, PlainBook, Sq, Squares, centre, copy_square, join_leaves, runs_to_square};
 use std::alloc::Global;
 use std::test::Fail;
 
@@ -27,7 +27,7 @@ fn gliders(alloc: Global) -> Result<[Sq; 3], Refusal> {
     let mut book = life_book(alloc)?;
     let of_runs = runs_to_square(alloc, &mut book, &GLIDER_RUNS)?;
     let of_cells = square_round(alloc, &mut book, &cells_at(alloc, &GLIDER)?)?;
-    let square = square_of(&mut book, [0, 0, 0, GLIDER_BITS])?;
+    let square = join_leaves(&mut book, [0, 0, 0, GLIDER_BITS])?;
     Ok([of_runs, of_cells, square])
 }
 
@@ -113,7 +113,7 @@ fn squares_of_nine<S: Squares>(book: &mut S) -> Result<[Sq; 9], Refusal> {
     };
     let mut squares = [none; 9];
     for place in 0..9usize {
-        squares[place] = square_of(book, NINE[place])?;
+        squares[place] = join_leaves(book, NINE[place])?;
     }
     Ok(squares)
 }
@@ -137,10 +137,10 @@ fn nine_squares_and_the_centre(rt: HostRuntime) -> Result<(), Fail> {
 fn copied(alloc: Global) -> Result<(Sq, Sq), Refusal> {
     let mut from = life_book(alloc)?;
     let mut to = life_book(alloc)?;
-    square_of(&mut to, [5, 6, 7, 8])?;
-    let square = square_of(&mut from, [0, 0, 0, GLIDER_BITS])?;
+    join_leaves(&mut to, [5, 6, 7, 8])?;
+    let square = join_leaves(&mut from, [0, 0, 0, GLIDER_BITS])?;
     let copy = copy_square(alloc, &from, square, &mut to)?;
-    Ok((copy, square_of(&mut to, [0, 0, 0, GLIDER_BITS])?))
+    Ok((copy, join_leaves(&mut to, [0, 0, 0, GLIDER_BITS])?))
 }
 
 #[test]
@@ -182,7 +182,7 @@ const BLINKER_CENTRE: u64 = 0x38000000;
 // The blinker's centre, and the square that it has to be.
 fn centre_and_wanted(alloc: Global) -> Result<(Sq, Sq), Refusal> {
     let mut book = life_book(alloc)?;
-    let blinker = square_of(&mut book, BLINKER)?;
+    let blinker = join_leaves(&mut book, BLINKER)?;
     let middle = centre(&mut book, blinker)?;
     Ok((middle, book.leaf(BLINKER_CENTRE)?))
 }

@@ -3,10 +3,10 @@
 ghost use Rattle.std.specs.Prelude.{IfOk};
 ghost use Rattle.squares.specs.Book.{IsKnown};
 
-use crate::tests::books::{book_of, square_of};
+use crate::tests::books::book_of;
 use hashlife_step::{Tally, future_in_order, pad};
 use plane::Refusal;
-use squares::{PlainBook, Sq, Squares, copy_square};
+use squares::{PlainBook, Sq, Squares, copy_square, join_leaves};
 use std::alloc::Global;
 
 // The leaves of a square with the R-pentomino in its columns and rows 8 to 10.
@@ -20,7 +20,7 @@ fn future_of_pentomino<S: Squares>(
 ) -> Result<Sq, Refusal>
     ensures { IfOk result (λ sq. IsKnown (S.book book.new) sq.level sq) }
 {
-    let root = square_of(book, R_PENTOMINO)?;
+    let root = join_leaves(book, R_PENTOMINO)?;
     let padded = pad(book, root, 6)?;
     future_in_order(book, padded, order, tally)
 }

@@ -4,17 +4,17 @@
 ghost use Rattle.std.specs.Prelude.{⊤};
 ghost use Rattle.plane.specs.Listing.{plane_of};
 
-use crate::tests::tables::empty_table;
 use crate::tests::universes::assert_comes_to;
 use hashlife_step::{Tally, step};
 use plane::{Cell, CellSet, Refusal};
 use rule_text::Rule;
-use squares::{Sq, Squares, cells_to_square};
+use squares::{Build, Sq, Squares, cells_to_square};
 use std::alloc::Global;
 use std::process::Abort;
 use std::test::Fail;
 use table_core::Shape;
-use universe::{Build, Universe};
+use universe::Universe;
+use worked_parts::empty_table;
 
 /// Live cells as a set.
 #[derive(Clone, Copy)]
@@ -78,7 +78,7 @@ fn later<S: Squares>(alloc: Global, book: &mut S, cells: &CellSet) -> Result<Sq,
 fn a_generation_that_has_no_room_is_made(rt: HostRuntime) -> Result<(), Fail> {
     let cells = blocks(rt.alloc())?;
     assert!(rt; Shape::is_pair_count(PAIRS));
-    let (table, desk) = empty_table(&rt, PAIRS, 0)?;
+    let (table, desk) = empty_table(rt.alloc(), PAIRS, 0)?;
     let made = later(rt.alloc(), &mut table.at(desk), &cells);
     assert_eq!(rt; made, Err(Refusal::NodesFull));
     let source = Cells { cells: &cells };

@@ -5,7 +5,7 @@ ghost use Rattle.squares.specs.Book.{IsKnown, Keeps};
 
 use hashlife_step::{Tally, future};
 use plane::Refusal;
-use squares::{Sq, Squares};
+use squares::{Sq, Squares, join_leaves};
 
 // The leaves of a square with the glider bob$2bo$3o! in its columns and rows 7 to 9.
 pub(crate) const GLIDER: [u64; 4] = [0, 0x0100000000000000, 0x8000, 0x302];
@@ -14,24 +14,11 @@ pub(crate) const GLIDER: [u64; 4] = [0, 0x0100000000000000, 0x8000, 0x302];
 // 8 to 10.
 pub(crate) const FOUR_GENERATIONS_ON: u64 = 0x0070402000000000;
 
-// The square of level 4 of these four leaves.
-pub(crate) fn of_leaves<S: Squares>(book: &mut S, leaves: [u64; 4]) -> Result<Sq, Refusal>
-    ensures known { IfOk result (IsKnown (S.book book.new) 4) }
-    ensures keeps { Keeps (S.book book.old) (S.book book.new) }
-{
-    let [nw, ne, sw, se] = leaves;
-    let nw = book.leaf(nw)?;
-    let ne = book.leaf(ne)?;
-    let sw = book.leaf(sw)?;
-    let se = book.leaf(se)?;
-    book.quad([nw, ne, sw, se])
-}
-
 pub(crate) fn glider<S: Squares>(book: &mut S) -> Result<Sq, Refusal>
     ensures known { IfOk result (IsKnown (S.book book.new) 4) }
     ensures keeps { Keeps (S.book book.old) (S.book book.new) }
 {
-    of_leaves(book, GLIDER)
+    join_leaves(book, GLIDER)
 }
 
 pub(crate) fn glider_and_future<S: Squares>(book: &mut S) -> Result<(Sq, Sq), Refusal>

@@ -1,10 +1,10 @@
 //! Leaves at one desk: where their words stand, and the word that finds no room.
 
-use crate::tests::tables::{PAIRS, empty_table};
 use plane::Refusal;
 use squares::{Num, Sq, Squares};
 use std::process::Abort;
 use std::test::Fail;
+use worked_parts::{PAIRS, empty_table};
 
 // A word, and the number of its leaf in a table without a square.
 const FIRST_NUMBERS: [(u64, u32); 2] = [(1, 159), (2, 61)];
@@ -14,7 +14,7 @@ fn leaf<S: Squares>(book: &mut S, word: u64) -> Result<Sq, Refusal> {
 }
 
 fn first_number(rt: &(impl Abort + AllocGlobal), word: u64) -> Result<u32, Fail> {
-    let (table, desk) = empty_table(rt, PAIRS, 0)?;
+    let (table, desk) = empty_table(rt.alloc(), PAIRS, 0)?;
     Ok(leaf(&mut table.at(desk), word)?.num.0)
 }
 
@@ -38,7 +38,7 @@ fn first_refused<S: Squares>(book: &mut S) -> Option<(u64, Refusal)> {
 
 #[test]
 fn a_full_table_refuses_one_word_more(rt: HostRuntime) -> Result<(), Fail> {
-    let (table, desk) = empty_table(&rt, PAIRS, 0)?;
+    let (table, desk) = empty_table(rt.alloc(), PAIRS, 0)?;
     let mut at = table.at(desk);
     let first = leaf(&mut at, 1)?;
     assert_eq!(rt; first_refused(&mut at), Some((257, Refusal::NodesFull)));

@@ -3,15 +3,14 @@
 ghost use Rattle.std.specs.Prelude.{◌<◌, ◌≤◌, IfOk};
 ghost use Rattle.squares.specs.Book.{IsKnown, Keeps};
 
-use crate::tests::glider::of_leaves;
-use crate::tests::tables::{PAIRS, empty_table, open_table};
 use hashlife_step::{Tally, future};
 use node_table::Still;
 use plane::Refusal;
 use rule_text::Rule;
-use squares::{Sq, Squares};
+use squares::{Sq, Squares, join_leaves};
 use std::process::Abort;
 use std::test::Fail;
+use worked_parts::{PAIRS, empty_table, open_table};
 
 // A rule and an exponent under which words are opened again, and whether the results of squares of the
 // levels 4, 5 and 6 stay that were made under B3/S23 and the exponent 3.
@@ -28,7 +27,7 @@ fn blocks<S: Squares>(book: &mut S, level: u8) -> Result<Sq, Refusal>
     ensures level { IfOk result (λ sq. (3 < sq.level) × (sq.level ≤ 6)) }
     ensures keeps { Keeps (S.book book.old) (S.book book.new) }
 {
-    let small = of_leaves(book, [0x1818000000; 4])?;
+    let small = join_leaves(book, [0x1818000000; 4])?;
     if level == 4 {
         return Ok(small);
     }
@@ -63,7 +62,7 @@ fn makes_result<S: Squares>(book: &mut S, level: u8) -> Result<bool, Refusal>
 
 // The words in which the result of a square of this level was made.
 fn words_with_result(rt: &(impl Abort + AllocGlobal), level: u8) -> Result<Still, Fail> {
-    let (table, desk) = empty_table(rt, PAIRS, 3)?;
+    let (table, desk) = empty_table(rt.alloc(), PAIRS, 3)?;
     let mut at = table.at(desk);
     let is_there = makes_result(&mut at, level);
     let desk = at.leave();

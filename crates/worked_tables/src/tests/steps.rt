@@ -4,15 +4,14 @@ ghost use Rattle.std.specs.Prelude.{◌≡◌, ◌≤◌, IfOk, OnOk};
 ghost use Rattle.squares.specs.Book.{IsKnown, Keeps};
 ghost use Rattle.node_table.specs.Stills.{book_in};
 
-use crate::tests::glider::of_leaves;
-use crate::tests::tables::empty_table;
 use hashlife_step::{Tally, step};
 use node_table::Still;
 use plane::Refusal;
 use rule_text::Rule;
-use squares::{PlainBook, Sq, Squares, copy_square};
+use squares::{PlainBook, Sq, Squares, copy_square, join_leaves};
 use std::process::Abort;
 use std::test::Fail;
+use worked_parts::empty_table;
 
 // Room for a thousand generations of the R-pentomino.
 const PAIRS: u32 = 262144;
@@ -26,7 +25,7 @@ fn stepped<S: Squares>(book: &mut S, tally: &mut Tally) -> Result<Sq, Refusal>
     ensures known { IfOk result (λ sq. IsKnown (S.book book.new) sq.level sq) }
     ensures keeps { Keeps (S.book book.old) (S.book book.new) }
 {
-    let root = of_leaves(book, R_PENTOMINO)?;
+    let root = join_leaves(book, R_PENTOMINO)?;
     step(book, root, tally)
 }
 
@@ -34,7 +33,7 @@ fn stepped<S: Squares>(book: &mut S, tally: &mut Tally) -> Result<Sq, Refusal>
 fn stepped_at_desk(rt: &(impl Abort + AllocGlobal)) -> Result<(Still, Sq, Tally), Fail>
     ensures { IfOk result (λ made. IsKnown (book_in made.0) made.1.level made.1) }
 {
-    let (table, desk) = empty_table(rt, PAIRS, 10)?;
+    let (table, desk) = empty_table(rt.alloc(), PAIRS, 10)?;
     let mut at = table.at(desk);
     assert!(rt; at.exponent() <= 62);
     let mut tally = Tally { expansions: 0 };

@@ -4,20 +4,19 @@ ghost use Rattle.std.specs.Prelude.{◌≡◌, ◌≤◌, IfOk};
 ghost use Rattle.squares.specs.Book.{IsKnown, Keeps};
 ghost use Rattle.node_table.specs.Stills.{book_in};
 
-use crate::tests::glider::of_leaves;
 use crate::tests::steps::R_PENTOMINO;
-use crate::tests::tables::{PAIRS, empty_table, open_table};
 use hashlife_step::{Tally, future, step};
 use node_sweep::{collect, enlarge, sweep};
 use node_table::Still;
 use plane::Refusal;
 use rule_text::Rule;
-use squares::{PlainBook, Sq, Squares, copy_square};
+use squares::{PlainBook, Sq, Squares, copy_square, join_leaves};
 use std::alloc::Global;
 use std::process::Abort;
 use std::test::Fail;
 use table_core::Shape;
 use viewport::population;
+use worked_parts::{PAIRS, empty_table, open_table};
 
 // What is made at a table, and which square of it is the root.
 #[derive(Clone, Copy)]
@@ -72,7 +71,7 @@ fn square_and_result<S: Squares>(book: &mut S) -> Result<(Sq, Sq), Refusal>
     ensures result { IfOk result (λ made. IsKnown (S.book book.new) 3 made.1) }
     ensures keeps { Keeps (S.book book.old) (S.book book.new) }
 {
-    let sq = of_leaves(book, [0x1818000000, 0x3c00000000, 0, 0x1818000000])?;
+    let sq = join_leaves(book, [0x1818000000, 0x3c00000000, 0, 0x1818000000])?;
     let later = future(book, sq, &mut Tally { expansions: 0 })?;
     Ok((sq, later))
 }
@@ -98,18 +97,18 @@ fn make<S: Squares>(book: &mut S, made: Made) -> Result<Sq, Refusal>
     match made {
         Made::OneLeafOfMany => {
             make_leaves(book, 1, 256);
-            of_leaves(book, [7; 4])
+            join_leaves(book, [7; 4])
         }
         Made::SmallerLeaves => different_leaves(book, 7, 1),
         Made::LargerLeaves => different_leaves(book, 8, 1),
         Made::Result { is_reached } => beside_result(book, is_reached),
         Made::Step => {
-            let root = of_leaves(book, R_PENTOMINO)?;
+            let root = join_leaves(book, R_PENTOMINO)?;
             step(book, root, &mut Tally { expansions: 0 })?;
             Ok(root)
         }
         Made::Stepped => {
-            let root = of_leaves(book, R_PENTOMINO)?;
+            let root = join_leaves(book, R_PENTOMINO)?;
             step(book, root, &mut Tally { expansions: 0 })
         }
     }
@@ -124,7 +123,7 @@ fn words_of(
 ) -> Result<(Still, Sq), Fail>
     ensures { IfOk result (λ made. IsKnown (book_in made.0) made.1.level made.1) }
 {
-    let (table, desk) = empty_table(rt, pairs, exponent)?;
+    let (table, desk) = empty_table(rt.alloc(), pairs, exponent)?;
     let mut at = table.at(desk);
     assert!(rt; at.exponent() <= 62);
     let root = make(&mut at, made);
@@ -217,7 +216,7 @@ fn a_swept_square_has_its_cells(rt: HostRuntime) -> Result<(), Fail> {
 }
 
 fn has_result<S: Squares>(book: &mut S) -> Result<bool, Refusal> {
-    let sq = of_leaves(book, [0x1818000000, 0x3c00000000, 0, 0x1818000000])?;
+    let sq = join_leaves(book, [0x1818000000, 0x3c00000000, 0, 0x1818000000])?;
     Ok(book.recall(sq).is_some())
 }
 
@@ -270,7 +269,7 @@ fn step_again<S: Squares>(book: &mut S) -> Result<u64, Refusal>
     requires { (S.book book.old).exponent ≤ 62 }
 {
     let mut tally = Tally { expansions: 0 };
-    let root = of_leaves(book, R_PENTOMINO)?;
+    let root = join_leaves(book, R_PENTOMINO)?;
     step(book, root, &mut tally)?;
     Ok(tally.expansions)
 }

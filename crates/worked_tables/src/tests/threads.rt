@@ -3,12 +3,12 @@
 ghost use Rattle.squares.specs.Book.{Keeps};
 ghost use Rattle.node_table.specs.Desks.{IsDeskOf};
 
-use crate::tests::tables::{PAIRS, empty_table};
 use node_table::{Desk, NodeTable};
 use plane::Refusal;
 use squares::{Num, Squares};
 use std::test::Fail;
 use std::thread::{Threads, join};
+use worked_parts::{PAIRS, empty_table};
 
 // Numbers the words 1 to 257, as far as they find room, rising or falling.
 fn number_all<S: Squares>(book: &mut S, rising: bool)
@@ -75,7 +75,7 @@ fn numbers_and_refusals<S: Squares>(book: &mut S) -> (usize, usize) {
 
 #[test]
 fn two_threads_give_one_number_each(rt: HostRuntime) -> Result<(), Fail> {
-    let (table, desk) = empty_table(&rt, PAIRS, 0)?;
+    let (table, desk) = empty_table(rt.alloc(), PAIRS, 0)?;
     let joined = numbered_by_two(&rt, &table, desk);
     assert_eq!(rt; numbers_and_refusals(&mut table.at(joined)), (256, 1));
     Ok(())
@@ -154,7 +154,7 @@ fn answered_by<R: Threads + Sync>(
 // Desk d of eight begins with the word 32d + 1, which is the place 32d. One word finds no room at any of them.
 #[test]
 fn eight_threads_answer_alike(rt: HostRuntime) -> Result<(), Fail> {
-    let (table, desk) = empty_table(&rt, PAIRS, 0)?;
+    let (table, desk) = empty_table(rt.alloc(), PAIRS, 0)?;
     let (joined, answers) = answered_by(&rt, &table, desk, 3, 0, 128);
     assert!(rt; answers.is_some());
     let mut at = table.at(joined);

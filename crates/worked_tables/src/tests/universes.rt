@@ -4,14 +4,14 @@ ghost use Rattle.plane.specs.Runs.{AreRuns, runs_plane};
 
 use plane::{Bounds, Cell, Refusal, reach};
 use rule_text::Rule;
-use squares::{Sq, Squares, runs_to_square};
+use squares::{Build, Sq, Squares, runs_to_square};
 use std::alloc::Global;
 use std::process::Abort;
 use std::sync::Wait;
 use std::test::Fail;
 use std::thread::Threads;
 use table_core::Shape;
-use universe::{Build, Universe};
+use universe::Universe;
 use worker_split::{OpenGate, Team};
 
 /// Live cells as runs: rising, disjoint and in the range.

@@ -7,7 +7,7 @@ use pattern_writers::{write_mc, write_rle};
 use plane::{FailAt, Memory, Refusal, Sink};
 use rle_reader::RleFile;
 use rule_text::Rule;
-use squares::{Num, PlainBook, Sq, Squares};
+use squares::{Num, PlainBook, Sq, Squares, join_leaves};
 use std::alloc::Global;
 use std::thread::Threads;
 
@@ -41,18 +41,6 @@ const EMPTY: Sq = Sq {
     num: Num(0),
 };
 
-// The square of level 4 with these leaves.
-fn square_of(book: &mut PlainBook, leaves: [u64; 4]) -> Result<Sq, Refusal>
-    ensures { IfOk result (IsKnown (⟦<PlainBook as Squares>⟧.book book.new) 4) }
-{
-    let [nw, ne, sw, se] = leaves;
-    let nw = book.leaf(nw)?;
-    let ne = book.leaf(ne)?;
-    let sw = book.leaf(sw)?;
-    let se = book.leaf(se)?;
-    book.quad([nw, ne, sw, se])
-}
-
 // The square of level 5 that has a square of level 4 in its upper left quarter, and another in the lower right one.
 fn larger_of(book: &mut PlainBook, nw: Sq, se: Sq) -> Result<Sq, Refusal>
     requires nw { IsKnown (⟦<PlainBook as Squares>⟧.book book.old) 4 nw }
@@ -69,13 +57,13 @@ fn made(book: &mut PlainBook, square: Square) -> Result<Sq, Refusal>
 {
     match square {
         Square::Leaf(word) => book.leaf(word),
-        Square::Alone(leaves) => square_of(book, leaves),
+        Square::Alone(leaves) => join_leaves(book, leaves),
         Square::UpperLeft(leaves) => {
-            let sq = square_of(book, leaves)?;
+            let sq = join_leaves(book, leaves)?;
             larger_of(book, sq, EMPTY)
         }
         Square::UpperLeftAndLowerRight(leaves) => {
-            let sq = square_of(book, leaves)?;
+            let sq = join_leaves(book, leaves)?;
             larger_of(book, sq, sq)
         }
     }

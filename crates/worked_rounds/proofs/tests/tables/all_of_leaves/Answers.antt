@@ -4,10 +4,10 @@ use Rattle.worked_rounds.proofs.Lists.{pushed}
 use Rattle.worked_rounds.proofs.tests.tables.all_of_leaves.Goals as goal
 
 pub returns-then-is_err-clause-keeps : goal.returns-then-is_err-clause-keeps
-returns-then-is_err-clause-keeps g c = keeps_trans c.loop-k.invariant.0 c.of_leaves.ensures.keeps
+returns-then-is_err-clause-keeps g c = keeps_trans c.loop-k.invariant.0 c.join_leaves.ensures.adds.keeps
 
 pub loop-k-preserved : goal.loop-k-preserved
 loop-k-preserved g c = (
-  keeps_trans c.loop-k.invariant.0 c.of_leaves.ensures.keeps,
-  pushed (IsKnown (g.S.Squares.book c.of_leaves.new.book) 4) _ _ _ _ c.push.ensures.items (λ k d less. known_kept c.of_leaves.ensures.keeps (c.loop-k.invariant.1 k d less)) c.in_ok-sq.ensures.known,
+  keeps_trans c.loop-k.invariant.0 c.join_leaves.ensures.adds.keeps,
+  pushed (IsKnown (g.S.Squares.book c.join_leaves.new.book) 4) _ _ _ _ c.push.ensures.items (λ k d less. known_kept c.join_leaves.ensures.adds.keeps (c.loop-k.invariant.1 k d less)) c.in_ok-sq.ensures.ok.known,
 )

@@ -11,4 +11,4 @@ returns-in_err-se-clause-keeps g t c =
 pub returns-clause-keeps : goal.returns-clause-keeps
 returns-clause-keeps g t c =
     keeps_trans c.different_leaves.ensures.keeps (keeps_trans c.different_leaves-2.ensures.keeps
-    (keeps_trans c.different_leaves-3.ensures.keeps (keeps_trans c.different_leaves-4.ensures.keeps c.quad.ensures.keeps)))
+    (keeps_trans c.different_leaves-3.ensures.keeps (keeps_trans c.different_leaves-4.ensures.keeps c.quad.ensures.adds.keeps)))
