@@ -40,13 +40,11 @@ impl Still {
             rule: Rule::dead(),
             exponent: 0,
         };
-        match vec![in alloc; 0; key.shape.word_count() as usize] {
-            Ok(words) => Ok(Still {
-                key,
-                words: Held::of_vector(words),
-            }),
-            Err(_) => Err(Refusal::NoMemory),
-        }
+        let words = vec![in alloc; 0; key.shape.word_count() as usize]?;
+        Ok(Still {
+            key,
+            words: Held::of_vector(words),
+        })
     }
 
     /// Good words, as those of a table.
@@ -79,13 +77,10 @@ impl Still {
         ensures ok { IfOk result (λ shared. book_shown shared ≡ book_in self.now) }
         ensures memory { IsOkUnless result Refusal.NoMemory }
     {
-        match self.words.copied(alloc) {
-            Ok(words) => Ok(SharedStill {
-                key: self.key,
-                words,
-            }),
-            Err(_) => Err(Refusal::NoMemory),
-        }
+        Ok(SharedStill {
+            key: self.key,
+            words: self.words.copied(alloc)?,
+        })
     }
 
     // The same words, held by a vector if there is memory for it.
@@ -98,7 +93,7 @@ impl Still {
     }
 
     // The words under another rule and exponent, with the results that are the same under both.
-    pub(crate) fn reopened(&self, alloc: Global, key: Key) -> Result<Still, AllocError>
+    pub(crate) fn reopen(&self, alloc: Global, key: Key) -> Result<Still, AllocError>
         requires { key.shape ≡ self.now.key.shape }
         ensures { IfOk result (IsReopened self.now key) }
     {

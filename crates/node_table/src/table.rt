@@ -62,7 +62,7 @@ impl NodeTable {
                 Err(still) => Err((still, Refusal::NoMemory)),
             };
         }
-        let Ok(reopened) = still.reopened(alloc, key) else {
+        let Ok(reopened) = still.reopen(alloc, key) else {
             return Err((still, Refusal::NoMemory));
         };
         match NodeTable::of_still(alloc, reopened) {

@@ -1,6 +1,6 @@
 //! Squares made of the nodes of a macrocell file.
 
-ghost use Rattle.std.specs.Prelude.{◌≡◌, ◌⊎◌, ◌+◌, ◌≤◌, ℕ, [], None, Some, length, map, slice_index, IfErr, IfOk};
+ghost use Rattle.std.specs.Prelude.{◌≡◌, ◌≤◌, ℕ, [], None, Some, length, map, slice_index, IfErr, IfOk};
 ghost use Rattle.macrocell_reader.specs.NodeFaults.{StandInOrder, fault_among};
 ghost use Rattle.macrocell_reader.specs.Nodes.{level_of};
 ghost use Rattle.macrocell_reader.specs.Planes.{node_plane, root_plane};
@@ -11,14 +11,8 @@ ghost use Rattle.patterns.specs.NodeSquares.{AreKnown, ShowNodes, levels_of, num
 use hashlife_step::trim;
 use macrocell_reader::{Node, NodeLines};
 use plane::Refusal;
-use squares::{Num, Sq, Squares};
+use squares::{LOWEST_ROOT_LEVEL, Sq, Squares};
 use std::alloc::Global;
-
-// The square of no cells.
-const EMPTY: Sq = Sq {
-    level: 4,
-    num: Num(0),
-};
 
 // The square of the last node round (0,0), at the smallest level of at least 4, or the empty one where there is no
 // node. Each node is made once.
@@ -37,7 +31,7 @@ pub(crate) fn nodes_to_square<S: Squares>(
     let squares = squares_of(alloc, book, lines)?;
     match squares.last() {
         Some(root) => trim(book, *root),
-        None => Ok(EMPTY),
+        None => Ok(Sq::empty(LOWEST_ROOT_LEVEL)),
     }
 }
 
@@ -96,7 +90,7 @@ fn numbered_square(squares: &[Sq], level: u8, number: u32) -> Sq
     ensures { result ≡ numbered_square squares.now level number }
 {
     if number == 0 {
-        return Sq { level, num: Num(0) };
+        return Sq::empty(level);
     }
     squares[number as usize - 1]
 }

@@ -88,9 +88,7 @@ impl Build for PatternFile<'_> {
     fn build<S: Squares>(&self, alloc: Global, book: &mut S) -> Result<Sq, Refusal> {
         match self {
             PatternFile::Rle(file) => {
-                let Ok(runs) = file.live_runs(alloc) else {
-                    return Err(Refusal::NoMemory);
-                };
+                let runs = file.live_runs(alloc)?;
                 runs_to_square(alloc, book, runs.as_slice())
             }
             PatternFile::Macrocell(file) => nodes_to_square(alloc, book, file.lines()),

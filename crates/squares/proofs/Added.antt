@@ -6,7 +6,6 @@ use Rattle.std.specs.Ordering.{nat_cmp}
 use Rattle.std.proofs.lemmas.List.{length-map}
 use Rattle.std.proofs.lemmas.Map.Lookups.{exact_unsigned}
 use Rattle.rule_text.specs.CountRule.{CountRule}
-use Rattle.plane.specs.declared.refusal.Refusal.{Refusal}
 use Rattle.squares.specs.declared.node.Node.{Node}
 use Rattle.squares.specs.declared.node.Node.TheVariants.{Leaf, Inner}
 use Rattle.squares.specs.declared.node.Quarters.{Quarters}
@@ -41,7 +40,7 @@ module _ (rule : CountRule) (exponent : ℕ) (old new : List Record) (leaves : B
   more_futures : (node : Node) → new ≡ old ++ record { node = node; future = None } ∷ [] → AreFutures rule exponent new
   more_futures node is = subst (AreFutures rule exponent) (sym is) (pushed_futures rule exponent old node sound.good sound.futures)
 
-  pub leaf_added : (r : Result Num Refusal) (word : ℕ) (noted : BTreeMap ℕ Num) → word ≢ 0 → word < 2 ^ 64 → get nat_cmp leaves word ≡ None →
+  pub leaf_added : {E : Type 0} (r : Result Num E) (word : ℕ) (noted : BTreeMap ℕ Num) → word ≢ 0 → word < 2 ^ 64 → get nat_cmp leaves word ≡ None →
       IfOk r (λ num. num.0 ≡ suc (length old)) → IfOk r (λ num. new ≡ old ++ record { node = Leaf word; future = None } ∷ []) → IfOk r (λ num. Updates nat_cmp leaves noted word (Some num)) →
       OnErr r (new ≡ old) → OnErr r (IsUnchanged leaves noted) → AreSound rule exponent new noted inner
   leaf_added (Ok num) word noted some fits none number is up same unchanged =
@@ -59,7 +58,7 @@ module _ (rule : CountRule) (exponent : ℕ) (old new : List Record) (leaves : B
     futures = subst (AreFutures rule exponent) (sym same) sound.futures;
   }
 
-  pub quad_added : (r : Result Num Refusal) (q : Quarters) (noted : BTreeMap Quarters Num) → AreKnown (nodes_of old) q → get quarters_order inner q ≡ None →
+  pub quad_added : {E : Type 0} (r : Result Num E) (q : Quarters) (noted : BTreeMap Quarters Num) → AreKnown (nodes_of old) q → get quarters_order inner q ≡ None →
       IfOk r (λ num. num.0 ≡ suc (length old)) → IfOk r (λ num. new ≡ old ++ record { node = Inner q; future = None } ∷ []) → IfOk r (λ num. Updates quarters_order inner noted q (Some num)) →
       OnErr r (new ≡ old) → OnErr r (IsUnchanged inner noted) → AreSound rule exponent new leaves noted
   quad_added (Ok num) q noted known none number is up same unchanged =

@@ -1,12 +1,11 @@
 -- Maps of copies, and what a copy shows.
 use Rattle.std.proofs.Common.{◌≡◌, ◌≢◌, ℕ, zero, suc, ◌+◌, ◌-◌, ◌^◌, ◌<◌, ◌≤◌, List, length, sym, ◌∙◌, subst, arith, refl, below_more, get_or-set_other, get_or-set_same}
 use Rattle.std.proofs.Math.ListN.{set}
-use Rattle.std.specs.Prelude.{IsTrue, Some, Result, Ok, Err, OnOk, OnErr}
-use Rattle.std.specs.HashMap.{Updates, IsUnchanged}
+use Rattle.std.specs.Prelude.{IsTrue, Some}
+use Rattle.std.specs.HashMap.{Updates}
 use Rattle.std.specs.List.{AllByRecursion}
 use Rattle.plane.specs.Plane.{Plane}
 use Rattle.plane.specs.Square.{IsSame, IsSquare}
-use Rattle.plane.specs.declared.refusal.Refusal.{Refusal}
 use Rattle.plane.proofs.Rounds.{whole_joined}
 use Rattle.plane.proofs.Paddings.{twice_half}
 use Rattle.plane.proofs.Same.{same_sym, same_trans}
@@ -18,7 +17,7 @@ use Rattle.squares.specs.declared.sq.Sq.{Sq}
 use Rattle.squares.proofs.Centres.{shows_as}
 use Rattle.squares.proofs.Kept.{shows_kept}
 use Rattle.squares.proofs.KnownQuarters.{from_four}
-use Rattle.squares.proofs.NotedValues.{true_of_kept, true_of_same}
+use Rattle.squares.proofs.NotedValues.{true_of_kept}
 use Rattle.squares.proofs.SquareNumbers.{same_sq}
 
 -- what a number that was noted shows
@@ -86,10 +85,9 @@ copies_known from to level plane parts copies copied size is all some =
     let known = λ (k : ℕ) (below : k < 4). subst (λ n. IsKnown to n (nth copies k)) ((part_known from level plane parts k below is).at_level ∙ sym first) (h.made k below).known in
     from_four (IsKnown to (nth copies 0).level) copies size (known 0 (omega arith)) (known 1 (omega arith)) (known 2 (omega arith)) (known 3 (omega arith))
 
--- what is noted of a copy
-pub noted_copies : (from to : Book) (old new : Noted Num) (sq copy : Sq) (r : Result Sq Refusal) → OnOk r (Updates is_same_key old new (sq.level, sq.num.0) (Some copy.num)) → OnErr r (IsUnchanged old new) →
+-- a new copy is noted
+pub noted_copies : (from to : Book) (old new : Noted Num) (sq copy : Sq) → Updates is_same_key old new (sq.level, sq.num.0) (Some copy.num) →
     Shows to sq.level (from.cells sq) copy → AreCopies from to old → AreCopies from to new
-noted_copies from to old new sq copy (Ok x) up same shows h = record {
+noted_copies from to old new sq copy up shows h = record {
   same = true_of_kept (λ q num. Shows to q.level (from.cells q) (numbered q.level num.0)) old new sq copy.num h.same (noted_shows from to sq copy shows) up;
 }
-noted_copies from to old new sq copy (Err e) up same shows h = record { same = true_of_same (λ q num. Shows to q.level (from.cells q) (numbered q.level num.0)) old new h.same same }

@@ -1,12 +1,11 @@
 -- Maps of copies, while the book that is read learns more.
-use Rattle.std.proofs.Common.{◌≡◌, ℕ}
-use Rattle.std.specs.Prelude.{IsTrue, Some, Result, Ok, Err, OnOk, OnErr}
+use Rattle.std.proofs.Common.{ℕ}
+use Rattle.std.specs.Prelude.{IsTrue, Some}
 use Rattle.std.specs.HashMap.{Updates, IsUnchanged}
-use Rattle.plane.specs.declared.refusal.Refusal.{Refusal}
 use Rattle.plane.proofs.Same.{same_sym, same_trans}
-use Rattle.squares.specs.Book.{Book, Keeps, Shows}
+use Rattle.squares.specs.Book.{Book, Keeps, Shows, numbered}
 use Rattle.squares.specs.Copies.{AreKnownCopies}
-use Rattle.squares.specs.Noted.{Noted, is_same_key, value_of}
+use Rattle.squares.specs.Noted.{Noted, is_same_key}
 use Rattle.squares.specs.declared.sq.Num.{Num}
 use Rattle.squares.specs.declared.sq.Sq.{Sq}
 use Rattle.squares.proofs.CopyMaps.{noted_copies}
@@ -26,15 +25,17 @@ kept_copies from later old new copies reads keeps h = record {
   same = record { same = λ sq num at. shown_later from later new sq.level sq _ reads (h.known sq num at) (shows_kept keeps (h.same.same sq num at)) };
 }
 
-noted_known : (from : Book) (old new : Noted Num) (sq copy : Sq) (r : Result Sq Refusal) → OnOk r (Updates is_same_key old new (sq.level, sq.num.0) (Some copy.num)) → OnErr r (IsUnchanged old new) → IsTrue (from.knows sq) →
-    ((q : Sq) (num : Num) → value_of old q ≡ Some num → IsTrue (from.knows q)) → (q : Sq) (num : Num) → value_of new q ≡ Some num → IsTrue (from.knows q)
-noted_known from old new sq copy (Ok x) up same known h = true_of_kept (λ q num. IsTrue (from.knows q)) old new sq copy.num h known up
-noted_known from old new sq copy (Err x) up same known h = true_of_same (λ q num. IsTrue (from.knows q)) old new h same
-
--- what is noted of a copy
-pub noted_known_copies : (from to : Book) (old new : Noted Num) (sq copy : Sq) (r : Result Sq Refusal) → OnOk r (Updates is_same_key old new (sq.level, sq.num.0) (Some copy.num)) → OnErr r (IsUnchanged old new) → IsTrue (from.knows sq) →
+-- a new copy is noted
+pub noted_known_copies : (from to : Book) (old new : Noted Num) (sq copy : Sq) → Updates is_same_key old new (sq.level, sq.num.0) (Some copy.num) → IsTrue (from.knows sq) →
     Shows to sq.level (from.cells sq) copy → AreKnownCopies from to old → AreKnownCopies from to new
-noted_known_copies from to old new sq copy r up same known shows h = record {
-  known = noted_known from old new sq copy r up same known h.known;
-  same = noted_copies from to old new sq copy r up same shows h.same;
+noted_known_copies from to old new sq copy up known shows h = record {
+  known = true_of_kept (λ q num. IsTrue (from.knows q)) old new sq copy.num h.known known up;
+  same = noted_copies from to old new sq copy up shows h.same;
+}
+
+-- none is noted
+pub same_known_copies : (from to : Book) (old new : Noted Num) → IsUnchanged old new → AreKnownCopies from to old → AreKnownCopies from to new
+same_known_copies from to old new same h = record {
+  known = true_of_same (λ q num. IsTrue (from.knows q)) old new h.known same;
+  same = record { same = true_of_same (λ q num. Shows to q.level (from.cells q) (numbered q.level num.0)) old new h.same.same same };
 }

@@ -1,10 +1,8 @@
 //! Squares copied from one book into another.
 
-ghost use Rattle.std.specs.Prelude.{◌≡◌, IfOk, IfErr, OnOk, OnErr, IsOkUnless, Some};
-ghost use Rattle.std.specs.HashMap.{IsUnchanged, Updates};
+ghost use Rattle.std.specs.Prelude.{IfOk, IfErr};
 ghost use Rattle.squares.specs.Book.{AddsSquares, IsKnown, LacksMemoryOr, MayRefuse, Shows};
 ghost use Rattle.squares.specs.Copies.{AreKnownCopies};
-ghost use Rattle.squares.specs.Noted.{is_same_key};
 
 use crate::book::{Look, Squares};
 use crate::reading::{Looked, Reading};
@@ -15,18 +13,6 @@ use std::collections::HashMap;
 
 // The numbers of the copies of squares, by level and number.
 type Copies = HashMap<(u8, u32), Num>;
-
-// Notes the copy of a square.
-fn note_copy(copies: &mut Copies, sq: Sq, copy: Sq) -> Result<Sq, Refusal>
-    ensures ok { IfOk result (λ noted. noted ≡ copy) }
-    ensures updates { OnOk result
-        (Updates is_same_key copies.old copies.new (sq.level, sq.num.0) (Some copy.num)) }
-    ensures err { OnErr result (IsUnchanged copies.old copies.new) }
-    ensures memory { IsOkUnless result Refusal.NoMemory }
-{
-    copies.insert((sq.level, sq.num.0), copy.num)?;
-    Ok(copy)
-}
 
 // Copies a square, and notes the copies that are made on the way, but for those of leaves: a note
 // costs more than a leaf that the book knows.
@@ -59,7 +45,8 @@ fn copy_read<A: Reading, B: Squares>(
         *quarter = copy_read(from, *quarter, to, copies)?;
     }
     let copy = to.quad(quarters)?;
-    note_copy(copies, sq, copy)
+    copies.insert((level, sq.num.0), copy.num)?;
+    Ok(copy)
 }
 
 /// The square with the same level and the same cells in another book; each number of a larger

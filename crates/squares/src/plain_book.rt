@@ -1,6 +1,6 @@
 //! A book of squares in one owner's hands.
 
-ghost use Rattle.std.specs.Prelude.{◌≡◌, ◌-◌, suc, length, vec_len, IsTrue, is_some, slice_get, Some, IfOk, OnErr, IsOkUnless};
+ghost use Rattle.std.specs.Prelude.{◌≡◌, ◌-◌, suc, length, vec_len, IsTrue, is_some, slice_get, Some, IfOk, OnErr};
 ghost use Rattle.std.specs.BTreeMap.{IsUnchanged, Updates};
 ghost use Rattle.squares.specs.Book.{IsBook, IsFresh};
 ghost use Rattle.squares.specs.Nodes.{AreFutures, HasNumbers, IsGood, node_at, nodes_of, plain_book, quarters_order, with_node};
@@ -12,7 +12,7 @@ use crate::node::{Node, Quarters, Record};
 use crate::sq::{LEAF_LEVEL, Num, Sq};
 use plane::Refusal;
 use rule_text::Rule;
-use std::alloc::Global;
+use std::alloc::{AllocError, Global};
 use std::collections::BTreeMap;
 
 /// A book in one owner's hands. It is never full, nobody else tells it results, and it refuses
@@ -32,16 +32,15 @@ pub struct PlainBook {
 }
 
 // Gives the node the next number.
-fn push_node(records: &mut Vec<Record>, node: Node) -> Result<Num, Refusal>
+fn push_node(records: &mut Vec<Record>, node: Node) -> Result<Num, AllocError>
     ensures number { IfOk result (λ num. num.0 ≡ suc (length records.old.items)) }
     ensures len { IfOk result (λ num. vec_len records.new ≡ num.0) }
     ensures ok { IfOk result (λ _. records.new.items ≡ with_node records.old.items node) }
     ensures err { OnErr result (records.new.items ≡ records.old.items) }
-    ensures memory { IsOkUnless result Refusal.NoMemory }
 {
     let count = records.len();
     if count >= u32::MAX as usize {
-        return Err(Refusal::NoMemory);
+        return Err(AllocError);
     }
     records.push(Record { node, future: None })?;
     Ok(Num(count as u32 + 1))
@@ -53,18 +52,17 @@ fn add_node<K: Ord + Drop>(
     numbers: &mut BTreeMap<K, Num>,
     node: Node,
     key: K,
-) -> Result<Num, Refusal>
+) -> Result<Num, AllocError>
     ensures number { IfOk result (λ num. num.0 ≡ suc (length records.old.items)) }
     ensures ok { IfOk result (λ _. records.new.items ≡ with_node records.old.items node) }
     ensures noted { IfOk result (λ num. Updates K.cmp numbers.old numbers.new key (Some num)) }
     ensures err { OnErr result (records.new.items ≡ records.old.items) }
     ensures same { OnErr result (IsUnchanged numbers.old numbers.new) }
-    ensures memory { IsOkUnless result Refusal.NoMemory }
 {
     let num = push_node(records, node)?;
     if numbers.insert(key, num).is_err() {
         let _ = records.pop();
-        return Err(Refusal::NoMemory);
+        return Err(AllocError);
     }
     Ok(num)
 }

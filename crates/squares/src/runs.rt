@@ -1,6 +1,6 @@
 //! The square of some runs of live cells, or of a set of cells.
 
-ghost use Rattle.std.specs.Prelude.{◌≡◌, ◌-◌, ◌^◌, ◌≤◌, ◌↔◌, IfOk, IfErr, IsOkUnless, IsTrue, map};
+ghost use Rattle.std.specs.Prelude.{◌≡◌, ◌-◌, ◌^◌, ◌≤◌, ◌↔◌, IfOk, IfErr, IsTrue, map};
 ghost use Rattle.std.specs.List.{AllByRecursion};
 ghost use Rattle.plane.specs.Centred.{IsSmallestLevel};
 ghost use Rattle.plane.specs.CellSet.{IsCellSet};
@@ -15,7 +15,7 @@ use crate::book::Squares;
 use crate::spans::{Span, distance, leaf_bits, spans_of, split_spans};
 use crate::sq::{HIGHEST_ROOT_LEVEL, LEAF_LEVEL, LOWEST_ROOT_LEVEL, Sq, half_side};
 use plane::{Cell, CellSet, Refusal};
-use std::alloc::Global;
+use std::alloc::{AllocError, Global};
 
 // Whether the run lies in the square of this half side round (0,0).
 fn fits(run: (Cell, u64), half: u64) -> bool
@@ -95,10 +95,9 @@ pub fn runs_to_square<S: Squares>(
 }
 
 // Each cell of the set as a run.
-fn runs_of(alloc: Global, cells: &CellSet) -> Result<Vec<(Cell, u64)>, Refusal>
+fn runs_of(alloc: Global, cells: &CellSet) -> Result<Vec<(Cell, u64)>, AllocError>
     ensures ok { IfOk result (λ runs. runs.items ≡ map single_run cells.now) }
     ensures set { IsCellSet cells.now }
-    ensures memory { IsOkUnless result Refusal.NoMemory }
 {
     let mut runs = Vec::new(alloc);
     for cell in cells.iter() {

@@ -1,13 +1,13 @@
 //! Live cells of one row of a square, counted from its upper left corner, and what parts of the
 //! square have of them.
 
-ghost use Rattle.std.specs.Prelude.{◌≡◌, ℕ, ◌+◌, ◌-◌, ◌*◌, ◌^◌, ◌<◌, ◌≤◌, false, MatchOption, IfSome, IfOk, IsOkUnless, pos, ◌+ℤ◌, ◌-ℤ◌, ◌≤ℤ◌, ◌<ℤ◌, unsigned_abs, map};
+ghost use Rattle.std.specs.Prelude.{◌≡◌, ℕ, ◌+◌, ◌*◌, ◌^◌, ◌<◌, ◌≤◌, false, MatchOption, IfSome, IfOk, pos, ◌+ℤ◌, ◌-ℤ◌, ◌≤ℤ◌, ◌<ℤ◌, unsigned_abs, map};
 ghost use Rattle.std.specs.List.{AllByRecursion};
 ghost use Rattle.plane.specs.Square.{bit};
 ghost use Rattle.squares.specs.Spans.{AreQuarterSpans, FitsRound, HasCells, HasCellOf, HaveCellsOfQuarters, in_span, in_spans, span_of};
 
-use plane::{Cell, Refusal};
-use std::alloc::Global;
+use plane::Cell;
+use std::alloc::{AllocError, Global};
 
 /// Live cells of one row of a square, from the first up to the end, which is not one of them. Rows
 /// and cells are counted from the square's upper left corner.
@@ -90,14 +90,13 @@ pub fn clip_spans(
     left: u64,
     top: u64,
     side: u64,
-) -> Result<Vec<Span>, Refusal>
+) -> Result<Vec<Span>, AllocError>
     requires wide { left + side < 2 ^ 64 }
     requires tall { top + side < 2 ^ 64 }
     ensures ok { IfOk result (λ parts. (x y : ℕ) → x < side → y < side →
         in_spans parts.items x y ≡ in_spans spans.now (x + left) (y + top)) }
     ensures some { AllByRecursion HasCells spans.now →
         IfOk result (λ parts. AllByRecursion (HasCellOf side) parts.items) }
-    ensures memory { IsOkUnless result Refusal.NoMemory }
 {
     let mut parts = Vec::new(alloc);
     for span in spans {
@@ -119,11 +118,10 @@ pub struct QuarterSpans {
 }
 
 /// What the quarters of a square of this half side have of the spans.
-pub fn split_spans(alloc: Global, spans: &[Span], half: u64) -> Result<QuarterSpans, Refusal>
+pub fn split_spans(alloc: Global, spans: &[Span], half: u64) -> Result<QuarterSpans, AllocError>
     requires half { half ≤ 2 ^ 62 }
     ensures ok { IfOk result (AreQuarterSpans half spans.now) }
     ensures some { AllByRecursion HasCells spans.now → IfOk result (HaveCellsOfQuarters half) }
-    ensures memory { IsOkUnless result Refusal.NoMemory }
 {
     Ok(QuarterSpans {
         nw: clip_spans(alloc, spans, 0, 0, half)?,
@@ -145,11 +143,10 @@ pub fn leaf_bits(spans: &[Span]) -> u64
 }
 
 /// The runs, counted from a corner so far to the left of and above (0,0).
-pub fn spans_of(alloc: Global, runs: &[(Cell, u64)], half: u64) -> Result<Vec<Span>, Refusal>
+pub fn spans_of(alloc: Global, runs: &[(Cell, u64)], half: u64) -> Result<Vec<Span>, AllocError>
     requires half { half ≤ 2 ^ 62 }
     requires fits { AllByRecursion (FitsRound half) runs.now }
-    ensures ok { IfOk result (λ spans. spans.items ≡ map (span_of half) runs.now) }
-    ensures memory { IsOkUnless result Refusal.NoMemory }
+    ensures { IfOk result (λ spans. spans.items ≡ map (span_of half) runs.now) }
 {
     let mut spans = Vec::new(alloc);
     for run in runs {

@@ -13,7 +13,7 @@ use crate::sides::{place, signed_half_side};
 use crate::strips::{Strip, add_dead, count_strip};
 use plane::Refusal;
 use squares::{Look, Looked, Reading, Sq};
-use std::alloc::Global;
+use std::alloc::{AllocError, Global};
 use std::collections::HashMap;
 
 /// A rectangle of blocks of 2^exponent by 2^exponent cells. Block (i, j) holds the cells (x, y) with
@@ -83,7 +83,7 @@ fn count_row<R: Reading>(
     j: i64,
     counts: &mut Counts,
     found: &mut Vec<u128>,
-) -> Result<(), Refusal>
+) -> Result<(), AllocError>
     requires known { IsKnown (R.book from.old) sq.level sq }
     requires low { 3 < sq.level }
     requires level { sq.level ≤ 63 }
@@ -93,14 +93,12 @@ fn count_row<R: Reading>(
         ++ block_counts (centred sq.level ((R.book from.old).cells sq)) blocks.now.exponent j
         blocks.now.left blocks.now.width) }
     ensures counted { AreCounts (R.book from.new) counts.new }
-    ensures memory { IsOkUnless result Refusal.NoMemory }
     ensures keeps { Keeps (R.book from.old) (R.book from.new) }
 {
     let exponent = blocks.exponent.min(sq.level - 1);
     let level = sq.level - exponent;
     let Some(row) = place(j, level) else {
-        add_dead(u64::from(blocks.width), found)?;
-        return Ok(());
+        return add_dead(u64::from(blocks.width), found);
     };
     let columns = columns_beside(blocks.left, blocks.width, signed_half_side(level));
     let strip = Strip {
@@ -110,8 +108,7 @@ fn count_row<R: Reading>(
     };
     add_dead(columns.before, found)?;
     count_strip(from, sq, exponent, strip, counts, found)?;
-    add_dead(columns.behind, found)?;
-    Ok(())
+    add_dead(columns.behind, found)
 }
 
 // How columns lie beside a square: how many of them lie left of it, from which to before which of its

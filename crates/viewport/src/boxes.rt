@@ -10,7 +10,7 @@ ghost use Rattle.viewport.specs.BoundingBox.{AreBoxes, FitsMoved, HasBounds, IsI
 use crate::sides::signed_half_side;
 use plane::{Bounds, Refusal};
 use squares::{LEAF_LEVEL, Look, Looked, Reading, Sq};
-use std::alloc::Global;
+use std::alloc::{AllocError, Global};
 use std::collections::HashMap;
 
 // The boxes of squares, by level and number, from the square's upper left corner.
@@ -40,18 +40,21 @@ pub fn bounds_at<R: Reading>(alloc: Global, book: &mut R, sq: Sq) -> Result<Opti
     let mut boxes = HashMap::new(alloc);
     let local = local_box(book, sq, &mut boxes)?;
     let half = signed_half_side(sq.level);
-    Ok(moved(local, -half, -half))
+    Ok(shift(local, -half, -half))
 }
 
 // The box of the square's live cells, by the boxes that are known; it adds what it finds to them.
 #[cycle(local_box)]
-fn local_box<R: Reading>(book: &mut R, sq: Sq, boxes: &mut Boxes) -> Result<Option<Bounds>, Refusal>
+fn local_box<R: Reading>(
+    book: &mut R,
+    sq: Sq,
+    boxes: &mut Boxes,
+) -> Result<Option<Bounds>, AllocError>
     requires known { IsKnown (R.book book.old) sq.level sq }
     requires level { sq.level ≤ 63 }
     requires boxed { AreBoxes (R.book book.old) boxes.old }
     ensures ok { IfOk result (IsLocalBox (2 ^ sq.level) ((R.book book.old).cells sq)) }
     ensures boxed { AreBoxes (R.book book.new) boxes.new }
-    ensures memory { IsOkUnless result Refusal.NoMemory }
     ensures adds { AddsSquares (R.book book.old) (R.book book.new) }
 {
     if sq.is_empty() {
@@ -75,14 +78,13 @@ fn quarters_box<R: Reading>(
     book: &mut R,
     sq: Sq,
     boxes: &mut Boxes,
-) -> Result<Option<Bounds>, Refusal>
+) -> Result<Option<Bounds>, AllocError>
     requires known { IsKnown (R.book book.old) sq.level sq }
     requires low { 3 < sq.level }
     requires high { sq.level ≤ 63 }
     requires boxed { AreBoxes (R.book book.old) boxes.old }
     ensures ok { IfOk result (IsLocalBox (2 ^ sq.level) ((R.book book.old).cells sq)) }
     ensures boxed { AreBoxes (R.book book.new) boxes.new }
-    ensures memory { IsOkUnless result Refusal.NoMemory }
     ensures adds { AddsSquares (R.book book.old) (R.book book.new) }
 {
     let [nw, ne, sw, se] = book.quarters_of(sq);
@@ -110,13 +112,13 @@ fn box_of_quarters(
     ensures { result ≡ joined_boxes (2 ^ (level - 1)) nw ne sw se }
 {
     let half = signed_half_side(level);
-    let upper = round(nw, moved(ne, half, 0));
-    let lower = round(moved(sw, 0, half), moved(se, half, half));
+    let upper = round(nw, shift(ne, half, 0));
+    let lower = round(shift(sw, 0, half), shift(se, half, half));
     round(upper, lower)
 }
 
-// The box, moved so far to the right and down.
-fn moved(bounds: Option<Bounds>, right: i64, down: i64) -> Option<Bounds>
+// The box, shifted so far to the right and down.
+fn shift(bounds: Option<Bounds>, right: i64, down: i64) -> Option<Bounds>
     requires { ForSome bounds (FitsMoved right down) }
     ensures { result ≡ moved_box right down bounds }
 {

@@ -8,7 +8,7 @@ ghost use Rattle.viewport.specs.Population.{AreCounts, HasPopulation, IsCount, c
 
 use plane::Refusal;
 use squares::{LEAF_LEVEL, Look, Looked, Reading, Sq, Squares};
-use std::alloc::Global;
+use std::alloc::{AllocError, Global};
 use std::collections::HashMap;
 
 // The numbers of live cells of squares, by level and number.
@@ -26,7 +26,7 @@ pub fn population<L: Look>(alloc: Global, look: &L, sq: Sq) -> Result<u128, Refu
     ensures memory { IsOkUnless result Refusal.NoMemory }
 {
     let mut counts = HashMap::new(alloc);
-    count(&mut Looked(look), sq, &mut counts)
+    Ok(count(&mut Looked(look), sq, &mut counts)?)
 }
 
 /// How many live cells a square of a level up to 63 has, counted at a book that makes squares. The book
@@ -39,18 +39,17 @@ pub fn population_at<S: Squares>(alloc: Global, book: &mut S, sq: Sq) -> Result<
     ensures adds { AddsSquares (S.book book.old) (S.book book.new) }
 {
     let mut counts = HashMap::new(alloc);
-    count(book, sq, &mut counts)
+    Ok(count(book, sq, &mut counts)?)
 }
 
 // How many live cells the square has, by the counts that are known; it adds what it finds to them.
 #[cycle(count)]
-pub fn count<R: Reading>(from: &mut R, sq: Sq, counts: &mut Counts) -> Result<u128, Refusal>
+pub fn count<R: Reading>(from: &mut R, sq: Sq, counts: &mut Counts) -> Result<u128, AllocError>
     requires known { IsKnown (R.book from.old) sq.level sq }
     requires level { sq.level ≤ 63 }
     requires counted { AreCounts (R.book from.old) counts.old }
     ensures ok { IfOk result (IsCount (R.book from.old) sq) }
     ensures counted { AreCounts (R.book from.new) counts.new }
-    ensures memory { IsOkUnless result Refusal.NoMemory }
     ensures adds { AddsSquares (R.book from.old) (R.book from.new) }
 {
     if sq.is_empty() {
@@ -73,14 +72,13 @@ pub fn count<R: Reading>(from: &mut R, sq: Sq, counts: &mut Counts) -> Result<u1
 
 // How many live cells the quarters of a square have.
 #[cycle(count)]
-fn count_quarters<R: Reading>(from: &mut R, sq: Sq, counts: &mut Counts) -> Result<u128, Refusal>
+fn count_quarters<R: Reading>(from: &mut R, sq: Sq, counts: &mut Counts) -> Result<u128, AllocError>
     requires known { IsKnown (R.book from.old) sq.level sq }
     requires low { 3 < sq.level }
     requires high { sq.level ≤ 63 }
     requires counted { AreCounts (R.book from.old) counts.old }
     ensures ok { IfOk result (IsCount (R.book from.old) sq) }
     ensures counted { AreCounts (R.book from.new) counts.new }
-    ensures memory { IsOkUnless result Refusal.NoMemory }
     ensures adds { AddsSquares (R.book from.old) (R.book from.new) }
 {
     let [nw, ne, sw, se] = from.quarters_of(sq);

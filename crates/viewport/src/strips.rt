@@ -1,6 +1,6 @@
 //! How many live cells neighbouring blocks of a square have.
 
-ghost use Rattle.std.specs.Prelude.{◌≡◌, ◌≤◌, ◌<◌, ◌-◌, ◌^◌, ◌++◌, pos, min, replicate, OnOk, IsOkUnless};
+ghost use Rattle.std.specs.Prelude.{◌≡◌, ◌≤◌, ◌<◌, ◌-◌, ◌^◌, ◌++◌, pos, min, replicate, OnOk};
 ghost use Rattle.plane.specs.Square.{bits_plane};
 ghost use Rattle.squares.specs.Book.{IsKnown, Keeps};
 ghost use Rattle.viewport.specs.Blocks.{block_count};
@@ -10,7 +10,6 @@ ghost use Rattle.viewport.specs.Strips.{IsInBlocks, strip_counts};
 use crate::halves::half_with_blocks;
 use crate::populations::{Counts, count};
 use crate::sides::side;
-use plane::Refusal;
 use squares::{LEAF_LEVEL, Reading, Sq, half_side};
 use std::alloc::AllocError;
 
@@ -32,7 +31,7 @@ pub fn count_strip<R: Reading>(
     strip: Strip,
     counts: &mut Counts,
     found: &mut Vec<u128>,
-) -> Result<(), Refusal>
+) -> Result<(), AllocError>
     requires known { IsKnown (R.book from.old) sq.level sq }
     requires level { sq.level ≤ 63 }
     requires exponent { exponent ≤ sq.level }
@@ -41,23 +40,20 @@ pub fn count_strip<R: Reading>(
     ensures ok { OnOk result (found.new.items ≡ found.old.items
         ++ strip_counts ((R.book from.old).cells sq) exponent strip) }
     ensures counted { AreCounts (R.book from.new) counts.new }
-    ensures memory { IsOkUnless result Refusal.NoMemory }
     ensures keeps { Keeps (R.book from.old) (R.book from.new) }
 {
     if strip.from == strip.end {
         return Ok(());
     }
     if sq.is_empty() {
-        add_dead(strip.end - strip.from, found)?;
-        return Ok(());
+        return add_dead(strip.end - strip.from, found);
     }
     if sq.level == exponent {
         found.push(count(from, sq, counts)?)?;
         return Ok(());
     }
     if sq.level == LEAF_LEVEL {
-        count_leaf_strip(from.cells_of(sq), exponent, strip, found)?;
-        return Ok(());
+        return count_leaf_strip(from.cells_of(sq), exponent, strip, found);
     }
     let half = half_side(sq.level - exponent);
     let (first, second, row) = half_with_blocks(from, sq, strip.row, half);

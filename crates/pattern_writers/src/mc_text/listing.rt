@@ -1,6 +1,6 @@
 //! The list of the nodes that a macrocell file has, each square once, after its quarters.
 
-ghost use Rattle.std.specs.Prelude.{◌≡◌, ◌+◌, ◌≤◌, [], ◌∷◌, ◌++◌, length, IfOk, OnOk, IsOkUnless, Some};
+ghost use Rattle.std.specs.Prelude.{◌≡◌, ◌+◌, ◌≤◌, [], ◌∷◌, ◌++◌, length, IfOk, OnOk, Some};
 ghost use Rattle.std.specs.HashMap.{Updates};
 ghost use Rattle.squares.specs.Book.{IsKnown, nth};
 ghost use Rattle.squares.specs.Noted.{is_same_key};
@@ -10,9 +10,8 @@ ghost use Rattle.squares.specs.Rounds.{square_plane};
 
 use super::node::Node;
 use super::root::Root;
-use plane::Refusal;
 use squares::{LEAF_LEVEL, Look, Sq};
-use std::alloc::Global;
+use std::alloc::{AllocError, Global};
 use std::collections::HashMap;
 
 // The nodes that are written, in order, and the numbers of their squares by level and number in the book.
@@ -34,12 +33,11 @@ impl NodeList {
     }
 
     // Adds the node of a square, and gives its number.
-    fn add(&mut self, sq: Sq, node: Node) -> Result<u64, Refusal>
+    fn add(&mut self, sq: Sq, node: Node) -> Result<u64, AllocError>
         ensures node { OnOk result (self.new.nodes.items ≡ self.old.nodes.items ++ node ∷ []) }
         ensures number { IfOk result (λ number. number ≡ length self.old.nodes.items + 1) }
         ensures noted { IfOk result (λ number. Updates is_same_key
             self.old.numbers self.new.numbers (sq.level, sq.num.0) (Some number)) }
-        ensures memory { IsOkUnless result Refusal.NoMemory }
     {
         self.nodes.push(node)?;
         let number = self.nodes.len() as u64;
@@ -50,11 +48,14 @@ impl NodeList {
 
 // The nodes of the squares in a square of a level from 4 to 63, whose centre corner is (0,0), in the smallest square
 // that has its cells.
-pub(crate) fn listed_nodes<B: Look>(alloc: Global, book: &B, sq: Sq) -> Result<Vec<Node>, Refusal>
+pub(crate) fn listed_nodes<B: Look>(
+    alloc: Global,
+    book: &B,
+    sq: Sq,
+) -> Result<Vec<Node>, AllocError>
     requires known { IsKnown (B.book book.now) sq.level sq }
     requires low { 4 ≤ sq.level }
-    ensures ok { IfOk result (λ nodes. AreNodes (square_plane (B.book book.now) sq) nodes.items) }
-    ensures memory { IsOkUnless result Refusal.NoMemory }
+    ensures { IfOk result (λ nodes. AreNodes (square_plane (B.book book.now) sq) nodes.items) }
 {
     let mut list = NodeList {
         nodes: Vec::new(alloc),
@@ -66,9 +67,8 @@ pub(crate) fn listed_nodes<B: Look>(alloc: Global, book: &B, sq: Sq) -> Result<V
 }
 
 // The nodes with that of the root, unless it is empty.
-fn with_root(mut nodes: Vec<Node>, level: u8, quarters: [u64; 4]) -> Result<Vec<Node>, Refusal>
-    ensures ok { IfOk result (λ all. all.items ≡ nodes.items ++ root_node level quarters) }
-    ensures memory { IsOkUnless result Refusal.NoMemory }
+fn with_root(mut nodes: Vec<Node>, level: u8, quarters: [u64; 4]) -> Result<Vec<Node>, AllocError>
+    ensures { IfOk result (λ all. all.items ≡ nodes.items ++ root_node level quarters) }
 {
     if quarters == [0; 4] {
         return Ok(nodes);
@@ -79,10 +79,9 @@ fn with_root(mut nodes: Vec<Node>, level: u8, quarters: [u64; 4]) -> Result<Vec<
 
 // The number of a square among the nodes. It adds the nodes of its squares that are not among them.
 #[cycle(number)]
-fn number<B: Look>(book: &B, sq: Sq, list: &mut NodeList) -> Result<u64, Refusal>
+fn number<B: Look>(book: &B, sq: Sq, list: &mut NodeList) -> Result<u64, AllocError>
     requires known { IsKnown (B.book book.now) sq.level sq }
-    ensures ok { IfOk result (Lists (B.book book.now) sq list.old list.new) }
-    ensures memory { IsOkUnless result Refusal.NoMemory }
+    ensures { IfOk result (Lists (B.book book.now) sq list.old list.new) }
 {
     if let Some(number) = list.number_of(sq) {
         return Ok(number);
@@ -102,10 +101,9 @@ fn number<B: Look>(book: &B, sq: Sq, list: &mut NodeList) -> Result<u64, Refusal
 
 // The numbers of four squares of one level.
 #[cycle(number)]
-fn numbers<B: Look>(book: &B, squares: [Sq; 4], list: &mut NodeList) -> Result<[u64; 4], Refusal>
+fn numbers<B: Look>(book: &B, squares: [Sq; 4], list: &mut NodeList) -> Result<[u64; 4], AllocError>
     requires known { AreKnown (B.book book.now) (nth squares 0).level squares }
-    ensures ok { IfOk result (ListsFour (B.book book.now) squares list.old list.new) }
-    ensures memory { IsOkUnless result Refusal.NoMemory }
+    ensures { IfOk result (ListsFour (B.book book.now) squares list.old list.new) }
 {
     let [nw, ne, sw, se] = squares;
     let nw = number(book, nw, list)?;

@@ -30,7 +30,7 @@ pub(crate) fn pattern_nodes<B: Look>(
     if sq.level == LEAF_LEVEL {
         return leaf_nodes(alloc, rule, book.bits(sq));
     }
-    listed_nodes(alloc, book, sq)
+    Ok(listed_nodes(alloc, book, sq)?)
 }
 
 // The nodes of a leaf: in a book of its own it comes into the middle of a square of level 4.
@@ -41,5 +41,5 @@ fn leaf_nodes(alloc: Global, rule: &Rule, word: u64) -> Result<Vec<Node>, Refusa
     let mut book = PlainBook::new(alloc, *rule, 0);
     let leaf = book.leaf(word)?;
     let root = trim(&mut book, leaf)?;
-    listed_nodes(alloc, &book, root)
+    Ok(listed_nodes(alloc, &book, root)?)
 }

@@ -1,6 +1,6 @@
 //! Where a pattern lies, and whether RLE can hold it.
 
-ghost use Rattle.std.specs.Prelude.{◌≡◌, ◌+◌, ◌^◌, ◌<◌, ◌≤◌, ◌↔◌, IfOk, IsOk, IsOkUnless, SomeIff};
+ghost use Rattle.std.specs.Prelude.{◌≡◌, ◌^◌, ◌<◌, ◌≤◌, ◌↔◌, IfOk, IsOk, IsOkUnless, SomeIff};
 ghost use Rattle.pattern_writers.specs.Frame.{FitsRle, HasRoom, band_row, frame_of, side};
 
 use plane::{Bounds, Cell, Refusal};

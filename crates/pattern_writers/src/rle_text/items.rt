@@ -1,6 +1,6 @@
 //! The items of an RLE body: counts of dead cells, live cells and row ends.
 
-ghost use Rattle.std.specs.Prelude.{◌≡◌, ◌+◌, ◌≤◌, ◌++◌, flat_map, length, IfOk, OnOk};
+ghost use Rattle.std.specs.Prelude.{◌≡◌, ◌≤◌, ◌++◌, flat_map, length, IfOk, OnOk};
 ghost use Rattle.pattern_writers.specs.Items.{cell_after, counted, item_text, items_of, run_items};
 
 use super::row_run::RowRun;

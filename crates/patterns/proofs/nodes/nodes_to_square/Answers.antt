@@ -1,7 +1,9 @@
-use Rattle.std.proofs.Common.{◌≡◌, ◌-◌, None, Some, length, map, arith, rules}
+use Rattle.std.proofs.Common.{◌≡◌, ◌-◌, None, Some, length, map, subst, sym, arith, rules}
 use Rattle.std.specs.Prelude.{slice_get}
 use Rattle.std.proofs.lemmas.Result.{IfOk-weaker}
 use Rattle.macrocell_reader.specs.Nodes.{WrittenNode}
+use Rattle.macrocell_reader.specs.Planes.{root_plane}
+use Rattle.squares.specs.Rounds.{IsRound}
 use Rattle.patterns.proofs.NodeSquares.{both_ok, empty_root, last_shown, no_nodes, root_high, root_shown, trimmed_root}
 use Rattle.patterns.proofs.nodes.nodes_to_square.Goals as goal
 
@@ -27,4 +29,5 @@ returns-clause-ok g c =
     let nodes = map (λ (line : WrittenNode). line.node) c.args.lines in
     let squares = c.in_ok-squares.squares.items in
     let none : slice_get squares (length squares - 1) ≡ None = search rules in
-    empty_root _ (g.met.S.Squares.is_book c.squares_of.new.book) nodes (no_nodes _ nodes squares c.in_ok-squares.ensures.ok none)
+    subst (IsRound (g.S.Squares.book c.squares_of.new.book) (root_plane nodes)) (sym c.empty.ensures)
+    (empty_root _ (g.met.S.Squares.is_book c.squares_of.new.book) nodes (no_nodes _ nodes squares c.in_ok-squares.ensures.ok none))

@@ -1,11 +1,10 @@
 use Rattle.std.proofs.Common.{◌-◌, ◌<◌, length, sym, ◌∙◌, subst, arith, rules}
 use Rattle.std.proofs.Math.ListN.{length-set}
-use Rattle.std.proofs.lemmas.Result.{IfOk-weaker}
 use Rattle.squares.specs.Book.{IsKnown, Shows, nth}
 use Rattle.squares.specs.declared.sq.Sq.{Sq}
 use Rattle.squares.proofs.CopyMaps.{copies_known, none_copied, one_copied, part_known, quad_copied, empty_copied}
 use Rattle.squares.proofs.Kept.{adds_none, adds_trans, keeps_none, keeps_trans, known_kept}
-use Rattle.squares.proofs.KnownCopies.{kept_copies, noted_known_copies, shown_before, shown_later}
+use Rattle.squares.proofs.KnownCopies.{kept_copies, noted_known_copies, same_known_copies, shown_before, shown_later}
 use Rattle.squares.proofs.copies.+copy_read.Goals as goal
 
 pub returns-then-is_empty-clause-ok : goal.returns-then-is_empty-clause-ok
@@ -85,17 +84,22 @@ pub returns-in_err-copy-clause-copies : goal.returns-in_err-copy-clause-copies
 returns-in_err-copy-clause-copies g t c =
     kept_copies (g.A.Reading.book c.loop-quarter.from) (g.A.Reading.book c.loop-quarter.from) (g.B.Squares.book c.loop-quarter.to) (g.B.Squares.book c.quad.new.self) c.loop-quarter.copies (keeps_none _) c.quad.ensures.adds.keeps c.loop-quarter.invariant.copies
 
+pub returns-in_err-insert-clause-copies : goal.returns-in_err-insert-clause-copies
+returns-in_err-insert-clause-copies g t c =
+    let from = g.A.Reading.book c.loop-quarter.from in
+    let now = g.B.Squares.book c.quad.new.self in
+    same_known_copies from now c.loop-quarter.copies c.insert.new.self c.in_err-insert.ensures.err
+    (kept_copies from from (g.B.Squares.book c.loop-quarter.to) now c.loop-quarter.copies (keeps_none _) c.quad.ensures.adds.keeps c.loop-quarter.invariant.copies)
+
 pub returns-clause-ok : goal.returns-clause-ok
 returns-clause-ok g t c =
     let was = g.A.Reading.book c.args.from.now in
     let first = g.A.Reading.book c.quarters_of-quarters.new.self in
-    let to = g.B.Squares.book c.loop-quarter.to in
     let sq = c.args.sq in
     let low = c.requires.known.low in
     let more = c.if-level-eq-LEAF_LEVEL.false in
-    let shown = quad_copied first to (g.B.Squares.book c.quad.new.self) sq.level (was.cells sq) c.quarters_of-quarters.result c.loop-quarter.quarter-items _ c.in_ok-copy.copy (omega arith)
-    ((g.met.A.Reading.is_book c.args.from.now).square sq c.requires.known.known) c.quarters_of-quarters.ensures.value (omega arith) c.loop-quarter.invariant.copied c.in_ok-copy.ensures.ok in
-    IfOk-weaker c.note_copy.result _ _ (λ (noted : Sq) same. subst (Shows (g.B.Squares.book c.quad.new.self) sq.level (was.cells sq)) (sym same) shown) c.note_copy.ensures.ok
+    quad_copied first (g.B.Squares.book c.loop-quarter.to) (g.B.Squares.book c.quad.new.self) sq.level (was.cells sq) c.quarters_of-quarters.result c.loop-quarter.quarter-items _ c.in_ok-copy.copy (omega arith)
+    ((g.met.A.Reading.is_book c.args.from.now).square sq c.requires.known.known) c.quarters_of-quarters.ensures.value (omega arith) c.loop-quarter.invariant.copied c.in_ok-copy.ensures.ok
 
 pub returns-clause-copies : goal.returns-clause-copies
 returns-clause-copies g t c =
@@ -110,6 +114,6 @@ returns-clause-copies g t c =
     let reads = keeps_trans c.quarters_of-quarters.ensures.adds.keeps c.loop-quarter.invariant.reads.keeps in
     let shown = quad_copied first to now sq.level (was.cells sq) c.quarters_of-quarters.result c.loop-quarter.quarter-items _ c.in_ok-copy.copy (omega arith)
     ((g.met.A.Reading.is_book c.args.from.now).square sq c.requires.known.known) c.quarters_of-quarters.ensures.value (omega arith) c.loop-quarter.invariant.copied c.in_ok-copy.ensures.ok in
-    noted_known_copies from now c.loop-quarter.copies c.note_copy.new.copies sq c.in_ok-copy.copy c.note_copy.result c.note_copy.ensures.updates c.note_copy.ensures.err (reads.known sq c.requires.known.known)
+    noted_known_copies from now c.loop-quarter.copies c.insert.new.self sq c.in_ok-copy.copy c.in_ok-insert.ensures.updates (reads.known sq c.requires.known.known)
     (shown_later was from now sq.level sq c.in_ok-copy.copy reads c.requires.known.known shown)
     (kept_copies from from to now c.loop-quarter.copies (keeps_none _) c.quad.ensures.adds.keeps c.loop-quarter.invariant.copies)

@@ -11,5 +11,5 @@ returns-clause-ok g c =
     let level = c.smallest_level-level.result in
     IfOk-weaker c.spans_to_square.result _ _
     (λ (sq : Sq) shown. round_shown (g.S.Squares.book c.spans_to_square.new.book) level runs c.in_ok-spans.spans.items sq c.smallest_level-level.ensures.smallest c.smallest_level-level.ensures.fits
-    (c.in_ok-spans.ensures.ok ∙ ap (λ half. map (span_of half) runs) c.half_side.ensures.value) shown)
+    (c.in_ok-spans.ensures ∙ ap (λ half. map (span_of half) runs) c.half_side.ensures.value) shown)
     c.spans_to_square.ensures.ok

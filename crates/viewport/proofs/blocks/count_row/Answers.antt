@@ -1,5 +1,6 @@
 use Rattle.std.proofs.Common.{◌≡◌, ℕ, ℤ, pos, ◌+ℤ◌, ◌-ℤ◌, ap, ◌∙◌, ◌++◌, sym, arith, rules, w64, SFits, replicate}
 use Rattle.std.proofs.lemmas.Int.{ints, to_z-of_z}
+use Rattle.std.proofs.lemmas.Result.{on_ok_weaker}
 use Rattle.viewport.specs.Strips.{strip_counts}
 use Rattle.viewport.proofs.Quarters.{known_square}
 use Rattle.viewport.proofs.RowsOfBlocks.{beside_counts, inside_strip, outside_counts, three_added}
@@ -11,11 +12,13 @@ returns-in_default-clause-ok g c =
     let j : SFits w64 c.args.j = c.ranges.j in
     let low = c.requires.low in
     let square = known_square book c.args.sq.level c.args.sq (g.met.R.Reading.is_book c.args.from.now) c.requires.known in
-    c.in_ok-add_dead.ensures.ok
+    on_ok_weaker c.add_dead.result
+    (λ e. e
     ∙ ap (λ n. c.args.found.now.items ++ replicate n 0) c.from.ensures
     ∙ ap (λ l. c.args.found.now.items ++ l)
     (sym (outside_counts c.args.sq.level c.args.blocks.now.exponent c.min-exponent.result (book.cells c.args.sq) (omega (arith, low)) c.min-exponent.ensures square
-    c.args.blocks.now.left c.args.j c.args.blocks.now.width (simp to_z-of_z at c.in_default.ensures)))
+    c.args.blocks.now.left c.args.j c.args.blocks.now.width (simp to_z-of_z at c.in_default.ensures))))
+    c.add_dead.ensures.ok
 
 pub count_strip-requires-clause-strip : goal.count_strip-requires-clause-strip
 count_strip-requires-clause-strip g c =
@@ -40,9 +43,11 @@ returns-clause-ok g c =
     let left : SFits w64 c.args.blocks.now.left = omega (arith, ints) in
     let half : SFits w64 c.signed_half_side.result = search rules in
     let are = simp to_z-of_z at c.columns_beside-columns.ensures in
-    three_added c.args.found.now.items c.add_dead-2.new.found.items c.count_strip.new.found.items c.add_dead-3.new.found.items
+    on_ok_weaker c.add_dead-3.result
+    (λ last. three_added c.args.found.now.items c.add_dead-2.new.found.items c.count_strip.new.found.items c.add_dead-3.new.found.items
     (replicate columns.before 0) (strip_counts (book.cells c.args.sq) c.min-exponent.result (record { row = c.in-Some.row; from = columns.from; end = columns.end })) (replicate columns.behind 0) _
-    c.in_ok-add_dead-2.ensures.ok c.in_ok-count_strip.ensures.ok c.in_ok-add_dead-3.ensures.ok
+    c.in_ok-add_dead.ensures.ok c.in_ok-count_strip.ensures.ok last
     (beside_counts c.args.sq.level c.args.blocks.now.exponent c.min-exponent.result (book.cells c.args.sq) (omega (arith, low)) c.min-exponent.ensures square
     c.args.blocks.now.left c.args.j c.signed_half_side.result c.args.blocks.now.width c.in-Some.row columns c.signed_half_side.ensures.side
-    (row_place c.in-Some.row _ c.args.j c.signed_half_side.result (simp to_z-of_z at c.in-Some.ensures.0) c.signed_half_side.ensures.side) are)
+    (row_place c.in-Some.row _ c.args.j c.signed_half_side.result (simp to_z-of_z at c.in-Some.ensures.0) c.signed_half_side.ensures.side) are))
+    c.add_dead-3.ensures.ok

@@ -8,8 +8,8 @@ use Rattle.viewport.proofs.BoxesRound.{centred_bounds, inside_of, room_back}
 use Rattle.viewport.proofs.Quarters.{known_square}
 use Rattle.viewport.proofs.boxes.bounds_at.Goals as goal
 
-pub moved-requires : goal.moved-requires
-moved-requires g c = λ x e.
+pub shift-requires : goal.shift-requires
+shift-requires g c = λ x e.
     let half : SFits w64 c.signed_half_side-half.result = search rules in
     let small = c.signed_half_side-half.ensures.small in
     let back : SFits w64 (pos 0 -ℤ c.signed_half_side-half.result) = rw c.signed_half_side-half.ensures.side (omega (arith, ints, small)) in
@@ -22,6 +22,6 @@ returns-clause-ok g c =
     let half : SFits w64 c.signed_half_side-half.result = search rules in
     let small = c.signed_half_side-half.ensures.small in
     let back : SFits w64 (pos 0 -ℤ c.signed_half_side-half.result) = rw c.signed_half_side-half.ensures.side (omega (arith, ints, small)) in
-    let moved_is = simp c.signed_half_side-half.ensures.side at (simp to_z-of_z at c.moved.ensures) in
+    let moved_is = simp c.signed_half_side-half.ensures.side at (simp to_z-of_z at c.shift.ensures) in
     subst (λ (o : Option Bounds). HasBounds (centred c.args.sq.level (book.cells c.args.sq)) o) (sym moved_is)
     (centred_bounds c.args.sq.level (book.cells c.args.sq) c.in_ok-local.local (known_square book c.args.sq.level c.args.sq (g.met.R.Reading.is_book c.args.book.now) c.requires.known) c.in_ok-local.ensures.ok)

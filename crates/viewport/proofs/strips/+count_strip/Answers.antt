@@ -16,8 +16,9 @@ returns-then-strip-clause-ok g t c = no_blocks _ _ c.args.strip _ c.if-strip.tru
 pub returns-then-is_empty-clause-ok : goal.returns-then-is_empty-clause-ok
 returns-then-is_empty-clause-ok g t c =
     let book = g.R.Reading.book c.args.from.now in
-    c.in_ok-add_dead.ensures.ok
-    ∙ ap (λ l. c.args.found.now.items ++ l) (sym (empty_blocks (book.cells c.args.sq) c.args.exponent c.args.strip (zero_is_empty book c.args.sq (g.met.R.Reading.is_book c.args.from.now) (c.is_empty.ensures.0 c.if-is_empty.true))))
+    on_ok_weaker c.add_dead.result
+    (λ e. e ∙ ap (λ l. c.args.found.now.items ++ l) (sym (empty_blocks (book.cells c.args.sq) c.args.exponent c.args.strip (zero_is_empty book c.args.sq (g.met.R.Reading.is_book c.args.from.now) (c.is_empty.ensures.0 c.if-is_empty.true)))))
+    c.add_dead.ensures.ok
 
 pub returns-then-sq-exponent-clause-ok : goal.returns-then-sq-exponent-clause-ok
 returns-then-sq-exponent-clause-ok g t c =
@@ -25,10 +26,6 @@ returns-then-sq-exponent-clause-ok g t c =
     c.in_ok-push.ensures.items
     ∙ ap (λ l. c.args.found.now.items ++ l)
     (sym (whole_block (book.cells c.args.sq) c.args.sq.level c.args.exponent c.args.strip _ c.if-sq-exponent.true c.requires.strip c.if-strip.false c.in_ok-count.ensures.ok.cells))
-
-pub returns-in_err-count_leaf_strip-clause-counted : goal.returns-in_err-count_leaf_strip-clause-counted
-returns-in_err-count_leaf_strip-clause-counted g t c =
-    kept_counts (g.R.Reading.book c.args.from.now) (g.R.Reading.book c.cells_of.new.self) c.args.counts.now c.cells_of.ensures.adds.keeps c.requires.counted
 
 pub returns-then-sq-eq-LEAF_LEVEL-clause-counted : goal.returns-then-sq-eq-LEAF_LEVEL-clause-counted
 returns-then-sq-eq-LEAF_LEVEL-clause-counted g t c =

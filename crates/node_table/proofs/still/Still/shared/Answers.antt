@@ -7,9 +7,9 @@ use Rattle.node_table.proofs.still.Still.shared.Goals as goal
 pub invariant_of-result : goal.invariant_of-result
 invariant_of-result c =
     let still = c.args.self.now in
-    let words = c.in-Ok.words.items in
-    let good : AreGoodWords still.key words = subst (λ (ws : List ℕ). AreGoodWords still.key ws) (sym c.in-Ok.ensures) still.good in
+    let words = c.in_ok-copied.field-0.items in
+    let good : AreGoodWords still.key words = subst (λ (ws : List ℕ). AreGoodWords still.key ws) (sym c.in_ok-copied.ensures) still.good in
     record { good = good; is_book = all_book still.key words good still.is_book.rule }
 
-pub returns-in-Ok-clause-ok : goal.returns-in-Ok-clause-ok
-returns-in-Ok-clause-ok c = same_book c.args.self.now.key c.in-Ok.words.items c.args.self.now.words _ c.args.self.now.good c.in-Ok.ensures
+pub returns-clause-ok : goal.returns-clause-ok
+returns-clause-ok c = same_book c.args.self.now.key c.in_ok-copied.field-0.items c.args.self.now.words _ c.args.self.now.good c.in_ok-copied.ensures

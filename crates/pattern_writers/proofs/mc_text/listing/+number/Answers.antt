@@ -9,12 +9,12 @@ from_three : {T E : Type 0} (r : Result T E) (A : Type 0) (B C P : T → Type 0)
 from_three (Ok x) A B C P make a b c = make x a b c
 from_three (Err e) A B C P make a b c = tt
 
-pub number-returns-in-Some-clause-ok : goal.number-returns-in-Some-clause-ok
-number-returns-in-Some-clause-ok g t c =
+pub number-returns-in-Some : goal.number-returns-in-Some
+number-returns-in-Some g t c =
     number_lists (g.B.Look.book c.args.book.now) (g.met.B.Look.is_book c.args.book.now) c.args.list.now c.args.sq c.in-Some.number c.requires.known.known (sym c.in-Some.ensures)
 
-pub number-returns-then-sq-eq-LEAF_LEVEL-clause-ok : goal.number-returns-then-sq-eq-LEAF_LEVEL-clause-ok
-number-returns-then-sq-eq-LEAF_LEVEL-clause-ok g t c =
+pub number-returns-then-sq-eq-LEAF_LEVEL : goal.number-returns-then-sq-eq-LEAF_LEVEL
+number-returns-then-sq-eq-LEAF_LEVEL g t c =
     let book = g.B.Look.book c.args.book.now in
     let new = no_number book (g.met.B.Look.is_book c.args.book.now) c.args.list.now c.args.sq (sym {b = number_of c.args.list.now c.args.sq} c.in_default.ensures) in
     from_three c.add.result _ _ _ _
@@ -23,18 +23,18 @@ number-returns-then-sq-eq-LEAF_LEVEL-clause-ok g t c =
     new.1 c.bits.ensures next grown up)
     c.add.ensures.node c.add.ensures.number c.add.ensures.noted
 
-pub number-returns-clause-ok : goal.number-returns-clause-ok
-number-returns-clause-ok g t c =
+pub number-returns : goal.number-returns
+number-returns g t c =
     let book = g.B.Look.book c.args.book.now in
     let new = no_number book (g.met.B.Look.is_book c.args.book.now) c.args.list.now c.args.sq (sym {b = number_of c.args.list.now c.args.sq} c.in_default.ensures) in
     from_three c.add-2.result _ _ _ _
     (λ number grown next up.
     inner_lists book (g.met.B.Look.is_book c.args.book.now) c.args.list.now c.numbers.new.list c.add-2.new.self c.args.sq c.parts.result c.in_ok-quarters.quarters number c.requires.known new.0 (omega arith)
-    new.1 c.parts.ensures c.in_ok-quarters.ensures.ok next grown up)
+    new.1 c.parts.ensures c.in_ok-quarters.ensures next grown up)
     c.add-2.ensures.node c.add-2.ensures.number c.add-2.ensures.noted
 
-pub numbers-returns-clause-ok : goal.numbers-returns-clause-ok
-numbers-returns-clause-ok g t c = record {
+pub numbers-returns : goal.numbers-returns
+numbers-returns g t c = record {
   number_nw = c.in_ok-nw.nw;
   number_ne = c.in_ok-ne.ne;
   number_sw = c.in_ok-sw.sw;
@@ -43,8 +43,8 @@ numbers-returns-clause-ok g t c = record {
   with_nw = c.number.new.list;
   with_ne = c.number-2.new.list;
   with_sw = c.number-3.new.list;
-  nw = c.in_ok-nw.ensures.ok;
-  ne = c.in_ok-ne.ensures.ok;
-  sw = c.in_ok-sw.ensures.ok;
-  se = c.in_ok-se.ensures.ok;
+  nw = c.in_ok-nw.ensures;
+  ne = c.in_ok-ne.ensures;
+  sw = c.in_ok-sw.ensures;
+  se = c.in_ok-se.ensures;
 }

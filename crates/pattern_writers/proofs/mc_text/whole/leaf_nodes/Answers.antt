@@ -1,4 +1,3 @@
-use Rattle.std.proofs.lemmas.Result.{IfOk-weaker}
 use Rattle.pattern_writers.proofs.LeafInMiddle.{leaf_known, leaf_nodes_are}
 use Rattle.pattern_writers.proofs.mc_text.whole.leaf_nodes.Goals as goal
 
@@ -13,4 +12,4 @@ listed_nodes-requires-clause-low c = c.in_ok-root.ensures.level.least
 
 pub returns-clause-ok : goal.returns-clause-ok
 returns-clause-ok c =
-    IfOk-weaker c.listed_nodes.result _ _ (λ nodes are. leaf_nodes_are _ _ c.in_ok-leaf.leaf c.in_ok-root.root _ nodes.items c.in_ok-leaf.ensures.ok c.in_ok-root.ensures.cells are) c.listed_nodes.ensures.ok
+    leaf_nodes_are _ _ c.in_ok-leaf.leaf c.in_ok-root.root _ c.in_ok-listed_nodes.field-0.items c.in_ok-leaf.ensures.ok c.in_ok-root.ensures.cells c.in_ok-listed_nodes.ensures

@@ -1,7 +1,7 @@
 use Rattle.std.proofs.Common.{◌+ℤ◌, rules, w64, SFits}
 use Rattle.std.proofs.lemmas.Int.{to_z-of_z}
 use Rattle.viewport.specs.BoundingBox.{FitsMoved}
-use Rattle.viewport.proofs.boxes.moved.Goals as goal
+use Rattle.viewport.proofs.boxes.shift.Goals as goal
 
 pub returns : goal.returns
 returns c =

@@ -11,8 +11,8 @@ use Rattle.table_core.proofs.Reopenings.{every_reopening}
 use Rattle.node_table.specs.declared.still.Still.{Still}
 use Rattle.node_table.specs.Stills.{words_of}
 use Rattle.node_table.proofs.Reopening.{IsThrough, rules_decided, through_kept, through_none, through_gone, through_same, through_all}
-use Rattle.node_table.proofs.still.Still.reopened.Goals.{then-index-ne0+then-not-keeps_result, else-index-ne0, else-index-ne0-via-then-index-ne0+else-not-keeps_result, else-index-ne0-via-else-index-ne0}
-use Rattle.node_table.proofs.still.Still.reopened.Goals as goal
+use Rattle.node_table.proofs.still.Still.reopen.Goals.{then-index-ne0+then-not-keeps_result, else-index-ne0, else-index-ne0-via-then-index-ne0+else-not-keeps_result, else-index-ne0-via-else-index-ne0}
+use Rattle.node_table.proofs.still.Still.reopen.Goals as goal
 
 good_again : (was : Still) (key : Key) (new : List ℕ) → key.shape ≡ was.key.shape → length new ≡ size was.key.shape.bits → Reopens was.key key (words_of was) (slice_index new) → AreGoodWords key new
 good_again was key new shape long reopens = record {
