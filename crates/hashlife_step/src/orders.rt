@@ -29,7 +29,7 @@ const ORDERS_OF_FOUR: [[u8; 4]; 8] = [
 ///
 /// Workers share their work best where their orders begin at different squares. No result hangs on
 /// an order, so nothing says that each square comes at some place.
-pub(crate) fn permuted(order: u8, k: usize, count: usize) -> usize
+pub(crate) fn place_in_order(order: u8, k: usize, count: usize) -> usize
     requires { 0 < count }
     ensures { result < count }
 {

@@ -8,7 +8,7 @@ ghost use Rattle.hashlife_step.specs.Tallies.{MakesResults};
 
 use crate::centres::four_centres;
 use crate::leaf_squares::{BASE_LEVEL, base_future, leaf_future};
-use crate::orders::permuted;
+use crate::orders::place_in_order;
 use crate::tally::Tally;
 use plane::Refusal;
 use squares::{LEAF_LEVEL, Sq, Squares};
@@ -143,7 +143,7 @@ fn ask_ahead<S: Squares>(
     for k in 0..squares.len() {
         future_in_order(
             book,
-            squares[permuted(order, k, squares.len())],
+            squares[place_in_order(order, k, squares.len())],
             order,
             tally,
         )?;

@@ -6,7 +6,7 @@ ghost use Rattle.squares.specs.Book.{IsKnown};
 ghost use Rattle.pattern_picture.specs.Drawn.{IsPictureOf};
 ghost use Rattle.pattern_picture.specs.Scale.{IsShown, IsSize};
 
-use crate::pixels::zoomed;
+use crate::pixels::draw_zoomed;
 use crate::scale::Scale;
 use plane::{Bounds, Refusal};
 use png_writer::Image;
@@ -40,7 +40,7 @@ pub fn picture<L: Look>(
     let scale = Scale::of(shown, size);
     let blocks = scale.blocks(shown);
     let shades = block_shades(alloc, look, sq, blocks)?;
-    zoomed(
+    draw_zoomed(
         alloc,
         shades.as_slice(),
         blocks.width,

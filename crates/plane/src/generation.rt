@@ -28,7 +28,7 @@ fn neighbour(cell: Cell, offset: Offset) -> Cell
 }
 
 // The cell from which a cell of the range lies at this offset.
-fn neighboured(cell: Cell, offset: Offset) -> Cell
+fn with_neighbour(cell: Cell, offset: Offset) -> Cell
     requires cell { IsInRange cell }
     requires offset { IsStep offset }
     ensures { result ≡ record { y = cell.y -ℤ offset.down; x = cell.x -ℤ offset.right } }
@@ -72,7 +72,7 @@ impl CellSet {
     {
         self.insert(cell)?;
         for offset in neighbourhood.offsets() {
-            self.insert(neighboured(cell, *offset))?;
+            self.insert(with_neighbour(cell, *offset))?;
         }
         Ok(())
     }

@@ -17,8 +17,8 @@ block_shades-requires-clause-rows g c =
     let scale = c.of-scale.result in
     rw c.blocks-blocks.ensures (shown_range scale.exponent c.args.shown.top c.args.shown.bottom c.requires.shown.rows c.of-scale.ensures.limit)
 
-pub zoomed-requires-clause-shades : goal.zoomed-requires-clause-shades
-zoomed-requires-clause-shades g c =
+pub draw_zoomed-requires-clause-shades : goal.draw_zoomed-requires-clause-shades
+draw_zoomed-requires-clause-shades g c =
     let plane = centred c.args.sq.level ((g.L.Look.book c.args.look.now).cells c.args.sq) in
     let shades : c.as_slice.result.now ≡ block_shades plane c.blocks-blocks.result = c.as_slice.ensures.value ∙ c.in_ok-shades.ensures.ok in
     ap length shades ∙ block_shades-length plane c.blocks-blocks.result
@@ -32,6 +32,6 @@ pub returns-clause-drawn : goal.returns-clause-drawn
 returns-clause-drawn g c =
     let plane = centred c.args.sq.level ((g.L.Look.book c.args.look.now).cells c.args.sq) in
     let shades : c.as_slice.result.now ≡ block_shades plane c.blocks-blocks.result = c.as_slice.ensures.value ∙ c.in_ok-shades.ensures.ok in
-    both c.zoomed.result _ _ (IsPictureOf plane c.args.shown c.args.size)
+    both c.draw_zoomed.result _ _ (IsPictureOf plane c.args.shown c.args.size)
     (λ image width rows. picture_drawn plane c.args.shown c.args.size c.of-scale.result c.blocks-blocks.result c.as_slice.result.now image c.of-scale.ensures c.blocks-blocks.ensures shades width rows)
-    c.zoomed.ensures.width c.zoomed.ensures.rows
+    c.draw_zoomed.ensures.width c.draw_zoomed.ensures.rows

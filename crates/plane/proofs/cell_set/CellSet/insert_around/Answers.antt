@@ -20,7 +20,7 @@ pub loop-offset-preserved : goal.loop-offset-preserved
 loop-offset-preserved c =
     let listing = c.in_ok-insert-2.ensures.ok in
     let keeps = IsKept-inserted _ _ _ listing in
-    let here = rw c.neighboured.ensures at (has_inserted _ _ _ listing) in
+    let here = rw c.with_neighbour.ensures at (has_inserted _ _ _ listing) in
     record {
       kept = λ x y live. keeps x y (c.loop-offset.invariant.kept x y live);
       itself = keeps _ _ c.loop-offset.invariant.itself;
