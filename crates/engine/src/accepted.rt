@@ -85,8 +85,10 @@ fn given_or_named(text: &PatternFile<'_>, given: Option<Rule>) -> Result<Rule, F
         (λ rule. ReadsRule given (meaning_of text.now) (Ok rule) × IsRule rule) }
     ensures err { IfErr result (λ fault. (rule_fault : RuleFault)
         × ReadsRule given (meaning_of text.now) (Err rule_fault)
-        × (fault ≡
-        record { refusal = rule_refusal rule_fault; place = Some (meaning_of text.now).rule_place })) }
+        × (fault ≡ record {
+          refusal = rule_refusal rule_fault;
+          place = Some (meaning_of text.now).rule_place;
+        })) }
 {
     if let Some(rule) = given {
         return Ok(rule);

@@ -1,6 +1,6 @@
 //! The bytes of a source.
 
-ghost use Rattle.std.specs.Prelude.{◌≡◌, IfOk, IfSome, IfErr, OnOk};
+ghost use Rattle.std.specs.Prelude.{◌≡◌, IfOk, IfErr, OnOk};
 ghost use Rattle.engine.specs.Devices.{IsWholeInput, IsReadRefusal};
 
 use plane::{Refusal, Source};
@@ -14,7 +14,8 @@ const CHUNK: usize = 8192;
 pub fn load<R: Source>(alloc: Global, source: &mut R) -> Result<Vec<u8>, Refusal>
     ensures whole { IfOk result (λ bytes. IsWholeInput (R.remaining source.old) bytes.items) }
     ensures unfailed { OnOk result (R.failure_count source.new ≡ R.failure_count source.old) }
-    ensures refused { IfErr result (IsReadRefusal (R.failure_count source.old) (R.failure_count source.new)) }
+    ensures refused { IfErr result
+        (IsReadRefusal (R.failure_count source.old) (R.failure_count source.new)) }
 {
     let mut bytes = Vec::new(alloc);
     let mut chunk = [0; CHUNK];

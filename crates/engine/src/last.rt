@@ -10,7 +10,7 @@ ghost use Rattle.engine.specs.Workers.{IsWorkerCount};
 use crate::accepted::judge;
 use crate::options::Options;
 use crate::pattern::Pattern;
-use crate::running::{Summary, ended, team_of};
+use crate::running::{Summary, finish, team_of};
 use plane::Fault;
 use std::alloc::Global;
 use std::sync::Wait;
@@ -40,6 +40,6 @@ pub fn last_pattern<R: Threads + Wait + Sync>(
     let start = begun.text.generation();
     let team = team_of(rt, alloc, options, &OpenGate);
     let universe = begun.universe.after(&team, options.gens)?;
-    let last = ended(alloc, universe, start + options.gens)?;
+    let last = finish(alloc, universe, start + options.gens)?;
     Ok(last)
 }

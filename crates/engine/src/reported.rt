@@ -68,7 +68,8 @@ fn next_shown(options: &Options, done: u64) -> u64
     ensures later { done < result }
     ensures within { result ≤ options.now.gens }
     ensures shown { is_shown options.now result ≡ not options.now.quiet }
-    ensures between { (number : ℕ) → done < number → number < result → is_shown options.now number ≡ false }
+    ensures between { (number : ℕ) → done < number → number < result →
+        is_shown options.now number ≡ false }
 {
     let gens = options.gens;
     if options.quiet || options.step == 0 {

@@ -80,7 +80,7 @@ pub fn run_gated<R: Threads + Wait + Sync, G: Gate, W: Sink, V: Sink>(
     let start = begun.text.generation();
     let team = team_of(rt, alloc, options, gate);
     let universe = run_reported(&team, begun.universe, start, options, report)?;
-    let (last, summary) = ended(alloc, universe, start + options.gens)?;
+    let (last, summary) = finish(alloc, universe, start + options.gens)?;
     last.draw(options.window, report)?;
     last.write(
         rt,
@@ -113,7 +113,7 @@ pub(crate) fn team_of<'a, R, G>(
 }
 
 // The pattern of the last generation, and what the run ends with.
-pub(crate) fn ended(
+pub(crate) fn finish(
     alloc: Global,
     universe: Universe,
     generation: u64,

@@ -1,6 +1,6 @@
 //! The line of a generation.
 
-ghost use Rattle.std.specs.Prelude.{◌≡◌, ◌≤◌, Some, IfErr, OnOk, length};
+ghost use Rattle.std.specs.Prelude.{◌≡◌, ◌≤◌, Some, OnOk, length};
 ghost use Rattle.std.specs.Io.KnownBytes.{Appends};
 ghost use Rattle.plane.specs.Device.{TellsFailure};
 ghost use Rattle.engine.specs.SummaryLine.{bounds_text, summary_line};

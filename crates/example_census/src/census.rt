@@ -23,7 +23,8 @@ pub(crate) fn census<R: Threads + Wait + Sync, W: Sink>(
     out: &mut W,
 ) -> Result<(), Fault>
     requires { lines ≤ 64 }
-    ensures { OnOk result ((text : List ℕ) × IsCensus bytes.now lines text × Appends (W.taken out.old) (W.taken out.new) text) }
+    ensures { OnOk result ((text : List ℕ) × IsCensus bytes.now lines text
+        × Appends (W.taken out.old) (W.taken out.new) text) }
 {
     for power in 0..lines {
         let summary = summary_after(rt, alloc, bytes, power_of_two(power))?;

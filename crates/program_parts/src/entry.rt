@@ -3,12 +3,13 @@
 ghost use Rattle.std.specs.Prelude.{◌≡◌, ◌⊎◌, Err, IfOk, OnOk, IfErr};
 ghost use Rattle.plane.specs.Device.{HasFailed};
 ghost use Rattle.patterns.specs.Meaning.{placeless};
+ghost use Rattle.engine.specs.SinkChange.{change_of};
 ghost use Rattle.program_parts.specs.Asking.{IsFaultOf, texts_of};
 ghost use Rattle.program_parts.specs.Behaviour.{EndsProgram, IsDone, IsStop};
 ghost use Rattle.program_parts.specs.declared.stops.Stop.TheVariants.{Refused};
 
 use crate::application::Application;
-use crate::stops::{Stop, end_of_words, told_status};
+use crate::stops::{Stop, end_of_words, tell_end};
 use crate::words::WordsFault;
 use plane::{Fault, Refusal, Sink};
 use std::alloc::Global;
@@ -39,11 +40,11 @@ pub fn program<A: Application, R: Files + Input + Threads + Wait + Sync, O: Sink
     err: &mut E,
 ) -> u8
     ensures { EndsProgram A.behaviour A.name (texts_of words.now)
-        (record { old = out.old; new = out.new; taken = O.taken; failure_count = O.failure_count })
-        (record { old = err.old; new = err.new; taken = E.taken; failure_count = E.failure_count }) result }
+        (change_of O.taken O.failure_count out.old out.new)
+        (change_of E.taken E.failure_count err.old err.new) result }
 {
     let ended = perform_words::<A, R, O>(rt, alloc, words, out);
-    told_status(alloc, err, A::name(), ended)
+    tell_end(alloc, err, A::name(), ended)
 }
 
 // Does what the words ask for. What the program then tells has no part in it.

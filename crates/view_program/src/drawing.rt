@@ -2,6 +2,7 @@
 
 ghost use Rattle.std.specs.Prelude.{IfSome};
 ghost use Rattle.table_core.specs.Sizes.{IsPairCount};
+ghost use Rattle.engine.specs.SinkChange.{change_of};
 ghost use Rattle.engine.specs.Workers.{IsWorkerCount};
 ghost use Rattle.pattern_picture.specs.Scale.{IsShown, IsSize};
 ghost use Rattle.view_program.specs.View.{IsView};
@@ -39,8 +40,8 @@ pub fn draw<R: Threads + Wait + Sync, W: Sink, V: Sink>(
     requires window { IfSome view.now.window IsShown }
     requires size { IsSize view.now.size }
     ensures { IsView bytes.now view.now name.now
-        (record { old = report.old; new = report.new; taken = W.taken; failure_count = W.failure_count })
-        (record { old = file.old; new = file.new; taken = V.taken; failure_count = V.failure_count }) result }
+        (change_of W.taken W.failure_count report.old report.new)
+        (change_of V.taken V.failure_count file.old file.new) result }
 {
     let (last, summary) = last_pattern(rt, alloc, bytes, &view.run)?;
     let shown = rectangle_shown(view.window, summary.bounds);

@@ -1,6 +1,7 @@
 //! The whole program, over any standard output and standard error.
 
 ghost use Rattle.std.specs.Prelude.{codes};
+ghost use Rattle.engine.specs.SinkChange.{change_of};
 ghost use Rattle.program_parts.specs.Asking.{texts_of};
 ghost use Rattle.program_parts.specs.Behaviour.{EndsProgram};
 ghost use Rattle.view_program.specs.Status.{behaviour};
@@ -30,8 +31,8 @@ pub fn program<R: Files + Input + Threads + Wait + Sync, O: Sink, E: Sink>(
     err: &mut E,
 ) -> u8
     ensures { EndsProgram behaviour (codes "lifeview") (texts_of words.now)
-        (record { old = out.old; new = out.new; taken = O.taken; failure_count = O.failure_count })
-        (record { old = err.old; new = err.new; taken = E.taken; failure_count = E.failure_count }) result }
+        (change_of O.taken O.failure_count out.old out.new)
+        (change_of E.taken E.failure_count err.old err.new) result }
 {
     program_parts::program::<Lifeview, R, O, E>(rt, alloc, words, out, err)
 }

@@ -3,7 +3,7 @@ use Rattle.plane.proofs.Same.{plane_equal, same_sym, same_trans}
 use Rattle.engine.specs.Pattern.{plane_of}
 use Rattle.universe.specs.Cells.{live_cells}
 use Rattle.viewport.specs.Population.{HasPopulation}
-use Rattle.engine.proofs.running.ended.Goals as goal
+use Rattle.engine.proofs.running.finish.Goals as goal
 
 pub returns-clause-same : goal.returns-clause-same
 returns-clause-same c = same_trans c.of-last.ensures c.in_ok-universe.ensures.same
