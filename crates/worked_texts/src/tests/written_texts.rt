@@ -7,7 +7,7 @@ use pattern_writers::{write_mc, write_rle};
 use plane::{FailAt, Memory, Refusal, Sink};
 use rle_reader::RleFile;
 use rule_text::Rule;
-use squares::{Num, PlainBook, Sq, Squares, join_leaves};
+use squares::{LOWEST_ROOT_LEVEL, PlainBook, Sq, Squares, join_leaves};
 use std::alloc::Global;
 use std::thread::Threads;
 
@@ -35,24 +35,20 @@ enum Square {
     UpperLeftAndLowerRight([u64; 4]),
 }
 
-// The square of level 4 with no cells.
-const EMPTY: Sq = Sq {
-    level: 4,
-    num: Num(0),
-};
-
 // The square of level 5 that has a square of level 4 in its upper left quarter, and another in the lower right one.
 fn larger_of(book: &mut PlainBook, nw: Sq, se: Sq) -> Result<Sq, Refusal>
     requires nw { IsKnown (⟦<PlainBook as Squares>⟧.book book.old) 4 nw }
     requires se { IsKnown (⟦<PlainBook as Squares>⟧.book book.old) 4 se }
     ensures { IfOk result (IsKnown (⟦<PlainBook as Squares>⟧.book book.new) 5) }
 {
-    book.quad([nw, EMPTY, EMPTY, se])
+    let empty = Sq::empty(LOWEST_ROOT_LEVEL);
+    book.quad([nw, empty, empty, se])
 }
 
 // The square in a book.
-fn made(book: &mut PlainBook, square: Square) -> Result<Sq, Refusal>
-    ensures known { IfOk result (λ sq. IsKnown (⟦<PlainBook as Squares>⟧.book book.new) sq.level sq) }
+fn build(book: &mut PlainBook, square: Square) -> Result<Sq, Refusal>
+    ensures known { IfOk result (λ sq.
+        IsKnown (⟦<PlainBook as Squares>⟧.book book.new) sq.level sq) }
     ensures level { IfOk result (λ sq. sq.level ≤ 63) }
 {
     match square {
@@ -60,7 +56,7 @@ fn made(book: &mut PlainBook, square: Square) -> Result<Sq, Refusal>
         Square::Alone(leaves) => join_leaves(book, leaves),
         Square::UpperLeft(leaves) => {
             let sq = join_leaves(book, leaves)?;
-            larger_of(book, sq, EMPTY)
+            larger_of(book, sq, Sq::empty(LOWEST_ROOT_LEVEL))
         }
         Square::UpperLeftAndLowerRight(leaves) => {
             let sq = join_leaves(book, leaves)?;
@@ -76,7 +72,7 @@ const OPENING: &[u8] = b"[M2] (lifebatch 1)\n#R B3/S23\n#G 4\n";
 fn has_text(alloc: Global, square: Square, commented: bool, wanted: &str) -> Option<bool> {
     let rule = Rule::read(b"23/3").ok()?;
     let mut book = PlainBook::new(alloc, rule, 0);
-    let sq = made(&mut book, square).ok()?;
+    let sq = build(&mut book, square).ok()?;
     let read = RleFile::open(if commented { COMMENTED } else { NO_COMMENTS }).ok()?;
     let mut file = Memory::with_room(alloc, 1000).ok()?;
     write_mc(alloc, &book, sq, read.comments(), &rule, 4, &mut file).ok()?;
@@ -151,7 +147,7 @@ fn answers_of_writers<R: Threads + Sync>(
         return None;
     };
     let mut book = PlainBook::new(alloc, rule, 0);
-    let sq = made(&mut book, Square::Alone([1; 4])).ok()?;
+    let sq = build(&mut book, Square::Alone([1; 4])).ok()?;
     let mut file = FailAt::new(memory, 1);
     let first = write_mc(alloc, &book, sq, read.comments(), &rule, 0, &mut file);
     let second = write_rle(rt, alloc, &book, sq, read.comments(), &rule, 0, &mut file);
