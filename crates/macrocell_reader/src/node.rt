@@ -2,7 +2,7 @@
 
 ghost use Rattle.std.specs.Prelude.{◌≡◌};
 ghost use Rattle.std.specs.Option.{option_map};
-ghost use Rattle.macrocell_reader.specs.Nodes.{kept, level_of, node_of, begins_leaf};
+ghost use Rattle.macrocell_reader.specs.Nodes.{kept, node_of, begins_leaf};
 
 use crate::inner::inner;
 use crate::leaf::{is_cell, leaf};

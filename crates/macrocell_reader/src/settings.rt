@@ -4,7 +4,7 @@ ghost use Rattle.std.specs.Prelude.{◌≡◌, OnOk, IfErr};
 ghost use Rattle.plane.specs.declared.refusal.Refusal.{Refusal};
 ghost use Rattle.text_lines.specs.Faults.{fault_at};
 ghost use Rattle.macrocell_reader.specs.Seen.{said_seen};
-ghost use Rattle.macrocell_reader.specs.Settings.{nothing_said, said_fault, after_line, generation_of, within_limit};
+ghost use Rattle.macrocell_reader.specs.Settings.{nothing_said, said_fault, after_line, generation_of};
 
 use plane::{Fault, GENERATION_LIMIT, Refusal};
 use text_lines::{Line, begins_with, fault_at, number, trim};

@@ -7,7 +7,6 @@ ghost use Rattle.text_lines.specs.Faults.{at_place};
 ghost use Rattle.text_lines.specs.Numbers.{number_of};
 ghost use Rattle.rle_reader.specs.Words.{word_of, position_of, generation_at, cell_at};
 ghost use Rattle.rle_reader.specs.Settings.{nothing_said, after_word, after_readings, after_line, lower, words_left};
-ghost use Rattle.text_lines.specs.Comments.{is_settings_line};
 
 use crate::bytes::split_at_byte;
 use crate::number::integer;

@@ -1,6 +1,6 @@
 //! The parts of a rule's text, found from its front on.
 
-ghost use Rattle.std.specs.Prelude.{◌≡◌, ℕ, IfSome, option_map, take_while};
+ghost use Rattle.std.specs.Prelude.{◌≡◌, IfSome, option_map, take_while};
 ghost use Rattle.std.specs.List.{AllPass};
 ghost use Rattle.std.specs.Char.{is_ascii_digit};
 ghost use Rattle.std.specs.Option.{option_copied};

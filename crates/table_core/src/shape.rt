@@ -1,6 +1,6 @@
 //! The size of a table, and where its words stand.
 
-ghost use Rattle.std.specs.Prelude.{◌≡◌, ℕ, ◌≤◌, ◌<◌, ◌+◌, ◌^◌, ◌↔◌, IsTrue};
+ghost use Rattle.std.specs.Prelude.{◌≡◌, ◌≤◌, ◌<◌, ◌+◌, ◌^◌, ◌↔◌, IsTrue};
 ghost use Rattle.table_core.specs.Sizes.{IsPairCount};
 
 /// The fewest pair slots that a table may have.

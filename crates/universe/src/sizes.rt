@@ -1,6 +1,6 @@
 //! The sizes of tables, from a small one on.
 
-ghost use Rattle.std.specs.Prelude.{◌≡◌, ◌<◌, ◌≤◌, ◌+◌, ◌^◌, min, IfNone, IfSome};
+ghost use Rattle.std.specs.Prelude.{◌≡◌, ◌<◌, ◌≤◌, ◌^◌, min, IfNone, IfSome};
 
 use table_core::{Kind, Shape};
 

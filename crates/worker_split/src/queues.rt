@@ -1,7 +1,7 @@
 //! A worker's queue of jobs, from which the others steal. What it holds is a piece of the worker's own
 //! share, in order.
 ghost use Rattle.std.specs.Prelude.{◌≡◌, ◌++◌, ◌<◌, ◌≤◌, All, IfOk, IfSome, true, false, []};
-ghost use Rattle.crossbeam_deque.specs.Handles.{IsPassOf, view, stealer_deque, worker_deque, worker_flavor, worker_view};
+ghost use Rattle.crossbeam_deque.specs.Handles.{IsPassOf, view, stealer_deque, worker_flavor, worker_view};
 
 use crossbeam_deque::protocol::{Outcome, Protocol, Split};
 use crossbeam_deque::{Pass, Steal, Stealer, Worker};

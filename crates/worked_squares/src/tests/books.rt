@@ -1,6 +1,6 @@
 //! Rules, books and squares that several examples begin with.
 
-ghost use Rattle.std.specs.Prelude.{◌≡◌, ◌≤◌, IfOk};
+ghost use Rattle.std.specs.Prelude.{◌≤◌, IfOk};
 ghost use Rattle.squares.specs.Book.{IsKnown};
 
 use plane::{CellSet, Refusal};

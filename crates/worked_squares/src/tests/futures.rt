@@ -1,6 +1,6 @@
 //! Plans, paddings, futures and steps of squares.
 
-ghost use Rattle.std.specs.Prelude.{◌≡◌, IfOk};
+ghost use Rattle.std.specs.Prelude.{IfOk};
 ghost use Rattle.squares.specs.Book.{IsKnown};
 
 use crate::tests::books::{book_of, rule_of, square_round};

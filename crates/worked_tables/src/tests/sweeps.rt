@@ -1,6 +1,6 @@
 //! Squares copied into fresh words: which leaves and results come along, and what has no room.
 
-ghost use Rattle.std.specs.Prelude.{◌≡◌, ◌≤◌, IfOk};
+ghost use Rattle.std.specs.Prelude.{◌≤◌, IfOk};
 ghost use Rattle.squares.specs.Book.{IsKnown, Keeps};
 ghost use Rattle.node_table.specs.Stills.{book_in};
 
