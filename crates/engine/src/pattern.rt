@@ -58,7 +58,8 @@ impl Pattern {
     pub fn draw<W: Sink>(&self, window: Option<Window>, report: &mut W) -> Result<(), Refusal>
         ensures drawn { OnOk result (Appends (W.taken report.old) (W.taken report.new)
             (picture_of window (plane_of self.now))) }
-        ensures failure { TellsFailure (W.failure_count report.old) (W.failure_count report.new) result }
+        ensures failure { TellsFailure
+            (W.failure_count report.old) (W.failure_count report.new) result }
     {
         match window {
             Some(window) => picture(self.cells.still(), self.cells.root(), &window, report),

@@ -50,7 +50,8 @@ fn write_report_line<W: Sink>(
 ) -> Result<(), Refusal>
     ensures written { OnOk result (Appends (W.taken report.old) (W.taken report.new)
         (report_line generation population)) }
-    ensures failure { TellsFailure (W.failure_count report.old) (W.failure_count report.new) result }
+    ensures failure { TellsFailure
+        (W.failure_count report.old) (W.failure_count report.new) result }
 {
     let mut line = ArrayString::<LINE_ROOM>::new();
     line.push_str(Buffer::new().format(generation));
