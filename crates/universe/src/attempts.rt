@@ -3,14 +3,13 @@
 ghost use Rattle.std.specs.Prelude.{◌≡◌, ◌≤◌, ◌^◌, IfOk};
 
 use crate::refusals::unless_full;
-use crate::retries::{Retry, RetryPlan};
 use crate::rooted_still::Keep;
-use crate::sizes::pair_count;
 use crate::universe::Universe;
 use std::alloc::AllocError;
 use std::sync::Wait;
 use std::thread::Threads;
 use table_core::Shape;
+use table_growth::{Retry, RetryPlan, pair_count};
 use worker_split::{Gate, Team};
 
 // The universe after a step, or after its cells came to another table; or, where a table was full, the
@@ -23,7 +22,7 @@ pub(crate) enum Attempt {
 
 impl Universe {
     ghost use Rattle.universe.specs.Cells.{limit_of};
-    ghost use Rattle.universe.specs.Retries.{IsWithin};
+    ghost use Rattle.table_growth.specs.Retries.{IsWithin};
     ghost use Rattle.universe.specs.Runs.{IsAttempt, IsFullAtLimit, IsFullInPlace, MayStep};
     ghost use Rattle.universe.specs.declared.rooted_still.Keep.TheVariants.{CellsAlone};
 

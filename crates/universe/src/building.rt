@@ -6,10 +6,8 @@ ghost use Rattle.table_core.specs.Sizes.{IsPairCount};
 ghost use Rattle.universe.specs.Outcomes.{LacksMemoryOrRoom, WhereFull};
 ghost use Rattle.universe.specs.Tables.{HasFullTable};
 
-use crate::history::TableHistory;
 use crate::other_tables::OtherTables;
 use crate::refusals::unless_full;
-use crate::sizes::{GrowthFactor, larger, smallest};
 use crate::tables::OpenTable;
 use crate::universe::Universe;
 use plane::Refusal;
@@ -17,6 +15,7 @@ use rule_text::Rule;
 use squares::{Build, Sq};
 use std::alloc::Global;
 use table_core::Shape;
+use table_growth::{GrowthFactor, TableHistory, larger, smallest};
 
 impl Universe {
     ghost use Rattle.universe.specs.Cells.{limit_of, live_cells, rule_of};

@@ -5,11 +5,11 @@ ghost use Rattle.universe.specs.Tables.{key_at, pairs_in};
 
 use crate::attempts::Attempt;
 use crate::refusals::unless_full;
-use crate::sizes::{larger, pair_count, smallest};
 use crate::tables::OpenTable;
 use crate::universe::Universe;
 use std::alloc::{AllocError, Global};
 use table_core::Shape;
+use table_growth::{larger, pair_count, smallest};
 
 impl Universe {
     ghost use Rattle.universe.specs.Cells.{limit_of, pairs_of, rule_of};

@@ -4,11 +4,11 @@ ghost use Rattle.std.specs.Prelude.{◌≡◌, ◌<◌, ◌≤◌, ◌-◌, ◌^
 ghost use Rattle.universe.specs.Sums.{AreLast, IsTakenOut, pair_sum};
 ghost use Rattle.universe.specs.Tables.{IsTableUnder};
 
-use crate::sizes::pair_count;
 use crate::tables::OpenTable;
 use rule_text::Rule;
 use std::alloc::{AllocError, Global};
 use table_core::Shape;
+use table_growth::pair_count;
 
 /// The tables that stay open beside the one of the cells, the least recently used first, and the limit for the
 /// pair slots of all.

@@ -5,10 +5,8 @@ ghost use Rattle.node_table.specs.Stills.{book_in, key_of};
 ghost use Rattle.squares.specs.Book.{IsKnown};
 ghost use Rattle.viewport.specs.BoundingBox.{HasBounds};
 
-use crate::history::TableHistory;
 use crate::other_tables::OtherTables;
 use crate::refusals::unless_full;
-use crate::sizes::{GrowthFactor, larger, smallest};
 use crate::tables::OpenTable;
 use crate::universe::Universe;
 use node_sweep::{collect, enlarge, sweep};
@@ -17,6 +15,7 @@ use plane::{Bounds, Refusal};
 use squares::Sq;
 use std::alloc::{AllocError, Global};
 use table_core::{Kind, Shape};
+use table_growth::{GrowthFactor, TableHistory, larger, smallest};
 use viewport::bounds;
 
 /// What is kept when words are copied into new ones.

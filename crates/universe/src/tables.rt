@@ -9,10 +9,8 @@ ghost use Rattle.squares.specs.Rounds.{IsRound, square_plane};
 ghost use Rattle.universe.specs.Outcomes.{IfMade, LacksMemoryOrRoom};
 ghost use Rattle.worker_split.specs.Jobs.{Refuses};
 
-use crate::history::TableHistory;
 use crate::refusals::unless_full;
 use crate::rooted_still::RootedStill;
-use crate::sizes::pair_count;
 use node_sweep::enlarge_still;
 use node_table::{Desk, NodeTable, Still};
 use plane::Refusal;
@@ -22,6 +20,7 @@ use std::alloc::{AllocError, Global};
 use std::sync::Wait;
 use std::thread::Threads;
 use table_core::{Key, Kind, Shape};
+use table_growth::{TableHistory, pair_count};
 use worker_split::{Gate, Team, step};
 
 /// A table that stays open, with its one desk, and its history.

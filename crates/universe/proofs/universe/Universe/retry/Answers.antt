@@ -1,6 +1,6 @@
 use Rattle.std.proofs.Common.{◌^◌, ap, subst, arith, pow_mono}
 use Rattle.table_core.specs.declared.key.Key.{Key}
-use Rattle.universe.specs.Retries.{IsWithin}
+use Rattle.table_growth.specs.Retries.{IsWithin}
 use Rattle.universe.proofs.universe.Universe.retry.Goals as goal
 
 pub step_in-requires-clause-shape : goal.step_in-requires-clause-shape

@@ -5,7 +5,7 @@ use Rattle.table_core.specs.declared.key.Key.{Key}
 use Rattle.table_core.specs.declared.shape.Shape.{Shape}
 use Rattle.universe.specs.Cells.{limit_of, root_of, still_of}
 use Rattle.universe.specs.Stills.{HasNoRoomToSweep, IsCopied, IsOpenedAt, IsSweptFrom}
-use Rattle.universe.specs.declared.history.TableHistory.{TableHistory}
+use Rattle.table_growth.specs.declared.history.TableHistory.{TableHistory}
 use Rattle.universe.specs.declared.other_tables.OtherTables.{OtherTables}
 use Rattle.universe.specs.declared.rooted_still.RootedStill.{RootedStill}
 use Rattle.universe.proofs.Copying.{copied, reopened}

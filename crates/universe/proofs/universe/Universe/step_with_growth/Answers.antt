@@ -1,6 +1,6 @@
 use Rattle.std.proofs.Common.{subst, sym}
 use Rattle.table_core.specs.declared.shape.Shape.{Shape}
-use Rattle.universe.specs.Retries.{IsWithin}
+use Rattle.table_growth.specs.Retries.{IsWithin}
 use Rattle.universe.specs.Runs.{IsAttempt}
 use Rattle.universe.specs.declared.attempts.Attempt.{Attempt}
 use Rattle.universe.proofs.Onward.{attempt_again, step_again}

@@ -1,8 +1,8 @@
 use Rattle.std.proofs.Common.{◌≡◌}
 use Rattle.std.specs.Prelude.{Some}
-use Rattle.universe.specs.Retries.{retries_after}
+use Rattle.table_growth.specs.Retries.{retries_after}
 use Rattle.universe.specs.Runs.{IsAttempt, IsFullAtLimit}
-use Rattle.universe.specs.declared.retries.Retry.TheVariants.{CellsAlone}
+use Rattle.table_growth.specs.declared.retries.Retry.TheVariants.{CellsAlone}
 use Rattle.universe.proofs.universe.Universe.step_with_growth.Given as goal
 
 -- the last attempt, which is at the limit after the last retry

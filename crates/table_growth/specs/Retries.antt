@@ -1,9 +1,9 @@
 -- What is tried where a table was full for a step.
 use Rattle.std.specs.Prelude.{ℕ, ◌+◌, ◌-◌, ◌<◌, ◌≤◌, Option, None, Some}
 use Rattle.table_core.specs.declared.shape.Shape.{Shape}
-use Rattle.universe.specs.declared.retries.Retry.{Retry}
-use Rattle.universe.specs.declared.retries.Retry.TheVariants.{Swept, Enlarged, Collected, CellsAlone}
-use Rattle.universe.specs.declared.retries.TheConstants.{MOST_COLLECTIONS}
+use Rattle.table_growth.specs.declared.retries.Retry.{Retry}
+use Rattle.table_growth.specs.declared.retries.Retry.TheVariants.{Swept, Enlarged, Collected, CellsAlone}
+use Rattle.table_growth.specs.declared.retries.TheConstants.{MOST_COLLECTIONS}
 
 -- the new table isn't larger than the largest
 abbrev pub IsWithin : Shape → Retry → Type 0

@@ -34,7 +34,7 @@ enum Collections {
 
 /// The steps that a table has taken, and how far the last one came.
 #[derive(Clone, Copy)]
-pub(crate) struct TableHistory {
+pub struct TableHistory {
     /// How many steps there were.
     steps: u32,
     /// How many squares the last step of the cells expanded, at this table or at the one before it.
@@ -47,7 +47,7 @@ pub(crate) struct TableHistory {
 
 impl TableHistory {
     /// For a table whose cells have taken no step.
-    pub(crate) fn new() -> TableHistory {
+    pub fn new() -> TableHistory {
         TableHistory {
             steps: 0,
             expansions: None,
@@ -59,7 +59,7 @@ impl TableHistory {
     /// For a new table of 2^bits pair slots that takes over the cells of this one. It has taken no step. A
     /// table that isn't large also takes over how many squares the last step expanded; at a large one the next
     /// step may be long.
-    pub(crate) fn for_new_table(self, bits: u8) -> TableHistory {
+    pub fn for_new_table(self, bits: u8) -> TableHistory {
         let mut history = TableHistory::new();
         if bits < LARGE_BITS {
             history.expansions = self.expansions;
@@ -69,21 +69,21 @@ impl TableHistory {
 
     /// For a new table of 2^bits pair slots that takes over what was collected from this one, when this much
     /// was finished.
-    pub(crate) fn for_collected_table(self, bits: u8, finished: Finished) -> TableHistory {
+    pub fn for_collected_table(self, bits: u8, finished: Finished) -> TableHistory {
         let mut history = self.for_new_table(bits);
         history.collections = Collections::Collected(finished);
         history
     }
 
     /// For this table, from which nothing more is collected before the next step.
-    pub(crate) fn without_collections(mut self) -> TableHistory {
+    pub fn without_collections(mut self) -> TableHistory {
         self.collections = Collections::All;
         self
     }
 
     /// For this table, after a try of one more step. A try that met a full table is no step, and doesn't tell
     /// whether the step is short.
-    pub(crate) fn after_try(mut self, is_taken: bool, expansions: u64) -> TableHistory {
+    pub fn after_try(mut self, is_taken: bool, expansions: u64) -> TableHistory {
         self.last_try = expansions;
         if is_taken {
             self.steps = self.steps.saturating_add(1);
@@ -95,7 +95,7 @@ impl TableHistory {
 
     /// Whether a collection may help the next step at a full table of so many pair slots: there was none for it
     /// yet, or the last one left the step some room.
-    pub(crate) fn should_collect(self, pairs: u64) -> bool {
+    pub fn should_collect(self, pairs: u64) -> bool {
         match self.collections {
             Collections::None => true,
             Collections::Collected(_) => self.last_try >= pairs / SLOTS_AN_EXPANSION,
@@ -104,7 +104,7 @@ impl TableHistory {
     }
 
     /// Whether more is finished than at the last collection for the next step.
-    pub(crate) fn has_finished_more(self, finished: &Finished) -> bool {
+    pub fn has_finished_more(self, finished: &Finished) -> bool {
         match self.collections {
             Collections::Collected(earlier) => finished.is_beyond(&earlier),
             _ => true,
@@ -112,7 +112,7 @@ impl TableHistory {
     }
 
     /// How many workers the next step may have: one, where the last one was short.
-    pub(crate) fn most_workers(self) -> usize
+    pub fn most_workers(self) -> usize
         ensures { 1 ≤ result }
     {
         match self.expansions {
@@ -122,7 +122,7 @@ impl TableHistory {
     }
 
     /// By which factor the table grows, as long as it isn't large.
-    pub(crate) fn growth_factor(self) -> GrowthFactor {
+    pub fn growth_factor(self) -> GrowthFactor {
         if self.steps > STEPS_OF_GROWTH {
             GrowthFactor::Four
         } else {
@@ -132,7 +132,7 @@ impl TableHistory {
 
     /// Whether a full table of 2^bits pair slots should be swept before it grows, since most of it is likely to
     /// be left over from earlier steps: it is large and has taken some, or nearly large and has taken many.
-    pub(crate) fn should_sweep_first(self, bits: u8) -> bool {
+    pub fn should_sweep_first(self, bits: u8) -> bool {
         if bits >= LARGE_BITS {
             return self.steps >= STEPS_BEFORE_SWEEP;
         }

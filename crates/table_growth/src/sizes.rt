@@ -11,7 +11,7 @@ const START_BITS: u8 = 12;
 pub(crate) const LARGE_BITS: u8 = 18;
 
 /// The shape of a new table: 4096 pair slots, or the largest.
-pub(crate) fn smallest(most: Shape) -> Shape
+pub fn smallest(most: Shape) -> Shape
     ensures { result.bits ≡ min 12 most.bits }
 {
     let bits = most.bits.min(START_BITS);
@@ -20,7 +20,7 @@ pub(crate) fn smallest(most: Shape) -> Shape
 
 /// By which factor a full table grows, as long as it isn't large.
 #[derive(Clone, Copy, Debug)]
-pub(crate) enum GrowthFactor {
+pub enum GrowthFactor {
     Four,
     Sixteen,
 }
@@ -28,7 +28,7 @@ pub(crate) enum GrowthFactor {
 /// The shape of the table that replaces a full one. It has four or sixteen times as many pair slots, as the
 /// factor says, after a large one four times as many, and never more than the largest. `None` where the full
 /// one has the largest shape.
-pub(crate) fn larger(shape: Shape, most: Shape, growth_factor: GrowthFactor) -> Option<Shape>
+pub fn larger(shape: Shape, most: Shape, growth_factor: GrowthFactor) -> Option<Shape>
     ensures some { IfSome result (λ next. (shape.bits < next.bits) × (next.bits ≤ most.bits)) }
     ensures none { IfNone result (most.bits ≤ shape.bits) }
 {
@@ -44,7 +44,7 @@ pub(crate) fn larger(shape: Shape, most: Shape, growth_factor: GrowthFactor) -> 
 }
 
 /// How many pair slots a table of this shape has.
-pub(crate) fn pair_count(shape: Shape) -> u64
+pub fn pair_count(shape: Shape) -> u64
     ensures { result ≡ 2 ^ shape.bits }
 {
     u64::from(shape.slot_count(Kind::Pair))

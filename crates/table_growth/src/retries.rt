@@ -11,7 +11,7 @@ const MOST_COLLECTIONS: u32 = 1 << 20;
 
 /// How a step is tried again: at a new table of which size, and with what of the table that was full.
 #[derive(Clone, Copy)]
-pub(crate) enum Retry {
+pub enum Retry {
     /// Of the same size, with the cells alone.
     Swept,
     /// Of this larger size, with all squares and results.
@@ -24,21 +24,21 @@ pub(crate) enum Retry {
 
 /// The shape and the history of the table at which a step was tried first, and the largest shape.
 #[derive(Clone, Copy)]
-pub(crate) struct RetryPlan {
-    pub(crate) shape: Shape,
-    pub(crate) history: TableHistory,
-    pub(crate) limit: Shape,
+pub struct RetryPlan {
+    pub shape: Shape,
+    pub history: TableHistory,
+    pub limit: Shape,
 }
 
 impl RetryPlan {
-    ghost use Rattle.universe.specs.Retries.{IsWithin, LeavesFewer};
-    ghost use Rattle.universe.specs.declared.retries.Retry.TheVariants.{CellsAlone, Collected, Enlarged};
+    ghost use Rattle.table_growth.specs.Retries.{IsWithin, LeavesFewer};
+    ghost use Rattle.table_growth.specs.declared.retries.Retry.TheVariants.{CellsAlone, Collected, Enlarged};
 
     /// What comes after this try, which met a full table; `None` stands for the first try, at the table as it
     /// was. A table that earlier steps have filled is swept, if it isn't the largest; then comes each larger
     /// size; then collections, as long as one helps; and at last the cells alone. If they fill the largest
     /// table too, nothing comes: the step has to be halved.
-    pub(crate) fn next(&self, tried: Option<Retry>, collection_helps: bool) -> Option<Retry>
+    pub fn next(&self, tried: Option<Retry>, collection_helps: bool) -> Option<Retry>
         ensures within { IfSome result (IsWithin self.now.limit) }
         ensures fewer { IfSome result (LeavesFewer self.now.limit tried) }
         ensures last { IfNone result (tried ≡ Some CellsAlone) }
@@ -83,29 +83,30 @@ mod tests {
     use std::alloc::Global;
     use std::test::Fail;
 
-    // What is tried, in this order, where a table of 2^bits pair slots that has taken so many steps is full, the
-    // largest has 2^limit, and so many collections help: a number is the size of a larger table.
-    fn order(
-        alloc: Global,
-        bits: u8,
+    // A table that is full, and what is tried then: its size and the largest one's, the steps that it has taken,
+    // and how many collections help. A number in the order is the size of a larger table.
+    #[derive(Clone, Copy)]
+    struct Case {
+        shape: Shape,
+        limit: Shape,
         steps: u32,
-        limit: u8,
         collections: u32,
-    ) -> Result<String, Fail>
-        requires bits { (10 ≤ bits) × (bits ≤ 28) }
-        requires limit { (10 ≤ limit) × (limit ≤ 28) }
-    {
+        order: &'static str,
+    }
+
+    // What is tried, in this order.
+    fn order(alloc: Global, case: &Case) -> Result<String, Fail> {
         let mut history = TableHistory::new();
-        for _ in 0..steps {
+        for _ in 0..case.steps {
             history = history.after_try(true, 0);
         }
         let plan = RetryPlan {
-            shape: Shape { bits },
+            shape: case.shape,
             history,
-            limit: Shape { bits: limit },
+            limit: case.limit,
         };
         let mut order = String::new(alloc);
-        let mut left = collections;
+        let mut left = case.collections;
         let mut tried = None;
         for _ in 0..32u8 {
             tried = plan.next(tried, left > 0);
@@ -124,34 +125,37 @@ mod tests {
         Ok(order)
     }
 
+    // A table of 2^bits pair slots, where the largest has 2^limit.
+    fn full(bits: u8, limit: u8, steps: u32, collections: u32, order: &'static str) -> Case
+        requires bits { (10 ≤ bits) × (bits ≤ 28) }
+        requires limit { (10 ≤ limit) × (limit ≤ 28) }
+    {
+        Case {
+            shape: Shape { bits },
+            limit: Shape { bits: limit },
+            steps,
+            collections,
+            order,
+        }
+    }
+
     #[test]
     fn each_retry_in_its_order(rt: HostRuntime) -> Result<(), Fail> {
-        let alloc = rt.alloc();
-        assert_eq!(rt; order(alloc, 10, 0, 10, 0)?.as_str(), "alone halve");
-        assert_eq!(rt; order(alloc, 12, 0, 17, 0)?.as_str(), "16 17 alone halve");
-        assert_eq!(rt;
-            order(alloc, 12, 4, 22, 1)?.as_str(),
-            "16 20 22 collect alone halve"
-        );
-        assert_eq!(rt;
-            order(alloc, 12, 5, 17, 0)?.as_str(),
-            "14 16 17 alone halve"
-        );
-        assert_eq!(rt; order(alloc, 15, 256, 17, 0)?.as_str(), "17 alone halve");
-        assert_eq!(rt; order(alloc, 16, 255, 20, 0)?.as_str(), "18 20 alone halve");
-        assert_eq!(rt;
-            order(alloc, 16, 256, 20, 0)?.as_str(),
-            "sweep 18 20 alone halve"
-        );
-        assert_eq!(rt; order(alloc, 18, 3, 20, 0)?.as_str(), "20 alone halve");
-        assert_eq!(rt;
-            order(alloc, 18, 4, 22, 0)?.as_str(),
-            "sweep 20 22 alone halve"
-        );
-        assert_eq!(rt;
-            order(alloc, 20, 9, 20, 2)?.as_str(),
-            "collect collect alone halve"
-        );
+        let cases = [
+            full(10, 10, 0, 0, "alone halve"),
+            full(12, 17, 0, 0, "16 17 alone halve"),
+            full(12, 22, 4, 1, "16 20 22 collect alone halve"),
+            full(12, 17, 5, 0, "14 16 17 alone halve"),
+            full(15, 17, 256, 0, "17 alone halve"),
+            full(16, 20, 255, 0, "18 20 alone halve"),
+            full(16, 20, 256, 0, "sweep 18 20 alone halve"),
+            full(18, 20, 3, 0, "20 alone halve"),
+            full(18, 22, 4, 0, "sweep 20 22 alone halve"),
+            full(20, 20, 9, 2, "collect collect alone halve"),
+        ];
+        for case in &cases {
+            assert_eq!(rt; order(rt.alloc(), case)?.as_str(), case.order);
+        }
         Ok(())
     }
 }

@@ -1,0 +1,11 @@
+//! How large the tables of squares are, what a table remembers of its steps, and what is tried next where one
+//! is full. A run is right whatever a `TableHistory` answers: that decides how fast it is.
+#![tactic(auto)]
+
+mod history;
+mod retries;
+mod sizes;
+
+pub use history::TableHistory;
+pub use retries::{Retry, RetryPlan};
+pub use sizes::{GrowthFactor, larger, pair_count, smallest};
