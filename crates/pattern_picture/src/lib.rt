@@ -5,8 +5,6 @@ mod laws;
 mod pictures;
 mod pixels;
 mod scale;
-#[cfg(test)]
-mod tests;
 
 pub use laws::one_scale;
 pub use pictures::picture;

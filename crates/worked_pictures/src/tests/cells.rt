@@ -1,0 +1,67 @@
+//! Pictures of cells.
+
+ghost use Rattle.std.specs.Prelude.{◌≡◌};
+ghost use Rattle.pattern_picture.specs.Scale.{IsShown, IsSize};
+
+use crate::tests::files::length_and_checksum;
+use pattern_picture::picture;
+use plane::Bounds;
+use rule_text::Rule;
+use squares::{PlainBook, join_leaves};
+use std::process::Abort;
+use std::test::Fail;
+
+// The cells of the quarters, as bits: 36 of them live.
+const LEAVES: [u64; 4] = [
+    0x8040_0000_0000_0001,
+    0x0102_0408_1020_4080,
+    0xffff_0000_0000_00ff,
+    0x0000_0000_0000_0001,
+];
+
+// Draws these cells, and asserts the length of the file and the checksum of its pixels.
+fn assert_drawn<R: Abort + AllocGlobal>(
+    rt: &R,
+    shown: Bounds,
+    size: u32,
+    expected: (usize, u32),
+) -> Result<(), Fail>
+    requires shown { IsShown shown }
+    requires size { IsSize size }
+{
+    let mut book = PlainBook::new(rt.alloc(), Rule::dead(), 0);
+    let sq = join_leaves(&mut book, LEAVES)?;
+    let image = picture(rt.alloc(), &book, sq, shown, size)?;
+    assert_eq!(rt; length_and_checksum(rt.alloc(), &image)?, expected);
+    Ok(())
+}
+
+const fn sides(left: i64, top: i64, right: i64, bottom: i64) -> Bounds
+    ensures { result ≡ record { left = left; top = top; right = right; bottom = bottom } }
+{
+    Bounds {
+        left,
+        top,
+        right,
+        bottom,
+    }
+}
+
+#[test]
+fn cells_as_squares_of_pixels(rt: HostRuntime) -> Result<(), Fail> {
+    let all = sides(-8, -8, 7, 7);
+    assert_drawn(&rt, all, 16, (340, 0x165d_77bf))?;
+    assert_drawn(&rt, all, 37, (1124, 0x6004_b776))?;
+    assert_drawn(&rt, sides(-3, -2, 1, 2), 16, (308, 0xd504_0303))?;
+    assert_drawn(&rt, all, 4096, (65_865, 0xf410_8722))?;
+    assert_drawn(&rt, sides(-9, 3, -9, 3), 16, (340, 0x17b2_7e30))
+}
+
+#[test]
+fn blocks_as_pixels(rt: HostRuntime) -> Result<(), Fail> {
+    let far = 1 << 62;
+    assert_drawn(&rt, sides(-8, -8, 8, 7), 16, (148, 0x16fa_ba5d))?;
+    assert_drawn(&rt, sides(-100, -100, 100, 99), 16, (278, 0x1fa6_7f26))?;
+    assert_drawn(&rt, sides(-40, -1, 1000, 2), 100, (202, 0xf753_1ac6))?;
+    assert_drawn(&rt, sides(-far, -far, far, far), 16, (158, 0x1a00_7547))
+}

@@ -1,0 +1,82 @@
+//! Pictures of rows of shades, and a sink that fails while one is written.
+
+ghost use Rattle.std.specs.Prelude.{◌≡◌, length, IfOk};
+ghost use Rattle.png_writer.specs.Picture.{IsSide};
+
+use crate::tests::files::length_and_checksum;
+use plane::{FailAt, Memory, Refusal, Sink};
+use png_writer::{Image, SIDE_LIMIT};
+use std::alloc::{AllocError, Global};
+use std::test::Fail;
+
+fn shade_at(x: u32, y: u32) -> u8 {
+    let mixed = x.wrapping_mul(y.wrapping_add(7));
+    (mixed.wrapping_add(y.wrapping_mul(13)).wrapping_add(128) % 256) as u8
+}
+
+fn row_at(alloc: Global, width: u32, y: u32) -> Result<Vec<u8>, AllocError>
+    ensures { IfOk result (λ row. length row.items ≡ width) }
+{
+    (0..width).map(|x| shade_at(x, y)).collect(alloc)
+}
+
+fn picture(alloc: Global, width: u32, height: u32) -> Result<Image, Refusal>
+    requires width { IsSide width }
+    requires height { IsSide height }
+{
+    let mut image = Image::with_room(alloc, width, height)?;
+    for y in 0..height {
+        let row = row_at(alloc, width, y)?;
+        image.push_row(row.as_slice());
+    }
+    Ok(image)
+}
+
+const THREE_BY_TWO: &[u8] = &[
+    137, 80, 78, 71, 13, 10, 26, 10, 0, 0, 0, 13, 73, 72, 68, 82, 0, 0, 0, 3, 0, 0, 0, 2, 8, 0, 0,
+    0, 0, 184, 31, 57, 198, 0, 0, 0, 19, 73, 68, 65, 84, 120, 1, 1, 8, 0, 247, 255, 0, 128, 135,
+    142, 0, 141, 149, 157, 12, 230, 3, 85, 86, 214, 216, 144, 0, 0, 0, 0, 73, 69, 78, 68, 174, 66,
+    96, 130,
+];
+
+#[test]
+fn small_picture(rt: HostRuntime) -> Result<(), Fail> {
+    let image = picture(rt.alloc(), 3, 2)?;
+    let mut file = Memory::with_room(rt.alloc(), THREE_BY_TWO.len())?;
+    image.write(&mut file)?;
+    assert_eq!(rt; file.bytes(), THREE_BY_TWO);
+    Ok(())
+}
+
+// Of one block, of a block and one byte, of two blocks, of three, the second of them full.
+#[test]
+fn larger_pictures(rt: HostRuntime) -> Result<(), Fail> {
+    for (width, height, expected) in [
+        (1, 1, (70, 0xc36e_25e0)),
+        (255, 256, (65_609, 0x9179_aad6)),
+        (300, 250, (75_323, 0x4659_e86a)),
+        (4096, 32, (131_182, 0xc767_2880)),
+    ] {
+        assert!(rt; 1 <= width && width <= SIDE_LIMIT && 1 <= height && height <= SIDE_LIMIT);
+        let image = picture(rt.alloc(), width, height)?;
+        assert_eq!(rt; length_and_checksum(rt.alloc(), &image)?, expected);
+    }
+    Ok(())
+}
+
+// The file is written by twelve calls of the sink.
+#[test]
+fn a_failed_write_is_answered(rt: HostRuntime) -> Result<(), Fail> {
+    for call in 1..=12 {
+        let image = picture(rt.alloc(), 3, 2)?;
+        let memory = Memory::with_room(rt.alloc(), THREE_BY_TWO.len())?;
+        let mut file = FailAt::new(memory, call);
+        let answer = image.write(&mut file);
+        assert_eq!(rt;
+            (answer, file.failures()),
+            (Err(Refusal::WriteFailed), 1),
+            "at {call}"
+        );
+    }
+    Ok(())
+}
