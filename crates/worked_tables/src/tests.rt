@@ -1,12 +1,15 @@
-//! Worked examples of desks at one table, of its words and of universes.
+//! Worked examples of desks at one table, of its words, of rounds of jobs and of universes.
 
 mod collections;
 mod few_words;
 mod glider;
 mod leaves;
 mod reopened;
+mod retries;
+mod rounds;
 mod steps;
 mod sweeps;
+mod tables;
 mod threads;
 mod two_desks;
 mod universes;

@@ -4,6 +4,7 @@
 ghost use Rattle.std.specs.Prelude.{⊤};
 ghost use Rattle.plane.specs.Listing.{plane_of};
 
+use crate::tests::tables::empty_table;
 use crate::tests::universes::assert_comes_to;
 use hashlife_step::{Tally, step};
 use plane::{Cell, CellSet, Refusal};
@@ -14,7 +15,6 @@ use std::process::Abort;
 use std::test::Fail;
 use table_core::Shape;
 use universe::Universe;
-use worked_parts::empty_table;
 
 /// Live cells as a set.
 #[derive(Clone, Copy)]

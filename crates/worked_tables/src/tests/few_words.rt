@@ -1,12 +1,12 @@
 //! Only squares of the whole set of cells are made: the words that building leaves are counted.
 
+use crate::tests::tables::{PAIRS, empty_table};
 use node_table::{Held, Still};
 use plane::{Cell, CellSet, Refusal};
 use squares::cells_to_square;
 use std::alloc::Global;
 use std::process::Abort;
 use std::test::Fail;
-use worked_parts::{PAIRS, empty_table};
 
 // The words 1 to 160, 16 in a row, each in the middle of a leaf of its own: bit j of the word i is the cell
 // (8 (i mod 16) + 1 + j mod 4, 8 (i div 16) + 1 + j div 4).

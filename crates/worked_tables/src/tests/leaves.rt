@@ -1,10 +1,10 @@
 //! Leaves at one desk: where their words stand, and the word that finds no room.
 
+use crate::tests::tables::{PAIRS, empty_table};
 use plane::Refusal;
 use squares::{Num, Sq, Squares};
 use std::process::Abort;
 use std::test::Fail;
-use worked_parts::{PAIRS, empty_table};
 
 // A word, and the number of its leaf in a table without a square.
 const FIRST_NUMBERS: [(u64, u32); 2] = [(1, 159), (2, 61)];

@@ -3,6 +3,7 @@
 ghost use Rattle.std.specs.Prelude.{◌<◌, ◌≤◌, IfOk};
 ghost use Rattle.squares.specs.Book.{IsKnown, Keeps};
 
+use crate::tests::tables::{PAIRS, empty_table, open_table};
 use hashlife_step::{Tally, future};
 use node_table::Still;
 use plane::Refusal;
@@ -10,7 +11,6 @@ use rule_text::Rule;
 use squares::{Sq, Squares, join_leaves};
 use std::process::Abort;
 use std::test::Fail;
-use worked_parts::{PAIRS, empty_table, open_table};
 
 // A rule and an exponent under which words are opened again, and whether the results of squares of the
 // levels 4, 5 and 6 stay that were made under B3/S23 and the exponent 3.

@@ -4,6 +4,7 @@ ghost use Rattle.std.specs.Prelude.{◌≤◌, IfOk};
 ghost use Rattle.squares.specs.Book.{IsKnown, Keeps};
 ghost use Rattle.node_table.specs.Stills.{book_in};
 
+use crate::tests::tables::empty_table;
 use hashlife_step::{Tally, step};
 use node_table::Still;
 use plane::Refusal;
@@ -11,7 +12,6 @@ use rule_text::Rule;
 use squares::{PlainBook, Sq, Squares, copy_square, join_leaves};
 use std::process::Abort;
 use std::test::Fail;
-use worked_parts::empty_table;
 
 // Room for a thousand generations of the R-pentomino.
 const PAIRS: u32 = 262144;

@@ -5,6 +5,7 @@ ghost use Rattle.squares.specs.Book.{IsKnown, Keeps};
 ghost use Rattle.node_table.specs.Stills.{book_in};
 
 use crate::tests::steps::R_PENTOMINO;
+use crate::tests::tables::{PAIRS, empty_table, open_table};
 use hashlife_step::{Tally, future, step};
 use node_sweep::{collect, enlarge, sweep};
 use node_table::Still;
@@ -16,7 +17,6 @@ use std::process::Abort;
 use std::test::Fail;
 use table_core::Shape;
 use viewport::population;
-use worked_parts::{PAIRS, empty_table, open_table};
 
 // What is made at a table, and which square of it is the root.
 #[derive(Clone, Copy)]

@@ -3,12 +3,12 @@
 ghost use Rattle.squares.specs.Book.{Keeps};
 ghost use Rattle.node_table.specs.Desks.{IsDeskOf};
 
+use crate::tests::tables::{PAIRS, empty_table};
 use node_table::{Desk, NodeTable};
 use plane::Refusal;
 use squares::{Num, Squares};
 use std::test::Fail;
 use std::thread::{Threads, join};
-use worked_parts::{PAIRS, empty_table};
 
 // Numbers the words 1 to 257, as far as they find room, rising or falling.
 fn number_all<S: Squares>(book: &mut S, rising: bool)

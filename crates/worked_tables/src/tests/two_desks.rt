@@ -6,12 +6,12 @@ ghost use Rattle.node_table.specs.Desks.{IsDeskOf};
 use crate::tests::glider::{
     FOUR_GENERATIONS_ON, GLIDER, glider, glider_and_future, glider_and_result,
 };
+use crate::tests::tables::{PAIRS, empty_table};
 use node_table::{Desk, NodeTable};
 use plane::Refusal;
 use squares::{Sq, Squares};
 use std::test::Fail;
 use std::thread::{Threads, join};
-use worked_parts::{PAIRS, empty_table};
 
 fn leaves<S: Squares>(book: &mut S, sq: Sq) -> [u64; 4]
     requires { IsKnown (S.book book.old) 4 sq }

@@ -11,6 +11,7 @@ ghost use Rattle.node_table.specs.Stills.{book_in};
 ghost use Rattle.squares.specs.Book.{IsKnown};
 
 use crate::tests::glider::{glider_and_future, glider_and_result};
+use crate::tests::tables::{PAIRS, open_table};
 use node_sweep::{enlarge, sweep};
 use node_table::{Desk, NodeTable, Still};
 use plane::Refusal;
@@ -19,7 +20,6 @@ use squares::Sq;
 use std::process::Abort;
 use std::test::Fail;
 use table_core::Shape;
-use worked_parts::{PAIRS, open_table};
 
 // A running table of these words. Where memory was wanting, it is opened at the second try, with the
 // words that came back from the first.

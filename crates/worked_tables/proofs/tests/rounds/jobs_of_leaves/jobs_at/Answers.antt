@@ -1,8 +1,8 @@
 use Rattle.std.proofs.Common.{arith}
 use Rattle.node_table.specs.Desks.{book_at}
 use Rattle.node_table.proofs.AtWork.{is_back}
-use Rattle.worked_rounds.proofs.Known.{job_of, ok_map}
-use Rattle.worked_rounds.proofs.tests.tables.jobs_at.Goals as goal
+use Rattle.worked_tables.proofs.Known.{job_of, ok_map}
+use Rattle.worked_tables.proofs.tests.rounds.jobs_of_leaves.jobs_at.Goals as goal
 
 pub returns-clause-jobs : goal.returns-clause-jobs
 returns-clause-jobs c =

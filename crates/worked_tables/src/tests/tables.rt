@@ -1,5 +1,4 @@
-//! Running tables that worked examples of several crates begin with.
-#![tactic(auto)]
+//! Running tables that the other examples begin with.
 
 ghost use Rattle.std.specs.Prelude.{IfOk};
 ghost use Rattle.node_table.specs.Desks.{IsDeskOf};
@@ -11,10 +10,10 @@ use std::test::Fail;
 use table_core::Shape;
 
 /// The pair slots of the smallest table, which has 256 leaf slots.
-pub const PAIRS: u32 = 1024;
+pub(crate) const PAIRS: u32 = 1024;
 
 /// A running table of these words, and its first desk.
-pub fn open_table(
+pub(crate) fn open_table(
     alloc: Global,
     still: Still,
     rule: Rule,
@@ -30,7 +29,11 @@ pub fn open_table(
 
 /// A running table of so many pair slots without a square, by `B3/S23`, and its first desk. It fails if no table
 /// has that many.
-pub fn empty_table(alloc: Global, pairs: u32, exponent: u8) -> Result<(NodeTable, Desk), Fail>
+pub(crate) fn empty_table(
+    alloc: Global,
+    pairs: u32,
+    exponent: u8,
+) -> Result<(NodeTable, Desk), Fail>
     ensures { IfOk result (λ opened. IsDeskOf opened.0 opened.1) }
 {
     if !Shape::is_pair_count(pairs) {

@@ -1,12 +1,12 @@
 //! Gates that see what other workers do at the same time.
 
-use crate::tests::tables::{jobs_at, leaves_of};
+use crate::tests::rounds::jobs_of_leaves::{jobs_at, leaves_of};
+use crate::tests::tables::{PAIRS, empty_table};
 use std::process::Abort;
 use std::sync::Wait;
 use std::sync::atomic::{AtomicU64, Ordering};
 use std::test::Fail;
 use std::thread::Threads;
-use worked_parts::{PAIRS, empty_table};
 use worker_split::{Gate, Team, round};
 
 const TURNS: u64 = 1_000_000_000;

@@ -1,4 +1,4 @@
-//! Jobs at running tables, for the other tests.
+//! Jobs at running tables, made of leaves, for the other examples.
 
 ghost use Rattle.std.specs.Prelude.{IfOk, All};
 ghost use Rattle.squares.specs.Book.{IsKnown, Keeps};

@@ -3,13 +3,13 @@
 ghost use Rattle.squares.specs.Book.{Keeps};
 ghost use Rattle.node_table.specs.Desks.{IsDeskOf};
 
-use crate::tests::jobs::BLINKER;
-use crate::tests::tables::jobs_at;
+use crate::tests::rounds::jobs::BLINKER;
+use crate::tests::rounds::jobs_of_leaves::jobs_at;
+use crate::tests::tables::{PAIRS, empty_table};
 use node_table::{Desk, NodeTable};
 use plane::Refusal;
 use squares::{Num, Squares, join_leaves};
 use std::test::Fail;
-use worked_parts::{PAIRS, empty_table};
 use worker_split::{OpenGate, Team, round};
 
 // Numbers the words 1 to 254: with the two of the blinker, as many as there are leaf slots.

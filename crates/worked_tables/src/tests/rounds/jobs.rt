@@ -1,9 +1,9 @@
 //! Rounds of no job, of one job, and of as many as there are gates for.
 
-use crate::tests::tables::{jobs_at, leaves_of};
+use crate::tests::rounds::jobs_of_leaves::{jobs_at, leaves_of};
+use crate::tests::tables::{PAIRS, empty_table};
 use std::sync::atomic::{AtomicU64, Ordering};
 use std::test::Fail;
-use worked_parts::{PAIRS, empty_table};
 use worker_split::{Gate, OpenGate, Team, round};
 
 // The leaves of a square with a blinker on its columns 7 to 9, in row 7.

@@ -6,6 +6,7 @@ ghost use Rattle.node_table.specs.Desks.{IsDeskOf, book_at};
 ghost use Rattle.node_table.specs.Stills.{book_in};
 ghost use Rattle.worker_split.specs.Jobs.{IsJob};
 
+use crate::tests::tables::empty_table;
 use hashlife_step::{Tally, future, pad};
 use node_table::{Desk, NodeTable, Still};
 use plane::Refusal;
@@ -15,7 +16,6 @@ use std::process::Abort;
 use std::sync::Wait;
 use std::test::Fail;
 use std::thread::Threads;
-use worked_parts::empty_table;
 use worker_split::{OpenGate, Team, batch_future};
 
 // The leaves of a square with the R-pentomino in its columns and rows 8 to 10.

@@ -1,7 +1,7 @@
 use Rattle.squares.specs.Book.{IsKnown}
 use Rattle.squares.proofs.Kept.{keeps_trans, known_kept}
-use Rattle.worked_rounds.proofs.Lists.{pushed}
-use Rattle.worked_rounds.proofs.tests.tables.all_of_leaves.Goals as goal
+use Rattle.worked_tables.proofs.Lists.{pushed}
+use Rattle.worked_tables.proofs.tests.rounds.jobs_of_leaves.all_of_leaves.Goals as goal
 
 pub returns-then-is_err-clause-keeps : goal.returns-then-is_err-clause-keeps
 returns-then-is_err-clause-keeps g c = keeps_trans c.loop-k.invariant.0 c.join_leaves.ensures.adds.keeps

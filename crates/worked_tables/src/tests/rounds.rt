@@ -4,5 +4,5 @@ mod full_table;
 mod futures;
 mod gates;
 mod jobs;
-mod tables;
+mod jobs_of_leaves;
 mod want_of_memory;

@@ -1,7 +1,7 @@
 //! Want of memory: a round ends before its first job, and the desk that comes back does it at the
 //! second try.
 //!
-//! In a plain run of the tests there is memory. `rt try --test --fail-alloc N -- want_of_memory` makes the
+//! In a plain run of the tests there is memory. `rt try --test --fail-alloc N -- rounds::want_of_memory` makes the
 //! Nth allocation fail, and is run for each N from 1 up to the first at which no test prints a line of
 //! its own.
 
@@ -9,7 +9,8 @@ ghost use Rattle.std.specs.Prelude.{IfOk};
 ghost use Rattle.node_table.specs.Desks.{IsDeskOf, book_at};
 ghost use Rattle.worker_split.specs.Jobs.{IsJob};
 
-use crate::tests::futures::job_at;
+use crate::tests::rounds::futures::job_at;
+use crate::tests::tables::open_table;
 use node_table::{Desk, NodeTable, Still};
 use plane::Refusal;
 use rule_text::Rule;
@@ -19,7 +20,6 @@ use std::sync::Wait;
 use std::test::Fail;
 use std::thread::Threads;
 use table_core::Shape;
-use worked_parts::open_table;
 use worker_split::{OpenGate, Team, batch_future};
 
 // Room for 2^9 generations of the R-pentomino.

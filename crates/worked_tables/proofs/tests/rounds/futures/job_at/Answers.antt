@@ -1,6 +1,6 @@
 use Rattle.node_table.proofs.AtWork.{is_back}
-use Rattle.worked_rounds.proofs.Known.{ok_map}
-use Rattle.worked_rounds.proofs.tests.futures.job_at.Goals as goal
+use Rattle.worked_tables.proofs.Known.{ok_map}
+use Rattle.worked_tables.proofs.tests.rounds.futures.job_at.Goals as goal
 
 pub returns-clause-job : goal.returns-clause-job
 returns-clause-job c =
