@@ -1,5 +1,7 @@
 //! Leaves at one desk: where their words stand, and the word that finds no room.
 
+ghost use Rattle.squares.specs.Book.{Keeps};
+
 use crate::tests::tables::{PAIRS, empty_table};
 use plane::Refusal;
 use squares::{Num, Sq, Squares};
@@ -11,6 +13,19 @@ const FIRST_NUMBERS: [(u64, u32); 2] = [(1, 159), (2, 61)];
 
 fn leaf<S: Squares>(book: &mut S, word: u64) -> Result<Sq, Refusal> {
     book.leaf(word)
+}
+
+// Makes the leaves of the words from the first to the last, and says how many were not refused.
+pub(crate) fn make_leaves<S: Squares>(book: &mut S, first: u64, last: u64) -> u64
+    ensures { Keeps (S.book book.old) (S.book book.new) }
+{
+    let mut made = 0u64;
+    for word in first..=last {
+        if book.leaf(word).is_ok() {
+            made = made.wrapping_add(1);
+        }
+    }
+    made
 }
 
 fn first_number(rt: &(impl Abort + AllocGlobal), word: u64) -> Result<u32, Fail> {

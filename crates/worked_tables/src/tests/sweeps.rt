@@ -4,6 +4,7 @@ ghost use Rattle.std.specs.Prelude.{◌≤◌, IfOk};
 ghost use Rattle.squares.specs.Book.{IsKnown, Keeps};
 ghost use Rattle.node_table.specs.Stills.{book_in};
 
+use crate::tests::leaves::make_leaves;
 use crate::tests::steps::R_PENTOMINO;
 use crate::tests::tables::{PAIRS, empty_table, open_table};
 use hashlife_step::{Tally, future, step};
@@ -33,19 +34,6 @@ enum Made {
     Step,
     // The same, but what comes of it is the root.
     Stepped,
-}
-
-// Makes the leaves of the words from the first to the last, and says how many were not refused.
-fn make_leaves<S: Squares>(book: &mut S, first: u64, last: u64) -> u64
-    ensures { Keeps (S.book book.old) (S.book book.new) }
-{
-    let mut made = 0u64;
-    for word in first..=last {
-        if book.leaf(word).is_ok() {
-            made = made.wrapping_add(1);
-        }
-    }
-    made
 }
 
 // A square of a level whose leaves are the words from the first on, one after the other.

@@ -23,24 +23,31 @@ use table_core::Shape;
 
 // A running table of these words. Where memory was wanting, it is opened at the second try, with the
 // words that came back from the first.
-fn opened<R: Abort + AllocGlobal + Print>(rt: &R, still: Still) -> Result<(NodeTable, Desk), Fail>
+pub(crate) fn opened<R: Abort + AllocGlobal + Print>(
+    rt: &R,
+    still: Still,
+    exponent: u8,
+) -> Result<(NodeTable, Desk), Fail>
     ensures { IfOk result (λ opened. IsDeskOf opened.0 opened.1) }
 {
     let rule = Rule::read(b"B3/S23")?;
-    match NodeTable::open(rt.alloc(), still, rule, 2) {
+    match NodeTable::open(rt.alloc(), still, rule, exponent) {
         Ok(opened) => Ok(opened),
         Err((same, refusal)) => {
             assert_eq!(rt; refusal, Refusal::NoMemory);
             println!(rt; "not opened")?;
-            open_table(rt.alloc(), same, rule, 2)
+            open_table(rt.alloc(), same, rule, exponent)
         }
     }
 }
 
 // The words of a table without a square, where there is memory for them.
-fn empty_words<R: Abort + AllocGlobal + Print>(rt: &R) -> Result<Option<Still>, Fail> {
-    assert!(rt; Shape::is_pair_count(PAIRS));
-    match Still::empty(rt.alloc(), PAIRS) {
+pub(crate) fn empty_words<R: Abort + AllocGlobal + Print>(
+    rt: &R,
+    pairs: u32,
+) -> Result<Option<Still>, Fail> {
+    assert!(rt; Shape::is_pair_count(pairs));
+    match Still::empty(rt.alloc(), pairs) {
         Ok(still) => Ok(Some(still)),
         Err(refusal) => {
             assert_eq!(rt; refusal, Refusal::NoMemory);
@@ -57,7 +64,7 @@ fn words_with_future<R: Abort + AllocGlobal + Print>(
 ) -> Result<(Still, Sq, Sq), Fail>
     ensures { IfOk result (λ made. IsKnown (book_in made.0) made.1.level made.1) }
 {
-    let (table, desk) = opened(rt, still)?;
+    let (table, desk) = opened(rt, still, 2)?;
     let mut at = table.at(desk);
     let made = glider_and_future(&mut at);
     let desk = at.leave();
@@ -68,11 +75,11 @@ fn words_with_future<R: Abort + AllocGlobal + Print>(
 
 #[test]
 fn words_come_back_for_want_of_memory(rt: HostRuntime) -> Result<(), Fail> {
-    let Some(still) = empty_words(&rt)? else {
+    let Some(still) = empty_words(&rt, PAIRS)? else {
         return Ok(());
     };
     let (words, sq, later) = words_with_future(&rt, still)?;
-    let (table, desk) = opened(&rt, words)?;
+    let (table, desk) = opened(&rt, words, 2)?;
     assert_eq!(rt; glider_and_result(&mut table.at(desk))?, (sq, Some(later)));
     Ok(())
 }
@@ -94,7 +101,7 @@ fn copied<R: Abort + Print>(
 
 #[test]
 fn words_stay_for_want_of_memory(rt: HostRuntime) -> Result<(), Fail> {
-    let Some(still) = empty_words(&rt)? else {
+    let Some(still) = empty_words(&rt, PAIRS)? else {
         return Ok(());
     };
     let (words, sq, later) = words_with_future(&rt, still)?;
@@ -102,7 +109,7 @@ fn words_stay_for_want_of_memory(rt: HostRuntime) -> Result<(), Fail> {
     let swept = copied(&rt, sweep(rt.alloc(), &words, sq, PAIRS))?;
     let enlarged = copied(&rt, enlarge(rt.alloc(), &words, sq, PAIRS))?;
     assert!(rt; swept.is_some() || enlarged.is_some());
-    let (table, desk) = opened(&rt, words)?;
+    let (table, desk) = opened(&rt, words, 2)?;
     assert_eq!(rt; glider_and_result(&mut table.at(desk))?, (sq, Some(later)));
     Ok(())
 }

@@ -1,8 +1,8 @@
 //! A round at a table whose leaf slots are all taken.
 
-ghost use Rattle.squares.specs.Book.{Keeps};
 ghost use Rattle.node_table.specs.Desks.{IsDeskOf};
 
+use crate::tests::leaves::make_leaves;
 use crate::tests::rounds::jobs::BLINKER;
 use crate::tests::rounds::jobs_of_leaves::jobs_at;
 use crate::tests::tables::{PAIRS, empty_table};
@@ -12,21 +12,13 @@ use squares::{Num, Squares, join_leaves};
 use std::test::Fail;
 use worker_split::{OpenGate, Team, round};
 
-// Numbers the words 1 to 254: with the two of the blinker, as many as there are leaf slots.
-fn number_words<S: Squares>(book: &mut S)
-    ensures { Keeps (S.book book.old) (S.book book.new) }
-{
-    for word in 1..=254 {
-        let _ = book.leaf(word);
-    }
-}
-
-fn desk_with_words(table: &NodeTable, desk: Desk) -> Desk
+// With the two of the blinker, there are as many leaves as slots for them.
+fn desk_with_leaves(table: &NodeTable, desk: Desk) -> Desk
     requires { IsDeskOf table.now desk }
     ensures { IsDeskOf table.now result }
 {
     let mut at = table.at(desk);
-    number_words(&mut at);
+    make_leaves(&mut at, 1, 254);
     at.leave()
 }
 
@@ -48,7 +40,7 @@ fn a_refused_job_does_not_stop_the_other(rt: HostRuntime) -> Result<(), Fail> {
         workers: 2,
         gate: &OpenGate,
     };
-    let desk = desk_with_words(&table, desk);
+    let desk = desk_with_leaves(&table, desk);
     let (desk, jobs) = jobs_at(rt.alloc(), &table, desk, &[CORNER, BLINKER]);
     let jobs = jobs?;
     let (desk, futures) = round(&team, &table, desk, jobs.as_slice());

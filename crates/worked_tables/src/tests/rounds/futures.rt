@@ -6,6 +6,7 @@ ghost use Rattle.node_table.specs.Desks.{IsDeskOf, book_at};
 ghost use Rattle.node_table.specs.Stills.{book_in};
 ghost use Rattle.worker_split.specs.Jobs.{IsJob};
 
+use crate::tests::steps::R_PENTOMINO;
 use crate::tests::tables::empty_table;
 use hashlife_step::{Tally, future, pad};
 use node_table::{Desk, NodeTable, Still};
@@ -17,9 +18,6 @@ use std::sync::Wait;
 use std::test::Fail;
 use std::thread::Threads;
 use worker_split::{OpenGate, Team, batch_future};
-
-// The leaves of a square with the R-pentomino in its columns and rows 8 to 10.
-const R_PENTOMINO: [u64; 4] = [0, 0, 0, 0x20306];
 
 // The R-pentomino with room round it for a step of 2^9 generations.
 fn padded<S: Squares>(book: &mut S) -> Result<Sq, Refusal>

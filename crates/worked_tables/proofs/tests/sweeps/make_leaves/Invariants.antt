@@ -1,5 +1,0 @@
-use Rattle.squares.specs.Book.{Keeps}
-use Rattle.worked_tables.proofs.tests.sweeps.make_leaves.Given as goal
-
-abbrev pub invariant-loop-word : goal.invariant-loop-word
-invariant-loop-word g l = Keeps (g.S.Squares.book l.fn.book) (g.S.Squares.book l.book)
