@@ -1,7 +1,5 @@
 -- Known squares of level 4 or more are jobs.
-use Rattle.std.proofs.Common.{◌<◌, ◌≤◌, ℕ, refl, sym, subst, Ok, Err, IfOk}
-use Rattle.std.specs.declared.result.Result.{Result}
-use Rattle.plane.specs.declared.refusal.Refusal.{Refusal}
+use Rattle.std.proofs.Common.{◌<◌, ◌≤◌, ℕ, refl, sym, subst}
 use Rattle.squares.specs.declared.sq.Sq.{Sq}
 use Rattle.squares.specs.Book.{Book, IsKnown}
 use Rattle.worker_split.specs.Jobs.{IsJob}
@@ -11,7 +9,3 @@ job_of book level sq low k = record {
   known = record { known = k.known; at_level = refl; low = subst (λ l. 3 ≤ l) (sym k.at_level) k.low; high = subst (λ l. l ≤ 65) (sym k.at_level) k.high };
   above = subst (λ l. 3 < l) (sym k.at_level) low;
 }
-
-pub ok_map : {X : Type 0} (r : Result X Refusal) (P Q : X → Type 0) → ((x : X) → P x → Q x) → IfOk r P → IfOk r Q
-ok_map (Ok x) P Q f h = f x h
-ok_map (Err e) P Q f h = tt

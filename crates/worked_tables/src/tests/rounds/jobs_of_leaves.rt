@@ -23,9 +23,7 @@ fn all_of_leaves<S: Squares>(
     let mut squares = Vec::new(alloc);
     for k in 0..leaves.len() {
         let sq = join_leaves(book, leaves[k])?;
-        if squares.push(sq).is_err() {
-            return Err(Refusal::NoMemory);
-        }
+        squares.push(sq)?;
     }
     Ok(squares)
 }

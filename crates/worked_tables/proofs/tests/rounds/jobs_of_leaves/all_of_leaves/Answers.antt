@@ -3,8 +3,8 @@ use Rattle.squares.proofs.Kept.{keeps_trans, known_kept}
 use Rattle.worked_tables.proofs.Lists.{pushed}
 use Rattle.worked_tables.proofs.tests.rounds.jobs_of_leaves.all_of_leaves.Goals as goal
 
-pub returns-then-is_err-clause-keeps : goal.returns-then-is_err-clause-keeps
-returns-then-is_err-clause-keeps g c = keeps_trans c.loop-k.invariant.0 c.join_leaves.ensures.adds.keeps
+pub returns-in_err-push-clause-keeps : goal.returns-in_err-push-clause-keeps
+returns-in_err-push-clause-keeps g c = keeps_trans c.loop-k.invariant.0 c.join_leaves.ensures.adds.keeps
 
 pub loop-k-preserved : goal.loop-k-preserved
 loop-k-preserved g c = (
