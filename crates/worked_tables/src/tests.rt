@@ -3,6 +3,7 @@
 mod collections;
 mod few_words;
 mod glider;
+mod histories;
 mod leaves;
 mod reopened;
 mod retries;

@@ -8,7 +8,7 @@ use crate::tests::leaves::make_leaves;
 use crate::tests::steps::R_PENTOMINO;
 use crate::tests::tables::{PAIRS, empty_table, open_table};
 use hashlife_step::{Tally, future, step};
-use node_sweep::{collect, enlarge, sweep};
+use node_sweep::{Finished, collect, enlarge, sweep};
 use node_table::Still;
 use plane::Refusal;
 use rule_text::Rule;
@@ -251,6 +251,13 @@ fn a_step_is_recalled_after_a_collection(rt: HostRuntime) -> Result<(), Fail> {
         assert_eq!(rt; count, 5);
     }
     Ok(())
+}
+
+// What is finished after a step of the R-pentomino.
+pub(crate) fn finished_after_step(rt: &(impl Abort + AllocGlobal)) -> Result<Finished, Fail> {
+    let (words, root) = words_of(rt, Made::Step, 262144, 10)?;
+    assert!(rt; Shape::is_pair_count(262144));
+    Ok(collect(rt.alloc(), &words, root, 262144)?.finished)
 }
 
 fn step_again<S: Squares>(book: &mut S) -> Result<u64, Refusal>
