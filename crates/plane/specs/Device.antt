@@ -1,4 +1,4 @@
-use Rattle.std.specs.Prelude.{◌≡◌, ℕ, ◌+◌, ◌-◌, ◌^◌, ◌<◌, ◌⊎◌, min, Result, Ok, Err, Option, Some, List, OnOk, IfErr, drop}
+use Rattle.std.specs.Prelude.{◌≡◌, ℕ, ◌+◌, ◌-◌, ◌^◌, ◌<◌, ◌≤◌, ◌↔◌, ◌⊎◌, ◌++◌, min, Result, Ok, Err, Option, Some, List, OnOk, IfErr, IfOk, IsOk, drop, length, take}
 use Rattle.plane.specs.declared.refusal.Refusal.{Refusal}
 use Rattle.plane.specs.declared.refusal.Refusal.TheVariants.{WriteFailed}
 
@@ -38,3 +38,15 @@ unread bytes room = record { bytes = bytes; position = 0; room = room; failures 
 -- the bytes that were not read yet
 abbrev pub memory_remaining : MemoryContents → Option (List ℕ)
 memory_remaining memory = Some (drop memory.position memory.bytes)
+
+-- a memory gives the next bytes, as many as there are and as have room in the buffer, and the rest of the buffer stays
+pub record ReadsMemory {E : Type 0} (old : MemoryContents) (before : List ℕ) (answer : Result ℕ E) (new : MemoryContents) (after : List ℕ) : Type 0 where
+  pub count : answer ≡ Ok (min (length (drop old.position old.bytes)) (length before))
+  pub given : IfOk answer (λ count. after ≡ take count (drop old.position old.bytes) ++ drop count before)
+  pub memory : IfOk answer (λ count. new ≡ record old { position = old.position + count })
+
+-- a memory takes all bytes, or fails and takes none where they are more than its room
+pub record WritesMemory {E : Type 0} (old : MemoryContents) (bytes : List ℕ) (answer : Result ℕ E) (new : MemoryContents) : Type 0 where
+  pub room : IsOk answer ↔ (length old.bytes + length bytes ≤ old.room)
+  pub whole : IfOk answer (λ count. (count ≡ length bytes) × (new ≡ record old { bytes = old.bytes ++ bytes }))
+  pub failed : IfErr answer (λ _. new ≡ record old { failures = min (old.failures + 1) most_failures })

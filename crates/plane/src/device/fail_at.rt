@@ -4,7 +4,7 @@ ghost use Rattle.std.specs.Prelude.{◌≡◌, ◌≢◌, ◌-◌, ◌<◌, ◌�
 ghost use Rattle.std.specs.Io.{ReadsAtMost, WritesAtMost};
 ghost use Rattle.std.specs.Io.KnownBytes.{ReadConsumes, WriteAppends};
 ghost use Rattle.plane.specs.Device.{failures_after};
-ghost use Rattle.plane.specs.DeviceParts.{calls_until_failure, fail_at_failures, fail_at_inner};
+ghost use Rattle.plane.specs.DeviceParts.{PassesOn, calls_until_failure, fail_at_failures, fail_at_inner};
 
 use super::{Failed, Sink, Source};
 
@@ -69,6 +69,9 @@ impl<T: Source> Source for FailAt<T> {
 
     ghost failure_count = { λ device. device.failures };
 
+    ghost reads = { λ old before answer new after.
+        PassesOn (λ one told next. T.reads one before told next after) old new answer };
+
     fn read_some(&mut self, buffer: &mut [u8]) -> Result<usize, Failed>
         ensures bound { ReadsAtMost result buffer.new }
         ensures bytes { ReadConsumes (T.remaining (fail_at_inner self.old))
@@ -83,6 +86,10 @@ impl<T: Source> Source for FailAt<T> {
         ensures passes { calls_until_failure self.old ≢ 1 →
             T.failure_count (fail_at_inner self.new)
             ≡ failures_after result (T.failure_count (fail_at_inner self.old)) }
+        // What the inner device does there, and its answer, are those of the call.
+        ensures does { PassesOn
+            (λ old answer new. T.reads old buffer.old answer new buffer.new)
+            self.old self.new result }
     {
         let outcome = if self.is_failing_call() {
             Err(Failed)
@@ -102,6 +109,9 @@ impl<T: Sink> Sink for FailAt<T> {
 
     ghost failure_count = { λ device. device.failures };
 
+    ghost writes = { λ old bytes answer new.
+        PassesOn (λ one told next. T.writes one bytes told next) old new answer };
+
     fn write_some(&mut self, bytes: &[u8]) -> Result<usize, Failed>
         ensures bound { WritesAtMost result bytes.now }
         ensures progress { 0 < length bytes.now → IfOk result (λ count. 0 < count) }
@@ -117,6 +127,9 @@ impl<T: Sink> Sink for FailAt<T> {
         ensures passes { calls_until_failure self.old ≢ 1 →
             T.failure_count (fail_at_inner self.new)
             ≡ failures_after result (T.failure_count (fail_at_inner self.old)) }
+        // What the inner device does there, and its answer, are those of the call.
+        ensures does { PassesOn (λ old answer new. T.writes old bytes.now answer new)
+            self.old self.new result }
     {
         let outcome = if self.is_failing_call() {
             Err(Failed)

@@ -3,7 +3,7 @@
 ghost use Rattle.std.specs.Prelude.{◌≡◌, ◌+◌, ◌≤◌, ◌<◌, ◌↔◌, ◌++◌, [], Some, drop, length, min, take, IsOk, IfOk};
 ghost use Rattle.std.specs.Io.{ReadsAtMost, WritesAtMost};
 ghost use Rattle.std.specs.Io.KnownBytes.{ReadConsumes, WriteAppends};
-ghost use Rattle.plane.specs.Device.{failures_after, memory_remaining, unread};
+ghost use Rattle.plane.specs.Device.{ReadsMemory, WritesMemory, failures_after, memory_remaining, unread};
 
 use super::{Failed, Sink, Source};
 use std::alloc::{AllocError, Global};
@@ -85,12 +85,15 @@ impl Source for Memory {
 
     ghost failure_count = { λ memory. memory.failures };
 
+    ghost reads = { λ old before answer new after. ReadsMemory old before answer new after };
+
     fn read_some(&mut self, buffer: &mut [u8]) -> Result<usize, Failed>
         ensures bound { ReadsAtMost result buffer.new }
         ensures bytes { ReadConsumes
             (memory_remaining self.old) (memory_remaining self.new) result buffer.new }
         ensures failures { self.new.failures ≡ failures_after result self.old.failures }
         ensures succeeds { IsOk result }
+        ensures does { ReadsMemory self.old buffer.old result self.new buffer.new }
     {
         let count = copy_front(&self.bytes[self.position..], buffer);
         self.position += count;
@@ -107,6 +110,8 @@ impl Sink for Memory {
 
     ghost failure_count = { λ memory. memory.failures };
 
+    ghost writes = { λ old bytes answer new. WritesMemory old bytes answer new };
+
     fn write_some(&mut self, bytes: &[u8]) -> Result<usize, Failed>
         ensures bound { WritesAtMost result bytes.now }
         ensures progress { 0 < length bytes.now → IfOk result (λ count. 0 < count) }
@@ -115,6 +120,7 @@ impl Sink for Memory {
         // It takes all of them, or fails where they are more than its room.
         ensures room { IsOk result ↔ (length self.old.bytes + length bytes.now ≤ self.old.room) }
         ensures whole { IfOk result (λ count. count ≡ length bytes.now) }
+        ensures does { WritesMemory self.old bytes.now result self.new }
     {
         if bytes.len() > self.room - self.bytes.len() {
             self.failures = self.failures.saturating_add(1);

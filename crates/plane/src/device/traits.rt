@@ -1,9 +1,10 @@
 //! What bytes are read from and written to.
 
-ghost use Rattle.std.specs.Prelude.{◌≡◌, ℕ, ◌<◌, List, Option, length, IfOk};
+ghost use Rattle.std.specs.Prelude.{◌≡◌, ℕ, ◌<◌, List, Option, Result, length, IfOk};
 ghost use Rattle.std.specs.Io.{ReadsAtMost, WritesAtMost};
 ghost use Rattle.std.specs.Io.KnownBytes.{ReadConsumes, WriteAppends};
 ghost use Rattle.plane.specs.Device.{failures_after};
+ghost use Rattle.plane.specs.declared.device.traits.Failed.{Failed};
 
 use std::error::Error;
 use std::fmt;
@@ -28,13 +29,18 @@ pub trait Source {
     // How many calls have failed, or 2^64 - 1 for any more.
     ghost failure_count: { Self → ℕ };
 
+    // What a call may do, where the device tells that: the device and the buffer before it, its
+    // answer, and both after it.
+    ghost reads: { Self → List ℕ → Result ℕ Failed → Self → List ℕ → Type 0 } = { λ _ _ _ _ _. Unit {0} };
+
     /// Reads some bytes into the front of the buffer, and answers how many: none only at the
     /// end, or where the buffer is empty. A call that fails takes none from the device.
     fn read_some(&mut self, buffer: &mut [u8]) -> Result<usize, Failed>
         ensures bound { ReadsAtMost result buffer.new }
         ensures bytes { ReadConsumes (remaining self.old) (remaining self.new) result buffer.new }
         ensures failures { failure_count self.new
-            ≡ failures_after result (failure_count self.old) };
+            ≡ failures_after result (failure_count self.old) }
+        ensures does { reads self.old buffer.old result self.new buffer.new };
 
     /// How many calls have failed, or 2^64 - 1 for any more.
     fn failures(&self) -> u64
@@ -49,6 +55,10 @@ pub trait Sink {
     // How many calls have failed, or 2^64 - 1 for any more.
     ghost failure_count: { Self → ℕ };
 
+    // What a call may do, where the device tells that: the device before it, the bytes that it is
+    // given, its answer, and the device after it.
+    ghost writes: { Self → List ℕ → Result ℕ Failed → Self → Type 0 } = { λ _ _ _ _. Unit {0} };
+
     /// Takes the first bytes, at least one unless there are none, and answers how many it took. A call
     /// that fails takes none.
     fn write_some(&mut self, bytes: &[u8]) -> Result<usize, Failed>
@@ -56,7 +66,8 @@ pub trait Sink {
         ensures progress { 0 < length bytes.now → IfOk result (λ count. 0 < count) }
         ensures bytes { WriteAppends (taken self.old) (taken self.new) result bytes.now }
         ensures failures { failure_count self.new
-            ≡ failures_after result (failure_count self.old) };
+            ≡ failures_after result (failure_count self.old) }
+        ensures does { writes self.old bytes.now result self.new };
 
     /// How many calls have failed, or 2^64 - 1 for any more.
     fn failures(&self) -> u64
