@@ -1,4 +1,3 @@
 pub mod Blocks
 pub mod Chunks
 pub mod Rows
-mod Vectors
