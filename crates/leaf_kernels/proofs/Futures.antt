@@ -9,16 +9,8 @@ use Rattle.plane.specs.Plane.{Plane, next, after}
 use Rattle.plane.specs.Square.{IsSame, spans, cut}
 use Rattle.plane.proofs.Cones.{light_cone_lem}
 use Rattle.plane.proofs.Cuts.{and_case, and_left, and_right}
+use Rattle.leaf_kernels.specs.Inside.{AgreeInside, IsInner}
 use Rattle.leaf_kernels.proofs.Cells.{and_true}
-
--- the coordinate is at least so far inside a square of this side
-pub record IsInner (side margin : ℕ) (z : ℤ) : Type 0 where
-  pub low : pos margin ≤ℤ z
-  pub high : (z +ℤ pos margin) <ℤ pos side
-
--- the planes agree at the cells of the square that are at least so far inside
-abbrev pub AgreeInside : ℕ → ℕ → Plane → Plane → Type 0
-AgreeInside side margin plane other = (x y : ℤ) → IsInner side margin x → IsInner side margin y → plane x y ≡ other x y
 
 inner_spans : (side n : ℕ) (z : ℤ) → IsInner side n z → spans side z ≡ true
 inner_spans side n z inner = grind (arith, ints, inner.low, inner.high)
@@ -86,3 +78,7 @@ few_generations most e = pow_mono (at_most most e)
   where
     at_most : (most e : ℕ) → min e most ≤ most
     at_most most e = omega arith
+
+-- what is so far inside one plane is so far inside another that is the same
+pub agree_same : (side margin : ℕ) (p q r : Plane) → AgreeInside side margin p q → IsSame q r → AgreeInside side margin p r
+agree_same side margin p q r agree same x y inner_x inner_y = agree x y inner_x inner_y ∙ same.same x y

@@ -12,5 +12,6 @@ pub mod Lanes
 pub mod LifeCells
 pub mod Moves
 pub mod Neighbours
-pub mod Squares
+pub mod SixteenRows
+mod Squares
 pub mod Stacked

@@ -41,7 +41,7 @@ shr a b = a / 2 ^ b
 
 module _ (w : Width) (n : ℕ) where
   -- a lane after an operation with the same number at each lane
-  with_each : (f : ℕ → ℕ → ℕ) (rows : List ℕ) (s j : ℕ) → length rows ≡ n → j < n → get_or (zip2 f rows (replicate n s)) j 0 ≡ f (get_or rows j 0) s
+  pub with_each : (f : ℕ → ℕ → ℕ) (rows : List ℕ) (s j : ℕ) → length rows ≡ n → j < n → get_or (zip2 f rows (replicate n s)) j 0 ≡ f (get_or rows j 0) s
   with_each f rows s j long k = get_or-zip2 f rows (replicate n s) j 0 0 0 (omega arith) (omega (arith, length-replicate {A = ℕ} n s)) ∙ ap (f (get_or rows j 0)) (get_or-replicate n j s 0 k)
 
   abbrev shl : ℕ → ℕ → ℕ

@@ -69,11 +69,11 @@ module _ (leaves : List ℕ) (cell : ℕ → ℕ → Bool) (is : AreLeaves 4 lea
       (λ i j h k. from_none (λ n. cell n (16 + j)) i ∙ quarter_cells 2 0 0 16 8 (omega arith) (omega arith) (omega arith) (omega arith) (omega arith) i j h k)
       (λ i j h k. quarter_cells 2 2 16 16 10 (omega arith) (omega arith) (omega arith) (omega arith) (omega arith) i j h k)
 
-pub quarter_square : (leaves : List ℕ) (k : ℕ) → IsSquare 16 (quarter_plane leaves k)
+quarter_square : (leaves : List ℕ) (k : ℕ) → IsSquare 16 (quarter_plane leaves k)
 quarter_square leaves k =
     joined_within 8 _ _ _ _ (leaf_square (get_or leaves k 0)) (leaf_square (get_or leaves (k + 1) 0)) (leaf_square (get_or leaves (k + 4) 0)) (leaf_square (get_or leaves (k + 5) 0))
 
-pub sixteen_square : (leaves : List ℕ) → IsSquare 32 (sixteen_plane leaves)
+sixteen_square : (leaves : List ℕ) → IsSquare 32 (sixteen_plane leaves)
 sixteen_square leaves = joined_within 16 _ _ _ _ (quarter_square leaves 0) (quarter_square leaves 2) (quarter_square leaves 8) (quarter_square leaves 10)
 
 four_sixteens_square : (quarters : List (List ℕ)) → IsSquare 64 (four_sixteens_plane quarters)
@@ -99,7 +99,7 @@ rows_of_quarters vectors quarters nw ne sw se = record {
 }
 
 -- the cell in column i of row j
-row_cell : (vectors : List (List ℕ)) (i j : ℕ) → i < 64 → j < 64 → rows_plane vectors (pos i) (pos j) ≡ bit (row_at vectors j) i
+pub row_cell : (vectors : List (List ℕ)) (i j : ℕ) → i < 64 → j < 64 → rows_plane vectors (pos i) (pos j) ≡ bit (row_at vectors j) i
 row_cell vectors i j h k = and_true (spans 64 (pos i)) (spans 64 (pos j)) (bit (row_at vectors j) i) (less_spans 64 i h) (less_spans 64 j k)
 
 -- four times four leaves in the middle of rows
@@ -133,7 +133,7 @@ middle_of_rows vectors quarters nw ne sw se = record {
     cells i j h k = there i j h k ∙ middle i j h k
 
 -- a row of the sixty-four, by its vector and its lane
-row_in : (vectors : List (List ℕ)) (y place lane : ℕ) → y ≡ 16 * lane + place → place < 16 → row_at vectors y ≡ get_or (get_or vectors place []) lane 0
+pub row_in : (vectors : List (List ℕ)) (y place lane : ℕ) → y ≡ 16 * lane + place → place < 16 → row_at vectors y ≡ get_or (get_or vectors place []) lane 0
 row_in vectors y place lane e h = ap (λ n. get_or (get_or vectors n []) (y / 16) 0) at_place ∙ ap (λ n. get_or (get_or vectors place []) n 0) in_lane
   where
     at_place : y % 16 ≡ place

@@ -1,4 +1,5 @@
 pub mod Generation
+pub mod Inside
 pub mod Life
 pub mod Masks
 pub mod Rows

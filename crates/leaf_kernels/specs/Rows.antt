@@ -7,6 +7,10 @@ use Rattle.plane.specs.Square.{spans, bit, bits_plane, joined}
 abbrev pub cells_of_rows : ℕ → ℕ → List ℕ → Plane
 cells_of_rows width height rows x y = (spans width x && spans height y) && bit (slice_index rows (unsigned_abs y)) (unsigned_abs x)
 
+-- the cells of sixteen rows of sixteen cells
+abbrev pub sixteen_rows_plane : List ℕ → Plane
+sixteen_rows_plane = cells_of_rows 16 16
+
 -- the cells of four rows of sixty-four cells
 abbrev pub four_rows_plane : List ℕ → Plane
 four_rows_plane = cells_of_rows 64 4

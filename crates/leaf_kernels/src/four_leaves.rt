@@ -1,7 +1,7 @@
-//! Squares of four leaves: their centres, and where they stand in larger squares.
+//! Squares of four leaves: their centres.
 ghost use Rattle.std.specs.Prelude.{◌≡◌, ℕ, ◌+◌, ◌<◌};
-ghost use Rattle.plane.specs.Square.{IsSame, bit, bits_plane, centre_of, cut};
-ghost use Rattle.leaf_kernels.specs.Rows.{four_fours_plane, four_sixteens_plane, leaves_plane};
+ghost use Rattle.plane.specs.Square.{IsSame, bit, bits_plane, centre_of};
+ghost use Rattle.leaf_kernels.specs.Rows.{leaves_plane};
 ghost use Rattle.leaf_kernels.specs.Words.{cell_at};
 
 // The cells in the columns 0 to 3 of a leaf.
@@ -36,25 +36,4 @@ fn middle_columns(left: u64, right: u64) -> u64
         → cell_at result row (4 + column) ≡ cell_at right row column }
 {
     ((left >> 4) & LEFT_COLUMNS) | ((right << 4) & RIGHT_COLUMNS)
-}
-
-/// Four squares of sixteen leaves with these four leaves in their middle; all other cells are dead.
-pub(crate) fn surround(leaves: [u64; 4]) -> [[u64; 16]; 4]
-    ensures { IsSame (leaves_plane leaves) (cut 16 24 24 (four_sixteens_plane result)) }
-{
-    let [upper_left, upper_right, lower_left, lower_right] = leaves;
-    [
-        [0, 0, 0, 0, 0, 0, 0, 0, 0, 0, 0, 0, 0, 0, 0, upper_left],
-        [0, 0, 0, 0, 0, 0, 0, 0, 0, 0, 0, 0, upper_right, 0, 0, 0],
-        [0, 0, 0, lower_left, 0, 0, 0, 0, 0, 0, 0, 0, 0, 0, 0, 0],
-        [lower_right, 0, 0, 0, 0, 0, 0, 0, 0, 0, 0, 0, 0, 0, 0, 0],
-    ]
-}
-
-/// The four leaves in the middle of four squares of four leaves.
-pub(crate) fn innermost(quarters: [[u64; 4]; 4]) -> [u64; 4]
-    ensures { IsSame (leaves_plane result) (centre_of 5 (four_fours_plane quarters)) }
-{
-    let [upper_left, upper_right, lower_left, lower_right] = quarters;
-    [upper_left[3], upper_right[2], lower_left[1], lower_right[0]]
 }

@@ -1,9 +1,10 @@
-//! The next generation of sixty-four rows, by anything that makes that of four rows from the rows
-//! above and below.
+//! Sixty-four rows some generations on, by anything that makes the next generation of four rows from
+//! the rows above and below.
 ghost use Rattle.rule_text.specs.CountRule.{CountRule};
-ghost use Rattle.plane.specs.Plane.{next};
+ghost use Rattle.plane.specs.Plane.{after, next};
 ghost use Rattle.plane.specs.Square.{IsSame, cut};
 ghost use Rattle.leaf_kernels.specs.Generation.{AreNext};
+ghost use Rattle.leaf_kernels.specs.Inside.{AgreeInside};
 ghost use Rattle.leaf_kernels.specs.Rows.{rows_plane};
 
 use crate::rows::{from_lane_before, from_lane_behind};
@@ -19,10 +20,27 @@ pub(crate) trait NextCells {
         ensures { AreNext (rule self.now) above here below result };
 }
 
-/// Puts their next generation in the place of sixty-four rows. Cells outside the 64 by 64 are taken
-/// as dead, and those that would become live there are left out.
+/// Sixty-four rows so many generations on. In each of them cells outside the 64 by 64 are taken as
+/// dead, so those are right that lie further inside.
+pub(crate) fn rows_after<N: NextCells>(
+    kernel: &N,
+    rows: [u64x4; 16],
+    generations: u8,
+) -> [u64x4; 16]
+    ensures { AgreeInside 64 generations (rows_plane result)
+        (after (N.rule kernel.now) (rows_plane rows) generations) }
+{
+    let mut later = rows;
+    for _ in 0..generations {
+        advance(kernel, &mut later);
+    }
+    later
+}
+
+// Puts their next generation in the place of sixty-four rows. Cells outside the 64 by 64 are taken as
+// dead, and those that would become live there are left out.
 #[inline(always)]
-pub(crate) fn next_rows<N: NextCells>(kernel: &N, rows: &mut [u64x4; 16])
+fn advance<N: NextCells>(kernel: &N, rows: &mut [u64x4; 16])
     ensures { IsSame (rows_plane rows.new)
         (cut 64 0 0 (next (N.rule kernel.now) (rows_plane rows.old))) }
 {

@@ -84,7 +84,7 @@ fn by_lane(bands: [u64x8; 4]) -> [u64x4; 8]
 
 /// The lanes 1 and 2 of eight vectors.
 #[inline(always)]
-fn middle_lanes(rows: [u64x4; 8]) -> [u64x8; 2]
+pub(crate) fn middle_lanes(rows: [u64x4; 8]) -> [u64x8; 2]
     ensures { (row lane : ℕ) → row < 8 → lane < 2
         → lane_at result lane row ≡ lane_at rows row (1 + lane) }
 {
@@ -105,7 +105,7 @@ fn middle_lanes(rows: [u64x4; 8]) -> [u64x8; 2]
 
 /// Eight leaves beside each other as eight rows, and eight rows as the eight leaves.
 #[inline(always)]
-fn transpose(words: u64x8) -> u64x8
+pub(crate) fn transpose(words: u64x8) -> u64x8
     ensures { AreTransposed words result }
 {
     words_of_bytes(interleave(bytes_of_words(words)))

@@ -3,11 +3,11 @@ ghost use Rattle.std.specs.Prelude.{◌<◌};
 ghost use Rattle.plane.specs.Square.{IsSame, bits_plane, future};
 ghost use Rattle.leaf_kernels.specs.Rows.{four_fours_plane, four_sixteens_plane, leaves_plane};
 
-use crate::four_leaves::{centre16, innermost, surround};
-use crate::generation::{NextCells, next_rows};
+use crate::generation::{NextCells, rows_after};
 use crate::leaves;
 use crate::life::{Life, is_life};
 use crate::masks::Masks;
+use crate::sixteen_rows::{centre_of_rows, next_rows, rows_of_leaves};
 use rule_text::Rule;
 
 /// The 8 by 8 cells in the middle of a square of four leaves, 2^`exp` generations on, where all
@@ -17,8 +17,11 @@ pub fn result16(rule: &Rule, leaves: [u64; 4], exp: u8) -> u64
     requires { exp < 3 }
     ensures { IsSame (bits_plane result) (future rule.now exp 4 (leaves_plane leaves)) }
 {
-    let middle = result64(rule, surround(leaves), exp);
-    centre16(innermost(middle))
+    let mut rows = rows_of_leaves(leaves);
+    for _ in 0..1u8 << exp {
+        rows = next_rows(rule, rows);
+    }
+    centre_of_rows(rows)
 }
 
 /// The cells in the middle of a square of 64 by 64 cells, 2^`exp` generations on, where all cells
@@ -42,10 +45,6 @@ fn middle_after<N: NextCells>(kernel: &N, quarters: [[u64; 16]; 4], exp: u8) -> 
     ensures { IsSame (four_fours_plane result)
         (future (N.rule kernel.now) exp 6 (four_sixteens_plane quarters)) }
 {
-    let mut rows = leaves::rows_of(quarters);
-    let generations = 1u8 << exp;
-    for _ in 0..generations {
-        next_rows(kernel, &mut rows);
-    }
-    leaves::middle_of(rows)
+    let later = rows_after(kernel, leaves::rows_of(quarters), 1 << exp);
+    leaves::middle_of(later)
 }

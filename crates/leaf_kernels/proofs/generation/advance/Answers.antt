@@ -1,7 +1,7 @@
 use Rattle.std.proofs.Common.{ℕ, List, [], ◌∷◌, get_or}
 use Rattle.leaf_kernels.specs.Generation.{AreNext}
 use Rattle.leaf_kernels.proofs.Stacked.{above, below, each_of_sixteen, next_stack}
-use Rattle.leaf_kernels.proofs.generation.next_rows.Goals as goal
+use Rattle.leaf_kernels.proofs.generation.advance.Goals as goal
 
 pub returns : goal.returns
 returns g c =
