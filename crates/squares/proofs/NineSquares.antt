@@ -10,7 +10,7 @@ use Rattle.squares.specs.Parts.{ArePartsOfParts}
 use Rattle.squares.specs.declared.sq.Sq.{Sq}
 use Rattle.squares.specs.declared.subsquares.Parts.{Parts}
 use Rattle.squares.proofs.KnownQuarters.{quarters_of_level}
-use Rattle.squares.proofs.Kept.{keeps_none, keeps_trans, shows_kept}
+use Rattle.squares.proofs.Kept.{keeps_trans, shows_kept}
 use Rattle.squares.proofs.Centres.{lowered, shows_as}
 
 pub quarters_kept : {a b : Book} {level : ℕ} {plane : Plane} {quarters : List Sq} → Keeps a b → AreQuarters a level plane quarters → AreQuarters b level plane quarters
@@ -145,11 +145,3 @@ module _ (level : ℕ) (plane : Plane) (parts : Parts) (above : 4 < level) (high
       (shows_kept k45 ((make_middle above high r2).shown b3 middle mi))
       (shows_kept k5 ((make_right above high r3).shown b4 right ri))
       ((make_lower above high r4).shown b5 lower lo)
-
--- what five reads in turn of one book give
-pub read_here : (level : ℕ) (book : Book) (plane : Plane) (parts : Parts) → AreQuarters book level plane parts.whole →
-    AreQuarters book (nth parts.whole 0).level (book.cells (nth parts.whole 0)) parts.nw → AreQuarters book (nth parts.whole 1).level (book.cells (nth parts.whole 1)) parts.ne →
-    AreQuarters book (nth parts.whole 2).level (book.cells (nth parts.whole 2)) parts.sw → AreQuarters book (nth parts.whole 3).level (book.cells (nth parts.whole 3)) parts.se →
-    ArePartsOfParts book level plane parts
-read_here level book plane parts all in_a in_b in_c in_d =
-    let none = keeps_none book in read_all level book book book book book plane parts all none in_a none in_b none in_c none in_d

@@ -7,7 +7,10 @@ use Rattle.plane.specs.declared.refusal.Refusal.{Refusal}
 use Rattle.plane.specs.declared.refusal.Refusal.TheVariants.{NodesFull, NoMemory}
 use Rattle.squares.specs.declared.sq.Sq.{Sq}
 
--- the rule and the exponent of its results, which squares it knows and what their cells are, the nonempty squares whose result it knows and how many of these somebody else told it, whether it has no room for some square, whether it takes memory, and in which store its squares lie: numbers that two books share only if they lie in one store, and none for a book of its own
+-- What a book knows: the rule and the exponent of its results; which squares it knows, and their cells; the nonempty
+-- squares whose result it knows, and how many of these somebody else told it; whether it has no room for some square;
+-- whether it takes memory; and the store of its squares, as numbers that tell it from others, and none for a book of its
+-- own.
 pub record Book : Type 0 where
   pub rule : CountRule
   pub exponent : ℕ

@@ -32,7 +32,8 @@ pub trait Look {
 
 /// A book of squares that grows, and that keeps the results of squares under one rule and exponent.
 /// All that is known stays known, through refusals too. A call refuses `NoMemory` only where the
-/// book takes memory, and `NodesFull` only where the book is full, and then it stays full.
+/// book takes memory, and `NodesFull` only where the book is full, and then it stays full. An
+/// implementor writes the first eight calls; `nine` and `overlaps` are made of them.
 pub trait Squares {
     // What is known.
     ghost book: { Self → Book };
@@ -76,25 +77,6 @@ pub trait Squares {
         ensures refusal { IfErr result (MayRefuse (book self.new)) }
         ensures adds { AddsSquares (book self.old) (book self.new) };
 
-    /// The nine overlapping squares of a square above level 4, row by row from the top, each with
-    /// half its side: they begin at 0, a quarter and a half of its side in each direction.
-    fn nine(&mut self, sq: Sq) -> Result<[Sq; 9], Refusal>
-        requires known { IsKnown (book self.old) sq.level sq }
-        requires level { 4 < sq.level }
-        ensures ok { IfOk result
-            (AreSubsquares (book self.new) sq.level ((book self.old).cells sq)) }
-        ensures refusal { IfErr result (MayRefuse (book self.new)) }
-        ensures adds { AddsSquares (book self.old) (book self.new) };
-
-    /// Of nine squares of one level in three rows, the four that neighbours make: those at the
-    /// upper left, the upper right, the lower left and the lower right.
-    fn overlaps(&mut self, level: u8, nine: [Sq; 9]) -> Result<[Sq; 4], Refusal>
-        requires known { All (IsKnown (book self.old) level) nine }
-        requires level { level < 65 }
-        ensures ok { IfOk result (AreOverlaps (book self.new) level nine) }
-        ensures refusal { IfErr result (MayRefuse (book self.new)) }
-        ensures adds { AddsSquares (book self.old) (book self.new) };
-
     /// The result of a square, if it is known: its centre after 2^exponent generations, or after
     /// 2^(level - 2) if that is less. The result of an empty square is known to be empty.
     fn recall(&mut self, sq: Sq) -> Option<Sq>
@@ -118,6 +100,48 @@ pub trait Squares {
         ensures err { OnErr result (KeepsResults (book self.old) (book self.new)) }
         ensures refusal { IfErr result (MayRefuse (book self.new)) }
         ensures keeps { Keeps (book self.old) (book self.new) };
+
+    /// The nine overlapping squares of a square above level 4, row by row from the top, each with
+    /// half its side: they begin at 0, a quarter and a half of its side in each direction. A book
+    /// that can make them with fewer searches has a body of its own.
+    fn nine(&mut self, sq: Sq) -> Result<[Sq; 9], Refusal>
+        requires known { IsKnown (book self.old) sq.level sq }
+        requires level { 4 < sq.level }
+        ensures ok { IfOk result
+            (AreSubsquares (book self.new) sq.level ((book self.old).cells sq)) }
+        ensures refusal { IfErr result (MayRefuse (book self.new)) }
+        ensures adds { AddsSquares (book self.old) (book self.new) }
+    {
+        let [nw, ne, sw, se] = self.read_parts(sq);
+        let [_, nw_ne, nw_sw, nw_se] = self.read_parts(nw);
+        let [ne_nw, _, ne_sw, ne_se] = self.read_parts(ne);
+        let [sw_nw, sw_ne, _, sw_se] = self.read_parts(sw);
+        let [se_nw, se_ne, se_sw, _] = self.read_parts(se);
+        let upper = self.quad([nw_ne, ne_nw, nw_se, ne_sw])?;
+        let left = self.quad([nw_sw, nw_se, sw_nw, sw_ne])?;
+        let middle = self.quad([nw_se, ne_sw, sw_ne, se_nw])?;
+        let right = self.quad([ne_sw, ne_se, se_nw, se_ne])?;
+        let lower = self.quad([sw_ne, se_nw, sw_se, se_sw])?;
+        Ok([nw, upper, ne, left, middle, right, sw, lower, se])
+    }
+
+    /// Of nine squares of one level in three rows, the four that neighbours make: those at the
+    /// upper left, the upper right, the lower left and the lower right. A book that can make them
+    /// with fewer searches has a body of its own.
+    fn overlaps(&mut self, level: u8, nine: [Sq; 9]) -> Result<[Sq; 4], Refusal>
+        requires known { All (IsKnown (book self.old) level) nine }
+        requires level { level < 65 }
+        ensures ok { IfOk result (AreOverlaps (book self.new) level nine) }
+        ensures refusal { IfErr result (MayRefuse (book self.new)) }
+        ensures adds { AddsSquares (book self.old) (book self.new) }
+    {
+        let [nw, upper, ne, left, middle, right, sw, lower, se] = nine;
+        let upper_left = self.quad([nw, upper, left, middle])?;
+        let upper_right = self.quad([upper, ne, middle, right])?;
+        let lower_left = self.quad([left, middle, sw, lower])?;
+        let lower_right = self.quad([middle, right, lower, se])?;
+        Ok([upper_left, upper_right, lower_left, lower_right])
+    }
 
     ghost is_book: { (s : Self) → IsBook (book s) };
 }

@@ -27,4 +27,4 @@ pub use plain_book::PlainBook;
 pub use reading::{Looked, Reading};
 pub use runs::{cells_to_square, runs_to_square};
 pub use sq::{HIGHEST_ROOT_LEVEL, LEAF_LEVEL, LOWEST_ROOT_LEVEL, Num, Sq, half_side};
-pub use subsquares::centre;
+pub use subsquares::{centre, nine};

@@ -184,29 +184,6 @@ impl Squares for PlainBook {
         Ok(Sq { level, num })
     }
 
-    fn nine(&mut self, sq: Sq) -> Result<[Sq; 9], Refusal> {
-        let [nw, ne, sw, se] = self.parts(sq);
-        let [_, nw_ne, nw_sw, nw_se] = self.parts(nw);
-        let [ne_nw, _, ne_sw, ne_se] = self.parts(ne);
-        let [sw_nw, sw_ne, _, sw_se] = self.parts(sw);
-        let [se_nw, se_ne, se_sw, _] = self.parts(se);
-        let upper = self.quad([nw_ne, ne_nw, nw_se, ne_sw])?;
-        let left = self.quad([nw_sw, nw_se, sw_nw, sw_ne])?;
-        let middle = self.quad([nw_se, ne_sw, sw_ne, se_nw])?;
-        let right = self.quad([ne_sw, ne_se, se_nw, se_ne])?;
-        let lower = self.quad([sw_ne, se_nw, sw_se, se_sw])?;
-        Ok([nw, upper, ne, left, middle, right, sw, lower, se])
-    }
-
-    fn overlaps(&mut self, level: u8, nine: [Sq; 9]) -> Result<[Sq; 4], Refusal> {
-        let [nw, upper, ne, left, middle, right, sw, lower, se] = nine;
-        let upper_left = self.quad([nw, upper, left, middle])?;
-        let upper_right = self.quad([upper, ne, middle, right])?;
-        let lower_left = self.quad([left, middle, sw, lower])?;
-        let lower_right = self.quad([middle, right, lower, se])?;
-        Ok([upper_left, upper_right, lower_left, lower_right])
-    }
-
     fn recall(&mut self, sq: Sq) -> Option<Sq> {
         let level = sq.level - 1;
         if sq.is_empty() {

@@ -1,7 +1,7 @@
-//! The square at the centre of a square.
+//! The square at the centre of a square, and the nine overlapping squares.
 
 ghost use Rattle.std.specs.Prelude.{◌≡◌, ◌-◌, ◌<◌, IfOk, IfErr};
-ghost use Rattle.squares.specs.Book.{AddsSquares, IsKnown, MayRefuse, Shows};
+ghost use Rattle.squares.specs.Book.{AddsSquares, AreSubsquares, IsKnown, MayRefuse, Shows};
 ghost use Rattle.plane.specs.Square.{centre_of};
 ghost use Rattle.squares.specs.Parts.{ArePartsOfParts};
 
@@ -24,6 +24,19 @@ pub fn centre<S: Squares>(book: &mut S, sq: Sq) -> Result<Sq, Refusal>
     } else {
         centre_of_parts(book, sq)
     }
+}
+
+/// The nine overlapping squares of a square above level 4, row by row from the top, each with half
+/// its side: they begin at 0, a quarter and a half of its side in each direction.
+pub fn nine<S: Squares>(book: &mut S, sq: Sq) -> Result<[Sq; 9], Refusal>
+    requires known { IsKnown (S.book book.old) sq.level sq }
+    requires level { 4 < sq.level }
+    ensures ok { IfOk result
+        (AreSubsquares (S.book book.new) sq.level ((S.book book.old).cells sq)) }
+    ensures refusal { IfErr result (MayRefuse (S.book book.new)) }
+    ensures adds { AddsSquares (S.book book.old) (S.book book.new) }
+{
+    book.nine(sq)
 }
 
 // The centre of a square of level 4.

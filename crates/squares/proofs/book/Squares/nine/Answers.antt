@@ -1,0 +1,50 @@
+use Rattle.squares.specs.declared.subsquares.Parts.{Parts}
+use Rattle.squares.proofs.Kept.{adds_trans}
+use Rattle.squares.proofs.NineSquares.{read_all, nine_made}
+use Rattle.squares.proofs.book.Squares.nine.Goals as goal
+
+pub returns-in_err-upper-clause-adds : goal.returns-in_err-upper-clause-adds
+returns-in_err-upper-clause-adds g c =
+    adds_trans c.read_parts.ensures.adds (adds_trans c.read_parts-2.ensures.adds (adds_trans c.read_parts-3.ensures.adds
+    (adds_trans c.read_parts-4.ensures.adds (adds_trans c.read_parts-5.ensures.adds c.quad.ensures.adds))))
+
+pub returns-in_err-left-clause-adds : goal.returns-in_err-left-clause-adds
+returns-in_err-left-clause-adds g c =
+    adds_trans c.read_parts.ensures.adds (adds_trans c.read_parts-2.ensures.adds (adds_trans c.read_parts-3.ensures.adds
+    (adds_trans c.read_parts-4.ensures.adds (adds_trans c.read_parts-5.ensures.adds (adds_trans c.quad.ensures.adds c.quad-2.ensures.adds)))))
+
+pub returns-in_err-middle-clause-adds : goal.returns-in_err-middle-clause-adds
+returns-in_err-middle-clause-adds g c =
+    adds_trans c.read_parts.ensures.adds (adds_trans c.read_parts-2.ensures.adds (adds_trans c.read_parts-3.ensures.adds
+    (adds_trans c.read_parts-4.ensures.adds (adds_trans c.read_parts-5.ensures.adds
+    (adds_trans c.quad.ensures.adds (adds_trans c.quad-2.ensures.adds c.quad-3.ensures.adds))))))
+
+pub returns-in_err-right-clause-adds : goal.returns-in_err-right-clause-adds
+returns-in_err-right-clause-adds g c =
+    adds_trans c.read_parts.ensures.adds (adds_trans c.read_parts-2.ensures.adds (adds_trans c.read_parts-3.ensures.adds
+    (adds_trans c.read_parts-4.ensures.adds (adds_trans c.read_parts-5.ensures.adds
+    (adds_trans c.quad.ensures.adds (adds_trans c.quad-2.ensures.adds (adds_trans c.quad-3.ensures.adds c.quad-4.ensures.adds)))))))
+
+pub returns-in_err-lower-clause-adds : goal.returns-in_err-lower-clause-adds
+returns-in_err-lower-clause-adds g c =
+    adds_trans c.read_parts.ensures.adds (adds_trans c.read_parts-2.ensures.adds (adds_trans c.read_parts-3.ensures.adds
+    (adds_trans c.read_parts-4.ensures.adds (adds_trans c.read_parts-5.ensures.adds
+    (adds_trans c.quad.ensures.adds (adds_trans c.quad-2.ensures.adds (adds_trans c.quad-3.ensures.adds (adds_trans c.quad-4.ensures.adds c.quad-5.ensures.adds))))))))
+
+pub returns-clause-adds : goal.returns-clause-adds
+returns-clause-adds g c =
+    adds_trans c.read_parts.ensures.adds (adds_trans c.read_parts-2.ensures.adds (adds_trans c.read_parts-3.ensures.adds
+    (adds_trans c.read_parts-4.ensures.adds (adds_trans c.read_parts-5.ensures.adds
+    (adds_trans c.quad.ensures.adds (adds_trans c.quad-2.ensures.adds (adds_trans c.quad-3.ensures.adds (adds_trans c.quad-4.ensures.adds c.quad-5.ensures.adds))))))))
+
+pub returns-clause-ok : goal.returns-clause-ok
+returns-clause-ok g c =
+    let parts : Parts = record { whole = c.read_parts.result; nw = c.read_parts-2.result; ne = c.read_parts-3.result; sw = c.read_parts-4.result; se = c.read_parts-5.result } in
+    let plane = (g.Self.Squares.book c.args.self.now).cells c.args.sq in
+    let read = read_all c.args.sq.level _ _ _ _ (g.Self.Squares.book c.read_parts-5.new.self) plane parts c.read_parts.ensures.value
+    c.read_parts-2.ensures.adds.keeps c.read_parts-2.ensures.value c.read_parts-3.ensures.adds.keeps c.read_parts-3.ensures.value
+    c.read_parts-4.ensures.adds.keeps c.read_parts-4.ensures.value c.read_parts-5.ensures.adds.keeps c.read_parts-5.ensures.value in
+    nine_made c.args.sq.level plane parts c.requires.level c.requires.known.high (g.Self.Squares.book c.read_parts-5.new.self) _ _ _ _ _
+    c.in_ok-upper.upper c.in_ok-left.left c.in_ok-middle.middle c.in_ok-right.right c.in_ok-lower.lower read
+    c.quad.ensures.adds.keeps c.in_ok-upper.ensures.ok c.quad-2.ensures.adds.keeps c.in_ok-left.ensures.ok c.quad-3.ensures.adds.keeps c.in_ok-middle.ensures.ok
+    c.quad-4.ensures.adds.keeps c.in_ok-right.ensures.ok c.quad-5.ensures.adds.keeps c.in_ok-lower.ensures.ok
