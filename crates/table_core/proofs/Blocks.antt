@@ -13,7 +13,7 @@ use Rattle.plane.proofs.Blocks.{empty_inside, beside_inside, below_inside, besid
 use Rattle.table_core.specs.declared.shape.Kind.{Kind}
 use Rattle.table_core.specs.declared.shape.Kind.TheVariants.{Leaf, Pair}
 use Rattle.table_core.specs.Layout.{IsSlot, first_part, second_part}
-use Rattle.table_core.specs.Blocks.{Words, width, height, paired, IsBlock, cells_of, Shows}
+use Rattle.table_core.specs.Blocks.{Words, width, height, paired, IsBlock, cells_of, ShowsBlock}
 use Rattle.table_core.specs.declared.key.Key.{Key}
 use Rattle.table_core.specs.Good.{IsGood, KeepsWords, KeepsSlots}
 use Rattle.table_core.proofs.Ways.{one_kind}
@@ -178,9 +178,9 @@ block_kept bits old new keeps = block_stays bits old new (slots_kept bits old ne
 pub cells_kept : (bits : ℕ) (old new : Words) → KeepsWords old new → (r n : ℕ) → IsBlock bits old r n → cells_of new r n ≡ cells_of old r n
 cells_kept bits old new keeps = cells_stay bits old new (slots_kept bits old new keeps)
 
-pub shows_stay : (bits : ℕ) (old new : Words) (r n : ℕ) (plane : Plane) → KeepsSlots bits old new → Shows bits old r n plane →
-    Shows bits new r n plane
+pub shows_stay : (bits : ℕ) (old new : Words) (r n : ℕ) (plane : Plane) → KeepsSlots bits old new → ShowsBlock bits old r n plane →
+    ShowsBlock bits new r n plane
 shows_stay bits old new r n plane keeps h = record { stands = block_stays bits old new keeps r n h.stands; cells = same_trans (same_of _ _ (cells_stay bits old new keeps r n h.stands)) h.cells }
 
-pub shows_kept : (bits : ℕ) (old new : Words) (r n : ℕ) (plane : Plane) → KeepsWords old new → Shows bits old r n plane → Shows bits new r n plane
+pub shows_kept : (bits : ℕ) (old new : Words) (r n : ℕ) (plane : Plane) → KeepsWords old new → ShowsBlock bits old r n plane → ShowsBlock bits new r n plane
 shows_kept bits old new r n plane keeps h = shows_stay bits old new r n plane (slots_kept bits old new keeps) h

@@ -4,8 +4,7 @@ use Rattle.plane.specs.Square.{future}
 use Rattle.table_core.specs.declared.shape.Kind.{Kind}
 use Rattle.table_core.specs.declared.shape.Kind.TheVariants.{Pair}
 use Rattle.table_core.specs.Layout.{IsSlot, way, result_of, first_part, second_part}
-use Rattle.table_core.specs.Blocks.{Words, IsBlock, cells_of, square_rank, Shows}
-use Rattle.table_core.specs.declared.rank.TheConstants.{LARGEST_RANK}
+use Rattle.table_core.specs.Blocks.{Words, IsBlock, cells_of, square_rank, ShowsBlock, largest_rank}
 use Rattle.table_core.specs.declared.key.Key.{Key}
 use Rattle.table_core.specs.Good.{IsOnWay, IsFutureOf, IsGood, KeepsWords, Fills, PartsStand, MayStand}
 use Rattle.table_core.proofs.Ways.{one_kind, not_head, not_result, way_is_slot}
@@ -50,7 +49,7 @@ future_kept key old new i n keeps h = record {
   level = h.level;
   above = h.above;
   square = block_kept key.shape.bits old new keeps (square_rank h.level) i h.square;
-  shown = subst (λ plane. Shows key.shape.bits new (square_rank (h.level - 1)) n (future key.rule key.exponent h.level plane)) (sym (cells_kept key.shape.bits old new keeps (square_rank h.level) i h.square))
+  shown = subst (λ plane. ShowsBlock key.shape.bits new (square_rank (h.level - 1)) n (future key.rule key.exponent h.level plane)) (sym (cells_kept key.shape.bits old new keeps (square_rank h.level) i h.square))
       (shows_kept key.shape.bits old new (square_rank (h.level - 1)) n (future key.rule key.exponent h.level (cells_of old (square_rank h.level) i)) keeps h.shown);
 }
 
@@ -91,7 +90,7 @@ module _ (key : Key) (old new : Words) (kind : Kind) (index word : ℕ) (slot : 
       (λ n. let was : old i ≢ 0 = λ z. some (fills.others i n ∙ z) in way_kept key.shape.bits old new other i kept was (good.on_way other i si was))
       (same_or_other i index)
 
-  block_now : kind ≡ Pair → (rank : ℕ) × (rank < LARGEST_RANK) × IsBlock key.shape.bits new (suc rank) index
+  block_now : kind ≡ Pair → (rank : ℕ) × (rank < largest_rank) × IsBlock key.shape.bits new (suc rank) index
   block_now k =
       let p : PartsStand key.shape.bits old Pair word = subst (λ a. PartsStand key.shape.bits old a word) k may.parts in
       let now = sym fills.now in (
@@ -102,7 +101,7 @@ module _ (key : Key) (old new : Words) (kind : Kind) (index word : ℕ) (slot : 
             (subst (λ w. IsBlock key.shape.bits new p.0 (second_part w)) now (block_kept key.shape.bits old new kept p.0 (second_part word) p.3)),
       )
 
-  blocks_still : (i : ℕ) → IsSlot key.shape.bits Pair i → new i ≢ 0 → (rank : ℕ) × (rank < LARGEST_RANK) × IsBlock key.shape.bits new (suc rank) i
+  blocks_still : (i : ℕ) → IsSlot key.shape.bits Pair i → new i ≢ 0 → (rank : ℕ) × (rank < largest_rank) × IsBlock key.shape.bits new (suc rank) i
   blocks_still i si some = ⊎_elim
       (λ e. let t = block_now (one_kind key.shape.bits kind Pair i (subst (IsSlot key.shape.bits kind) (sym e) slot) si) in (t.0, t.1, subst (IsBlock key.shape.bits new (suc t.0)) (sym e) t.2))
       (λ n. let t = good.blocks i si (λ z. some (fills.others i n ∙ z)) in (t.0, t.1, block_kept key.shape.bits old new kept (suc t.0) i t.2))

@@ -10,8 +10,7 @@ use Rattle.table_core.specs.declared.knowledge.KnownResult.{KnownResult}
 use Rattle.table_core.specs.declared.knowledge.Knowledge.{Knowledge}
 use Rattle.table_core.specs.declared.shape.Kind.TheVariants.{Leaf, Pair}
 use Rattle.table_core.specs.Layout.{IsSlot}
-use Rattle.table_core.specs.Blocks.{Words, IsBlock, width, height}
-use Rattle.table_core.specs.declared.rank.TheConstants.{LARGEST_RANK}
+use Rattle.table_core.specs.Blocks.{Words, IsBlock, width, height, largest_rank}
 use Rattle.table_core.specs.Good.{IsGood}
 use Rattle.table_core.specs.Knowledge.{KnowsBlock, IsTrueResult, KnowsSquareOf, IsTrueOf}
 use Rattle.table_core.specs.Laws.{EveryTruthIsConsistent}
@@ -46,7 +45,7 @@ pair_slot bits words rank (suc i) some b = (b.0, b.1)
 
 -- a pair that stands in good words is of at most a square of level 65
 low_rank : (key : Key) (words : Words) (rank n : ℕ) → IsGood key words → n ≢ 0 → IsBlock key.shape.bits words (suc rank) n →
-    IsSlot key.shape.bits Pair n × (rank < LARGEST_RANK)
+    IsSlot key.shape.bits Pair n × (rank < largest_rank)
 low_rank key words rank n good some b =
     let s = pair_slot key.shape.bits words rank n some b in
     let t = good.blocks n s.0 s.1 in

@@ -10,7 +10,7 @@ use Rattle.table_core.specs.declared.knowledge.KnownResult.{KnownResult}
 use Rattle.table_core.specs.declared.knowledge.Knowledge.{Knowledge}
 use Rattle.table_core.specs.declared.shape.Kind.TheVariants.{Leaf, Pair}
 use Rattle.table_core.specs.Layout.{IsSlot, size, result_of}
-use Rattle.table_core.specs.Blocks.{Words, IsBlock, cells_of, square_rank, Shows}
+use Rattle.table_core.specs.Blocks.{Words, IsBlock, cells_of, square_rank, ShowsBlock}
 use Rattle.table_core.specs.Good.{IsGood}
 use Rattle.table_core.specs.Knowledge.{HasSeen, KnowsBlock, IsTrueResult, KnowsSquareOf, IsTrueOf, Grows, with_result, nothing}
 use Rattle.table_core.specs.Laws.{GoodWordsCanBeKnown}
@@ -83,7 +83,7 @@ module _ (key : Key) (words : Words) (good : IsGood key words) where
   unfolding Shown
   show_one n rank known h some block =
       let more = λ (e : KnownBlock) (t : Contains known.blocks e). Contains-append_left known.blocks (block_entry words rank n ∷ []) e t in
-      let shows : Shows key.shape.bits words rank n (plane_of (block_entry words rank n).live) =
+      let shows : ShowsBlock key.shape.bits words rank n (plane_of (block_entry words rank n).live) =
       record { stands = block; cells = same_sym (entry_same n rank (cells_of words rank n) (cells_inside words rank n)) } in
       let first = lists_first n rank (cells_of words rank n) (cells_inside words rank n) [] in
       let now : KnowsBlock (with_block known (block_entry words rank n)) rank n (cells_of words rank n) =

@@ -6,12 +6,12 @@ use Rattle.table_core.specs.declared.shape.Kind.{Kind}
 use Rattle.table_core.specs.Layout.{IsSlot, way}
 use Rattle.table_core.specs.Blocks.{Words}
 use Rattle.table_core.specs.Good.{IsGood, KeepsWords}
-use Rattle.table_core.specs.Knowledge.{Grows, IsTrueOf}
+use Rattle.table_core.specs.Knowledge.{HasSeenAll, IsTrueOf}
 use Rattle.table_core.specs.FullWays.{EveryFullWayStays, HasSeenAnother, KnowsFullWay}
 use Rattle.table_core.proofs.Knowing.{seen_true}
 
-another_grown : (old new : Knowledge) (index word : ℕ) → Grows old new → HasSeenAnother old index word → HasSeenAnother new index word
-another_grown old new index word grows other = (other.0, grows.words (index, other.0) other.1, other.2, other.3)
+another_grown : (old new : Knowledge) (index word : ℕ) → HasSeenAll old new → HasSeenAnother old index word → HasSeenAnother new index word
+another_grown old new index word grows other = (other.0, grows (index, other.0) other.1, other.2, other.3)
 
 -- the word isn't where another one was seen
 not_there : (key : Key) (words later : Words) (known : Knowledge) (index word : ℕ) → IsTrueOf key.shape.bits words known → KeepsWords words later → HasSeenAnother known index word → later index ≢ word

@@ -12,7 +12,7 @@ use Rattle.table_core.specs.declared.knowledge.KnownBlock.{KnownBlock}
 use Rattle.table_core.specs.declared.knowledge.KnownResult.{KnownResult}
 use Rattle.table_core.specs.declared.knowledge.Knowledge.{Knowledge}
 use Rattle.table_core.specs.Layout.{result_of}
-use Rattle.table_core.specs.Blocks.{Words, square_rank, Shows}
+use Rattle.table_core.specs.Blocks.{Words, square_rank, ShowsBlock}
 use Rattle.table_core.specs.Good.{IsGood, KeepsWords}
 use Rattle.table_core.specs.Knowledge.{HasSeen, Says, Lists, KnowsBlock, IsTrueResult, KnowsSquareOf, IsTrueOf, Grows, united, nothing}
 use Rattle.table_core.proofs.Blocks.{one_number, empty_block, empty_cells, block_kept, shows_kept}
@@ -31,7 +31,7 @@ result_later bits old new result keeps h = record {
 pub true_later : (bits : ℕ) (old new : Words) (known : Knowledge) → KeepsWords old new → IsTrueOf bits old known → IsTrueOf bits new known
 true_later bits old new known keeps h = record {
   seen = all_weaker _ (λ (entry : ℕ × ℕ). (new entry.0 ≡ entry.1) × (entry.1 ≢ 0)) (λ entry t. (keeps.kept entry.0 (λ e. t.1 (sym t.0 ∙ e)) ∙ t.0, t.1)) known.words h.seen;
-  blocks = all_weaker _ (λ (entry : KnownBlock). Shows bits new entry.rank entry.number (plane_of entry.live)) (λ entry t. shows_kept bits old new entry.rank entry.number (plane_of entry.live) keeps t) known.blocks h.blocks;
+  blocks = all_weaker _ (λ (entry : KnownBlock). ShowsBlock bits new entry.rank entry.number (plane_of entry.live)) (λ entry t. shows_kept bits old new entry.rank entry.number (plane_of entry.live) keeps t) known.blocks h.blocks;
   results = all_weaker _ (IsTrueResult bits new) (λ result t. result_later bits old new result keeps t) known.results h.results;
   squares = h.squares;
   once = h.once;
@@ -41,19 +41,19 @@ pub seen_true : (bits : ℕ) (words : Words) (known : Knowledge) (index word : �
     (words index ≡ word) × (word ≢ 0)
 seen_true bits words known index word h has = all_contains (λ (entry : ℕ × ℕ). (words entry.0 ≡ entry.1) × (entry.1 ≢ 0)) known.words (index, word) h.seen has
 
-pub shown_as : (bits : ℕ) (words : Words) (r q n m : ℕ) (plane other : Plane) → r ≡ q → n ≡ m → IsSame plane other → Shows bits words r n plane →
-    Shows bits words q m other
+pub shown_as : (bits : ℕ) (words : Words) (r q n m : ℕ) (plane other : Plane) → r ≡ q → n ≡ m → IsSame plane other → ShowsBlock bits words r n plane →
+    ShowsBlock bits words q m other
 shown_as bits words r q n m plane other er en same h =
-    let one = subst (λ k. Shows bits words k n plane) er h in let two = subst (λ k. Shows bits words q k plane) en one in
+    let one = subst (λ k. ShowsBlock bits words k n plane) er h in let two = subst (λ k. ShowsBlock bits words q k plane) en one in
     record { stands = two.stands; cells = same_trans two.cells same }
 
 -- a block that is known is shown
 pub block_true : (bits : ℕ) (words : Words) (known : Knowledge) (rank n : ℕ) (plane : Plane) → IsTrueOf bits words known →
-    KnowsBlock known rank n plane → Shows bits words rank n plane
+    KnowsBlock known rank n plane → ShowsBlock bits words rank n plane
 block_true bits words known rank n plane h knows = ⊎_elim
-    (λ t. subst (λ k. Shows bits words rank k plane) (sym t.0) (record { stands = empty_block bits words rank; cells = same_trans (same_of _ _ (empty_cells words rank)) t.1 }))
+    (λ t. subst (λ k. ShowsBlock bits words rank k plane) (sym t.0) (record { stands = empty_block bits words rank; cells = same_trans (same_of _ _ (empty_cells words rank)) t.1 }))
     (λ t. shown_as bits words t.0.rank rank t.0.number n (plane_of t.0.live) plane t.2.at_rank t.2.of_number t.2.cells
-    (all_contains (λ (entry : KnownBlock). Shows bits words entry.rank entry.number (plane_of entry.live)) known.blocks t.0 h.blocks t.1)) knows
+    (all_contains (λ (entry : KnownBlock). ShowsBlock bits words entry.rank entry.number (plane_of entry.live)) known.blocks t.0 h.blocks t.1)) knows
 
 says_same : (entry : KnownBlock) (rank n : ℕ) (p q : Plane) → IsSame p q → Says entry rank n p → Says entry rank n q
 says_same entry rank n p q same t = record { at_rank = t.at_rank; of_number = t.of_number; cells = same_trans t.cells same }

@@ -13,12 +13,12 @@ use Rattle.table_core.specs.declared.machine.Event.{Event}
 use Rattle.table_core.specs.declared.machine.Event.TheVariants.{Look, Claim, Ask, Tell}
 use Rattle.table_core.specs.declared.shape.Kind.TheVariants.{Pair}
 use Rattle.table_core.specs.Layout.{IsSlot, result_of, first_part, second_part}
-use Rattle.table_core.specs.Blocks.{Words, square_rank, IsBlock, Shows, paired}
+use Rattle.table_core.specs.Blocks.{Words, square_rank, IsBlock, ShowsBlock, paired}
 use Rattle.table_core.specs.Good.{IsGood}
 use Rattle.table_core.specs.Events.{index_of}
 use Rattle.table_core.specs.Knowledge.{Says, KnowsBlock, IsTrueOf, IsTrueResult, KnowsSquareOf, Grows}
 use Rattle.table_core.specs.Lawful.{MayAsk, IsLawful}
-use Rattle.table_core.specs.Learning.{KnowsWhole, Follows, as_leaf, as_pair, as_first_part, as_second_part, with_word, LearnsWord, with_future, LearnsFuture, MeetsWord, MeetsResult, Learns}
+use Rattle.table_core.specs.Learning.{KnowsWhole, Follows, as_leaf, as_pair, as_first_part, as_second_part, with_word, LearnsWord, with_future, LearnsFuture, MeetsWord, MeetsResult, LearnsFrom}
 use Rattle.table_core.proofs.Comparisons.{same_or_other}
 use Rattle.table_core.proofs.Lists.{all_weaker, all_append}
 use Rattle.table_core.proofs.Results.{with_result_keeps, with_result_all, with_result_once}
@@ -43,36 +43,36 @@ future_grows key known count index word after l = subst (Grows known) (sym l.is)
 })
 
 module _ (key : Key) (words : Words) (known : Knowledge) (index word : ℕ) (good : IsGood key words) (h : IsTrueOf key.shape.bits words known) (there : words index ≡ word) where
-  at_word : (rank : ℕ) (one : Plane) (part_of : ℕ → ℕ) → Shows key.shape.bits words rank (part_of word) one →
-      Shows key.shape.bits words rank (part_of (words index)) one
-  at_word rank one part_of s = subst (λ w. Shows key.shape.bits words rank (part_of w) one) (sym there) s
+  at_word : (rank : ℕ) (one : Plane) (part_of : ℕ → ℕ) → ShowsBlock key.shape.bits words rank (part_of word) one →
+      ShowsBlock key.shape.bits words rank (part_of (words index)) one
+  at_word rank one part_of s = subst (λ w. ShowsBlock key.shape.bits words rank (part_of w) one) (sym there) s
 
-  said : (entry : KnownBlock) (rank n : ℕ) (plane : Plane) → Says entry rank n plane → Shows key.shape.bits words rank n plane →
-      Shows key.shape.bits words entry.rank entry.number (plane_of entry.live)
+  said : (entry : KnownBlock) (rank n : ℕ) (plane : Plane) → Says entry rank n plane → ShowsBlock key.shape.bits words rank n plane →
+      ShowsBlock key.shape.bits words entry.rank entry.number (plane_of entry.live)
   said entry rank n plane says shown = shown_as key.shape.bits words rank entry.rank n entry.number plane (plane_of entry.live) (sym says.at_rank) (sym says.of_number) (same_sym says.cells) shown
 
   both_parts : (r : ℕ) (one two : Plane) → KnowsWhole known r index one two →
-      Shows key.shape.bits words r (first_part (words index)) one × Shows key.shape.bits words r (second_part (words index)) two
+      ShowsBlock key.shape.bits words r (first_part (words index)) one × ShowsBlock key.shape.bits words r (second_part (words index)) two
   both_parts r one two knows = parts_show key.shape.bits words r index one two knows.some knows.first_inside knows.second_inside (block_true key.shape.bits words known (suc r) index (paired r one two) h knows.whole)
 
   -- what follows is shown
   follows_true : word ≢ 0 → (entry : KnownBlock) → Follows key known index word entry →
-      Shows key.shape.bits words entry.rank entry.number (plane_of entry.live)
+      ShowsBlock key.shape.bits words entry.rank entry.number (plane_of entry.live)
   follows_true some entry (as_leaf slot says) = said entry 0 index (bits_plane word) says
-      (subst (λ w. Shows key.shape.bits words 0 index (bits_plane w)) there (leaf_shows key.shape.bits words index slot (λ z. some (sym there ∙ z))))
+      (subst (λ w. ShowsBlock key.shape.bits words 0 index (bits_plane w)) there (leaf_shows key.shape.bits words index slot (λ z. some (sym there ∙ z))))
   follows_true some entry (as_pair r one two slot knows says) = said entry (suc r) index (paired r one two) says
       (pair_shows key.shape.bits words r index one two slot (λ z. some (sym there ∙ z))
       (at_word r one first_part (block_true key.shape.bits words known r (first_part word) one h knows.first))
       (at_word r two second_part (block_true key.shape.bits words known r (second_part word) two h knows.second)))
   follows_true some entry (as_first_part r one two knows says) = said entry r (first_part word) one says
-      (subst (λ w. Shows key.shape.bits words r (first_part w) one) there (both_parts r one two knows).0)
+      (subst (λ w. ShowsBlock key.shape.bits words r (first_part w) one) there (both_parts r one two knows).0)
   follows_true some entry (as_second_part r one two knows says) = said entry r (second_part word) two says
-      (subst (λ w. Shows key.shape.bits words r (second_part w) two) there (both_parts r one two knows).1)
+      (subst (λ w. ShowsBlock key.shape.bits words r (second_part w) two) there (both_parts r one two knows).1)
 
   word_true : word ≢ 0 → (after : Knowledge) → LearnsWord key known index word after → IsTrueOf key.shape.bits words after
   word_true some after l = subst (IsTrueOf key.shape.bits words) (sym l.is) (record {
     seen = ((there, some), h.seen);
-    blocks = all_append _ known.blocks l.more h.blocks (all_weaker _ (λ (entry : KnownBlock). Shows key.shape.bits words entry.rank entry.number (plane_of entry.live)) (follows_true some) l.more l.follow);
+    blocks = all_append _ known.blocks l.more h.blocks (all_weaker _ (λ (entry : KnownBlock). ShowsBlock key.shape.bits words entry.rank entry.number (plane_of entry.live)) (follows_true some) l.more l.follow);
     results = h.results;
     squares = squares_more known (with_word known index word l.more) known.results (λ entry t. Contains-append_left known.blocks l.more entry t) h.squares;
     once = h.once;
@@ -88,10 +88,10 @@ module _ (key : Key) (words : Words) (known : Knowledge) (index word : ℕ) (goo
     here : words (result_of key.shape.bits of.square) ≡ 2 ^ 32 + l.result.future
     here = ap words (sym of.beside) ∙ there ∙ l.told
 
-    square_shown : Shows key.shape.bits words (square_rank of.level) of.square of.plane
+    square_shown : ShowsBlock key.shape.bits words (square_rank of.level) of.square of.plane
     square_shown = block_true key.shape.bits words known (square_rank of.level) of.square of.plane h of.shown
 
-    future_shown : Shows key.shape.bits words (square_rank (l.result.level - 1)) l.result.future (plane_of l.live)
+    future_shown : ShowsBlock key.shape.bits words (square_rank (l.result.level - 1)) l.result.future (plane_of l.live)
     future_shown = shown_as key.shape.bits words (square_rank (of.level - 1)) (square_rank (l.result.level - 1)) l.result.future l.result.future (future key.rule key.exponent of.level of.plane) (plane_of l.live)
         (ap (λ n. square_rank (n - 1)) same_level) refl (same_sym (l.shows of).1) (result_shows key words of.square of.level l.result.future of.plane good of.slot of.above square_shown here)
 
@@ -130,7 +130,7 @@ module _ (key : Key) (words : Words) (known : Knowledge) (index word : ℕ) (goo
 
 -- what is known after a lawful event is true
 pub learns_true : (key : Key) (words : Words) (known : Knowledge) (event : Event) (word : ℕ) (after : Knowledge) → IsGood key words →
-    IsTrueOf key.shape.bits words known → IsLawful key known event → words (index_of event) ≡ word → Learns key event known word after →
+    IsTrueOf key.shape.bits words known → IsLawful key known event → words (index_of event) ≡ word → LearnsFrom key event known word after →
     IsTrueOf key.shape.bits words after
 learns_true key words known (Look desk index) word after good h lawful there learns = met_word key words known index word good h there after learns
 learns_true key words known (Claim desk index claimed) word after good h lawful there learns = met_word key words known index word good h there after learns
@@ -145,7 +145,7 @@ met_result_grows : (key : Key) (known : Knowledge) (count index word : ℕ) (aft
 met_result_grows key known count index word after m = ⊎_elim (λ z. subst (Grows known) (sym (m.none z)) (grows_refl known)) (λ some. future_grows key known count index word after (m.some some)) (same_or_other word 0)
 
 -- and no less than before
-pub learns_grows : (key : Key) (known : Knowledge) (event : Event) (word : ℕ) (after : Knowledge) → Learns key event known word after →
+pub learns_grows : (key : Key) (known : Knowledge) (event : Event) (word : ℕ) (after : Knowledge) → LearnsFrom key event known word after →
     Grows known after
 learns_grows key known (Look desk index) word after learns = met_word_grows key known index word after learns
 learns_grows key known (Claim desk index claimed) word after learns = met_word_grows key known index word after learns

@@ -9,7 +9,7 @@ use Rattle.table_core.specs.declared.shape.Shape.{Shape}
 use Rattle.table_core.specs.declared.shape.Kind.{Kind}
 use Rattle.table_core.specs.declared.shape.Kind.TheVariants.{Pair}
 use Rattle.table_core.specs.Layout.{IsSlot, way, result_of}
-use Rattle.table_core.specs.Blocks.{Words, IsBlock, cells_of, square_rank, Shows}
+use Rattle.table_core.specs.Blocks.{Words, IsBlock, cells_of, square_rank, ShowsBlock}
 use Rattle.table_core.specs.Good.{IsOnWay, IsFutureOf, IsGood, KeepsSlots}
 use Rattle.table_core.specs.Opening.{KeepsResult, AreOpening, Reopens, EveryFreshTable, EveryReopening}
 use Rattle.table_core.proofs.Ways.{not_head, way_is_slot}
@@ -72,14 +72,14 @@ module _ (was key : Key) (old new : Words) (good : IsGood was old) (r : Reopens 
   still_future : (i n : ℕ) → (f : IsFutureOf was old i n) → KeepsResult was key f.level → IsFutureOf key new i n
   still_future i n f keeps_result =
       let before = cells_of old (square_rank f.level) i in
-      let one : Shows was.shape.bits new (square_rank (f.level - 1)) n (future was.rule was.exponent f.level (cells_of old (square_rank f.level) i)) = shows_stay was.shape.bits old new (square_rank (f.level - 1)) n _ keeps f.shown in
-      let two = subst (λ plane. Shows was.shape.bits new (square_rank (f.level - 1)) n plane) (same_future was key f.level (cells_of old (square_rank f.level) i) keeps_result) one in
-      let three = subst (λ plane. Shows was.shape.bits new (square_rank (f.level - 1)) n (future key.rule key.exponent f.level plane)) (sym (cells_stay was.shape.bits old new keeps (square_rank f.level) i f.square)) two in
+      let one : ShowsBlock was.shape.bits new (square_rank (f.level - 1)) n (future was.rule was.exponent f.level (cells_of old (square_rank f.level) i)) = shows_stay was.shape.bits old new (square_rank (f.level - 1)) n _ keeps f.shown in
+      let two = subst (λ plane. ShowsBlock was.shape.bits new (square_rank (f.level - 1)) n plane) (same_future was key f.level (cells_of old (square_rank f.level) i) keeps_result) one in
+      let three = subst (λ plane. ShowsBlock was.shape.bits new (square_rank (f.level - 1)) n (future key.rule key.exponent f.level plane)) (sym (cells_stay was.shape.bits old new keeps (square_rank f.level) i f.square)) two in
       record {
         level = f.level;
         above = f.above;
         square = subst (λ b. IsBlock b new (square_rank f.level) i) (sym bits) (block_stays was.shape.bits old new keeps (square_rank f.level) i f.square);
-        shown = subst (λ b. Shows b new (square_rank (f.level - 1)) n (future key.rule key.exponent f.level (cells_of new (square_rank f.level) i))) (sym bits) three;
+        shown = subst (λ b. ShowsBlock b new (square_rank (f.level - 1)) n (future key.rule key.exponent f.level (cells_of new (square_rank f.level) i))) (sym bits) three;
       }
 
   pub reopened_good : IsGood key new

@@ -10,7 +10,7 @@ use Rattle.table_core.specs.Blocks.{Words}
 use Rattle.table_core.specs.Good.{AreGoodWords, KeepsWords}
 use Rattle.table_core.specs.Events.{desk_of, index_of}
 use Rattle.table_core.specs.Knowledge.{IsTrueOf, Grows, united, nothing}
-use Rattle.table_core.specs.Runs.{Table, Action, happens, splits, joins, Happens, Splits, Joins, Acts, Runs, Holds, heir_at, heir, EveryRun}
+use Rattle.table_core.specs.Runs.{Table, Action, happens, splits, joins, Happens, Splits, Joins, Acts, Runs, IsSoundTable, heir_at, heir, EveryRun}
 use Rattle.table_core.proofs.Comparisons.{same_or_other}
 use Rattle.table_core.proofs.Lists.{all_set, all_get, all_append, all_weaker, get_set_same, get_set_other, get_append}
 use Rattle.table_core.proofs.Knowing.{true_later, united_true, united_first, united_second, nothing_true, grows_refl, grows_trans, desks_agree}
@@ -22,7 +22,7 @@ keeps_trans a b c h k = record { kept = λ i some. let one = h.kept i some in k.
 
 -- what some actions keep, where `to` names the desk that knows afterwards what a desk knew
 record Keeps (key : Key) (to : ℕ → ℕ) (old new : Table) : Type 0 where
-  holds : Holds key new
+  holds : IsSoundTable key new
   words : KeepsWords (slice_index old.words) (slice_index new.words)
   knowledge : (desk : ℕ) (known : Knowledge) → slice_get old.desks desk ≡ Some known →
       (later : Knowledge) × (slice_get new.desks (to desk) ≡ Some later) × Grows known later
@@ -31,9 +31,9 @@ same_known : (a b : Knowledge) → Some a ≡ Some b → a ≡ b
 same_known a b e = cc
 
 -- the words stay as they are
-as_before : (key : Key) (old new : Table) → Holds key old → new.words ≡ old.words →
+as_before : (key : Key) (old new : Table) → IsSoundTable key old → new.words ≡ old.words →
     AllByRecursion (IsTrueOf key.shape.bits (slice_index old.words)) new.desks →
-    Holds key new × KeepsWords (slice_index old.words) (slice_index new.words)
+    IsSoundTable key new × KeepsWords (slice_index old.words) (slice_index new.words)
 as_before key old new h same desks = (
   record {
     words = subst (AreGoodWords key) (sym same) h.words;
@@ -42,7 +42,7 @@ as_before key old new h same desks = (
   record { kept = λ i some j. slice_index (same j) i },
 )
 
-happens_keeps : (key : Key) (old new : Table) (event : Event) → Holds key old → Happens key old event new → Keeps key (λ desk. desk) old new
+happens_keeps : (key : Key) (old new : Table) (event : Event) → IsSoundTable key old → Happens key old event new → Keeps key (λ desk. desk) old new
 happens_keeps key old new event h a =
     let before : IsTrueOf key.shape.bits (slice_index old.words) a.known = all_get _ old.desks (desk_of event) a.known h.desks a.desk in
     let stays : StaysGood key old.words new.words = subst (StaysGood key old.words) (sym a.words) (event_good key old.words a.known h.words before event a.lawful) in
@@ -66,7 +66,7 @@ happens_keeps key old new event h a =
           (same_or_other desk (desk_of event));
     }
 
-splits_keeps : (key : Key) (old new : Table) (split : ℕ) → Holds key old → Splits old split new → Keeps key (λ desk. desk) old new
+splits_keeps : (key : Key) (old new : Table) (split : ℕ) → IsSoundTable key old → Splits old split new → Keeps key (λ desk. desk) old new
 splits_keeps key old new split h a =
     let t = as_before key old new h a.words (subst (AllByRecursion (IsTrueOf key.shape.bits (slice_index old.words))) (sym a.desks)
     (all_append _ old.desks (a.known ∷ []) h.desks (all_get _ old.desks split a.known h.desks a.is, tt))) in
@@ -76,7 +76,7 @@ splits_keeps key old new split h a =
       knowledge = λ desk known is. (known, ap (λ ds. slice_get ds desk) a.desks ∙ get_append old.desks (a.known ∷ []) desk known is, grows_refl known);
     }
 
-joins_keeps : (key : Key) (old new : Table) (into joined : ℕ) → Holds key old → Joins old into joined new →
+joins_keeps : (key : Key) (old new : Table) (into joined : ℕ) → IsSoundTable key old → Joins old into joined new →
     Keeps key (heir_at (joins into joined)) old new
 joins_keeps key old new into joined h a =
     let one = all_get _ old.desks into a.known h.desks a.is in
@@ -110,12 +110,12 @@ joins_keeps key old new into joined h a =
           (same_or_other desk joined);
     }
 
-acts_keeps : (key : Key) (old new : Table) (action : Action) → Holds key old → Acts key old action new → Keeps key (heir_at action) old new
+acts_keeps : (key : Key) (old new : Table) (action : Action) → IsSoundTable key old → Acts key old action new → Keeps key (heir_at action) old new
 acts_keeps key old new (happens event) h a = happens_keeps key old new event h a
 acts_keeps key old new (splits desk) h a = splits_keeps key old new desk h a
 acts_keeps key old new (joins into desk) h a = joins_keeps key old new into desk h a
 
-runs_keep : (key : Key) (old new : Table) (actions : List Action) → Holds key old → Runs key old actions new → Keeps key (heir actions) old new
+runs_keep : (key : Key) (old new : Table) (actions : List Action) → IsSoundTable key old → Runs key old actions new → Keeps key (heir actions) old new
 runs_keep key old new [] h e = subst (Keeps key (λ desk. desk) old) (sym e) (record { holds = h; words = record { kept = λ i some. refl }; knowledge = λ desk known is. (known, is, grows_refl known) })
 runs_keep key old new (action ∷ actions) h (between, act, rest) =
     let one : Keeps key (heir_at action) old between = acts_keeps key old between action h act in

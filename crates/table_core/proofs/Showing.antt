@@ -9,7 +9,7 @@ use Rattle.table_core.specs.declared.knowledge.Knowledge.{Knowledge}
 use Rattle.table_core.specs.declared.shape.Kind.{Kind}
 use Rattle.table_core.specs.declared.shape.Kind.TheVariants.{Leaf, Pair}
 use Rattle.table_core.specs.Layout.{IsSlot, way, result_of, first_part, second_part}
-use Rattle.table_core.specs.Blocks.{Words, paired, width, height, cells_of, square_rank, Shows}
+use Rattle.table_core.specs.Blocks.{Words, paired, width, height, cells_of, square_rank, ShowsBlock}
 use Rattle.table_core.specs.Good.{IsFutureOf, IsGood, PartsStand, MayStand}
 use Rattle.table_core.specs.Knowledge.{IsTrueOf}
 use Rattle.table_core.specs.Lawful.{KnowsPartsFor, MayClaim, MayTell}
@@ -19,17 +19,17 @@ use Rattle.table_core.proofs.Results.{one_level}
 use Rattle.table_core.proofs.Knowing.{seen_true, block_true}
 
 -- what a number shows lies inside its block
-pub shows_inside : (bits : ℕ) (words : Words) (rank n : ℕ) (plane : Plane) → Shows bits words rank n plane → IsInside (width rank) (height rank) plane
+pub shows_inside : (bits : ℕ) (words : Words) (rank n : ℕ) (plane : Plane) → ShowsBlock bits words rank n plane → IsInside (width rank) (height rank) plane
 shows_inside bits words rank n plane h = subst (IsInside (width rank) (height rank)) (plane_equal _ _ h.cells) (cells_inside words rank n)
 
 pub leaf_shows : (bits : ℕ) (words : Words) (index : ℕ) → IsSlot bits Leaf index → words index ≢ 0 →
-    Shows bits words 0 index (bits_plane (words index))
+    ShowsBlock bits words 0 index (bits_plane (words index))
 leaf_shows bits words zero slot some = let low = slot.from in absurd (omega arith)
 leaf_shows bits words (suc i) slot some = record { stands = (slot, some); cells = same_refl (bits_plane (words (suc i))) }
 
 pub pair_shows : (bits : ℕ) (words : Words) (rank index : ℕ) (one two : Plane) → IsSlot bits Pair index → words index ≢ 0 →
-    Shows bits words rank (first_part (words index)) one → Shows bits words rank (second_part (words index)) two →
-    Shows bits words (suc rank) index (paired rank one two)
+    ShowsBlock bits words rank (first_part (words index)) one → ShowsBlock bits words rank (second_part (words index)) two →
+    ShowsBlock bits words (suc rank) index (paired rank one two)
 pair_shows bits words rank zero one two slot some h k = let low = slot.from in absurd (omega arith)
 pair_shows bits words rank (suc i) one two slot some h k = record {
   stands = (slot, some, h.stands, k.stands);
@@ -37,8 +37,8 @@ pair_shows bits words rank (suc i) one two slot some h k = record {
 }
 
 pub parts_show : (bits : ℕ) (words : Words) (rank index : ℕ) (one two : Plane) → index ≢ 0 → IsInside (width rank) (height rank) one →
-    IsInside (width rank) (height rank) two → Shows bits words (suc rank) index (paired rank one two) →
-    Shows bits words rank (first_part (words index)) one × Shows bits words rank (second_part (words index)) two
+    IsInside (width rank) (height rank) two → ShowsBlock bits words (suc rank) index (paired rank one two) →
+    ShowsBlock bits words rank (first_part (words index)) one × ShowsBlock bits words rank (second_part (words index)) two
 parts_show bits words rank zero one two some ha hb h = absurd (some refl)
 parts_show bits words rank (suc i) one two some ha hb h =
     let p = first_part (words (suc i)) in let q = second_part (words (suc i)) in (
@@ -48,16 +48,16 @@ parts_show bits words rank (suc i) one two some ha hb h =
 
 -- a result word's number shows the future
 pub result_shows : (key : Key) (words : Words) (pair level number : ℕ) (plane : Plane) → IsGood key words → IsSlot key.shape.bits Pair pair →
-    3 < level → Shows key.shape.bits words (square_rank level) pair plane → words (result_of key.shape.bits pair) ≡ 2 ^ 32 + number →
-    Shows key.shape.bits words (square_rank (level - 1)) number (future key.rule key.exponent level plane)
+    3 < level → ShowsBlock key.shape.bits words (square_rank level) pair plane → words (result_of key.shape.bits pair) ≡ 2 ^ 32 + number →
+    ShowsBlock key.shape.bits words (square_rank (level - 1)) number (future key.rule key.exponent level plane)
 result_shows key words pair level number plane good slot above square e =
     let t = good.results pair slot (λ z. let no : 2 ^ 32 + number ≡ 0 = sym e ∙ z in omega arith) in
     let f : IsFutureOf key words pair t.0 = t.2 in
     let same : t.0 ≡ number = let k : 2 ^ 32 + t.0 ≡ 2 ^ 32 + number = sym t.1 ∙ e in omega arith in
     let levels : f.level ≡ level = one_level f.level level f.above above (one_rank key.shape.bits words (square_rank f.level) (square_rank level) pair f.square square.stands (not_head key.shape.bits Pair pair slot)) in
-    let one = subst (λ l. Shows key.shape.bits words (square_rank (l - 1)) t.0 (future key.rule key.exponent l (cells_of words (square_rank l) pair))) levels f.shown in
-    let two = subst (λ p. Shows key.shape.bits words (square_rank (level - 1)) t.0 (future key.rule key.exponent level p)) (plane_equal _ _ square.cells) one in
-    subst (λ n. Shows key.shape.bits words (square_rank (level - 1)) n (future key.rule key.exponent level plane)) same two
+    let one = subst (λ l. ShowsBlock key.shape.bits words (square_rank (l - 1)) t.0 (future key.rule key.exponent l (cells_of words (square_rank l) pair))) levels f.shown in
+    let two = subst (λ p. ShowsBlock key.shape.bits words (square_rank (level - 1)) t.0 (future key.rule key.exponent level p)) (plane_equal _ _ square.cells) one in
+    subst (λ n. ShowsBlock key.shape.bits words (square_rank (level - 1)) n (future key.rule key.exponent level plane)) same two
 
 parts_true : (bits : ℕ) (words : Words) (known : Knowledge) (kind : Kind) (word : ℕ) → IsTrueOf bits words known → KnowsPartsFor known kind word →
     PartsStand bits words kind word
@@ -85,11 +85,11 @@ pub tell_is : (key : Key) (words : Words) (known : Knowledge) (index n : ℕ) �
     (lawful : MayTell key known index n) → IsFutureOf key words lawful.of.square n
 tell_is key words known index n h lawful =
     let q = lawful.of in
-    let square : Shows key.shape.bits words (square_rank q.level) q.square q.plane = block_true key.shape.bits words known (square_rank q.level) q.square q.plane h q.shown in
-    let shown : Shows key.shape.bits words (square_rank (q.level - 1)) n (future key.rule key.exponent q.level q.plane) = block_true key.shape.bits words known (square_rank (q.level - 1)) n (future key.rule key.exponent q.level q.plane) h lawful.shown in
+    let square : ShowsBlock key.shape.bits words (square_rank q.level) q.square q.plane = block_true key.shape.bits words known (square_rank q.level) q.square q.plane h q.shown in
+    let shown : ShowsBlock key.shape.bits words (square_rank (q.level - 1)) n (future key.rule key.exponent q.level q.plane) = block_true key.shape.bits words known (square_rank (q.level - 1)) n (future key.rule key.exponent q.level q.plane) h lawful.shown in
     record {
       level = q.level;
       above = q.above;
       square = square.stands;
-      shown = subst (λ plane. Shows key.shape.bits words (square_rank (q.level - 1)) n (future key.rule key.exponent q.level plane)) (sym (plane_equal _ _ square.cells)) shown;
+      shown = subst (λ plane. ShowsBlock key.shape.bits words (square_rank (q.level - 1)) n (future key.rule key.exponent q.level plane)) (sym (plane_equal _ _ square.cells)) shown;
     }

@@ -12,7 +12,7 @@ use Rattle.table_core.specs.Good.{AreGoodWords, KeepsWords, Fills}
 use Rattle.table_core.specs.Events.{index_of, word_after, words_after}
 use Rattle.table_core.specs.Knowledge.{IsTrueOf, IsConsistent, Grows}
 use Rattle.table_core.specs.Lawful.{MayClaim, MayTell, IsLawful}
-use Rattle.table_core.specs.Learning.{Learns}
+use Rattle.table_core.specs.Learning.{LearnsFrom}
 use Rattle.table_core.specs.Laws.{Teaches}
 use Rattle.table_core.proofs.Ways.{slot_below}
 use Rattle.table_core.proofs.Claims.{fills_keeps, slot_of, claim_good, tell_good}
@@ -97,7 +97,7 @@ module _ (key : Key) (words : List ℕ) (known : Knowledge) (h : AreGoodWords ke
 pub record DeskStep (key : Key) (words : List ℕ) (known : Knowledge) (event : Event) : Type 0 where
   pub stays : StaysGood key words (words_after event words)
   pub after : Knowledge
-  pub learns : Learns key event known (word_after event (slice_index words (index_of event))) after
+  pub learns : LearnsFrom key event known (word_after event (slice_index words (index_of event))) after
   pub true_of : IsTrueOf key.shape.bits (slice_index (words_after event words)) after
   pub consistent : IsConsistent key.shape.bits after
   pub grows : Grows known after

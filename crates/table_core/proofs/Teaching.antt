@@ -23,7 +23,7 @@ use Rattle.table_core.specs.Good.{IsGood}
 use Rattle.table_core.specs.Events.{index_of}
 use Rattle.table_core.specs.Knowledge.{HasSeen, Says, Lists, KnowsBlock, IsTrueOf, IsTrueResult}
 use Rattle.table_core.specs.Lawful.{MayAsk, IsLawful, KnowsBoth}
-use Rattle.table_core.specs.Learning.{KnowsWhole, Follows, as_leaf, as_pair, as_first_part, as_second_part, with_word, LearnsWord, with_future, LearnsFuture, MeetsWord, MeetsResult, Learns}
+use Rattle.table_core.specs.Learning.{KnowsWhole, Follows, as_leaf, as_pair, as_first_part, as_second_part, with_word, LearnsWord, with_future, LearnsFuture, MeetsWord, MeetsResult, LearnsFrom}
 use Rattle.table_core.specs.Laws.{EveryEventTeaches}
 use Rattle.table_core.proofs.Ways.{not_head}
 use Rattle.table_core.proofs.Blocks.{parts_equal, paired_same, paired_inside, leaf_no_pair, cells_inside}
@@ -302,7 +302,7 @@ module _ (key : Key) (words : Words) (known : Knowledge) (good : IsGood key word
 
   -- there is what a desk knows after an event
   learns_some : (event : Event) (word : ℕ) → IsLawful key known event → words (index_of event) ≡ word →
-      (after : Knowledge) × Learns key event known word after
+      (after : Knowledge) × LearnsFrom key event known word after
   learns_some (Look desk index) word lawful there = met_word index word there
   learns_some (Claim desk index claimed) word lawful there = met_word index word there
   learns_some (Ask desk index) word lawful there = met_result 1 index word there lawful

@@ -16,6 +16,10 @@ Words = ℕ → ℕ
 abbrev pub square_rank : ℕ → ℕ
 square_rank level = 2 * (level - 3)
 
+-- the rank of the largest squares, those of level 65
+abbrev pub largest_rank : ℕ
+largest_rank = 124
+
 abbrev pub width : ℕ → ℕ
 width rank = 2 ^ ((rank + 1) / 2 + 3)
 
@@ -45,6 +49,6 @@ cells_of words (suc rank) (suc i) =
     paired rank (cells_of words rank (first_part (words (suc i)))) (cells_of words rank (second_part (words (suc i))))
 
 -- the number shows the block of this rank with these cells
-pub record Shows (bits : ℕ) (words : Words) (rank number : ℕ) (plane : Plane) : Type 0 where
+pub record ShowsBlock (bits : ℕ) (words : Words) (rank number : ℕ) (plane : Plane) : Type 0 where
   pub stands : IsBlock bits words rank number
   pub cells : IsSame (cells_of words rank number) plane

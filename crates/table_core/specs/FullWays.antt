@@ -6,7 +6,7 @@ use Rattle.table_core.specs.declared.shape.Kind.{Kind}
 use Rattle.table_core.specs.Layout.{IsSlot, way}
 use Rattle.table_core.specs.Blocks.{Words}
 use Rattle.table_core.specs.Good.{IsGood, KeepsWords}
-use Rattle.table_core.specs.Knowledge.{HasSeen, Grows, IsTrueOf}
+use Rattle.table_core.specs.Knowledge.{HasSeen, HasSeenAll, IsTrueOf}
 
 -- it has seen another word there, and not 0
 abbrev pub HasSeenAnother : Knowledge → ℕ → ℕ → Type 0
@@ -20,10 +20,10 @@ pub record KnowsFullWay (bits : ℕ) (known : Knowledge) (kind : Kind) (word : �
 abbrev pub StandsNowhere : ℕ → Words → Kind → ℕ → Type 0
 StandsNowhere bits words kind word = (index : ℕ) → IsSlot bits kind index → words index ≢ word
 
--- a way that a desk knows to be full stays so for it, whatever it learns; and the word stands nowhere, now or in any
--- later good words
+-- a way that a desk knows to be full is full for all that have seen what it saw; and the word stands nowhere, now or in
+-- any later good words
 pub record StaysFull (key : Key) (words : Words) (known : Knowledge) (kind : Kind) (word : ℕ) : Type 0 where
-  pub stays : (after : Knowledge) → Grows known after → KnowsFullWay key.shape.bits after kind word
+  pub stays : (after : Knowledge) → HasSeenAll known after → KnowsFullWay key.shape.bits after kind word
   pub nowhere : (later : Words) → KeepsWords words later → IsGood key later → StandsNowhere key.shape.bits later kind word
 
 abbrev pub EveryFullWayStays : Type 0

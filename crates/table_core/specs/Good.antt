@@ -6,8 +6,7 @@ use Rattle.table_core.specs.declared.shape.Kind.{Kind}
 use Rattle.table_core.specs.declared.shape.Kind.TheVariants.{Leaf, Pair}
 use Rattle.table_core.specs.declared.key.Key.{Key}
 use Rattle.table_core.specs.Layout.{IsSlot, way, result_of, size, first_part, second_part}
-use Rattle.table_core.specs.Blocks.{Words, IsBlock, Shows, cells_of, square_rank}
-use Rattle.table_core.specs.declared.rank.TheConstants.{LARGEST_RANK}
+use Rattle.table_core.specs.Blocks.{Words, IsBlock, ShowsBlock, cells_of, square_rank, largest_rank}
 
 -- the head's word, which names the rule and the exponent
 abbrev pub head : Key → ℕ
@@ -25,16 +24,16 @@ pub record IsFutureOf (key : Key) (words : Words) (index number : ℕ) : Type 0 
   pub level : ℕ
   pub above : 3 < level
   pub square : IsBlock key.shape.bits words (square_rank level) index
-  pub shown : Shows key.shape.bits words (square_rank (level - 1)) number
+  pub shown : ShowsBlock key.shape.bits words (square_rank (level - 1)) number
       (future key.rule key.exponent level (cells_of words (square_rank level) index))
 
 -- the pair at the index is a finite block, of at most a square of level 65
 abbrev pub IsPairBlock : ℕ → Words → ℕ → Type 0
-IsPairBlock bits words index = (rank : ℕ) × (rank < LARGEST_RANK) × IsBlock bits words (suc rank) index
+IsPairBlock bits words index = (rank : ℕ) × (rank < largest_rank) × IsBlock bits words (suc rank) index
 
 -- the result word beside the pair at the index is that of a future
-abbrev pub HasFuture : Key → Words → ℕ → Type 0
-HasFuture key words index =
+abbrev pub TellsFuture : Key → Words → ℕ → Type 0
+TellsFuture key words index =
     (number : ℕ) × (words (result_of key.shape.bits index) ≡ 2 ^ 32 + number) × IsFutureOf key words index number
 
 -- good words: the head names the rule and the exponent, a word of a leaf or a pair stands once, and on its own way, each
@@ -46,7 +45,7 @@ pub record IsGood (key : Key) (words : Words) : Type 0 where
       words i ≢ 0 → words i ≡ words j → i ≡ j
   pub on_way : (kind : Kind) (i : ℕ) → IsSlot key.shape.bits kind i → words i ≢ 0 → IsOnWay key.shape.bits words kind i
   pub blocks : (i : ℕ) → IsSlot key.shape.bits Pair i → words i ≢ 0 → IsPairBlock key.shape.bits words i
-  pub results : (i : ℕ) → IsSlot key.shape.bits Pair i → words (result_of key.shape.bits i) ≢ 0 → HasFuture key words i
+  pub results : (i : ℕ) → IsSlot key.shape.bits Pair i → words (result_of key.shape.bits i) ≢ 0 → TellsFuture key words i
 
 -- the words of a whole table, and good
 pub record AreGoodWords (key : Key) (words : List ℕ) : Type 0 where
@@ -71,7 +70,7 @@ pub record Fills (old new : Words) (index word : ℕ) : Type 0 where
 abbrev pub PartsStand : ℕ → Words → Kind → ℕ → Type 0
 PartsStand bits words Leaf word = Unit {0}
 PartsStand bits words Pair word =
-    (rank : ℕ) × (rank < LARGEST_RANK) × IsBlock bits words rank (first_part word) × IsBlock bits words rank (second_part word)
+    (rank : ℕ) × (rank < largest_rank) × IsBlock bits words rank (first_part word) × IsBlock bits words rank (second_part word)
 
 -- the word may come to the index: at each earlier place of its way another word stands, and its parts are there
 pub record MayStand (bits : ℕ) (words : Words) (kind : Kind) (index word : ℕ) : Type 0 where

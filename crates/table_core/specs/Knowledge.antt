@@ -10,8 +10,7 @@ use Rattle.table_core.specs.declared.knowledge.KnownResult.{KnownResult}
 use Rattle.table_core.specs.declared.knowledge.Knowledge.{Knowledge}
 use Rattle.table_core.specs.declared.shape.Kind.TheVariants.{Leaf, Pair}
 use Rattle.table_core.specs.Layout.{IsSlot, result_of}
-use Rattle.table_core.specs.Blocks.{Words, IsBlock, Shows, square_rank, width, height}
-use Rattle.table_core.specs.declared.rank.TheConstants.{LARGEST_RANK}
+use Rattle.table_core.specs.Blocks.{Words, IsBlock, ShowsBlock, square_rank, width, height, largest_rank}
 
 -- it has seen this word at this index
 abbrev pub HasSeen : Knowledge → ℕ → ℕ → Type 0
@@ -59,7 +58,7 @@ KnowsSquareOf known result = (plane : Plane) × KnowsBlock known (square_rank re
 -- each result is told beside a square that it knows, which has no second one
 pub record IsTrueOf (bits : ℕ) (words : Words) (known : Knowledge) : Type 0 where
   pub seen : AllByRecursion (λ entry. (words entry.0 ≡ entry.1) × (entry.1 ≢ 0)) known.words
-  pub blocks : AllByRecursion (λ entry. Shows bits words entry.rank entry.number (plane_of entry.live)) known.blocks
+  pub blocks : AllByRecursion (λ entry. ShowsBlock bits words entry.rank entry.number (plane_of entry.live)) known.blocks
   pub results : AllByRecursion (IsTrueResult bits words) known.results
   pub squares : AllByRecursion (KnowsSquareOf known) known.results
   pub once : HasEachOnce known.results
@@ -74,13 +73,17 @@ pub record IsConsistent (bits : ℕ) (known : Knowledge) : Type 0 where
   pub inside : (rank number : ℕ) (plane : Plane) → KnowsBlock known rank number plane → IsInside (width rank) (height rank) plane
   pub leaf : (number : ℕ) (plane : Plane) → number ≢ 0 → KnowsBlock known 0 number plane → IsSlot bits Leaf number
   pub pair : (rank number : ℕ) (plane : Plane) → number ≢ 0 → KnowsBlock known (suc rank) number plane →
-      IsSlot bits Pair number × (rank < LARGEST_RANK)
+      IsSlot bits Pair number × (rank < largest_rank)
   pub results : AllByRecursion (λ result. (3 < result.level) × (result.square ≢ 0) × KnowsSquareOf known result) known.results
   pub once : HasEachOnce known.results
 
+-- each word that the one has seen, the other has seen too
+abbrev pub HasSeenAll : Knowledge → Knowledge → Type 0
+HasSeenAll old new = (entry : ℕ × ℕ) → Contains old.words entry → Contains new.words entry
+
 -- all that was known still is
 pub record Grows (old new : Knowledge) : Type 0 where
-  pub words : (entry : ℕ × ℕ) → Contains old.words entry → Contains new.words entry
+  pub words : HasSeenAll old new
   pub blocks : (entry : KnownBlock) → Contains old.blocks entry → Contains new.blocks entry
   pub results : (result : KnownResult) → Contains old.results result → Contains new.results result
   pub learned : old.learned ≤ new.learned

@@ -9,8 +9,7 @@ use Rattle.table_core.specs.declared.machine.Event.TheVariants.{Look, Claim, Ask
 use Rattle.table_core.specs.declared.shape.Kind.{Kind}
 use Rattle.table_core.specs.declared.shape.Kind.TheVariants.{Leaf, Pair}
 use Rattle.table_core.specs.Layout.{IsSlot, way, result_of, first_part, second_part}
-use Rattle.table_core.specs.Blocks.{square_rank}
-use Rattle.table_core.specs.declared.rank.TheConstants.{LARGEST_RANK}
+use Rattle.table_core.specs.Blocks.{square_rank, largest_rank}
 use Rattle.table_core.specs.Knowledge.{HasSeen, KnowsBlock}
 
 -- it knows both parts of a word, as blocks of this rank with these cells
@@ -21,7 +20,7 @@ pub record KnowsBoth (known : Knowledge) (rank word : ℕ) (one two : Plane) : T
 -- it knows both parts of a pair's word, as blocks of one rank, that of less than a square of level 65
 pub record KnowsParts (known : Knowledge) (word : ℕ) : Type 0 where
   pub rank : ℕ
-  pub low : rank < LARGEST_RANK
+  pub low : rank < largest_rank
   pub one : Plane
   pub two : Plane
   pub both : KnowsBoth known rank word one two

@@ -12,16 +12,16 @@ use Rattle.table_core.specs.Knowledge.{IsTrueOf, IsTrueResult, IsConsistent, Has
 use Rattle.table_core.specs.FullShards.{KnowsFullShard, knows_full_shard}
 use Rattle.table_core.specs.Events.{index_of}
 use Rattle.table_core.specs.Lawful.{IsLawful}
-use Rattle.table_core.specs.Learning.{Learns}
+use Rattle.table_core.specs.Learning.{LearnsFrom}
 
 abbrev pub EveryWay : Type 0
 EveryWay = (bits : ℕ) (kind : Kind) (word : ℕ) → 10 ≤ bits → bits ≤ 28 → GoesThroughShard bits kind word
 
 -- what a desk knows after a lawful event: there is such knowledge, and whatever it is, it is true, and no less than before
 pub record Teaches (key : Key) (words : Words) (known : Knowledge) (event : Event) (word : ℕ) : Type 0 where
-  pub some : (after : Knowledge) × Learns key event known word after
-  pub true_of : (after : Knowledge) → Learns key event known word after → IsTrueOf key.shape.bits words after
-  pub grows : (after : Knowledge) → Learns key event known word after → Grows known after
+  pub some : (after : Knowledge) × LearnsFrom key event known word after
+  pub true_of : (after : Knowledge) → LearnsFrom key event known word after → IsTrueOf key.shape.bits words after
+  pub grows : (after : Knowledge) → LearnsFrom key event known word after → Grows known after
 
 abbrev pub EveryEventTeaches : Type 0
 EveryEventTeaches =

@@ -99,8 +99,8 @@ pub record MeetsResult (key : Key) (known : Knowledge) (count index word : ℕ) 
       word ≡ 2 ^ 32 + result.future
 
 -- what an event teaches its desk by the word that stands there afterwards; a result counts as learned where the desk asked
-abbrev pub Learns : Key → Event → Knowledge → ℕ → Knowledge → Type 0
-Learns key (Look desk index) known word after = MeetsWord key known index word after
-Learns key (Claim desk index claimed) known word after = MeetsWord key known index word after
-Learns key (Ask desk index) known word after = MeetsResult key known 1 index word after
-Learns key (Tell desk index number) known word after = MeetsResult key known 0 index word after
+abbrev pub LearnsFrom : Key → Event → Knowledge → ℕ → Knowledge → Type 0
+LearnsFrom key (Look desk index) known word after = MeetsWord key known index word after
+LearnsFrom key (Claim desk index claimed) known word after = MeetsWord key known index word after
+LearnsFrom key (Ask desk index) known word after = MeetsResult key known 1 index word after
+LearnsFrom key (Tell desk index number) known word after = MeetsResult key known 0 index word after

@@ -9,7 +9,7 @@ use Rattle.table_core.specs.Good.{AreGoodWords, KeepsWords}
 use Rattle.table_core.specs.Knowledge.{IsTrueOf, KnowsBlock, Grows, united, nothing}
 use Rattle.table_core.specs.Events.{desk_of, index_of, words_after}
 use Rattle.table_core.specs.Lawful.{IsLawful}
-use Rattle.table_core.specs.Learning.{Learns}
+use Rattle.table_core.specs.Learning.{LearnsFrom}
 
 -- the words, and what each desk knows
 pub record Table : Type 0 where
@@ -30,7 +30,7 @@ pub record Happens (key : Key) (old : Table) (event : Event) (new : Table) : Typ
   pub desk : slice_get old.desks (desk_of event) ≡ Some known
   pub lawful : IsLawful key known event
   pub words : new.words ≡ words_after event old.words
-  pub learns : Learns key event known (slice_index new.words (index_of event)) after
+  pub learns : LearnsFrom key event known (slice_index new.words (index_of event)) after
   pub desks : new.desks ≡ slice_set old.desks (desk_of event) after
 
 pub record Splits (old : Table) (desk : ℕ) (new : Table) : Type 0 where
@@ -59,7 +59,7 @@ Runs key old [] new = new ≡ old
 Runs key old (action ∷ actions) new = (between : Table) × Acts key old action between × Runs key between actions new
 
 -- the words are good, and what each desk knows is true of them
-pub record Holds (key : Key) (table : Table) : Type 0 where
+pub record IsSoundTable (key : Key) (table : Table) : Type 0 where
   pub words : AreGoodWords key table.words
   pub desks : AllByRecursion (IsTrueOf key.shape.bits (slice_index table.words)) table.desks
 
@@ -87,10 +87,10 @@ KeepsKnowledge actions old new =
 
 -- what holds of a table after a run
 pub record IsKept (key : Key) (actions : List Action) (old new : Table) : Type 0 where
-  pub holds : Holds key new
+  pub holds : IsSoundTable key new
   pub words : KeepsWords (slice_index old.words) (slice_index new.words)
   pub knowledge : KeepsKnowledge actions old new
   pub one_number : OneNumber new
 
 abbrev pub EveryRun : Type 0
-EveryRun = (key : Key) (old new : Table) (actions : List Action) → Holds key old → Runs key old actions new → IsKept key actions old new
+EveryRun = (key : Key) (old new : Table) (actions : List Action) → IsSoundTable key old → Runs key old actions new → IsKept key actions old new

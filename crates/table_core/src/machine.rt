@@ -5,31 +5,18 @@ ghost use Rattle.table_core.specs.Events.{index_of, words_after};
 
 use crate::word::result_word;
 
-/// One atomic step: a load, or a compare-exchange with 0, of the word at one index by one desk.
+/// One atomic step: a load, or a compare-exchange with 0, of one word by one desk. `slot` is the
+/// index of the word among those of the table.
 #[derive(Clone, Copy, Debug, PartialEq, Eq)]
 pub enum Event {
     /// Loads the word of a leaf or a pair.
-    Look {
-        desk: usize,
-        index: u32,
-    },
+    Look { desk: usize, slot: u32 },
     /// Places the word of a leaf or a pair, if 0 stands there.
-    Claim {
-        desk: usize,
-        index: u32,
-        word: u64,
-    },
+    Claim { desk: usize, slot: u32, word: u64 },
     /// Loads the word of a result.
-    Ask {
-        desk: usize,
-        index: u32,
-    },
+    Ask { desk: usize, slot: u32 },
     /// Places the word of a result, by the number of the future, if 0 stands there.
-    Tell {
-        desk: usize,
-        index: u32,
-        number: u32,
-    },
+    Tell { desk: usize, slot: u32, number: u32 },
 }
 
 /// Makes one event's change, and answers the word that stood there.
@@ -39,9 +26,9 @@ pub fn step(words: &mut [u64], event: Event) -> u64
     ensures found { result ≡ slice_index words.old (index_of event) }
 {
     match event {
-        Event::Look { index, .. } | Event::Ask { index, .. } => words[index as usize],
-        Event::Claim { index, word, .. } => place(words, index as usize, word),
-        Event::Tell { index, number, .. } => place(words, index as usize, result_word(number)),
+        Event::Look { slot, .. } | Event::Ask { slot, .. } => words[slot as usize],
+        Event::Claim { slot, word, .. } => place(words, slot as usize, word),
+        Event::Tell { slot, number, .. } => place(words, slot as usize, result_word(number)),
     }
 }
 

@@ -1,8 +1,7 @@
 //! The rank of a square: how often blocks are paired, from leaves on, until they are the square.
 
 ghost use Rattle.std.specs.Prelude.{◌≡◌, ◌≤◌};
-ghost use Rattle.table_core.specs.Blocks.{square_rank};
-ghost use Rattle.table_core.specs.declared.rank.TheConstants.{LARGEST_RANK};
+ghost use Rattle.table_core.specs.Blocks.{largest_rank, square_rank};
 
 /// The rank of the largest squares, those of level 65.
 pub const LARGEST_RANK: u8 = 124;
@@ -14,8 +13,8 @@ const LEAF_LEVEL: u8 = 3;
 pub fn square_rank(level: u8) -> u8
     requires { (3 ≤ level) × (level ≤ 65) }
     ensures rank { result ≡ square_rank level }
-    ensures most { result ≤ LARGEST_RANK }
-    ensures largest { level ≡ 65 → result ≡ LARGEST_RANK }
+    ensures most { result ≤ largest_rank }
+    ensures largest { level ≡ 65 → result ≡ largest_rank }
 {
     2 * (level - LEAF_LEVEL)
 }

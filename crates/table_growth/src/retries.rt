@@ -31,7 +31,7 @@ pub struct RetryPlan {
 }
 
 impl RetryPlan {
-    ghost use Rattle.table_growth.specs.Retries.{IsWithin, LeavesFewer};
+    ghost use Rattle.table_growth.specs.Retries.{IsWithinLimit, LeavesFewer};
     ghost use Rattle.table_growth.specs.declared.retries.Retry.TheVariants.{CellsAlone, Collected, Enlarged};
 
     /// What comes after this try, which met a full table; `None` stands for the first try, at the table as it
@@ -39,7 +39,7 @@ impl RetryPlan {
     /// size; then collections, as long as one helps; and at last the cells alone. If they fill the largest
     /// table too, nothing comes: the step has to be halved.
     pub fn next(&self, tried: Option<Retry>, collection_helps: bool) -> Option<Retry>
-        ensures within { IfSome result (IsWithin self.now.limit) }
+        ensures within { IfSome result (IsWithinLimit self.now.limit) }
         ensures fewer { IfSome result (LeavesFewer self.now.limit tried) }
         ensures last { IfNone result (tried ≡ Some CellsAlone) }
     {
@@ -55,7 +55,7 @@ impl RetryPlan {
 
     // What comes after a table of this shape.
     fn next_larger(&self, shape: Shape, collection_helps: bool) -> Retry
-        ensures within { IsWithin self.now.limit result }
+        ensures within { IsWithinLimit self.now.limit result }
         ensures fewer { LeavesFewer self.now.limit (Some (Enlarged shape)) result }
     {
         match larger(shape, self.limit, self.history.growth_factor()) {
@@ -66,7 +66,7 @@ impl RetryPlan {
 
     // What comes after a table of the largest shape, which was collected so many times.
     fn next_largest(&self, times: u32, collection_helps: bool) -> Retry
-        ensures within { IsWithin self.now.limit result }
+        ensures within { IsWithinLimit self.now.limit result }
         ensures fewer { LeavesFewer self.now.limit (Some (Collected times)) result }
     {
         if collection_helps && times < MOST_COLLECTIONS {
