@@ -7,7 +7,7 @@ use Rattle.table_core.specs.declared.shape.Kind.{Kind}
 use Rattle.table_core.specs.declared.shape.Kind.TheVariants.{Leaf, Pair}
 use Rattle.table_core.specs.Layout.{IsSlot, start, result_of}
 use Rattle.table_core.specs.Blocks.{Words, IsBlock, square_rank}
-use Rattle.table_core.specs.Good.{IsGood, HasFuture, IsFutureOf}
+use Rattle.table_core.specs.Good.{IsGood, TellsFuture, IsFutureOf}
 use Rattle.table_core.proofs.Ways.{not_head}
 use Rattle.table_core.proofs.Comparisons.{same_or_other}
 use Rattle.node_sweep.specs.Reaching.{IsWanted}
@@ -73,14 +73,14 @@ module _ (from to : Key) (old : Words) (wanted : ℕ → Type 0) (copies new : L
   -- a result that is there is noted
   result_noted : (pair : ℕ) → IsSlot from.shape.bits Pair pair → old (result_of from.shape.bits pair) ≢ 0 → (future : ℕ) × IsCopiedResult from.shape.bits old copies pair future
   result_noted pair slot some =
-      let t : HasFuture from old pair = good.results pair slot some in
+      let t : TellsFuture from old pair = good.results pair slot some in
       let f : IsFutureOf from old pair t.0 = t.2 in
       (t.0, record { told = t.1; there = noted_there (square_rank (f.level - 1)) t.0 f.shown.stands })
 
   same_result : (pair : ℕ) → IsSlot from.shape.bits Pair pair → slice_index copies pair ≢ 0 → IsSameResult from.shape.bits to.shape.bits old (slice_index new) pair (slice_index copies pair)
   same_result pair slot some = ⊎_elim
       (λ t. let r : IsCopiedResult from.shape.bits old copies pair t.0 = t.1 in
-      let f : HasFuture from old pair = good.results pair slot (λ z. let told = r.told in omega arith) in
+      let f : TellsFuture from old pair = good.results pair slot (λ z. let told = r.told in omega arith) in
       let g : IsFutureOf from old pair f.0 = f.2 in
       let e : f.0 ≡ t.0 = let one = f.1 in let two = r.told in omega arith in
       inl (record {

@@ -18,7 +18,7 @@ use Rattle.node_table.specs.Stills.{key_of, items_of, words_of, book_in, HasWord
 use Rattle.node_table.proofs.Books.{result_there, there_result}
 use Rattle.node_sweep.specs.CollectedStills.{CarriesWanted, HasCollected, HasNoRoomToCollect, is_wanted_in}
 use Rattle.node_sweep.specs.Collects.{Collects, HasWantedResult, IsResultCopied}
-use Rattle.node_sweep.specs.Copies.{HasNoRoom, IsCopy, IsCopyOf}
+use Rattle.node_sweep.specs.Copies.{HasNoRoomForWanted, IsCopy, IsCopyOf}
 use Rattle.node_sweep.specs.EnlargedStills.{HasTwinIn, HasResultIn}
 use Rattle.node_sweep.specs.Reaching.{IsWanted}
 use Rattle.node_sweep.specs.SweptStills.{IsResized}
@@ -106,6 +106,6 @@ no_room_to_collect still root pairs ends transfer is same h = record {
   high = ends.high;
   to = transfer.to;
   resized = is.resized;
-  full = subst (λ n. HasNoRoom (key_of still) transfer.to (words_of still) (IsWanted (key_of still).shape.bits (words_of still) (Collected (record { root = n; low = ends.low; high = ends.high })))) same
-      (at_rest still (Collected ends) pairs transfer is (λ key words wish. HasNoRoom key transfer.to (slice_index words) (IsWanted key.shape.bits (slice_index words) wish)) h);
+  full = subst (λ n. HasNoRoomForWanted (key_of still) transfer.to (words_of still) (IsWanted (key_of still).shape.bits (words_of still) (Collected (record { root = n; low = ends.low; high = ends.high })))) same
+      (at_rest still (Collected ends) pairs transfer is (λ key words wish. HasNoRoomForWanted key transfer.to (slice_index words) (IsWanted key.shape.bits (slice_index words) wish)) h);
 }

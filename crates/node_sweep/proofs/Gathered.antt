@@ -6,7 +6,7 @@ use Rattle.table_core.specs.declared.shape.Kind.{Kind}
 use Rattle.table_core.specs.declared.shape.Kind.TheVariants.{Pair}
 use Rattle.table_core.specs.Layout.{IsSlot}
 use Rattle.table_core.specs.Blocks.{Words, IsBlock, square_rank}
-use Rattle.table_core.specs.Good.{HasFuture, IsFutureOf, IsGood}
+use Rattle.table_core.specs.Good.{TellsFuture, IsFutureOf, IsGood}
 use Rattle.table_core.proofs.Comparisons.{same_or_other}
 use Rattle.table_core.proofs.Ways.{not_head}
 use Rattle.node_sweep.specs.Collects.{Collects, IsResultCopiedOrGone}
@@ -117,7 +117,7 @@ module _ (key : Key) (old : Words) (root low high rank : ℕ) (copies : List ℕ
   end_copied n (low_pair r pair slot b less) = record { rank = r; block = b; there = inr ((end_at pair slot).small.copied r b less) }
   end_copied n (high_pair r pair future f above) = record { rank = r; block = f.block; there = inr ((end_at pair f.slot).finished.copied r future f above) }
   end_copied n (high_result r pair future f above) =
-      let t : HasFuture key old pair = good.results pair f.slot (λ z. let told = f.told in omega arith) in
+      let t : TellsFuture key old pair = good.results pair f.slot (λ z. let told = f.told in omega arith) in
       let g : IsFutureOf key old pair t.0 = t.2 in
       let one = t.1 in
       let two = f.told in

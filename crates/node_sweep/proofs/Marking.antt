@@ -6,7 +6,7 @@ use Rattle.table_core.specs.declared.key.Key.{Key}
 use Rattle.table_core.specs.declared.shape.Kind.TheVariants.{Pair}
 use Rattle.table_core.specs.Layout.{IsSlot, result_of, first_part, second_part, start}
 use Rattle.table_core.specs.Blocks.{Words, IsBlock, square_rank}
-use Rattle.table_core.specs.Good.{HasFuture, IsFutureOf, IsGood}
+use Rattle.table_core.specs.Good.{TellsFuture, IsFutureOf, IsGood}
 use Rattle.table_core.proofs.Blocks.{one_rank}
 use Rattle.table_core.proofs.Comparisons.{same_or_other}
 use Rattle.table_core.proofs.Lists.{length_set}
@@ -217,7 +217,7 @@ finished_from key words high rank pair word future good slot b e some is large =
 -- and it is a block of a lower rank
 pub future_of : (key : Key) (words : Words) (rank pair future : ℕ) → IsGood key words → IsFinished key.shape.bits words rank pair future → IsLowBlock key.shape.bits words (rank - 1) future
 future_of key words rank pair future good f =
-    let t : HasFuture key words pair = good.results pair f.slot (λ z. let told = f.told in omega arith) in
+    let t : TellsFuture key words pair = good.results pair f.slot (λ z. let told = f.told in omega arith) in
     let one = t.1 in
     let two = f.told in
     let same : t.0 ≡ future = omega arith in

@@ -4,11 +4,10 @@ use Rattle.plane.proofs.Same.{same_trans}
 use Rattle.squares.specs.declared.sq.Sq.{Sq}
 use Rattle.squares.specs.Book.{IsKnown, Shows}
 use Rattle.table_core.specs.declared.key.Key.{Key}
-use Rattle.table_core.specs.Blocks.{IsBlock, square_rank, cells_of}
-use Rattle.table_core.specs.Blocks.{Shows as ShowsBlock}
+use Rattle.table_core.specs.Blocks.{IsBlock, square_rank, cells_of, ShowsBlock}
 use Rattle.table_core.proofs.Knowing.{block_true}
 use Rattle.node_table.specs.declared.still.Still.{Still}
-use Rattle.node_table.specs.Books.{cells_in}
+use Rattle.node_table.specs.Books.{known_cells}
 use Rattle.node_table.specs.GoodWords.{all_known}
 use Rattle.node_table.specs.Rule.{everything}
 use Rattle.node_table.specs.Stills.{key_of, items_of, words_of, book_in, HasWords}
@@ -23,7 +22,7 @@ use Rattle.node_sweep.specs.SweptStills.{IsResized, IsSwept}
 pub known_shows : (still : Still) (root : Sq) → IsKnown (book_in still) root.level root →
     ShowsBlock (key_of still).shape.bits (words_of still) (square_rank root.level) root.num.0 ((book_in still).cells root)
 known_shows still root known =
-    block_true still.key.shape.bits (words_of still) (everything still) (square_rank root.level) root.num.0 (cells_in (everything still) root)
+    block_true still.key.shape.bits (words_of still) (everything still) (square_rank root.level) root.num.0 (known_cells (everything still) root)
     (all_known still.key still.words still.good).true_of (block_of (everything still) root known.known)
 
 -- a block of a square's rank is a known square

@@ -6,7 +6,7 @@ use Rattle.table_core.specs.declared.key.Key.{Key}
 use Rattle.table_core.specs.declared.shape.Kind.TheVariants.{Pair}
 use Rattle.table_core.specs.Layout.{IsSlot, start, result_of}
 use Rattle.table_core.specs.Blocks.{Words}
-use Rattle.table_core.specs.Good.{HasFuture, IsFutureOf, IsGood}
+use Rattle.table_core.specs.Good.{TellsFuture, IsFutureOf, IsGood}
 use Rattle.table_core.proofs.Comparisons.{same_or_other}
 use Rattle.node_sweep.specs.Keeping.{AreResultWords, IsCopiedResult, IsKeeping, IsResultWord}
 use Rattle.node_sweep.proofs.Futures.{gone_on, told_on}
@@ -59,7 +59,7 @@ module _ (from to : Key) (old : Words) (wanted : ℕ → Type 0) (copies new : L
       (λ t.
       let number = t.1.0 in
       let r : IsCopiedResult from.shape.bits old copies pair number = t.1.1.0 in
-      let f : HasFuture from old pair = good.results pair slot (λ z. let told = r.told in omega arith) in
+      let f : TellsFuture from old pair = good.results pair slot (λ z. let told = r.told in omega arith) in
       let one = f.1 in
       let two = r.told in
       let same : f.0 ≡ number = omega arith in

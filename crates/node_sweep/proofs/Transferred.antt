@@ -7,7 +7,7 @@ use Rattle.squares.specs.declared.sq.Sq.{Sq}
 use Rattle.table_core.specs.declared.key.Key.{Key}
 use Rattle.node_table.specs.declared.still.Still.{Still}
 use Rattle.node_table.specs.Stills.{key_of, items_of, words_of}
-use Rattle.node_sweep.specs.Copies.{HasNoRoom}
+use Rattle.node_sweep.specs.Copies.{HasNoRoomForWanted}
 use Rattle.node_sweep.specs.EnlargedStills.{HasNoRoomForAll}
 use Rattle.node_sweep.specs.Reaching.{IsWanted}
 use Rattle.node_sweep.specs.OldWords.{AreRanksOf}
@@ -68,14 +68,14 @@ pub no_room_to_sweep : (still : Still) (root : Sq) (pairs : ℕ) (transfer : Tra
 no_room_to_sweep still root pairs transfer is h = record {
   to = transfer.to;
   resized = is.resized;
-  full = at_rest still (Reached root.num.0) pairs transfer is (λ key words wanted. HasNoRoom key transfer.to (slice_index words) (IsWanted key.shape.bits (slice_index words) wanted)) h;
+  full = at_rest still (Reached root.num.0) pairs transfer is (λ key words wanted. HasNoRoomForWanted key transfer.to (slice_index words) (IsWanted key.shape.bits (slice_index words) wanted)) h;
 }
 
 pub no_room_to_enlarge : (still : Still) (pairs : ℕ) (transfer : Transfer) → IsTransferOf still Everything pairs transfer → HasNoRoomLeft transfer → HasNoRoomForAll still pairs
 no_room_to_enlarge still pairs transfer is h = record {
   to = transfer.to;
   resized = is.resized;
-  full = at_rest still Everything pairs transfer is (λ key words wanted. HasNoRoom key transfer.to (slice_index words) (IsWanted key.shape.bits (slice_index words) wanted)) h;
+  full = at_rest still Everything pairs transfer is (λ key words wanted. HasNoRoomForWanted key transfer.to (slice_index words) (IsWanted key.shape.bits (slice_index words) wanted)) h;
 }
 
 -- what a root that reaches few words needs always has room

@@ -7,7 +7,7 @@ use Rattle.table_core.specs.Blocks.{Words}
 use Rattle.node_table.specs.declared.still.Still.{Still}
 use Rattle.node_table.specs.Stills.{key_of, items_of, words_of, book_in}
 use Rattle.node_sweep.specs.Reaching.{IsCollected}
-use Rattle.node_sweep.specs.Copies.{HasNoRoom}
+use Rattle.node_sweep.specs.Copies.{HasNoRoomForWanted}
 use Rattle.node_sweep.specs.Collects.{Collects, HasWantedResult}
 use Rattle.node_sweep.specs.EnlargedStills.{HasTwinIn, HasResultIn}
 use Rattle.node_sweep.specs.SweptStills.{IsResized}
@@ -43,4 +43,4 @@ pub record HasNoRoomToCollect (still : Still) (root : Sq) (pairs : ℕ) : Type 0
   pub high : ℕ
   pub to : Key
   pub resized : IsResized (key_of still) to pairs
-  pub full : HasNoRoom (key_of still) to (words_of still) (is_wanted_in still root low high)
+  pub full : HasNoRoomForWanted (key_of still) to (words_of still) (is_wanted_in still root low high)

@@ -8,7 +8,7 @@ use Rattle.table_core.specs.Blocks.{square_rank}
 use Rattle.node_table.specs.declared.still.Still.{Still}
 use Rattle.node_table.specs.Stills.{key_of, items_of, words_of, book_in}
 use Rattle.node_sweep.specs.Reaching.{Reaches, ReachesFew}
-use Rattle.node_sweep.specs.Copies.{HasNoRoom}
+use Rattle.node_sweep.specs.Copies.{HasNoRoomForWanted}
 use Rattle.node_sweep.specs.Sweeps.{Sweeps}
 use Rattle.node_sweep.specs.declared.transfer.OldWords.{OldWords}
 use Rattle.node_sweep.specs.declared.transfer.Transfer.{Transfer}
@@ -44,7 +44,7 @@ pub record IsSwept (still : Still) (root : Sq) (pairs : ℕ) (now : Still) (copy
 pub record HasNoRoomFor (still : Still) (root : Sq) (pairs : ℕ) : Type 0 where
   pub to : Key
   pub resized : IsResized (key_of still) to pairs
-  pub full : HasNoRoom (key_of still) to (words_of still) (Reaches (key_of still).shape.bits (words_of still) root.num.0)
+  pub full : HasNoRoomForWanted (key_of still) to (words_of still) (Reaches (key_of still).shape.bits (words_of still) root.num.0)
 
 -- the root reaches at most 256 leaf words and 256 pair words
 pub record ReachesFewWords (still : Still) (root : Sq) : Type 0 where

@@ -5,7 +5,7 @@ use Rattle.table_core.specs.declared.shape.Kind.{Kind}
 use Rattle.table_core.specs.declared.shape.Kind.TheVariants.{Pair}
 use Rattle.table_core.specs.Layout.{IsSlot, start}
 use Rattle.table_core.specs.Blocks.{Words, IsBlock}
-use Rattle.node_sweep.specs.Copies.{HasNoRoom, IsCopyOf, IsWordOf, SaysFull}
+use Rattle.node_sweep.specs.Copies.{HasNoRoomForWanted, IsCopyOf, IsWordOf, SaysFull}
 use Rattle.node_sweep.specs.Copying.{AreCopied, IsCopying}
 use Rattle.node_sweep.specs.Keeping.{AreResultWords, IsKeeping}
 use Rattle.node_sweep.specs.OldWords.{bits_in, words_in}
@@ -79,7 +79,7 @@ pub record IsCopyNoted (transfer : Transfer) (fresh : Fresh) (number copy : ℕ)
 
 -- copies of some that are wanted leave no room for another one
 abbrev pub HasNoRoomLeft : Transfer → Type 0
-HasNoRoomLeft transfer = HasNoRoom transfer.old.key.now transfer.to (old_words transfer) (wants transfer)
+HasNoRoomLeft transfer = HasNoRoomForWanted transfer.old.key.now transfer.to (old_words transfer) (wants transfer)
 
 -- the refusal is a full table, and there is no room left
 abbrev pub SaysNoRoom : Transfer → Refusal → Type 0

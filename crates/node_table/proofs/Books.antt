@@ -24,7 +24,7 @@ use Rattle.table_core.proofs.FullShards.{full_later, full_shard_is_seen}
 use Rattle.table_core.proofs.Knowing.{knows_same, knows_more}
 use Rattle.table_core.proofs.Lists.{all_contains, contains_here}
 use Rattle.table_core.proofs.Results.{one_place}
-use Rattle.node_table.specs.Books.{knows_in, cells_in, square_of, book_of, IsCoherent, IsSoundFor}
+use Rattle.node_table.specs.Books.{knows_in, known_cells, square_of, book_of, IsCoherent, IsSoundFor}
 use Rattle.node_table.proofs.Entries.{known_level, block_of, square_known}
 
 -- two accounts of one number agree
@@ -52,7 +52,7 @@ shows_of store key known sq plane h low high knows =
     let is = square_known known sq plane low high knows in
     record {
       known = record { known = is; at_level = refl; low = low; high = high };
-      cells = alike key.shape.bits known (square_rank sq.level) sq.num.0 (cells_in known sq) plane h (block_of known sq is) knows;
+      cells = alike key.shape.bits known (square_rank sq.level) sq.num.0 (known_cells known sq) plane h (block_of known sq is) knows;
     }
 
 side : (level : ℕ) → 3 ≤ level → (square_rank level + 1) / 2 + 3 ≡ level
@@ -112,10 +112,10 @@ pub is_book : (store : List ℕ) (key : Key) (known : Knowledge) → IsRule key.
 is_book store key known rule h = record {
   rule = rule;
   levels = λ sq s. known_level known sq s;
-  square = λ sq s. inside_square sq.level (cells_in known sq) (known_level known sq s).0 (h.consistent.inside (square_rank sq.level) sq.num.0 (cells_in known sq) (block_of known sq s));
+  square = λ sq s. inside_square sq.level (known_cells known sq) (known_level known sq s).0 (h.consistent.inside (square_rank sq.level) sq.num.0 (known_cells known sq) (block_of known sq s));
   one_number = λ a b s t level same. same_sq a b level
-      (h.consistent.one_number (square_rank b.level) a.num.0 b.num.0 (cells_in known b)
-      (knows_same known (square_rank b.level) a.num.0 (cells_in known a) (cells_in known b) same (subst (λ l. KnowsBlock known (square_rank l) a.num.0 (cells_in known a)) level (block_of known a s)))
+      (h.consistent.one_number (square_rank b.level) a.num.0 b.num.0 (known_cells known b)
+      (knows_same known (square_rank b.level) a.num.0 (known_cells known a) (known_cells known b) same (subst (λ l. KnowsBlock known (square_rank l) a.num.0 (known_cells known a)) level (block_of known a s)))
       (block_of known b t));
   zero_known = λ level low high. square_known known (numbered level 0) empty low high (inl (refl, same_refl empty));
   zero_empty = λ level. same_refl empty;
@@ -139,10 +139,10 @@ covers_keeps store key old new h words blocks results = record {
   rule = refl;
   exponent = refl;
   known = λ sq s. let l = known_level old sq s in
-      square_known new sq (cells_in old sq) l.0 l.1 (knows_more old new (square_rank sq.level) sq.num.0 (cells_in old sq) blocks (block_of old sq s));
+      square_known new sq (known_cells old sq) l.0 l.1 (knows_more old new (square_rank sq.level) sq.num.0 (known_cells old sq) blocks (block_of old sq s));
   cells = λ sq s. let l = known_level old sq s in
-      let knows = knows_more old new (square_rank sq.level) sq.num.0 (cells_in old sq) blocks (block_of old sq s) in
-      alike key.shape.bits new (square_rank sq.level) sq.num.0 (cells_in new sq) (cells_in old sq) h (block_of new sq (square_known new sq (cells_in old sq) l.0 l.1 knows)) knows;
+      let knows = knows_more old new (square_rank sq.level) sq.num.0 (known_cells old sq) blocks (block_of old sq s) in
+      alike key.shape.bits new (square_rank sq.level) sq.num.0 (known_cells new sq) (known_cells old sq) h (block_of new sq (square_known new sq (known_cells old sq) l.0 l.1 knows)) knows;
   results = results;
   full = λ s.
       let seen = full_shard_is_seen key.shape.bits old key.shape.range.0 in

@@ -5,12 +5,12 @@ use Rattle.plane.proofs.Same.{same_trans}
 use Rattle.squares.specs.declared.sq.Sq.{Sq}
 use Rattle.table_core.specs.declared.key.Key.{Key}
 use Rattle.table_core.specs.declared.knowledge.Knowledge.{Knowledge}
-use Rattle.table_core.specs.Blocks.{Shows, cells_of, square_rank}
+use Rattle.table_core.specs.Blocks.{ShowsBlock, cells_of, square_rank}
 use Rattle.table_core.specs.Good.{AreGoodWords}
 use Rattle.table_core.specs.Knowledge.{KnowsBlock, IsTrueOf, IsTrueResult}
 use Rattle.table_core.proofs.Knowing.{block_true}
 use Rattle.table_core.proofs.Lists.{all_contains}
-use Rattle.node_table.specs.Books.{book_of, knows_in, cells_in, square_of}
+use Rattle.node_table.specs.Books.{book_of, knows_in, known_cells, square_of}
 use Rattle.node_table.specs.GoodWords.{all_of, all_known}
 use Rattle.node_table.specs.Openings.{SaysAll}
 use Rattle.node_table.proofs.Books.{alike, result_there, there_result}
@@ -18,8 +18,8 @@ use Rattle.node_table.proofs.Entries.{known_level, block_of, square_known}
 use Rattle.node_table.proofs.Everything.{all_coherent}
 
 module _ (store : List ℕ) (key : Key) (words : List ℕ) (good : AreGoodWords key words) (known : Knowledge) (h : IsTrueOf key.shape.bits (slice_index words) known) where
-  shown : (sq : Sq) → IsTrue (knows_in known sq) → Shows key.shape.bits (slice_index words) (square_rank sq.level) sq.num.0 (cells_in known sq)
-  shown sq s = block_true key.shape.bits (slice_index words) known (square_rank sq.level) sq.num.0 (cells_in known sq) h (block_of known sq s)
+  shown : (sq : Sq) → IsTrue (knows_in known sq) → ShowsBlock key.shape.bits (slice_index words) (square_rank sq.level) sq.num.0 (known_cells known sq)
+  shown sq s = block_true key.shape.bits (slice_index words) known (square_rank sq.level) sq.num.0 (known_cells known sq) h (block_of known sq s)
 
   there : (sq : Sq) → IsTrue (knows_in known sq) → KnowsBlock (all_of key words good) (square_rank sq.level) sq.num.0 (cells_of (slice_index words) (square_rank sq.level) sq.num.0)
   there sq s = (all_known key words good).blocks (square_rank sq.level) sq.num.0 (shown sq s).stands
@@ -34,7 +34,7 @@ module _ (store : List ℕ) (key : Key) (words : List ℕ) (good : AreGoodWords 
     exponent = refl;
     known = known_there;
     cells = λ sq s. same_trans
-        (alike key.shape.bits (all_of key words good) (square_rank sq.level) sq.num.0 (cells_in (all_of key words good) sq) (cells_of (slice_index words) (square_rank sq.level) sq.num.0) ∣ all_coherent key words good ∣₁
+        (alike key.shape.bits (all_of key words good) (square_rank sq.level) sq.num.0 (known_cells (all_of key words good) sq) (cells_of (slice_index words) (square_rank sq.level) sq.num.0) ∣ all_coherent key words good ∣₁
         (block_of (all_of key words good) sq (known_there sq s)) (there sq s)) (shown sq s).cells;
     results = λ sq s.
         let t = result_there known.results sq s in

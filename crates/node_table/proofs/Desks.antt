@@ -24,7 +24,7 @@ use Rattle.table_core.proofs.Knowing.{knows_grown}
 use Rattle.table_core.proofs.Ways.{slot_below, size_fits}
 use Rattle.node_table.specs.declared.desk.Desk.{Desk}
 use Rattle.node_table.specs.declared.table.NodeTable.{NodeTable}
-use Rattle.node_table.specs.Books.{knows_in, cells_in, IsCoherent}
+use Rattle.node_table.specs.Books.{knows_in, known_cells, IsCoherent}
 use Rattle.node_table.specs.Desks.{IsDeskOf, store_of, book_at}
 use Rattle.table_core.specs.FullWays.{KnowsFullWay}
 use Rattle.node_table.proofs.Books.{alike, grows_keeps}
@@ -102,12 +102,12 @@ leaf_read key old new n word plane h some slot knows nonzero grows met =
     alike key.shape.bits new 0 n plane (bits_plane word) h (knows_grown old new 0 n plane grows knows) ((met.some nonzero).leaf slot)
 
 -- a square that the book knows, at its level
-pub known_block : (known : Knowledge) (level : ℕ) (sq : Sq) → sq.level ≡ level → IsTrue (knows_in known sq) → KnowsBlock known (square_rank level) sq.num.0 (cells_in known sq)
-known_block known level sq e h = subst (λ l. KnowsBlock known (square_rank l) sq.num.0 (cells_in known sq)) e (block_of known sq h)
+pub known_block : (known : Knowledge) (level : ℕ) (sq : Sq) → sq.level ≡ level → IsTrue (knows_in known sq) → KnowsBlock known (square_rank level) sq.num.0 (known_cells known sq)
+known_block known level sq e h = subst (λ l. KnowsBlock known (square_rank l) sq.num.0 (known_cells known sq)) e (block_of known sq h)
 
 -- a known square above level 3 stands in a pair slot
 pub square_slot : (table : NodeTable) (desk : Desk) (sq : Sq) → IsDeskOf table desk → 3 < sq.level → sq.num.0 ≢ 0 → IsTrue (knows_in desk.seat.me.0.known sq) →
     IsSlot table.key.shape.bits Pair sq.num.0
 square_slot table desk sq d above some h =
     let known = desk.seat.me.0.known in
-    pair_slot table.key.shape.bits known (suc (square_rank (sq.level - 1))) sq.num.0 (cells_in known sq) (coherent_at table desk d) some (halved known sq above h)
+    pair_slot table.key.shape.bits known (suc (square_rank (sq.level - 1))) sq.num.0 (known_cells known sq) (coherent_at table desk d) some (halved known sq above h)

@@ -14,7 +14,7 @@ use Rattle.table_core.specs.declared.knowledge.Knowledge.{Knowledge}
 use Rattle.table_core.specs.Blocks.{square_rank}
 use Rattle.table_core.specs.Knowledge.{Says, Lists, KnowsBlock}
 use Rattle.table_core.proofs.Booleans.{and_both}
-use Rattle.node_table.specs.Books.{entry_at, cells_there, knows_in, cells_in}
+use Rattle.node_table.specs.Books.{entry_at, cells_there, knows_in, known_cells}
 
 -- a square that is not the empty one of its level has a number other than 0
 pub has_number : {empty : Bool} {number : ℕ} → IsTrue empty ↔ (number ≡ 0) → empty ≡ false → number ≢ 0
@@ -69,7 +69,7 @@ pub known_level : (known : Knowledge) (sq : Sq) → IsTrue (knows_in known sq) �
 known_level known sq h = in_range sq.level (and_left _ _ h)
 
 -- a square that the book knows is a block that the desk knows
-pub block_of : (known : Knowledge) (sq : Sq) → IsTrue (knows_in known sq) → KnowsBlock known (square_rank sq.level) sq.num.0 (cells_in known sq)
+pub block_of : (known : Knowledge) (sq : Sq) → IsTrue (knows_in known sq) → KnowsBlock known (square_rank sq.level) sq.num.0 (known_cells known sq)
 block_of known sq h = known_step known (square_rank sq.level) sq.num.0 (sq.num.0 == 0) refl (and_right (nat_le 3 sq.level && nat_le sq.level 65) _ h)
 
 -- a square's rank is two above that of its quarters
@@ -77,8 +77,8 @@ pub quarter_rank : (level : ℕ) → 3 < level → square_rank level ≡ suc (su
 quarter_rank level above = omega arith
 
 -- a known square above level 3 is a block of two halves
-pub halved : (known : Knowledge) (sq : Sq) → 3 < sq.level → IsTrue (knows_in known sq) → KnowsBlock known (suc (suc (square_rank (sq.level - 1)))) sq.num.0 (cells_in known sq)
-halved known sq above h = subst (λ r. KnowsBlock known r sq.num.0 (cells_in known sq)) (quarter_rank sq.level above) (block_of known sq h)
+pub halved : (known : Knowledge) (sq : Sq) → 3 < sq.level → IsTrue (knows_in known sq) → KnowsBlock known (suc (suc (square_rank (sq.level - 1)))) sq.num.0 (known_cells known sq)
+halved known sq above h = subst (λ r. KnowsBlock known r sq.num.0 (known_cells known sq)) (quarter_rank sq.level above) (block_of known sq h)
 
 zero_step : (b : Bool) (o : Option KnownBlock) → b ≡ true → cond b true (is_some o) ≡ true
 zero_step true o e = refl

@@ -10,7 +10,7 @@ use Rattle.table_core.specs.declared.key.Key.{Key}
 use Rattle.table_core.specs.declared.knowledge.Knowledge.{Knowledge}
 use Rattle.table_core.specs.declared.shape.Kind.TheVariants.{Leaf, Pair}
 use Rattle.table_core.specs.Layout.{size, first_part, second_part}
-use Rattle.table_core.specs.Blocks.{Words, IsBlock, Shows, cells_of}
+use Rattle.table_core.specs.Blocks.{Words, IsBlock, ShowsBlock, cells_of}
 use Rattle.table_core.specs.Good.{AreGoodWords}
 use Rattle.table_core.specs.Knowledge.{KnowsBlock}
 use Rattle.table_core.specs.Laws.{KnowsAll}
@@ -46,7 +46,7 @@ module _ (bits : ℕ) (words : Words) (known : Knowledge) (all : KnowsAll bits w
   leaf_is n word plane some e knows =
       subst (IsSame plane) (leaf_cells words n some ∙ ap bits_plane (sym e)) (same_sym (block_true bits words known 0 n plane all.true_of knows).cells)
 
-  parts_of : (n rank : ℕ) (plane : Plane) → n ≢ 0 → Shows bits words (suc rank) n plane → ArePartsOf known rank plane (first_part (words n)) (second_part (words n))
+  parts_of : (n rank : ℕ) (plane : Plane) → n ≢ 0 → ShowsBlock bits words (suc rank) n plane → ArePartsOf known rank plane (first_part (words n)) (second_part (words n))
   parts_of zero rank plane some s = absurd (some refl)
   parts_of (suc i) rank plane some s = record {
     one = cells_of words rank (first_part (words (suc i)));

@@ -13,7 +13,7 @@ use Rattle.table_core.specs.Knowledge.{KnowsBlock, Grows, has_result, joined_res
 use Rattle.table_core.proofs.Knowing.{united_first, grows_trans, knows_more}
 use Rattle.table_core.proofs.Lists.{contains_here}
 use Rattle.table_core.proofs.Results.{with_result_keeps}
-use Rattle.node_table.specs.Books.{book_of, square_of, cells_in, IsCoherent}
+use Rattle.node_table.specs.Books.{book_of, square_of, known_cells, IsCoherent}
 use Rattle.node_table.proofs.Books.{covers_keeps, grows_keeps, result_there, there_result}
 use Rattle.node_table.proofs.Entries.{block_of}
 use Rattle.node_table.proofs.Telling.{found_result, same_level}
@@ -48,6 +48,6 @@ second_kept store key one two after h grows book =
     let r = one_joined one.results two.results t.0 t.1.0 t.1.1 t.1.2 in
     let there : Contains after.results r.0 = grows.results r.0 r.1 in
     let at : r.0.square ≡ sq.num.0 = r.2 ∙ number in
-    let knows = knows_more two after (square_rank sq.level) sq.num.0 (cells_in two sq) blocks (block_of two sq known.0) in
-    let level : r.0.level ≡ sq.level = same_level key.shape.bits after r.0 sq.level (cells_in two sq) h known.1 there (subst (λ n. KnowsBlock after (square_rank sq.level) n (cells_in two sq)) (sym at) knows) in
+    let knows = knows_more two after (square_rank sq.level) sq.num.0 (known_cells two sq) blocks (block_of two sq known.0) in
+    let level : r.0.level ≡ sq.level = same_level key.shape.bits after r.0 sq.level (known_cells two sq) h known.1 there (subst (λ n. KnowsBlock after (square_rank sq.level) n (known_cells two sq)) (sym at) knows) in
     subst (Contains (map square_of after.results)) (same_sq (square_of r.0) sq level at) (there_result after.results r.0 there))

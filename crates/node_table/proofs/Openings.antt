@@ -14,7 +14,7 @@ use Rattle.node_table.specs.GoodWords.{all_known}
 use Rattle.node_table.specs.declared.still.Still.{Still}
 use Rattle.node_table.specs.declared.view.View.{View}
 use Rattle.node_table.specs.Books.{IsSound, IsCoherent}
-use Rattle.node_table.specs.Rule.{Holds, IsTrueView, everything, opened}
+use Rattle.node_table.specs.Rule.{IsSoundState, IsTrueView, everything, opened}
 use Rattle.node_table.specs.Stills.{words_of}
 use Rattle.node_table.proofs.Steps.{all_at, is_coherent, sound_by}
 
@@ -43,7 +43,7 @@ get_is (x ∷ xs) zero n e = let same : x ≡ n = cc in same
 get_is (x ∷ xs) (suc i) n e = get_is xs i n e
 
 -- the words at the end are good, and what the closing desk knew is true of them
-module _ {S : Type 0} (still : Still) (id : ℕ) (view : View) (words : List ℕ) (slots : List S) (final : Final (Seen (Holds {S = S} still) id view) words slots) where
+module _ {S : Type 0} (still : Still) (id : ℕ) (view : View) (words : List ℕ) (slots : List S) (final : Final (Seen (IsSoundState {S = S} still) id view) words slots) where
   pub closed_good : AreGoodWords still.key words
   closed_good = subst (AreGoodWords still.key) final.2 final.1.0.words
 
@@ -59,6 +59,6 @@ copied_on xs ys n v inside each is i less = ⊎_elim
     (same_or_other i n)
 
 -- the rule holds of the words of a table that is opened
-pub opening_holds : {S : Type 0} (still : Still) (words : List ℕ) → words ≡ still.words → Holds {S = S} still (opening words [] (opened still))
-opening_holds {S} still words e = subst (λ (ws : List ℕ). Holds {S = S} still (opening ws [] (opened still))) (sym e)
+pub opening_holds : {S : Type 0} (still : Still) (words : List ℕ) → words ≡ still.words → IsSoundState {S = S} still (opening words [] (opened still))
+opening_holds {S} still words e = subst (λ (ws : List ℕ). IsSoundState {S = S} still (opening ws [] (opened still))) (sym e)
     (record { words = still.good; views = (record { tied = refl; known = (everything_known still).true_of }, tt) })

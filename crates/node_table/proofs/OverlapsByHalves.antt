@@ -13,7 +13,7 @@ use Rattle.node_table.specs.declared.overlaps.HalvesOfRows.{HalvesOfRows}
 use Rattle.node_table.specs.declared.table.NodeTable.{NodeTable}
 use Rattle.node_table.specs.Desks.{book_at}
 use Rattle.node_table.specs.Halves.{AreBeside, AreHalvesOfRows, IsHalfOf, LearnsBlocks, MakeSquare, squares_of}
-use Rattle.node_table.specs.Refusals.{HasNoRoom, HasNoRoomForOverlap, HasNoRoomForQuad, neighbours_at, word_of}
+use Rattle.node_table.specs.Refusals.{HasNoRoom, HasNoRoomForOverlap, HasNoRoomForQuad, neighbouring_squares, word_of}
 use Rattle.node_table.proofs.Refusing.{no_upper_half, no_lower_half, no_whole}
 use Rattle.node_table.proofs.TwoHalves.{beside, book_kept, half_of, half_shown, half_stays, joined_of, make_square}
 
@@ -59,7 +59,7 @@ corner_shown {table} {desk} {made} {upper = upper} {lower = lower} {sq = sq} nin
 
 -- where the square of four neighbours has no room
 module _ {table : NodeTable} {desk : Desk} (nine : List Sq) (row column : ℕ) (above : row < 2) (left : column < 2) where
-  no_overlap : HasNoRoomForQuad table desk desk (neighbours_at nine row column) → HasNoRoomForOverlap table desk nine
+  no_overlap : HasNoRoomForQuad table desk desk (neighbouring_squares nine row column) → HasNoRoomForOverlap table desk nine
   no_overlap lack = record { row = row; column = column; above = above; left = left; room = lack }
 
   pub no_half_above : HasNoRoom table desk Pair (word_of (nth nine (3 * row + column)) (nth nine (3 * row + column + 1))) → HasNoRoomForOverlap table desk nine

@@ -29,7 +29,7 @@ use Rattle.node_table.specs.declared.table.NodeTable.{NodeTable}
 use Rattle.node_table.specs.declared.view.View.{View}
 use Rattle.node_table.specs.Books.{IsCoherent, IsSound, IsSoundFor}
 use Rattle.node_table.specs.Desks.{IsDeskOf}
-use Rattle.node_table.specs.Rule.{IsTrueView, Holds, with_known, Met, HasMet, merged, spent}
+use Rattle.node_table.specs.Rule.{IsTrueView, IsSoundState, with_known, Met, HasMet, merged, spent}
 use Rattle.node_table.proofs.Books.{sound_for}
 
 pub all_at : {X : Type 0} (P : X → Type 0) (xs : List X) (i : ℕ) (a : X) → AllByRecursion P xs → get_elem? xs i ≡ core.some a → P a
@@ -55,7 +55,7 @@ block_some bits words (suc rank) (suc i) some b = b.1
 
 -- each lawful event of a seat keeps the rule, and the seat has met it
 pub meets : {S : Type 0} (still : Still) (slots id : ℕ) (me : Me S View) (event : Event) → me.0.key ≡ Some still.key → IsLawful still.key me.0.known event →
-    Allows (Holds {S = S} still) slots id me (index_of event) (word_after event) (HasMet event me)
+    Allows (IsSoundState {S = S} still) slots id me (index_of event) (word_after event) (HasMet event me)
 meets {S} still slots id me event present lawful s h n at fits =
     let key = still.key in
     let was : IsTrueView still.key s.words me.0 = all_at _ s.views id me.0 h.views at in
@@ -90,7 +90,7 @@ meets {S} still slots id me event present lawful s h n at fits =
 
 -- and so does each of a desk at its table
 pub meets_at : (table : NodeTable) (desk : Desk) (event : Event) → IsDeskOf table desk → IsLawful table.key desk.seat.me.0.known event →
-    Allows (Holds {S = Unit {0}} table.table.shared.key) table.table.shared.table_id.slots desk.seat.id desk.seat.me (index_of event) (word_after event) (HasMet event desk.seat.me)
+    Allows (IsSoundState {S = Unit {0}} table.table.shared.key) table.table.shared.table_id.slots desk.seat.id desk.seat.me (index_of event) (word_after event) (HasMet event desk.seat.me)
 meets_at table desk event d lawful =
     meets table.table.shared.key table.table.shared.table_id.slots desk.seat.id desk.seat.me event (d.same_key ∙ ap (λ (k : Key). Some k) (sym table.same_key))
     (subst (λ (k : Key). IsLawful k desk.seat.me.0.known event) (sym table.same_key) lawful)
@@ -104,12 +104,12 @@ pub sound_after : {S : Type 0} (key : Key) (event : Event) (before after : Me S 
 sound_after {S} key event before after word present sound met k e =
     subst (λ (a : Key). IsSoundFor a after.0.known) (same_key key k (sym present ∙ sym met.same_key ∙ e)) (sound_for key after.0.known ((sound key present).book []).rule met.coherent)
 
-pub splits : {S : Type 0} (still : Still) (id : ℕ) (v : View) → Splits (Holds {S = S} still) id v v v
+pub splits : {S : Type 0} (still : Still) (id : ℕ) (v : View) → Splits (IsSoundState {S = S} still) id v v v
 splits still id v s h at =
     let one = all_at _ s.views id v h.views at in
     record { words = h.words; views = all_append _ (slice_set s.views id v) (v ∷ []) (all_set _ s.views id v h.views one) (one, tt) }
 
-pub joins : {S : Type 0} (still : Still) (id other : ℕ) (v w : View) → Joins (Holds {S = S} still) id v other w (merged v w) spent
+pub joins : {S : Type 0} (still : Still) (id other : ℕ) (v w : View) → Joins (IsSoundState {S = S} still) id v other w (merged v w) spent
 joins still id other v w s h at apart at_other =
     let first : IsTrueView still.key s.words v = all_at _ s.views id v h.views at in
     let whose = ⊎_elim {C = get_elem? s.views other ≡ core.some w} (λ t. absurd (apart t.0)) (λ t. t.1) (at_set s.views id other (merged v w) w at_other) in

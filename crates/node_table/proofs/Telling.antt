@@ -27,7 +27,7 @@ use Rattle.table_core.proofs.Lists.{all_contains, contains_here}
 use Rattle.table_core.proofs.Results.{one_level}
 use Rattle.node_table.specs.declared.desk.Desk.{Desk}
 use Rattle.node_table.specs.declared.table.NodeTable.{NodeTable}
-use Rattle.node_table.specs.Books.{book_of, square_of, knows_in, cells_in, IsCoherent}
+use Rattle.node_table.specs.Books.{book_of, square_of, knows_in, known_cells, IsCoherent}
 use Rattle.node_table.specs.Desks.{IsDeskOf, store_of, book_at}
 use Rattle.node_table.specs.Refusals.{known_by}
 use Rattle.node_table.proofs.Books.{shows_of, result_there, there_result, zero_is_empty}
@@ -92,7 +92,7 @@ module _ (table : NodeTable) (desk : Desk) (sq : Sq) {index : ℕ} (of_table : I
   old = known_by desk
 
   abbrev plane : Plane
-  plane = cells_in old sq
+  plane = known_cells old sq
 
   abbrev pub may_ask : MayAsk key.shape.bits old index
   may_ask = record { square = sq.num.0; slot = square_slot table desk sq of_table above some known; beside = beside; level = sq.level; above = above; plane = plane; shown = block_of old sq known }
@@ -198,11 +198,11 @@ module _ (table : NodeTable) (desk : Desk) (sq : Sq) {index : ℕ} (of_table : I
 
 -- the future of the empty square
 pub empty_future : (store : List ℕ) (key : Key) (known : Knowledge) (sq : Sq) → IsRule key.rule → ∥ IsCoherent key.shape.bits known ∥₁ → 3 < sq.level → sq.level ≤ 65 → sq.num.0 ≡ 0 →
-    KnowsBlock known (square_rank sq.level) sq.num.0 (cells_in known sq) → IsFuture (book_of store key known) sq (numbered (sq.level - 1) 0)
+    KnowsBlock known (square_rank sq.level) sq.num.0 (known_cells known sq) → IsFuture (book_of store key known) sq (numbered (sq.level - 1) 0)
 empty_future store key known sq rule h above high e knows =
-    let none : IsSame empty (cells_in known sq) = zero_is_empty key.shape.bits known (square_rank sq.level) (cells_in known sq) h (subst (λ n. KnowsBlock known (square_rank sq.level) n (cells_in known sq)) e knows) in
-    shows_of store key known (numbered (sq.level - 1) 0) (future key.rule key.exponent sq.level (cells_in known sq)) h (omega arith) (omega arith)
-    (inl (refl, same_sym (future_empty key.rule rule key.exponent sq.level (cells_in known sq) (same_sym none))))
+    let none : IsSame empty (known_cells known sq) = zero_is_empty key.shape.bits known (square_rank sq.level) (known_cells known sq) h (subst (λ n. KnowsBlock known (square_rank sq.level) n (known_cells known sq)) e knows) in
+    shows_of store key known (numbered (sq.level - 1) 0) (future key.rule key.exponent sq.level (known_cells known sq)) h (omega arith) (omega arith)
+    (inl (refl, same_sym (future_empty key.rule rule key.exponent sq.level (known_cells known sq) (same_sym none))))
 
 some_step : (b : Bool) (r n : ℕ) → (r == 0) ≡ b → cond b (2 ^ 32 + n) r ≢ 0
 some_step true r n e z = omega arith

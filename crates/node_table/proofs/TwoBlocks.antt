@@ -15,7 +15,7 @@ use Rattle.table_core.specs.Learning.{KnowsPartsOf, LearnsWord, MeetsWord}
 use Rattle.table_core.proofs.Blocks.{paired_same}
 use Rattle.table_core.proofs.Knowing.{grows_trans, knows_same, knows_grown}
 use Rattle.table_core.proofs.Quads.{next_rank, quarters_joined}
-use Rattle.node_table.specs.Books.{book_of, knows_in, cells_in, IsCoherent}
+use Rattle.node_table.specs.Books.{book_of, knows_in, known_cells, IsCoherent}
 use Rattle.node_table.specs.Numbers.{IsPair, ArePartsOf, KnowsPairOf, KnowsSomePair}
 use Rattle.node_table.specs.Refusals.{IsHalf}
 use Rattle.std.proofs.Math.Logic.{∥∥₁_elim}
@@ -80,12 +80,12 @@ quad_shown old new level upper lower number p q r s above whole top bottom =
 
 -- a known square above level 3 has two halves
 pub some_halves : (known : Knowledge) (sq : Sq) → 3 < sq.level → IsTrue (knows_in known sq) → KnowsSomePair known sq.num.0
-some_halves known sq above h = record { rank = suc (square_rank (sq.level - 1)); plane = cells_in known sq; shown = halved known sq above h }
+some_halves known sq above h = record { rank = suc (square_rank (sq.level - 1)); plane = known_cells known sq; shown = halved known sq above h }
 
 -- and each of them has two parts
 module _ {old new : Knowledge} {upper lower : ℕ} (sq : Sq) (above : 3 < sq.level) (known : IsTrue (knows_in old sq)) (read : KnowsPairOf old new sq.num.0 upper lower) where
-  two_halves : ArePartsOf new (suc (square_rank (sq.level - 1))) (cells_in old sq) upper lower
-  two_halves = read.parts (suc (square_rank (sq.level - 1))) (cells_in old sq) (halved old sq above known)
+  two_halves : ArePartsOf new (suc (square_rank (sq.level - 1))) (known_cells old sq) upper lower
+  two_halves = read.parts (suc (square_rank (sq.level - 1))) (known_cells old sq) (halved old sq above known)
 
   pub upper_half : KnowsSomePair new upper
   upper_half = record { rank = square_rank (sq.level - 1); plane = two_halves.one; shown = two_halves.shows_one }
@@ -138,7 +138,7 @@ module _ (store : List ℕ) (key : Key) {a b c d : Knowledge} (level : ℕ) {num
       (knows_same d (square_rank (level - 1)) n part (cut (2 ^ (level - 1)) left up plane) (same_trans same (cut_same (2 ^ (level - 1)) left up all plane cells)) k)
 
   -- what the desk sees in a square with a part's number
-  seen : (n : ℕ) (part : Plane) → KnowsBlock d (square_rank (level - 1)) n part → IsSame part (cells_in d (numbered (level - 1) n))
+  seen : (n : ℕ) (part : Plane) → KnowsBlock d (square_rank (level - 1)) n part → IsSame part (known_cells d (numbered (level - 1) n))
   seen n part k = same_sym (shows_of store key d (numbered (level - 1) n) part h (omega arith) (omega arith) k).cells
 
   half_seen : (n one two : ℕ) (part left right : Plane) → KnowsBlock d (suc (square_rank (level - 1))) n part → IsSame part (paired (square_rank (level - 1)) left right) →

@@ -20,7 +20,7 @@ use Rattle.table_core.proofs.Knowing.{grows_trans, knows_grown, knows_same}
 use Rattle.node_table.specs.declared.desk.Desk.{Desk}
 use Rattle.node_table.specs.declared.halves.Half.{Half}
 use Rattle.node_table.specs.declared.table.NodeTable.{NodeTable}
-use Rattle.node_table.specs.Books.{cells_in}
+use Rattle.node_table.specs.Books.{known_cells}
 use Rattle.node_table.specs.Desks.{IsDeskOf, store_of, book_at}
 use Rattle.node_table.specs.Halves.{AreBeside, AreHalves, IsHalfOf, KnowsHalf, LearnsBlocks, MakeSquare, squares_of}
 use Rattle.node_table.specs.Numbers.{IsPair}
@@ -49,7 +49,7 @@ beside {book} {level} {left} {right} fits k l = record {
 pub beside_parts : {table : NodeTable} {desk : Desk} {left right : Sq} → IsDeskOf table desk → AreBeside (book_at table desk) left right → KnowsParts (known_by desk) (word_of left right)
 beside_parts {table} {desk} {left} {right} of_table are =
     let fits = are.fits in let low = are.left.low in
-    knows_parts table.key (known_by desk) (square_rank left.level) left.num.0 right.num.0 (cells_in (known_by desk) left) (cells_in (known_by desk) right) (coherent_at table desk of_table) (omega arith)
+    knows_parts table.key (known_by desk) (square_rank left.level) left.num.0 right.num.0 (known_cells (known_by desk) left) (known_cells (known_by desk) right) (coherent_at table desk of_table) (omega arith)
     (known_block (known_by desk) left.level left refl are.left.known) (known_block (known_by desk) left.level right are.right.at_level are.right.known)
 
 -- the half that is made of them
@@ -59,19 +59,19 @@ half_made {table} {old} {new} {left} {right} learns are is =
     let keeps = book_kept learns in
     let rank = square_rank left.level in
     let block = λ (sq : Sq) (known : IsKnown (book_at table old) left.level sq).
-    knows_same (known_by old) rank sq.num.0 (cells_in (known_by old) sq) (cells_in (known_by new) sq) (same_sym (keeps.cells sq known.known)) (known_block (known_by old) left.level sq known.at_level known.known) in
+    knows_same (known_by old) rank sq.num.0 (known_cells (known_by old) sq) (known_cells (known_by new) sq) (same_sym (keeps.cells sq known.known)) (known_block (known_by old) left.level sq known.at_level known.known) in
     record {
       left = refl;
       right = refl;
       known = record {
         left = known_kept keeps are.left;
         right = known_kept keeps are.right;
-        shown = is.shown rank (cells_in (known_by new) left) (cells_in (known_by new) right) (block left are.left) (block right are.right);
+        shown = is.shown rank (known_cells (known_by new) left) (known_cells (known_by new) right) (block left are.left) (block right are.right);
       };
     }
 
 -- what a half showed it shows to one that knows more, and in the cells that another sees
-pub half_again : (a b c d : Knowledge) (left right : Sq) (number : ℕ) → Grows b c → IsSame (cells_in a left) (cells_in d left) → IsSame (cells_in a right) (cells_in d right) → IsHalf a b left right number → IsHalf d c left right number
+pub half_again : (a b c d : Knowledge) (left right : Sq) (number : ℕ) → Grows b c → IsSame (known_cells a left) (known_cells d left) → IsSame (known_cells a right) (known_cells d right) → IsHalf a b left right number → IsHalf d c left right number
 half_again a b c d left right number grows one two is =
     let rank = square_rank left.level in
     knows_same c (suc rank) number _ _ (paired_same rank _ _ _ _ one two) (knows_grown b c (suc rank) number _ grows is)
@@ -112,7 +112,7 @@ module _ {table : NodeTable} {old : Desk} {upper lower : Half} (of_table : IsDes
   rank = square_rank level
 
   abbrev cells : Sq → Plane
-  cells = cells_in (known_by old)
+  cells = known_cells (known_by old)
 
   bottom : KnowsBlock (known_by old) (suc rank) lower.number (paired rank (cells lower.left) (cells lower.right))
   bottom = subst (λ n. KnowsBlock (known_by old) (suc (square_rank n)) lower.number (paired (square_rank n) (cells lower.left) (cells lower.right))) halves.lower.left.at_level halves.lower.shown

@@ -29,8 +29,8 @@ knows_in known sq =
     (nat_le 3 sq.level && nat_le sq.level 65)
     && (if sq.num.0 == 0 then true else is_some (entry_at known.blocks (square_rank sq.level) sq.num.0))
 
-abbrev pub cells_in : Knowledge → Sq → Plane
-cells_in known sq = if sq.num.0 == 0 then empty else cells_there (entry_at known.blocks (square_rank sq.level) sq.num.0)
+abbrev pub known_cells : Knowledge → Sq → Plane
+known_cells known sq = if sq.num.0 == 0 then empty else cells_there (entry_at known.blocks (square_rank sq.level) sq.num.0)
 
 -- the square whose result it is
 abbrev pub square_of : KnownResult → Sq
@@ -42,7 +42,7 @@ book_of store key known = record {
   rule = key.rule;
   exponent = key.exponent;
   knows = knows_in known;
-  cells = cells_in known;
+  cells = known_cells known;
   results = map square_of known.results;
   learned = known.learned;
   is_full = knows_full_shard key.shape.bits known;

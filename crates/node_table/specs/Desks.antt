@@ -37,6 +37,7 @@ pub record Returns (book : Book) (desk : Desk) : Type 0 where
 
 -- what a desk knows is the same, of whichever table it is
 pub record IsSameDesk (old new : Desk) : Type 0 where
+  pub same_known : new.seat.me.0.known ≡ old.seat.me.0.known
   pub same_table : (table : NodeTable) → IsDeskOf table old → IsDeskOf table new
   pub same_book : (table : NodeTable) → book_at table new ≡ book_at table old
 

@@ -12,9 +12,8 @@ use Rattle.table_core.proofs.Everything.{good_words_can_be_known}
 use Rattle.table_core.specs.declared.shape.Kind.{Kind}
 use Rattle.table_core.specs.declared.shape.Kind.TheVariants.{Pair}
 use Rattle.table_core.specs.Layout.{IsSlot, way, result_of, first_part, second_part}
-use Rattle.table_core.specs.Blocks.{Words, IsBlock, Shows, cells_of, square_rank}
-use Rattle.table_core.specs.declared.rank.TheConstants.{LARGEST_RANK}
-use Rattle.table_core.specs.Good.{IsOnWay, IsFutureOf, IsPairBlock, HasFuture, AreGoodWords}
+use Rattle.table_core.specs.Blocks.{Words, IsBlock, ShowsBlock, cells_of, square_rank, largest_rank}
+use Rattle.table_core.specs.Good.{IsOnWay, IsFutureOf, IsPairBlock, TellsFuture, AreGoodWords}
 use Rattle.table_core.proofs.Ways.{every_way, not_head}
 use Rattle.table_core.proofs.Blocks.{one_rank}
 use Rattle.table_core.proofs.Results.{one_level}
@@ -41,7 +40,7 @@ way_prop bits words kind index big low a b =
 
 -- the pair is a block of this rank
 abbrev IsRankOf : ℕ → Words → ℕ → ℕ → Type 0
-IsRankOf bits words index rank = (rank < LARGEST_RANK) × IsBlock bits words (suc rank) index
+IsRankOf bits words index rank = (rank < largest_rank) × IsBlock bits words (suc rank) index
 
 rank_prop : (bits : ℕ) (words : Words) (index rank : ℕ) → IsProp (IsRankOf bits words index rank)
 rank_prop bits words index rank = hlevel (props, block_prop bits words (suc rank) index)
@@ -52,14 +51,14 @@ pair_prop bits words index some a b =
     ap (λ (t : (rank : ℕ) × IsRankOf bits words index rank). (t.0, t.1.0, t.1.1))
     (Σ_prop_path (rank_prop bits words index) {u = (a.0, (a.1, a.2))} {v = (b.0, (b.1, b.2))} (omega arith))
 
-shows_prop : (bits : ℕ) (words : Words) (rank n : ℕ) (plane : Plane) → IsProp (Shows bits words rank n plane)
+shows_prop : (bits : ℕ) (words : Words) (rank n : ℕ) (plane : Plane) → IsProp (ShowsBlock bits words rank n plane)
 shows_prop bits words rank n plane = hlevel (props, block_prop bits words rank n)
 
 -- the number shows the future of the square at the index, which has this level
 abbrev IsFutureAt : Key → Words → ℕ → ℕ → ℕ → Type 0
 IsFutureAt key words index number level =
     (3 < level) × IsBlock key.shape.bits words (square_rank level) index
-    × Shows key.shape.bits words (square_rank (level - 1)) number (future key.rule key.exponent level (cells_of words (square_rank level) index))
+    × ShowsBlock key.shape.bits words (square_rank (level - 1)) number (future key.rule key.exponent level (cells_of words (square_rank level) index))
 
 future_at_prop : (key : Key) (words : Words) (index number level : ℕ) → IsProp (IsFutureAt key words index number level)
 future_at_prop key words index number level = hlevel (
@@ -81,7 +80,7 @@ IsToldAs key words index number = (words (result_of key.shape.bits index) ≡ 2 
 told_prop : (key : Key) (words : Words) (index : ℕ) → index ≢ 0 → (number : ℕ) → IsProp (IsToldAs key words index number)
 told_prop key words index some number = hlevel (props, future_prop key words index number some)
 
-has_prop : (key : Key) (words : Words) (index : ℕ) → index ≢ 0 → IsProp (HasFuture key words index)
+has_prop : (key : Key) (words : Words) (index : ℕ) → index ≢ 0 → IsProp (TellsFuture key words index)
 has_prop key words index some a b =
     let e : a.0 ≡ b.0 = let t : 2 ^ 32 + a.0 ≡ 2 ^ 32 + b.0 = sym a.1 ∙ b.1 in omega arith in
     ap (λ (t : (number : ℕ) × IsToldAs key words index number). (t.0, t.1.0, t.1.1))
@@ -96,7 +95,7 @@ ways_prop key words = Π_prop (λ kind. Π_prop (λ i. Π_prop (λ slot. Π_prop
 blocks_prop : (key : Key) (words : Words) → IsProp ((i : ℕ) → IsSlot key.shape.bits Pair i → words i ≢ 0 → IsPairBlock key.shape.bits words i)
 blocks_prop key words = Π_prop (λ i. Π_prop (λ slot. Π_prop (λ some. pair_prop key.shape.bits words i (slot_some key.shape.bits i slot))))
 
-results_prop : (key : Key) (words : Words) → IsProp ((i : ℕ) → IsSlot key.shape.bits Pair i → words (result_of key.shape.bits i) ≢ 0 → HasFuture key words i)
+results_prop : (key : Key) (words : Words) → IsProp ((i : ℕ) → IsSlot key.shape.bits Pair i → words (result_of key.shape.bits i) ≢ 0 → TellsFuture key words i)
 results_prop key words = Π_prop (λ i. Π_prop (λ slot. Π_prop (λ some. has_prop key words i (slot_some key.shape.bits i slot))))
 
 -- all that good words say

@@ -13,7 +13,7 @@ use Rattle.table_core.specs.Knowledge.{KnowsBlock}
 use Rattle.table_core.specs.FullWays.{KnowsFullWay}
 use Rattle.node_table.specs.declared.desk.Desk.{Desk}
 use Rattle.node_table.specs.declared.table.NodeTable.{NodeTable}
-use Rattle.node_table.specs.Books.{cells_in}
+use Rattle.node_table.specs.Books.{known_cells}
 use Rattle.node_table.specs.Desks.{book_at}
 
 abbrev pub known_by : Desk → Knowledge
@@ -27,7 +27,7 @@ pub record HasNoRoom (table : NodeTable) (desk : Desk) (kind : Kind) (word : ℕ
 -- the number shows two squares that were known, side by side
 abbrev pub IsHalf : Knowledge → Knowledge → Sq → Sq → ℕ → Type 0
 IsHalf old new left right number =
-    KnowsBlock new (suc (square_rank left.level)) number (paired (square_rank left.level) (cells_in old left) (cells_in old right))
+    KnowsBlock new (suc (square_rank left.level)) number (paired (square_rank left.level) (known_cells old left) (known_cells old right))
 
 -- the word of two numbers of squares
 abbrev pub word_of : Sq → Sq → ℕ
@@ -58,8 +58,8 @@ pub record HasNoRoomForSubsquare (table : NodeTable) (desk : Desk) (level : ℕ)
   pub room : HasNoRoomForQuad table desk desk quarters
 
 -- four neighbours among three rows of three squares: the upper left one stands in this row and column
-abbrev pub neighbours_at : List Sq → ℕ → ℕ → List Sq
-neighbours_at nine row column =
+abbrev pub neighbouring_squares : List Sq → ℕ → ℕ → List Sq
+neighbouring_squares nine row column =
     let first = 3 * row + column in nth nine first ∷ nth nine (first + 1) ∷ nth nine (first + 3) ∷ nth nine (first + 4) ∷ []
 
 -- the desk has no room for the square of four neighbours among three rows of three squares
@@ -68,4 +68,4 @@ pub record HasNoRoomForOverlap (table : NodeTable) (desk : Desk) (nine : List Sq
   pub column : ℕ
   pub above : row < 2
   pub left : column < 2
-  pub room : HasNoRoomForQuad table desk desk (neighbours_at nine row column)
+  pub room : HasNoRoomForQuad table desk desk (neighbouring_squares nine row column)

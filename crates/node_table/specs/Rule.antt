@@ -10,7 +10,7 @@ use Rattle.table_core.specs.declared.machine.Event.TheVariants.{Look, Claim, Ask
 use Rattle.table_core.specs.Layout.{second_part}
 use Rattle.table_core.specs.Good.{AreGoodWords}
 use Rattle.table_core.specs.Knowledge.{IsTrueOf, KnowsBlock, Grows, united, nothing}
-use Rattle.table_core.specs.Learning.{Learns}
+use Rattle.table_core.specs.Learning.{LearnsFrom}
 use Rattle.table_core.specs.Events.{index_of, word_after}
 use Rattle.node_table.specs.GoodWords.{all_of}
 use Rattle.node_table.specs.declared.still.Still.{Still}
@@ -23,7 +23,7 @@ pub record IsTrueView (key : Key) (words : List ℕ) (view : View) : Type 0 wher
   pub known : IsTrueOf key.shape.bits (slice_index words) view.known
 
 -- the words are good, and what each desk knows is true of them
-pub record Holds {S : Type 0} (still : Still) (state : State S View) : Type 0 where
+pub record IsSoundState {S : Type 0} (still : Still) (state : State S View) : Type 0 where
   pub words : AreGoodWords still.key state.words
   pub views : AllByRecursion (IsTrueView still.key state.words) state.views
 
@@ -41,7 +41,7 @@ with_known view known = record { key = view.key; known = known }
 pub record Met {S : Type 0} (key : Key) (event : Event) (before : Me S View) (word : ℕ) (after : Me S View) : Type 0 where
   pub same_key : after.0.key ≡ before.0.key
   pub slots : after.1 ≡ before.1
-  pub learns : Learns key event before.0.known word after.0.known
+  pub learns : LearnsFrom key event before.0.known word after.0.known
   pub grows : Grows before.0.known after.0.known
   pub coherent : IsCoherent key.shape.bits after.0.known
   pub stands : (rank : ℕ) (plane : Plane) → index_of event ≢ 0 → KnowsBlock before.0.known rank (index_of event) plane → word ≢ 0

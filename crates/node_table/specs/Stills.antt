@@ -1,8 +1,7 @@
 -- Words in one owner's hands.
 use Rattle.std.specs.Prelude.{◌≡◌, ◌≢◌, ℕ, ◌^◌, ◌<◌, ◌≤◌, ◌↔◌, Bool, IsTrue, List, [], slice_index}
 use Rattle.table_core.specs.declared.key.Key.{Key}
-use Rattle.table_core.specs.Blocks.{Words, IsBlock, square_rank}
-use Rattle.table_core.specs.declared.rank.TheConstants.{LARGEST_RANK}
+use Rattle.table_core.specs.Blocks.{Words, IsBlock, square_rank, largest_rank}
 use Rattle.table_core.specs.Opening.{IsFresh, KeepsResult, Reopens}
 use Rattle.squares.specs.Book.{Book}
 use Rattle.node_table.specs.Books.{book_of}
@@ -34,7 +33,7 @@ pub record IsReopened (was : Still) (key : Key) (now : Still) : Type 0 where
 
 -- this is the rank of what the number shows
 pub record HasRank (still : Still) (number found : ℕ) : Type 0 where
-  pub is : (rank : ℕ) → rank ≤ LARGEST_RANK → number ≢ 0 → IsBlock still.key.shape.bits (words_of still) rank number → found ≡ rank
+  pub is : (rank : ℕ) → rank ≤ largest_rank → number ≢ 0 → IsBlock still.key.shape.bits (words_of still) rank number → found ≡ rank
 
 -- the result beside the number of a square stays
 pub record KeepsAtRank (still : Still) (key : Key) (pair : ℕ) (stays : Bool) : Type 0 where

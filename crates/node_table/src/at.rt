@@ -1,8 +1,8 @@
 //! A desk at work at its table: the book of squares that the recursion reads and writes.
-ghost use Rattle.std.specs.Prelude.{◌≡◌, ◌<◌, ◌+◌, All, IfOk, IfErr, OnErr, OnOk, IsOk, IsErr};
+ghost use Rattle.std.specs.Prelude.{◌≡◌, ◌<◌, ◌+◌, ◌-◌, All, IfErr, IfNone, IfOk, IfSome, IsErr, IsOk, MatchOption, OnErr, OnOk, Some};
 ghost use Rattle.std.specs.List.{AllByRecursion};
 ghost use Rattle.plane.specs.Square.{bits_plane};
-ghost use Rattle.squares.specs.Book.{AddsResult, AddsSquares, AreSubsquares, IsEmpty, IsFuture, IsKnown, Keeps, KeepsResults, MayRefuse, Shows, joined_squares, nth, numbered};
+ghost use Rattle.squares.specs.Book.{AddsResult, AddsSquares, AreQuarters, AreSubsquares, HasResult, IsEmpty, IsFuture, IsKnown, Keeps, KeepsResults, Learns, MayRefuse, Shows, joined_squares, nth, numbered};
 ghost use Rattle.squares.specs.Overlaps.{AreOverlaps};
 ghost use Rattle.table_core.specs.declared.shape.Kind.TheVariants.{Leaf};
 ghost use Rattle.node_table.specs.Desks.{IsDeskOf, work_store};
@@ -18,8 +18,8 @@ use table_core::{Kind, parts};
 /// A desk at work at its table. Its calls wait for nobody, take no memory and always return,
 /// whatever other desks do meanwhile. `leaf`, `quad`, `nine` and `overlaps` refuse `NodesFull`
 /// alone, and only where the desk saw another word in each of the 256 slots of the way of a word
-/// that they need; `leaf` and `quad` refuse wherever it saw that before the call. `keep` refuses
-/// nothing.
+/// that they need; `leaf` and `quad` refuse wherever it saw that before the call, and what the desk
+/// has seen it knows for good: what was refused once stays refused. `keep` refuses nothing.
 #[derive(Drop)]
 pub struct At<'t> {
     pub(crate) table: &'t NodeTable,
@@ -39,10 +39,12 @@ pub(crate) fn square(level: u8, number: u32) -> Sq
 
 impl At<'_> {
     ghost use Rattle.node_table.specs.Desks.{Returns};
+    ghost use Rattle.node_table.specs.DesksAtWork.{KnowsAllOf};
 
     /// The desk again, with all that it knows, and its number of expansions as it was.
     pub fn leave(self) -> Desk
-        ensures { Returns (⟦<At<'static> as Squares>⟧.book self.entry) result }
+        ensures desk { Returns (⟦<At<'static> as Squares>⟧.book self.entry) result }
+        ensures grows { KnowsAllOf self.entry.desk result }
     {
         let At {
             table: _,
@@ -58,7 +60,7 @@ impl At<'_> {
 }
 
 impl Squares for At<'_> {
-    ghost use Rattle.node_table.specs.DesksAtWork.{book_here};
+    ghost use Rattle.node_table.specs.DesksAtWork.{GoesOn, book_here};
 
     ghost book = { book_here };
 
@@ -70,14 +72,26 @@ impl Squares for At<'_> {
         self.table.key.exponent
     }
 
-    fn read_bits(&mut self, sq: Sq) -> u64 {
+    fn read_bits(&mut self, sq: Sq) -> u64
+        requires { IsKnown (book_here self.old) 3 sq }
+        ensures value { Shows (book_here self.old) 3 (bits_plane result) sq }
+        ensures grows { GoesOn self.old self.new }
+        ensures adds { AddsSquares (book_here self.old) (book_here self.new) }
+    {
         if sq.is_empty() {
             return 0;
         }
         self.desk.look(self.table, sq.num.0)
     }
 
-    fn read_parts(&mut self, sq: Sq) -> [Sq; 4] {
+    fn read_parts(&mut self, sq: Sq) -> [Sq; 4]
+        requires known { IsKnown (book_here self.old) sq.level sq }
+        requires level { 3 < sq.level }
+        ensures value { AreQuarters (book_here self.new) sq.level
+            ((book_here self.old).cells sq) result }
+        ensures grows { GoesOn self.old self.new }
+        ensures adds { AddsSquares (book_here self.old) (book_here self.new) }
+    {
         let (upper, lower) = self.desk.read_halves(self.table, sq);
         [upper.left, upper.right, lower.left, lower.right]
     }
@@ -88,6 +102,7 @@ impl Squares for At<'_> {
         ensures refusal { IfErr result (MayRefuse (book_here self.new)) }
         ensures full { OnErr result (HasNoRoom self.new.table.now self.new.desk Leaf word) }
         ensures refused { HasNoRoom self.old.table.now self.old.desk Leaf word → IsErr result }
+        ensures grows { GoesOn self.old self.new }
         ensures adds { AddsSquares (book_here self.old) (book_here self.new) }
     {
         if word == 0 {
@@ -111,6 +126,7 @@ impl Squares for At<'_> {
             (HasNoRoomForQuad self.new.table.now self.old.desk self.new.desk quarters) }
         ensures refused { HasNoRoomForQuad self.old.table.now self.old.desk self.old.desk quarters
             → IsErr result }
+        ensures grows { GoesOn self.old self.new }
         ensures adds { AddsSquares (book_here self.old) (book_here self.new) }
     {
         let [nw, ne, sw, se] = quarters;
@@ -129,6 +145,7 @@ impl Squares for At<'_> {
         ensures refusal { IfErr result (MayRefuse (book_here self.new)) }
         ensures full { OnErr result (HasNoRoomForSubsquare self.new.table.now self.new.desk sq.level
             ((book_here self.old).cells sq)) }
+        ensures grows { GoesOn self.old self.new }
         ensures adds { AddsSquares (book_here self.old) (book_here self.new) }
     {
         self.desk.nine(self.table, sq)
@@ -140,12 +157,24 @@ impl Squares for At<'_> {
         ensures ok { IfOk result (AreOverlaps (book_here self.new) level nine) }
         ensures refusal { IfErr result (MayRefuse (book_here self.new)) }
         ensures full { OnErr result (HasNoRoomForOverlap self.new.table.now self.new.desk nine) }
+        ensures grows { GoesOn self.old self.new }
         ensures adds { AddsSquares (book_here self.old) (book_here self.new) }
     {
         self.desk.overlaps(self.table, level, nine)
     }
 
-    fn recall(&mut self, sq: Sq) -> Option<Sq> {
+    fn recall(&mut self, sq: Sq) -> Option<Sq>
+        requires known { IsKnown (book_here self.old) sq.level sq }
+        requires level { 3 < sq.level }
+        ensures some { IfSome result (IsFuture (book_here self.new) sq) }
+        ensures none { IfNone result (¬ HasResult (book_here self.old) sq) }
+        ensures empty { IsEmpty sq → result ≡ Some (numbered (sq.level - 1) 0) }
+        ensures results { MatchOption result
+            (KeepsResults (book_here self.old) (book_here self.new))
+            (λ _. Learns (book_here self.old) (book_here self.new) sq) }
+        ensures grows { GoesOn self.old self.new }
+        ensures keeps { Keeps (book_here self.old) (book_here self.new) }
+    {
         let level = sq.level - 1;
         if sq.is_empty() {
             return Some(Sq::empty(level));
@@ -167,6 +196,7 @@ impl Squares for At<'_> {
         ensures ok { OnOk result (AddsResult (book_here self.old) (book_here self.new) sq) }
         ensures err { OnErr result (KeepsResults (book_here self.old) (book_here self.new)) }
         ensures refusal { IfErr result (MayRefuse (book_here self.new)) }
+        ensures grows { GoesOn self.old self.new }
         ensures keeps { Keeps (book_here self.old) (book_here self.new) }
     {
         if !sq.is_empty() {

@@ -1,6 +1,6 @@
 //! The names of what threads may do with the shared words, for the contracts of `atomic_table`: the
 //! invariant of the words, the loads and compare-exchanges, and how views split and join.
-ghost use Rattle.node_table.specs.Rule.{Holds, opened, LoadsNode, PlacesNode, LoadsResult, PlacesResult, merged, spent};
+ghost use Rattle.node_table.specs.Rule.{IsSoundState, opened, LoadsNode, PlacesNode, LoadsResult, PlacesResult, merged, spent};
 
 use crate::still::Still;
 use crate::view::View;
@@ -10,7 +10,7 @@ use atomic_table::{Join, Play, Split, TableRule};
 pub struct TableInvariant;
 
 impl TableRule<(), View, Still> for TableInvariant {
-    ghost holds = { Holds };
+    ghost holds = { IsSoundState };
 
     ghost first = { opened };
 }

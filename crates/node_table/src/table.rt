@@ -28,6 +28,7 @@ pub struct NodeTable {
 impl NodeTable {
     ghost use Rattle.squares.specs.Book.{Keeps};
     ghost use Rattle.node_table.specs.Desks.{IsDeskOf, book_at, work_at, expansions_of};
+    ghost use Rattle.node_table.specs.DesksAtWork.{HasSeenAllOf, KnowsAllOf};
     ghost use Rattle.node_table.specs.Openings.{Opens, Closes, StartsFrom};
 
     /// The shape, the rule and the exponent of the table.
@@ -121,8 +122,9 @@ impl NodeTable {
     /// The desk, at work at its table.
     pub fn at(&self, desk: Desk) -> At<'_>
         requires { IsDeskOf self.now desk }
-        ensures { ⟦<At<'static> as Squares>⟧.book result
+        ensures book { ⟦<At<'static> as Squares>⟧.book result
             ≡ work_at (expansions_of desk) self.now desk }
+        ensures grows { KnowsAllOf desk result.desk }
     {
         let Desk { seat, expansions } = desk;
         At {
@@ -142,6 +144,7 @@ impl NodeTable {
         ensures tables { IsDeskOf self.now result.0 × IsDeskOf self.now result.1 }
         ensures books { (book_at self.now result.0 ≡ book_at self.now desk)
             × (book_at self.now result.1 ≡ book_at self.now desk) }
+        ensures grows { KnowsAllOf desk result.0 × KnowsAllOf desk result.1 }
         ensures expansions { (expansions_of result.0 ≡ expansions_of desk)
             × (expansions_of result.1 ≡ 0) }
     {
@@ -158,6 +161,7 @@ impl NodeTable {
         ensures table { IsDeskOf self.now result }
         ensures first { Keeps (book_at self.now first) (book_at self.now result) }
         ensures second { Keeps (book_at self.now second) (book_at self.now result) }
+        ensures grows { KnowsAllOf first result × HasSeenAllOf second result }
         ensures expansions { expansions_of result
             ≡ min u64.MAX (expansions_of first + expansions_of second) }
     {

@@ -2,8 +2,8 @@
 ghost use Rattle.std.specs.Prelude.{◌≡◌, ◌+◌, min};
 ghost use Rattle.squares.specs.Book.{Keeps};
 ghost use Rattle.node_table.specs.Desks.{IsDeskOf, book_at, expansions_of};
-ghost use Rattle.node_table.specs.DesksAtWork.{book_here};
-ghost use Rattle.node_table.specs.Teams.{AreAtOneTable};
+ghost use Rattle.node_table.specs.DesksAtWork.{GoesOn, HasSeenAllOf, KnowsAllOf, book_here};
+ghost use Rattle.node_table.specs.Teams.{AreAtOneTable, at_place_of};
 
 use crate::at::At;
 use crate::desk::Desk;
@@ -19,6 +19,7 @@ impl Desk {
         ensures expansions { expansions_of self.new ≡ expansions_of self.old }
         ensures other { IsDeskOf table.now result }
         ensures same_other { book_at table.now result ≡ book_at table.now self.old }
+        ensures grows { KnowsAllOf self.old self.new × KnowsAllOf self.old result }
         ensures none { expansions_of result ≡ 0 }
     {
         let seat = table.table.shared.split_seat::<SplitView>(&mut self.seat);
@@ -36,6 +37,7 @@ impl Desk {
         ensures table { IsDeskOf table.now self.new }
         ensures first { Keeps (book_at table.now self.old) (book_at table.now self.new) }
         ensures second { Keeps (book_at table.now other) (book_at table.now self.new) }
+        ensures grows { KnowsAllOf self.old self.new × HasSeenAllOf other self.new }
         ensures expansions { expansions_of self.new
             ≡ min u64.MAX (expansions_of self.old + expansions_of other) }
     {
@@ -55,6 +57,7 @@ impl<'t> At<'t> {
     pub fn split_off(&mut self) -> At<'t>
         ensures own { book_here self.new ≡ book_here self.old }
         ensures other { book_here result ≡ book_here self.old }
+        ensures grows { GoesOn self.old self.new × GoesOn self.old result }
     {
         At {
             table: self.table,
@@ -63,11 +66,14 @@ impl<'t> At<'t> {
         }
     }
 
-    /// This desk knows then what either knew: a square has one number then.
+    /// This desk knows then what either knew: a square has one number then. The number of expansions
+    /// with which it came stays its own.
     pub fn join(&mut self, other: At<'_>)
         requires { AreAtOneTable (book_here self.old) (book_here other) }
         ensures own { Keeps (book_here self.old) (book_here self.new) }
-        ensures other { Keeps (book_here other.entry) (book_here self.new) }
+        ensures other { Keeps (at_place_of (book_here self.old) (book_here other.entry))
+            (book_here self.new) }
+        ensures grows { GoesOn self.old self.new × HasSeenAllOf other.entry.desk self.new.desk }
     {
         let At {
             table: _,

@@ -1,6 +1,6 @@
 use Rattle.std.proofs.Common.{[]}
 use Rattle.table_core.proofs.Knowing.{grows_refl}
-use Rattle.node_table.specs.Books.{cells_in}
+use Rattle.node_table.specs.Books.{known_cells}
 use Rattle.node_table.specs.StillBooks.{known_in}
 use Rattle.node_table.proofs.Entries.{block_of}
 use Rattle.node_table.proofs.Everything.{all_coherent}
@@ -22,5 +22,5 @@ returns g c =
     let known = known_in s in
     let sq = c.args.sq in
     same_quarters c.square.ensures c.square-2.ensures c.square-3.ensures c.square-4.ensures
-    (quarters_shown [] s.key sq.level (cells_in known sq) c.requires.level c.requires.known.high ∣ all_coherent s.key s.words s.good ∣₁
+    (quarters_shown [] s.key sq.level (known_cells known sq) c.requires.level c.requires.known.high ∣ all_coherent s.key s.words s.good ∣₁
     c.read_pair-upper.ensures c.read_pair-nw.ensures c.read_pair-sw.ensures (grows_refl known) (grows_refl known) (block_of known sq c.requires.known.known))

@@ -2,7 +2,7 @@ use Rattle.std.proofs.Common.{◌-◌, refl}
 use Rattle.plane.specs.Square.{future}
 use Rattle.table_core.specs.Blocks.{square_rank}
 use Rattle.table_core.proofs.Knowing.{knows_same}
-use Rattle.node_table.specs.Books.{cells_in}
+use Rattle.node_table.specs.Books.{known_cells}
 use Rattle.node_table.proofs.Entries.{has_number}
 use Rattle.node_table.proofs.Desks.{known_block, square_slot}
 use Rattle.node_table.proofs.Telling.{may_tell, book_adds, told_some}
@@ -22,7 +22,7 @@ tell-requires-clause-lawful c =
     let sq = c.args.sq in
     let fut = c.args.future in
     may_tell at.table.now at.desk sq at.of_table c.requires.level (has_number c.is_empty.ensures c.if-not-is_empty.true) c.requires.known.known c.result_index-index.ensures.index fut
-    (knows_same known (square_rank (sq.level - 1)) fut.num.0 (cells_in known fut) (future key.rule key.exponent sq.level (cells_in known sq)) c.requires.future.cells
+    (knows_same known (square_rank (sq.level - 1)) fut.num.0 (known_cells known fut) (future key.rule key.exponent sq.level (known_cells known sq)) c.requires.future.cells
     (known_block known (sq.level - 1) fut c.requires.future.known.at_level c.requires.future.known.known))
 
 pub returns-then-not-is_empty-clause-ok : goal.returns-then-not-is_empty-clause-ok

@@ -92,3 +92,6 @@ returns-clause-refused c =
     let e = same_half _ _ both top (half_before new both (grows_refl (known_by new)) four.nw four.ne upper.left upper.right (half_kept c.half-2.ensures.desk (half_of refl upper))) in
     let f = same_half _ _ both bottom (half_before new both (grows_refl (known_by new)) four.sw four.se lower.left lower.right (half_of four.sw.at_level lower)) in
     c.whole.ensures.refused (subst (λ (n : ℕ × ℕ). HasNoRoom at.table.now new Pair (pair_of n.0 n.1)) (λ i. (e i, f i)) (room_stays both.grows room)))
+
+pub returns-clause-grows : goal.returns-clause-grows
+returns-clause-grows c = record { table = refl; grows = (learns_trans c.half.ensures.desk (learns_trans c.half-2.ensures.desk c.whole.ensures.desk)).grows }

@@ -1,7 +1,7 @@
 use Rattle.std.proofs.Common.{subst}
 use Rattle.table_core.specs.Blocks.{square_rank}
 use Rattle.table_core.specs.Knowledge.{KnowsBlock}
-use Rattle.node_table.specs.Books.{cells_in}
+use Rattle.node_table.specs.Books.{known_cells}
 use Rattle.node_table.proofs.Entries.{block_of, has_number}
 use Rattle.node_table.proofs.Desks.{coherent_at, in_table, leaf_slot, leaf_read}
 use Rattle.node_table.proofs.Searching.{meets_told}
@@ -11,14 +11,14 @@ use Rattle.node_table.proofs.at.AtSquares.read_bits.Goals as goal
 pub look-requires-clause-range : goal.look-requires-clause-range
 look-requires-clause-range c =
     let at = c.args.self.now in
-    in_table at.table.now at.desk (square_rank c.args.sq.level) c.args.sq.num.0 (cells_in at.desk.seat.me.0.known c.args.sq) at.of_table (has_number c.is_empty.ensures c.if-is_empty.false) (block_of at.desk.seat.me.0.known c.args.sq c.requires.known)
+    in_table at.table.now at.desk (square_rank c.args.sq.level) c.args.sq.num.0 (known_cells at.desk.seat.me.0.known c.args.sq) at.of_table (has_number c.is_empty.ensures c.if-is_empty.false) (block_of at.desk.seat.me.0.known c.args.sq c.requires.known)
 
 pub returns-clause-value : goal.returns-clause-value
 returns-clause-value c =
     let at = c.args.self.now in
     let known = at.desk.seat.me.0.known in
     let n = c.args.sq.num.0 in
-    let plane = cells_in known c.args.sq in
+    let plane = known_cells known c.args.sq in
     let knows = subst (λ level. KnowsBlock known (square_rank level) n plane) c.requires.at_level (block_of known c.args.sq c.requires.known) in
     let met = c.look.ensures.met in
     record {

@@ -1,4 +1,4 @@
-use Rattle.node_table.specs.Books.{cells_in}
+use Rattle.node_table.specs.Books.{known_cells}
 use Rattle.node_table.specs.Desks.{store_of}
 use Rattle.node_table.specs.Refusals.{known_by}
 use Rattle.table_core.proofs.Knowing.{grows_trans}
@@ -35,6 +35,6 @@ returns-clause-value c =
     let grows = c.read_pair-nw.ensures.grows in let more = c.read_pair-sw.ensures.grows in
     let block = block_of known sq c.requires.known.known in
     halves_read c.square.ensures c.square-2.ensures c.square-3.ensures c.square-4.ensures
-    (quarters_shown (store_of table) table.key sq.level (cells_in known sq) c.requires.level c.requires.known.high coherent whole top bottom grows more block)
-    (upper_shown (store_of table) table.key sq.level (cells_in known sq) c.requires.level c.requires.known.high coherent whole top bottom grows more block)
-    (lower_shown (store_of table) table.key sq.level (cells_in known sq) c.requires.level c.requires.known.high coherent whole top bottom grows more block)
+    (quarters_shown (store_of table) table.key sq.level (known_cells known sq) c.requires.level c.requires.known.high coherent whole top bottom grows more block)
+    (upper_shown (store_of table) table.key sq.level (known_cells known sq) c.requires.level c.requires.known.high coherent whole top bottom grows more block)
+    (lower_shown (store_of table) table.key sq.level (known_cells known sq) c.requires.level c.requires.known.high coherent whole top bottom grows more block)

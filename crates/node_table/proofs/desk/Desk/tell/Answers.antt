@@ -4,7 +4,7 @@ use Rattle.atomic_table.specs.Table.{Allows}
 use Rattle.table_core.specs.declared.machine.Event.TheVariants.{Tell}
 use Rattle.table_core.specs.Lawful.{IsLawful}
 use Rattle.table_core.specs.Layout.{second_part}
-use Rattle.node_table.specs.Rule.{Holds, Met, HasMet}
+use Rattle.node_table.specs.Rule.{IsSoundState, Met, HasMet}
 use Rattle.node_table.proofs.Steps.{meets_at, sound_after}
 use Rattle.node_table.proofs.desk.Desk.tell.Goals as goal
 
@@ -18,7 +18,7 @@ compare_exchange-requires c =
     let lawful = subst (λ (n : ℕ). IsLawful t.key desk.seat.me.0.known (Tell 0 c.args.index n)) (sym number) c.requires.lawful in (
       c.requires.table.same_table,
       c.requires.range,
-      subst (λ (w : ℕ). Allows (Holds {S = Unit {0}} t.table.shared.key) t.table.shared.table_id.slots desk.seat.id desk.seat.me c.args.index (λ n. either (eqb n 0) w n) (HasMet (Tell 0 c.args.index (second_part word)) desk.seat.me)) whole
+      subst (λ (w : ℕ). Allows (IsSoundState {S = Unit {0}} t.table.shared.key) t.table.shared.table_id.slots desk.seat.id desk.seat.me c.args.index (λ n. either (eqb n 0) w n) (HasMet (Tell 0 c.args.index (second_part word)) desk.seat.me)) whole
           (meets_at t desk (Tell 0 c.args.index (second_part word)) c.requires.table lawful),
     )
 
