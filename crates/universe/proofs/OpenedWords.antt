@@ -9,8 +9,7 @@ use Rattle.squares.specs.Book.{Book, IsKnown, Shows}
 use Rattle.squares.specs.Rounds.{IsRound}
 use Rattle.table_core.specs.declared.key.Key.{Key}
 use Rattle.table_core.specs.Layout.{IsSlot}
-use Rattle.table_core.specs.Blocks.{Words, cells_of, square_rank}
-use Rattle.table_core.specs.Blocks.{Shows as ShowsBlock}
+use Rattle.table_core.specs.Blocks.{Words, cells_of, square_rank, ShowsBlock}
 use Rattle.table_core.specs.Good.{KeepsSlots}
 use Rattle.table_core.specs.Opening.{Reopens}
 use Rattle.table_core.proofs.Blocks.{shows_stay}

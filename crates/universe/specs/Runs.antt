@@ -60,8 +60,8 @@ pub record IsFullFromAlone (still : Still) (root : Sq) (universe : Universe) : T
   pub size : pairs_in universe.here ≡ limit_of universe
   pub filled : HasFilledUp alone (rule_of universe) (exponent_of universe) universe.here
 
--- words know a square and show the cells by it; the table, which has the largest size and began with what this square needs
--- and nothing else, is full, or that size has no room for what the square needs
+-- no table helps any more. Words show the cells by a square. The table has the largest size, was opened with what this square
+-- reaches and nothing else, and is full; or the largest size has no room for what the square reaches
 pub record IsExhausted (universe : Universe) : Type 0 where
   pub still : Still
   pub root : Sq

@@ -22,7 +22,7 @@ pub(crate) enum Attempt {
 
 impl Universe {
     ghost use Rattle.universe.specs.Cells.{limit_of};
-    ghost use Rattle.table_growth.specs.Retries.{IsWithin};
+    ghost use Rattle.table_growth.specs.Retries.{IsWithinLimit};
     ghost use Rattle.universe.specs.Runs.{IsAttempt, IsFullAtLimit, IsFullInPlace, MayStep};
     ghost use Rattle.universe.specs.declared.rooted_still.Keep.TheVariants.{CellsAlone};
 
@@ -63,7 +63,7 @@ impl Universe {
         retry: Retry,
     ) -> Result<Attempt, AllocError>
         requires step { MayStep self }
-        requires within { IsWithin self.others.limit retry }
+        requires within { IsWithinLimit self.others.limit retry }
         ensures ok { IfOk result (IsAttempt self) }
         ensures full { retry ≡ Retry.CellsAlone → IfOk result IsFullAtLimit }
     {

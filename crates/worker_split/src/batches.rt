@@ -146,28 +146,39 @@ pub(crate) fn team_future<R: Threads + Wait + Sync, G: Gate>(
     future_of(at, sq, 0, tally)
 }
 
-/// The future of a square, by a team, and the desk that comes back with all that the team found out.
+/// The future of a square, by so many workers, 1 to 64, and the desk that comes back with all that
+/// they found out. The gate is called before and after each job.
 ///
 /// The top level of a square of level 8 or more is expanded, and rounds take the squares of the level
 /// below whose results the desk doesn't find; of a lower square they take the square itself.
 pub fn batch_future<R: Threads + Wait + Sync, G: Gate>(
-    team: &Team<'_, R, G>,
+    rt: &R,
+    alloc: Global,
     table: &NodeTable,
     desk: Desk,
     sq: Sq,
+    workers: usize,
+    gate: &G,
 ) -> (Desk, Result<Sq, Refusal>)
     requires desk { IsDeskOf table.now desk }
     requires sq { IsJob (book_at table.now desk) sq }
+    requires workers { (1 ≤ workers) × (workers ≤ 64) }
     // The square is the future, and the desk that comes back knows it as the result.
     ensures ok { IfOk result.1 (HasFuture (book_at table.now result.0) sq) }
     // Memory ran out, or the desk that comes back knows a full shard.
     ensures refusal { IfErr result.1 (Refuses (book_at table.now result.0)) }
     // The desk that comes back knows all that it knew. Its number of expansions only rises, by at most the number of
     // new results times that of workers.
-    ensures desk { ComesBack table.now team.now.workers desk result.0 }
+    ensures desk { ComesBack table.now workers desk result.0 }
 {
+    let team = Team {
+        runtime: rt,
+        alloc,
+        workers,
+        gate,
+    };
     let mut at = table.at(desk);
     let mut tally = Tally { expansions: 0 };
-    let made = team_future(team, &mut at, sq, &mut tally);
+    let made = team_future(&team, &mut at, sq, &mut tally);
     (leave(at, &tally), made)
 }

@@ -1,5 +1,5 @@
 //! A round: all jobs, by a team.
-ghost use Rattle.std.specs.Prelude.{◌≡◌, ◌<◌, ◌⊎◌, All, IfOk, IfErr, IsTrue, length};
+ghost use Rattle.std.specs.Prelude.{◌≡◌, ◌<◌, ◌≤◌, ◌⊎◌, All, IfOk, IfErr, IsTrue, length};
 ghost use Rattle.plane.specs.declared.refusal.Refusal.TheVariants.{NoMemory, NodesFull};
 ghost use Rattle.squares.specs.Book.{Book};
 ghost use Rattle.node_table.specs.Desks.{IsDeskOf, book_at};
@@ -22,6 +22,7 @@ use hashlife_step::Tally;
 use node_table::{At, Desk, NodeTable};
 use plane::Refusal;
 use squares::Sq;
+use std::alloc::Global;
 use std::sync::Wait;
 use std::thread;
 use std::thread::Threads;
@@ -90,18 +91,23 @@ pub(crate) fn carry_out<'t, R: Threads + Wait + Sync, G: Gate>(
     fill(&shared, at, places, room.futures, tally)
 }
 
-/// The futures of all jobs, by a team, and the desk that comes back with all that the team found out.
-/// Each job is between its calls of the gate, and a refused job doesn't stop the others.
+/// The futures of all jobs, by so many workers, 1 to 64, and the desk that comes back with all that
+/// they found out. The gate is called before and after each job, with the job's place in the list. A
+/// refused job doesn't stop the others.
 ///
 /// `NoMemory` comes before the first job. `NodesFull` comes where a job was refused.
 pub fn round<R: Threads + Wait + Sync, G: Gate>(
-    team: &Team<'_, R, G>,
+    rt: &R,
+    alloc: Global,
     table: &NodeTable,
     desk: Desk,
     jobs: &[Sq],
+    workers: usize,
+    gate: &G,
 ) -> (Desk, Result<Vec<Sq>, Refusal>)
     requires desk { IsDeskOf table.now desk }
     requires jobs { All (IsJob (book_at table.now desk)) jobs.now }
+    requires workers { (1 ≤ workers) × (workers ≤ 64) }
     // At each job's place stands its future, and the desk that comes back knows it as the job's result.
     ensures ok { IfOk result.1 (HaveFutures (book_at table.now result.0) jobs.now) }
     // Memory ran out, and the desk comes back as it was; or the desk that comes back knows a full shard.
@@ -109,13 +115,19 @@ pub fn round<R: Threads + Wait + Sync, G: Gate>(
         ⊎ ((refusal ≡ NodesFull) × IsTrue (book_at table.now result.0).is_full)) }
     // The desk that comes back knows all that it knew. Its number of expansions only rises, by at most the number of
     // new results times that of workers.
-    ensures desk { ComesBack table.now team.now.workers desk result.0 }
+    ensures desk { ComesBack table.now workers desk result.0 }
 {
-    let Ok(room) = room_for(team.alloc, jobs.len(), team.workers) else {
+    let team = Team {
+        runtime: rt,
+        alloc,
+        workers,
+        gate,
+    };
+    let Ok(room) = room_for(alloc, jobs.len(), workers) else {
         return (desk, Err(Refusal::NoMemory));
     };
     let mut at = table.at(desk);
     let mut tally = Tally { expansions: 0 };
-    let futures = carry_out(team, &mut at, jobs, room, &mut tally);
+    let futures = carry_out(&team, &mut at, jobs, room, &mut tally);
     (leave(at, &tally), futures)
 }

@@ -10,7 +10,7 @@ use Rattle.universe.proofs.tables.OpenTable.of_source.Goals as goal
 pub returns-clause-ok : goal.returns-clause-ok
 returns-clause-ok g c =
     let fresh = c.in_ok-opened.opened in
-    let back = is_back fresh.table fresh.desk c.leave.result _ _ c.at-at.ensures c.build-made.ensures.keeps c.leave.ensures in
+    let back = is_back fresh.table fresh.desk c.leave.result _ _ c.at-at.ensures.book c.build-made.ensures.keeps c.leave.ensures.desk in
     record {
       under = c.in_ok-opened.ensures.under;
       size = c.in_ok-opened.ensures.size;
@@ -23,7 +23,7 @@ returns-in_err-root-clause-full g c =
     let is : c.from_residual-in_err-root.result ≡ Err c.in_err-root.field-0.0 = search rules in
     let ended = c.build-made.new.book in
     let fresh = c.in_ok-opened.opened in
-    let back = is_back fresh.table fresh.desk c.leave.result _ _ c.at-at.ensures c.build-made.ensures.keeps c.leave.ensures in
+    let back = is_back fresh.table fresh.desk c.leave.result _ _ c.at-at.ensures.book c.build-made.ensures.keeps c.leave.ensures.desk in
     rw is (λ refusal. record {
       still = c.in_ok-opened.ensures.still;
       vacant = c.in_ok-opened.ensures.vacant;

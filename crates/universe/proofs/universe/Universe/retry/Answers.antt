@@ -1,6 +1,6 @@
 use Rattle.std.proofs.Common.{◌^◌, ap, subst, arith, pow_mono}
 use Rattle.table_core.specs.declared.key.Key.{Key}
-use Rattle.table_growth.specs.Retries.{IsWithin}
+use Rattle.table_growth.specs.Retries.{IsWithinLimit}
 use Rattle.universe.proofs.universe.Universe.retry.Goals as goal
 
 pub step_in-requires-clause-shape : goal.step_in-requires-clause-shape
@@ -11,5 +11,5 @@ step_in-requires-clause-shape g c κs within =
 
 pub step_in-requires-in-Enlarged-clause-shape : goal.step_in-requires-in-Enlarged-clause-shape
 step_in-requires-in-Enlarged-clause-shape g c κs within =
-    let below = subst (IsWithin c.args.self.others.limit) c.in-Enlarged.is c.requires.within in
+    let below = subst (IsWithinLimit c.args.self.others.limit) c.in-Enlarged.is c.requires.within in
     pow_mono {i = c.in-Enlarged.shape.bits} {j = c.args.self.others.limit.bits} below

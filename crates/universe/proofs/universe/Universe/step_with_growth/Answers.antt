@@ -1,6 +1,6 @@
 use Rattle.std.proofs.Common.{subst, sym}
 use Rattle.table_core.specs.declared.shape.Shape.{Shape}
-use Rattle.table_growth.specs.Retries.{IsWithin}
+use Rattle.table_growth.specs.Retries.{IsWithinLimit}
 use Rattle.universe.specs.Runs.{IsAttempt}
 use Rattle.universe.specs.declared.attempts.Attempt.{Attempt}
 use Rattle.universe.proofs.Onward.{attempt_again, step_again}
@@ -14,7 +14,7 @@ retry-requires-clause-step g c κs within =
 pub retry-requires-clause-within : goal.retry-requires-clause-within
 retry-requires-clause-within g c κs within =
     let at_exponent = subst (λ (a : Attempt). IsAttempt c.args.self a) c.in-Full.is c.retries.invariant.attempt in
-    subst (λ (limit : Shape). IsWithin limit c.in-Some.retry) (sym at_exponent.same.limit) c.in-Some.ensures.within
+    subst (λ (limit : Shape). IsWithinLimit limit c.in-Some.retry) (sym at_exponent.same.limit) c.in-Some.ensures.within
 
 pub retries-preserved : goal.retries-preserved
 retries-preserved g c =
