@@ -1,6 +1,6 @@
 //! The picture of a rectangle of cells.
 
-ghost use Rattle.std.specs.Prelude.{◌≤◌, ◌<◌, IfOk, IsOkUnless};
+ghost use Rattle.std.specs.Prelude.{◌≤◌, IfOk, IsOkUnless};
 ghost use Rattle.plane.specs.Centred.{centred};
 ghost use Rattle.squares.specs.Book.{IsKnown};
 ghost use Rattle.pattern_picture.specs.Drawn.{IsPictureOf};
@@ -14,7 +14,7 @@ use squares::{Look, Sq};
 use std::alloc::Global;
 use viewport::block_shades;
 
-/// Draws a rectangle of the cells of a square of a level from 4 to 63, as large as can be with at most `size` pixels
+/// Draws a rectangle of the cells of a square of a level from 3 to 63, as large as can be with at most `size` pixels
 /// on each side, 16 to 4096. The rectangle's sides lie from -2^62 to 2^62.
 ///
 /// Where there is a pixel for each cell, a cell is a square of up to 16 by 16 pixels, black for a live one. Else a pixel
@@ -29,7 +29,6 @@ pub fn picture<L: Look>(
     size: u32,
 ) -> Result<Image, Refusal>
     requires known { IsKnown (L.book look.now) sq.level sq }
-    requires low { 3 < sq.level }
     requires level { sq.level ≤ 63 }
     requires shown { IsShown shown }
     requires size { IsSize size }

@@ -46,15 +46,15 @@ or_and : (a b c : Bool) → ((a && b) || (a && c)) ≡ (a && (b || c))
 or_and true b c = refl
 or_and false b c = refl
 
-one_run : (run : ℤ × ℕ) (x : ℤ) → (int_le run.0 x && int_lt x (row.end_of run)) ≡ row.is_in_run x run
+one_run : (run : ℤ × ℕ) (x : ℤ) → (int_le run.0 x && int_lt x (row.end_of run)) ≡ row.is_in_row_run x run
 one_run run x = grind (arith, ints)
 
-any_map : (y : ℤ) (runs : List (ℤ × ℕ)) (x v : ℤ) → list_any (is_in_run x v) (map (run_in y) runs) ≡ (int_eq v y && list_any (row.is_in_run x) runs)
+any_map : (y : ℤ) (runs : List (ℤ × ℕ)) (x v : ℤ) → list_any (is_in_run x v) (map (run_in y) runs) ≡ (int_eq v y && list_any (row.is_in_row_run x) runs)
 any_map y [] x v = sym (and_nothing (int_eq v y))
 any_map y (run ∷ runs) x v =
     ap (λ b. (int_eq v y && (int_le run.0 x && int_lt x (row.end_of run))) || b) (any_map y runs x v)
-    ∙ ap (λ b. (int_eq v y && b) || (int_eq v y && list_any (row.is_in_run x) runs)) (one_run run x)
-    ∙ or_and (int_eq v y) (row.is_in_run x run) (list_any (row.is_in_run x) runs)
+    ∙ ap (λ b. (int_eq v y && b) || (int_eq v y && list_any (row.is_in_row_run x) runs)) (one_run run x)
+    ∙ or_and (int_eq v y) (row.is_in_row_run x run) (list_any (row.is_in_row_run x) runs)
 
 in_row : (plane : Plane) (y : ℤ) (runs : List (ℤ × ℕ)) (x v : ℤ) → row.AreRowRuns plane y runs → list_any (is_in_run x v) (map (run_in y) runs) ≡ (int_eq v y && plane x y)
 unfolding row.is_in_some
@@ -212,22 +212,22 @@ square_in_range book sq is known low =
 
 -- ---- the runs of a row lie in the range
 
-some_of : (x : ℤ) (run : ℤ × ℕ) (runs : List (ℤ × ℕ)) → row.is_in_run x run ≡ true → row.is_in_some (run ∷ runs) x ≡ true
+some_of : (x : ℤ) (run : ℤ × ℕ) (runs : List (ℤ × ℕ)) → row.is_in_row_run x run ≡ true → row.is_in_some (run ∷ runs) x ≡ true
 unfolding row.is_in_some
-some_of x run runs here = ap (λ b. b || list_any (row.is_in_run x) runs) here
+some_of x run runs here = ap (λ b. b || list_any (row.is_in_row_run x) runs) here
 
 others_of : (x : ℤ) (run : ℤ × ℕ) (runs : List (ℤ × ℕ)) → row.is_in_some runs x ≡ true → row.is_in_some (run ∷ runs) x ≡ true
 unfolding row.is_in_some
-others_of x run runs there = ap (λ b. row.is_in_run x run || b) there ∙ or_true (row.is_in_run x run)
+others_of x run runs there = ap (λ b. row.is_in_row_run x run || b) there ∙ or_true (row.is_in_row_run x run)
   where
     or_true : (b : Bool) → (b || true) ≡ true
     or_true true = refl
     or_true false = refl
 
-first_in : (run : ℤ × ℕ) → 0 < run.1 → row.is_in_run run.0 run ≡ true
+first_in : (run : ℤ × ℕ) → 0 < run.1 → row.is_in_row_run run.0 run ≡ true
 first_in run some = grind (arith, ints)
 
-last_in : (run : ℤ × ℕ) → 0 < run.1 → row.is_in_run (row.end_of run -ℤ pos 1) run ≡ true
+last_in : (run : ℤ × ℕ) → 0 < run.1 → row.is_in_row_run (row.end_of run -ℤ pos 1) run ≡ true
 last_in run some = grind (arith, ints)
 
 end_fits : (first : ℤ) (count : ℕ) → IsCoordinate ((first +ℤ pos count) -ℤ pos 1) → SFits w64 (first +ℤ pos count)

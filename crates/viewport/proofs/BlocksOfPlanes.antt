@@ -8,7 +8,7 @@ use Rattle.plane.specs.Square.{IsSquare, empty, spans}
 use Rattle.plane.specs.Window.{cells_in}
 use Rattle.plane.proofs.Populations.{empty_cells, same_length}
 use Rattle.viewport.specs.Blocks.{block_count}
-use Rattle.viewport.specs.Halves.{AreRowsFrom, beside}
+use Rattle.viewport.specs.Halves.{AreRowsFrom, side_by_side}
 use Rattle.viewport.proofs.BoxesRound.{or_false}
 use Rattle.viewport.proofs.Quarters.{dead_column, from_nothing}
 
@@ -53,10 +53,10 @@ right_of : (h : ℕ) (x : ℤ) → pos h ≤ℤ x → spans h x ≡ false
 right_of h x high = grind (arith, ints)
 
 module _ (h : ℕ) (first second : Plane) (in_first : IsSquare h first) (in_second : IsSquare h second) where
-  left_cells : (x y : ℤ) → x <ℤ pos h → beside h first second x y ≡ first x y
+  left_cells : (x y : ℤ) → x <ℤ pos h → side_by_side h first second x y ≡ first x y
   left_cells x y low = or_false _ _ (dead_column h second in_second _ _ (left_of h x low))
 
-  right_cells : (x y : ℤ) → pos h ≤ℤ x → beside h first second x y ≡ second (x -ℤ pos h) y
+  right_cells : (x y : ℤ) → pos h ≤ℤ x → side_by_side h first second x y ≡ second (x -ℤ pos h) y
   right_cells x y high =
       ap (λ t. t || second (x -ℤ pos h) (y -ℤ pos 0)) (dead_column h first in_first _ _ (right_of h x high)) ∙ ap (second (x -ℤ pos h)) (from_nothing y)
 
@@ -72,7 +72,7 @@ row_back y top k e = omega (arith, ints)
 -- blocks of the upper or the lower half of a plane, which its two squares show
 module _ (n e : ℕ) (plane first second : Plane) (top row there : ℕ) (in_first : IsSquare (n * 2 ^ e) first) (in_second : IsSquare (n * 2 ^ e) second)
     (rows : AreRowsFrom top (n * 2 ^ e) plane first second) (inside : there < n) (place : row * 2 ^ e ≡ top + there * 2 ^ e) where
-  row_shown : (x y : ℤ) → (pos row *ℤ pos (2 ^ e)) ≤ℤ y → y <ℤ ((pos row *ℤ pos (2 ^ e)) +ℤ pos (2 ^ e)) → plane x y ≡ beside (n * 2 ^ e) first second x (y -ℤ pos top)
+  row_shown : (x y : ℤ) → (pos row *ℤ pos (2 ^ e)) ≤ℤ y → y <ℤ ((pos row *ℤ pos (2 ^ e)) +ℤ pos (2 ^ e)) → plane x y ≡ side_by_side (n * 2 ^ e) first second x (y -ℤ pos top)
   row_shown x y above below =
       let k = nat_abs (y -ℤ pos top) in
       let product = pos-*ℤ-pos row (2 ^ e) in
@@ -80,7 +80,7 @@ module _ (n e : ℕ) (plane first second : Plane) (top row there : ℕ) (in_firs
       let high : pos top ≤ℤ y = omega (arith, ints, product) in
       let low : y <ℤ pos (top + n * 2 ^ e) = omega (arith, ints, product, fits) in
       let at = row_at y top k high (λ i. k) in
-      ap (plane x) at ∙ rows.cells x k (row_in y top (n * 2 ^ e) k high low (λ i. k)) ∙ ap (beside (n * 2 ^ e) first second x) (row_back y top k at)
+      ap (plane x) at ∙ rows.cells x k (row_in y top (n * 2 ^ e) k high low (λ i. k)) ∙ ap (side_by_side (n * 2 ^ e) first second x) (row_back y top k at)
 
   row_place : pos row *ℤ pos (2 ^ e) ≡ (pos there *ℤ pos (2 ^ e)) +ℤ pos top
   row_place = let one = pos-*ℤ-pos row (2 ^ e) in let two = pos-*ℤ-pos there (2 ^ e) in omega (arith, ints, one, two)

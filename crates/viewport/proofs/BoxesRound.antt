@@ -19,10 +19,10 @@ use Rattle.plane.proofs.Boxes.{smallest_box_lem, some_box, box_at}
 use Rattle.plane.proofs.Listings.{is_at-own}
 use Rattle.plane.proofs.Paddings.{centred_moved}
 use Rattle.plane.proofs.Same.{plane_equal, same_sym}
-use Rattle.viewport.specs.BoundingBox.{HasBounds, IsBoxOf, IsInside, IsLocalBox, FitsMoved, box_round, joined_boxes, moved_box}
+use Rattle.viewport.specs.BoundingBox.{HasBounds, IsBoxOf, IsInSquare, IsLocalBox, FitsMoved, box_round, joined_boxes, moved_box}
 use Rattle.viewport.proofs.Counts.{centred_listing}
 use Rattle.squares.proofs.NumberMaps.{by_cases}
-use Rattle.viewport.specs.Halves.{either, beside}
+use Rattle.viewport.specs.Halves.{either, side_by_side}
 use Rattle.viewport.proofs.Quarters.{dead_column, dead_row, from_nothing, IsQuartered, over}
 
 -- the box of a plane, if it has any live cell
@@ -125,7 +125,7 @@ matches_from s p None h = h
 matches_from s p (Some box) h = h.0
 
 -- the lower quarters, each moved by itself
-apart : (h : ℕ) (sw se : Plane) → IsSame (moved (pos 0) (pos h) (beside h sw se)) (either (moved (pos 0) (pos h) sw) (moved (pos h) (pos h) se))
+apart : (h : ℕ) (sw se : Plane) → IsSame (moved (pos 0) (pos h) (side_by_side h sw se)) (either (moved (pos 0) (pos h) sw) (moved (pos h) (pos h) se))
 apart h sw se = record {
   same = λ x y. ap (λ u. sw (x -ℤ pos 0) (y -ℤ pos h) || se (u -ℤ pos h) ((y -ℤ pos h) -ℤ pos 0)) (from_nothing x)
       ∙ ap (λ v. sw (x -ℤ pos 0) (y -ℤ pos h) || se (x -ℤ pos h) v) (from_nothing (y -ℤ pos h));
@@ -136,9 +136,9 @@ pub four_boxes : (h : ℕ) (p nw ne sw se : Plane) (a b c d : Option Bounds) →
     IsLocalBox h nw a → IsLocalBox h ne b → IsLocalBox h sw c → IsLocalBox h se d → IsLocalBox (h + h) p (joined_boxes h a b c d)
 four_boxes h p nw ne sw se a b c d is quarters is_a is_b is_c is_d =
     let lower : Plane = either (moved (pos 0) (pos h) sw) (moved (pos h) (pos h) se) in
-    let all : p ≡ either (beside h nw ne) lower = over h p nw ne sw se quarters ∙ ap (either (beside h nw ne)) (plane_equal _ _ (apart h sw se)) in
+    let all : p ≡ either (side_by_side h nw ne) lower = over h p nw ne sw se quarters ∙ ap (either (side_by_side h nw ne)) (plane_equal _ _ (apart h sw se)) in
     local_from (h + h) p (joined_boxes h a b c d) is (subst (λ q. BoxMatches q (joined_boxes h a b c d)) (sym all)
-    (either_box (beside h nw ne) lower (box_round a (moved_box (pos h) (pos 0) b)) (box_round (moved_box (pos 0) (pos h) c) (moved_box (pos h) (pos h) d))
+    (either_box (side_by_side h nw ne) lower (box_round a (moved_box (pos h) (pos 0) b)) (box_round (moved_box (pos 0) (pos h) c) (moved_box (pos h) (pos h) d))
     (either_box nw (moved (pos h) (pos 0) ne) a (moved_box (pos h) (pos 0) b) (matches_from h nw a is_a) (moved_matches (pos h) (pos 0) ne b (matches_from h ne b is_b)))
     (either_box (moved (pos 0) (pos h) sw) (moved (pos h) (pos h) se) (moved_box (pos 0) (pos h) c) (moved_box (pos h) (pos h) d)
     (moved_matches (pos 0) (pos h) sw c (matches_from h sw c is_c)) (moved_matches (pos h) (pos h) se d (matches_from h se d is_d)))))
@@ -151,11 +151,11 @@ leaf_as level p q o e same is =
 pub box_level : (level other : ℕ) (p : Plane) (o : Option Bounds) → level ≡ other → IsLocalBox (2 ^ level) p o → IsLocalBox (2 ^ other) p o
 box_level level other p o e is = subst (λ n. IsLocalBox (2 ^ n) p o) e is
 
-pub inside_of : (side : ℕ) (p : Plane) (o : Option Bounds) (box : Bounds) → o ≡ Some box → IsLocalBox side p o → IsInside side box
+pub inside_of : (side : ℕ) (p : Plane) (o : Option Bounds) (box : Bounds) → o ≡ Some box → IsLocalBox side p o → IsInSquare side box
 inside_of side p o box e is = let some : IsLocalBox side p (Some box) = subst (λ (r : Option Bounds). IsLocalBox side p r) e is in some.1
 
 -- a box in a quarter of the largest square can be moved by its side
-pub room : (right down side : ℕ) (box : Bounds) → right ≤ 2 ^ 62 → down ≤ 2 ^ 62 → side ≤ 2 ^ 62 → IsInside side box → FitsMoved (pos right) (pos down) box
+pub room : (right down side : ℕ) (box : Bounds) → right ≤ 2 ^ 62 → down ≤ 2 ^ 62 → side ≤ 2 ^ 62 → IsInSquare side box → FitsMoved (pos right) (pos down) box
 room right down side box r d s is = record {
   at_left = omega (arith, ints, is.left, is.right, is.wide);
   at_top = omega (arith, ints, is.top, is.bottom, is.tall);
@@ -164,7 +164,7 @@ room right down side box r d s is = record {
 }
 
 -- a box in the largest square can be moved back by half its side
-pub room_back : (half side : ℕ) (box : Bounds) → half ≤ 2 ^ 62 → side ≤ 2 ^ 63 → IsInside side box → FitsMoved (pos 0 -ℤ pos half) (pos 0 -ℤ pos half) box
+pub room_back : (half side : ℕ) (box : Bounds) → half ≤ 2 ^ 62 → side ≤ 2 ^ 63 → IsInSquare side box → FitsMoved (pos 0 -ℤ pos half) (pos 0 -ℤ pos half) box
 room_back half side box h s is = record {
   at_left = omega (arith, ints, is.left, is.right, is.wide);
   at_top = omega (arith, ints, is.top, is.bottom, is.tall);

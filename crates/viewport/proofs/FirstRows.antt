@@ -1,4 +1,4 @@
--- First rows with live cells: of planes beside and below one another, and round (0,0).
+-- First rows with live cells: of planes side_by_side and below one another, and round (0,0).
 use Rattle.std.proofs.Common.{◌≡◌, ℕ, ◌+◌, ◌-◌, ◌^◌, ◌<◌, ◌≤◌, min, ℤ, pos, ◌+ℤ◌, ◌-ℤ◌, ◌≤ℤ◌, ◌<ℤ◌, true, false, ◌⊎◌, inl, inr, sym, ◌∙◌, ap, subst, arith}
 use Rattle.std.specs.Prelude.{Option, Some, None, unwrap_or, is_some, int_lt}
 use Rattle.std.specs.Int.{int_max}
@@ -14,7 +14,7 @@ use Rattle.plane.proofs.Same.{plane_equal, same_sym}
 use Rattle.viewport.specs.Rows.{AreDeadRows, IsDeadFrom, IsFirstRow, IsFirstRowBelow, IsLiveRow}
 use Rattle.viewport.proofs.BoxesRound.{or_left, or_right, both_dead, there_and_back}
 use Rattle.squares.proofs.NumberMaps.{by_cases}
-use Rattle.viewport.specs.Halves.{either, beside}
+use Rattle.viewport.specs.Halves.{either, side_by_side}
 use Rattle.viewport.proofs.Quarters.{dead_row, from_nothing, IsQuartered, over}
 
 -- two planes with no live cell in these rows
@@ -56,8 +56,8 @@ pub moved_rows : (p : Plane) (h from end : ℕ) (o : Option ℕ) → IsFirstRowB
 moved_rows p h from end None is = rows_aside p h _ _ is
 moved_rows p h from end (Some r) is = (is.0, is.1, live_aside p h _ is.2, rows_aside p h _ _ is.3)
 
--- the first row of two squares beside one another
-pub beside_rows : (p q : Plane) (h from end : ℕ) (a b : Option ℕ) → IsFirstRowBelow p from end a → IsFirstRowBelow q from (unwrap_or a end) b → IsFirstRowBelow (beside h p q) from end (option_or b a)
+-- the first row of two squares side_by_side one another
+pub beside_rows : (p q : Plane) (h from end : ℕ) (a b : Option ℕ) → IsFirstRowBelow p from end a → IsFirstRowBelow q from (unwrap_or a end) b → IsFirstRowBelow (side_by_side h p q) from end (option_or b a)
 beside_rows p q h from end a b is are = either_rows p (moved (pos h) (pos 0) q) from end a b is (moved_rows q h from _ b are)
 
 under : (p : Plane) (h : ℕ) (x y : ℤ) → moved (pos 0) (pos h) p x y ≡ p x (y -ℤ pos h)
@@ -74,7 +74,7 @@ outside_low h z e = grind (arith, ints)
 pub outside_high : (h : ℕ) (z : ℤ) → pos h ≤ℤ z → spans h z ≡ false
 outside_high h z e = grind (arith, ints)
 
-pub rows_beside : (h : ℕ) (p q : Plane) → IsSquare h p → IsSquare h q → IsInRows h (beside h p q)
+pub rows_beside : (h : ℕ) (p q : Plane) → IsSquare h p → IsSquare h q → IsInRows h (side_by_side h p q)
 rows_beside h p q is_p is_q = record {
   above = λ x y e. both_dead (p x y) _ (dead_row h p is_p x y (outside_low h y e)) (aside q h x y ∙ dead_row h q is_q _ y (outside_low h y e));
   below = λ x y e. both_dead (p x y) _ (dead_row h p is_p x y (outside_high h y e)) (aside q h x y ∙ dead_row h q is_q _ y (outside_high h y e));
@@ -141,9 +141,9 @@ lower_rows u w h from end (Some s) in_u in_w none is =
 
 -- the first row of the half that two squares make
 pub half_rows : (h : ℕ) (p q : Plane) (from end bound : ℕ) (left right half : Option ℕ) → IsFirstRowBelow p from end left → bound ≡ unwrap_or left end → IsFirstRowBelow q from bound right → half ≡ option_or right left →
-    IsFirstRowBelow (beside h p q) from end half
+    IsFirstRowBelow (side_by_side h p q) from end half
 half_rows h p q from end bound left right half is e are f =
-    subst (λ (o : Option ℕ). IsFirstRowBelow (beside h p q) from end o) (sym f)
+    subst (λ (o : Option ℕ). IsFirstRowBelow (side_by_side h p q) from end o) (sym f)
     (beside_rows p q h from end left right is (subst (λ n. IsFirstRowBelow q from n right) e are))
 
 some_upper : (u w : Plane) (h from end : ℕ) (o : Option ℕ) → IsInRows h w → is_some o ≡ true → IsFirstRowBelow u from (min end h) o → IsFirstRowBelow (either u (moved (pos 0) (pos h) w)) from end o
@@ -155,22 +155,22 @@ none_of u from end None e is = is
 none_of u from end (Some r) e is = absurd (false≢true (sym e))
 
 -- a square whose upper half has a live cell below the row, and one whose upper half has none
-module _ (h : ℕ) (p nw ne sw se : Plane) (quarters : IsQuartered h p nw ne sw se) (from end top : ℕ) (upper : Option ℕ) (least : top ≡ min end h) (at_upper : IsFirstRowBelow (beside h nw ne) from top upper) where
-  in_upper : IsFirstRowBelow (beside h nw ne) from (min end h) upper
-  in_upper = subst (λ n. IsFirstRowBelow (beside h nw ne) from n upper) least at_upper
+module _ (h : ℕ) (p nw ne sw se : Plane) (quarters : IsQuartered h p nw ne sw se) (from end top : ℕ) (upper : Option ℕ) (least : top ≡ min end h) (at_upper : IsFirstRowBelow (side_by_side h nw ne) from top upper) where
+  in_upper : IsFirstRowBelow (side_by_side h nw ne) from (min end h) upper
+  in_upper = subst (λ n. IsFirstRowBelow (side_by_side h nw ne) from n upper) least at_upper
 
   pub upper_part : is_some upper ≡ true → IsFirstRowBelow p from end upper
   upper_part e =
       subst (λ q. IsFirstRowBelow q from end upper) (sym (over h p nw ne sw se quarters))
-      (some_upper (beside h nw ne) (beside h sw se) h from end upper (rows_beside h sw se quarters.in_sw quarters.in_se) e in_upper)
+      (some_upper (side_by_side h nw ne) (side_by_side h sw se) h from end upper (rows_beside h sw se quarters.in_sw quarters.in_se) e in_upper)
 
-  pub lower_part : is_some upper ≡ false → (from' end' : ℕ) (lower : Option ℕ) → from' ≡ from - h → end' ≡ end - h → IsFirstRowBelow (beside h sw se) from' end' lower →
+  pub lower_part : is_some upper ≡ false → (from' end' : ℕ) (lower : Option ℕ) → from' ≡ from - h → end' ≡ end - h → IsFirstRowBelow (side_by_side h sw se) from' end' lower →
       IsFirstRowBelow p from end (option_map (λ s. s + h) lower)
   lower_part e from' end' lower from_is end_is at_lower =
       subst (λ q. IsFirstRowBelow q from end (option_map (λ s. s + h) lower)) (sym (over h p nw ne sw se quarters))
-      (lower_rows (beside h nw ne) (beside h sw se) h from end lower (rows_beside h nw ne quarters.in_nw quarters.in_ne) (rows_beside h sw se quarters.in_sw quarters.in_se)
-      (none_of (beside h nw ne) from (min end h) upper e in_upper)
-      (subst (λ n. IsFirstRowBelow (beside h sw se) n (end - h) lower) from_is (subst (λ n. IsFirstRowBelow (beside h sw se) from' n lower) end_is at_lower)))
+      (lower_rows (side_by_side h nw ne) (side_by_side h sw se) h from end lower (rows_beside h nw ne quarters.in_nw quarters.in_ne) (rows_beside h sw se quarters.in_sw quarters.in_se)
+      (none_of (side_by_side h nw ne) from (min end h) upper e in_upper)
+      (subst (λ n. IsFirstRowBelow (side_by_side h sw se) n (end - h) lower) from_is (subst (λ n. IsFirstRowBelow (side_by_side h sw se) from' n lower) end_is at_lower)))
 
 -- the rows of a leaf, of the cells that it shows
 pub rows_as : (p q : Plane) (from end : ℕ) (o : Option ℕ) → IsSame p q → IsFirstRowBelow q from end o → IsFirstRowBelow p from end o

@@ -6,7 +6,7 @@ use Rattle.plane.proofs.Same.{plane_equal}
 use Rattle.squares.specs.Book.{AreQuarters, Book, IsBook, IsKnown, Keeps, nth}
 use Rattle.squares.specs.declared.sq.Sq.{Sq}
 use Rattle.squares.proofs.Kept.{known_kept}
-use Rattle.viewport.specs.Halves.{AreRowsFrom, IsHalfOfBlocks, IsHalfRow, beside}
+use Rattle.viewport.specs.Halves.{AreRowsFrom, IsHalfOfBlocks, IsHalfRow, side_by_side}
 use Rattle.viewport.proofs.Quarters.{IsQuartered, quartered}
 use Rattle.viewport.proofs.RowsOfSquares.{under_row, upper_row}
 
@@ -22,7 +22,7 @@ module _ (h : ℕ) (p nw ne sw se : Plane) (quarters : IsQuartered h p nw ne sw 
 
   lower_rows : AreRowsFrom h h p sw se
   lower_rows = record {
-    cells = λ x y low. (under_row h p nw ne sw se quarters (h + y) (omega arith) (omega arith)).cells x ∙ ap (λ v. beside h sw se x (pos v)) (from_middle h y);
+    cells = λ x y low. (under_row h p nw ne sw se quarters (h + y) (omega arith) (omega arith)).cells x ∙ ap (λ v. side_by_side h sw se x (pos v)) (from_middle h y);
   }
 
   -- a row of blocks in the upper half, and one in the lower half

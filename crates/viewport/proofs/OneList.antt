@@ -5,40 +5,40 @@ use Rattle.std.specs.List.{AllByRecursion, list_any}
 use Rattle.std.proofs.lemmas.Bool.{false≢true}
 use Rattle.std.proofs.lemmas.Int.{ints}
 use Rattle.plane.proofs.Elements.{AllByRecursion-weaker}
-use Rattle.viewport.specs.RowRuns.{AreApart, OneListOfRuns, end_of, is_in_run, is_in_some}
+use Rattle.viewport.specs.RowRuns.{AreApart, OneListOfRuns, end_of, is_in_row_run, is_in_some}
 use Rattle.squares.proofs.NumberMaps.{by_cases}
 
-out_before : (x : ℤ) (run : ℤ × ℕ) → x <ℤ run.0 → is_in_run x run ≡ false
+out_before : (x : ℤ) (run : ℤ × ℕ) → x <ℤ run.0 → is_in_row_run x run ≡ false
 out_before x run h = grind (arith, ints)
 
-out_behind : (x : ℤ) (run : ℤ × ℕ) → end_of run ≤ℤ x → is_in_run x run ≡ false
+out_behind : (x : ℤ) (run : ℤ × ℕ) → end_of run ≤ℤ x → is_in_row_run x run ≡ false
 out_behind x run h = grind (arith, ints)
 
-in_it : (x : ℤ) (run : ℤ × ℕ) → run.0 ≤ℤ x → x <ℤ end_of run → is_in_run x run ≡ true
+in_it : (x : ℤ) (run : ℤ × ℕ) → run.0 ≤ℤ x → x <ℤ end_of run → is_in_row_run x run ≡ true
 in_it x run h k = grind (arith, ints)
 
-from_in : (x : ℤ) (run : ℤ × ℕ) → is_in_run x run ≡ true → (run.0 ≤ℤ x) × (x <ℤ end_of run)
+from_in : (x : ℤ) (run : ℤ × ℕ) → is_in_row_run x run ≡ true → (run.0 ≤ℤ x) × (x <ℤ end_of run)
 from_in x run h = (grind (arith, ints), grind (arith, ints))
 
 -- no run that begins behind a place has it
 none_there : (x : ℤ) (runs : List (ℤ × ℕ)) → AllByRecursion (λ other. x <ℤ other.0) runs → is_in_some runs x ≡ false
 unfolding is_in_some
 none_there x [] all = refl
-none_there x (run ∷ runs) all = ap (λ b. b || list_any (is_in_run x) runs) (out_before x run all.0) ∙ none_there x runs all.1
+none_there x (run ∷ runs) all = ap (λ b. b || list_any (is_in_row_run x) runs) (out_before x run all.0) ∙ none_there x runs all.1
 
-some_first : (run : ℤ × ℕ) (runs : List (ℤ × ℕ)) (x : ℤ) → is_in_run x run ≡ true → is_in_some (run ∷ runs) x ≡ true
+some_first : (run : ℤ × ℕ) (runs : List (ℤ × ℕ)) (x : ℤ) → is_in_row_run x run ≡ true → is_in_some (run ∷ runs) x ≡ true
 unfolding is_in_some
-some_first run runs x h = ap (λ b. b || list_any (is_in_run x) runs) h
+some_first run runs x h = ap (λ b. b || list_any (is_in_row_run x) runs) h
 
-not_first : (run : ℤ × ℕ) (runs : List (ℤ × ℕ)) (x : ℤ) → is_in_run x run ≡ false → is_in_some (run ∷ runs) x ≡ is_in_some runs x
+not_first : (run : ℤ × ℕ) (runs : List (ℤ × ℕ)) (x : ℤ) → is_in_row_run x run ≡ false → is_in_some (run ∷ runs) x ≡ is_in_some runs x
 unfolding is_in_some
-not_first run runs x h = ap (λ b. b || list_any (is_in_run x) runs) h
+not_first run runs x h = ap (λ b. b || list_any (is_in_row_run x) runs) h
 
 no_runs : (x : ℤ) → is_in_some [] x ≡ false
 unfolding is_in_some
 no_runs x = refl
 
-starts : (run : ℤ × ℕ) → 0 < run.1 → is_in_run run.0 run ≡ true
+starts : (run : ℤ × ℕ) → 0 < run.1 → is_in_row_run run.0 run ≡ true
 starts run some = grind (arith, ints)
 
 -- what one of these has lies at their first place or behind it
@@ -95,11 +95,11 @@ one_list (a ∷ runs) (b ∷ others) apart also same =
     let ends : end_of a ≡ end_of b = both_ways (end_of a) (end_of b) (no_longer b a others runs also apart (λ x. sym (same x)) (sym left)) (no_longer a b runs others apart also same left) in
     let count : a.1 ≡ b.1 = same_count a b left ends in
     let head : a ≡ b = λ i. (left i, count i) in
-    let rest : (x : ℤ) → is_in_some runs x ≡ is_in_some others x = λ x. by_cases (is_in_run x a)
+    let rest : (x : ℤ) → is_in_some runs x ≡ is_in_some others x = λ x. by_cases (is_in_row_run x a)
     (λ e. let h = (from_in x a e).1 in
     none_there x runs (AllByRecursion-weaker (λ other. end_of a <ℤ other.0) (λ other. x <ℤ other.0) (λ other k. through x (end_of a) other.0 h k) runs apart.1)
     ∙ sym (none_there x others (AllByRecursion-weaker (λ other. end_of b <ℤ other.0) (λ other. x <ℤ other.0) (λ other k. through_other x (end_of a) (end_of b) other.0 h ends k) others also.1)))
-    (λ e. sym (not_first a runs x e) ∙ same x ∙ not_first b others x (sym (ap (is_in_run x) head) ∙ e)) in
+    (λ e. sym (not_first a runs x e) ∙ same x ∙ not_first b others x (sym (ap (is_in_row_run x) head) ∙ e)) in
     ap (λ (r : ℤ × ℕ). r ∷ runs) head ∙ ap (λ rs. b ∷ rs) (one_list runs others apart.2 also.2 rest) where
       through : (x e y : ℤ) → x <ℤ e → e <ℤ y → x <ℤ y
       through x e y h k = omega (arith, ints)

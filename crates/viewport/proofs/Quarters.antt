@@ -8,7 +8,7 @@ use Rattle.plane.specs.Square.{IsSame, IsSquare, spans, joined}
 use Rattle.plane.proofs.Paddings.{twice_half}
 use Rattle.plane.proofs.Rounds.{whole_joined}
 use Rattle.plane.proofs.Same.{plane_equal, same_sym}
-use Rattle.viewport.specs.Halves.{either, beside}
+use Rattle.viewport.specs.Halves.{either, side_by_side}
 use Rattle.squares.specs.Book.{Book, IsBook, IsKnown, AreQuarters, nth}
 use Rattle.squares.specs.declared.sq.Sq.{Sq}
 
@@ -54,7 +54,7 @@ from_nothing z = omega (arith, ints)
 
 -- four squares joined are laid over one another
 pub laid_over : (h : ℕ) (nw ne sw se : Plane) → IsSquare h nw → IsSquare h ne → IsSquare h sw → IsSquare h se →
-    IsSame (joined h nw ne sw se) (either (beside h nw ne) (moved (pos 0) (pos h) (beside h sw se)))
+    IsSame (joined h nw ne sw se) (either (side_by_side h nw ne) (moved (pos 0) (pos h) (side_by_side h sw se)))
 laid_over h nw ne sw se in_nw in_ne in_sw in_se = record {
   same = λ x y.
       pick (int_lt y (pos h)) (int_lt x (pos h)) (nw x y) (ne (x -ℤ pos h) y) (sw x (y -ℤ pos h)) (se (x -ℤ pos h) (y -ℤ pos h))
@@ -76,7 +76,7 @@ pub record IsQuartered (h : ℕ) (plane nw ne sw se : Plane) : Type 0 where
   pub in_se : IsSquare h se
 
 -- the cells of a quartered plane
-pub over : (h : ℕ) (plane nw ne sw se : Plane) → IsQuartered h plane nw ne sw se → plane ≡ either (beside h nw ne) (moved (pos 0) (pos h) (beside h sw se))
+pub over : (h : ℕ) (plane nw ne sw se : Plane) → IsQuartered h plane nw ne sw se → plane ≡ either (side_by_side h nw ne) (moved (pos 0) (pos h) (side_by_side h sw se))
 over h plane nw ne sw se is = is.joined_are ∙ plane_equal _ _ (laid_over h nw ne sw se is.in_nw is.in_ne is.in_sw is.in_se)
 
 pub known_square : (book : Book) (level : ℕ) (sq : Sq) → IsBook book → IsKnown book level sq → IsSquare (2 ^ level) (book.cells sq)

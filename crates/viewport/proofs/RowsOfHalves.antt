@@ -7,7 +7,7 @@ use Rattle.plane.specs.Plane.{Plane}
 use Rattle.plane.specs.Square.{IsSquare, spans}
 use Rattle.plane.proofs.Paddings.{twice_half}
 use Rattle.viewport.specs.Halves.{IsHalfRow}
-use Rattle.viewport.specs.RowRuns.{AddsCells, EndBy, cells_at, end_of, is_in_run, is_in_some, run_cells}
+use Rattle.viewport.specs.RowRuns.{AddsCells, EndBy, cells_at, end_of, is_in_row_run, is_in_some, run_cells}
 use Rattle.squares.proofs.NumberMaps.{by_cases}
 use Rattle.viewport.proofs.Quarters.{dead_column}
 use Rattle.viewport.proofs.RowsOfSquares.{half_row}
@@ -20,7 +20,7 @@ past left x first count ends at = grind (arith, ints)
 none_behind : (left x : ℤ) (runs : List (ℤ × ℕ)) → AllByRecursion (λ run. end_of run ≤ℤ left) runs → left ≤ℤ x → is_in_some runs x ≡ false
 unfolding is_in_some
 none_behind left x [] ends at = refl
-none_behind left x (run ∷ runs) ends at = ap (λ b. b || list_any (is_in_run x) runs) (past left x run.0 run.1 ends.0 at) ∙ none_behind left x runs ends.1 at
+none_behind left x (run ∷ runs) ends at = ap (λ b. b || list_any (is_in_row_run x) runs) (past left x run.0 run.1 ends.0 at) ∙ none_behind left x runs ends.1 at
 
 further : (x left far : ℤ) → x -ℤ (left +ℤ far) ≡ (x -ℤ far) -ℤ left
 further x left far = omega (arith, ints)
@@ -38,9 +38,9 @@ last_covers runs last left end some is first at x low high =
     let parts = ended runs some in
     let front = parts.0 in
     let last_is : last ≡ parts.1 = is ∙ is_last runs front parts.1 last parts.2 in
-    ap (list_any (is_in_run x)) (parts.2.whole ∙ ap (λ (run : ℤ × ℕ). front ++ run ∷ []) (sym last_is)) ∙ list_any-append (is_in_run x) front (last ∷ [])
-    ∙ ap (λ b. list_any (is_in_run x) front || (b || false)) (within last.0 last.1 left end x first at low high)
-    ∙ or_true (list_any (is_in_run x) front)
+    ap (list_any (is_in_row_run x)) (parts.2.whole ∙ ap (λ (run : ℤ × ℕ). front ++ run ∷ []) (sym last_is)) ∙ list_any-append (is_in_row_run x) front (last ∷ [])
+    ∙ ap (λ b. list_any (is_in_row_run x) front || (b || false)) (within last.0 last.1 left end x first at low high)
+    ∙ or_true (list_any (is_in_row_run x) front)
   where
     within : (first : ℤ) (count : ℕ) (left end x : ℤ) → first ≤ℤ left → first +ℤ pos count ≡ end → left ≤ℤ x → x <ℤ end → spans count (x -ℤ first) ≡ true
     within first count left end x at is low high = grind (arith, ints)

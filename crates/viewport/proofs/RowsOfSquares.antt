@@ -15,7 +15,7 @@ use Rattle.squares.proofs.NumberMaps.{by_cases}
 use Rattle.viewport.proofs.FirstRows.{rows_beside, outside_low, outside_high}
 use Rattle.viewport.proofs.LeafBoxes.{eq_true}
 use Rattle.viewport.proofs.Leaves.{shows}
-use Rattle.viewport.specs.Halves.{beside, IsHalfRow}
+use Rattle.viewport.specs.Halves.{side_by_side, IsHalfRow}
 use Rattle.viewport.proofs.Quarters.{dead_row, from_nothing, IsQuartered, over}
 use Rattle.viewport.proofs.RunsBeside.{adds_as, adds_no_more}
 
@@ -39,12 +39,12 @@ second : (b c d : Bool) → b ≡ false → (b || c) ≡ c
 second b c d e = ap (λ t. t || c) e
 
 -- a row of a half, in its two squares
-pub half_row : (h : ℕ) (p q : Plane) (left x : ℤ) (y : ℕ) → beside h p q (x -ℤ left) (pos y) ≡ (cells_at p left y x || cells_at q (left +ℤ pos h) y x)
+pub half_row : (h : ℕ) (p q : Plane) (left x : ℤ) (y : ℕ) → side_by_side h p q (x -ℤ left) (pos y) ≡ (cells_at p left y x || cells_at q (left +ℤ pos h) y x)
 half_row h p q left x y =
     ap (λ v. p (x -ℤ left) (pos y) || q ((x -ℤ left) -ℤ pos h) v) (from_nothing (pos y)) ∙ ap (λ u. p (x -ℤ left) (pos y) || q u (pos y)) (further_left x left h)
 
 module _ (h : ℕ) (p nw ne sw se : Plane) (quarters : IsQuartered h p nw ne sw se) (y : ℕ) where
-  whole : (x : ℤ) → p x (pos y) ≡ (beside h nw ne x (pos y) || beside h sw se (x -ℤ pos 0) (pos y -ℤ pos h))
+  whole : (x : ℤ) → p x (pos y) ≡ (side_by_side h nw ne x (pos y) || side_by_side h sw se (x -ℤ pos 0) (pos y -ℤ pos h))
   whole x = λ i. over h p nw ne sw se quarters i x (pos y)
 
   -- a row of the upper half
@@ -56,8 +56,8 @@ module _ (h : ℕ) (p nw ne sw se : Plane) (quarters : IsQuartered h p nw ne sw 
   under_row high inside = record {
     inside = omega (arith, high, inside);
     cells = λ x.
-        whole x ∙ ap (λ t. t || beside h sw se (x -ℤ pos 0) (pos y -ℤ pos h)) ((rows_beside h nw ne quarters.in_nw quarters.in_ne).below _ _ (below_half y h high))
-        ∙ ap (λ u. beside h sw se u (pos y -ℤ pos h)) (from_nothing x) ∙ ap (beside h sw se x) (lower_row y h high);
+        whole x ∙ ap (λ t. t || side_by_side h sw se (x -ℤ pos 0) (pos y -ℤ pos h)) ((rows_beside h nw ne quarters.in_nw quarters.in_ne).below _ _ (below_half y h high))
+        ∙ ap (λ u. side_by_side h sw se u (pos y -ℤ pos h)) (from_nothing x) ∙ ap (side_by_side h sw se x) (lower_row y h high);
   }
 
 -- the cells of a leaf's row whose bits stand before this one

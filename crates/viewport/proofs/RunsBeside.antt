@@ -5,7 +5,7 @@ use Rattle.std.proofs.lemmas.Int.{ints}
 use Rattle.std.proofs.lemmas.List.Folds.{list_any-append}
 use Rattle.plane.specs.Square.{spans}
 use Rattle.plane.proofs.Elements.{AllByRecursion-append, AllByRecursion-weaker}
-use Rattle.viewport.specs.RowRuns.{AddsCells, AreApart, EndBy, end_of, is_in_run, is_in_some, run_cells}
+use Rattle.viewport.specs.RowRuns.{AddsCells, AreApart, EndBy, end_of, is_in_row_run, is_in_some, run_cells}
 use Rattle.viewport.proofs.BoxesRound.{or_false}
 
 -- a list by all but its last item and that item
@@ -73,9 +73,9 @@ all_before runs front last first is by apart =
     (AllByRecursion-weaker (λ other. end_of other <ℤ last.0) (λ other. end_of other <ℤ first) (λ other h. behind (end_of other) last.0 last.1 first h parts.2 ends.1) front parts.1)
     (not_there (end_of last) first ends.1 apart, tt))
 
-in_some-push : (runs : List (ℤ × ℕ)) (run : ℤ × ℕ) (x : ℤ) → is_in_some (runs ++ run ∷ []) x ≡ (is_in_some runs x || is_in_run x run)
+in_some-push : (runs : List (ℤ × ℕ)) (run : ℤ × ℕ) (x : ℤ) → is_in_some (runs ++ run ∷ []) x ≡ (is_in_some runs x || is_in_row_run x run)
 unfolding is_in_some
-in_some-push runs run x = list_any-append (is_in_run x) runs (run ∷ []) ∙ ap (λ b. list_any (is_in_run x) runs || b) (or_false (is_in_run x run) false refl)
+in_some-push runs run x = list_any-append (is_in_row_run x) runs (run ∷ []) ∙ ap (λ b. list_any (is_in_row_run x) runs || b) (or_false (is_in_row_run x run) false refl)
 
 weaker_end : (x y : ℤ) → x ≤ℤ y → (run : ℤ × ℕ) → end_of run ≤ℤ x → end_of run ≤ℤ y
 weaker_end x y h run e = omega (arith, ints)
@@ -127,7 +127,7 @@ run_grown runs front last first count some is by touch =
       };
       adds = λ x. in_some-push front (last.0, last.1 + count) x
           ∙ ap (λ b. is_in_some front x || b) (longer x last.0 last.1 count first touch)
-          ∙ or_assoc (is_in_some front x) (is_in_run x last) (run_cells first count x)
+          ∙ or_assoc (is_in_some front x) (is_in_row_run x last) (run_cells first count x)
           ∙ ap (λ b. b || run_cells first count x) (sym (ap (λ rs. is_in_some rs x) is.whole ∙ in_some-push front last x));
     }
 

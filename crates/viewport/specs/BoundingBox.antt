@@ -28,7 +28,7 @@ pub record IsBoxOf (plane : Plane) (box : Bounds) : Type 0 where
   pub at_bottom : (x : ℤ) × (plane x box.bottom ≡ true)
 
 -- the box lies in the square of this side
-pub record IsInside (side : ℕ) (box : Bounds) : Type 0 where
+pub record IsInSquare (side : ℕ) (box : Bounds) : Type 0 where
   pub left : pos 0 ≤ℤ box.left
   pub right : box.right <ℤ pos side
   pub top : pos 0 ≤ℤ box.top
@@ -39,7 +39,7 @@ pub record IsInside (side : ℕ) (box : Bounds) : Type 0 where
 -- the box of the plane of a square, from the square's upper left corner
 abbrev pub IsLocalBox : ℕ → Plane → Option Bounds → Type 0
 IsLocalBox side plane None = IsSame plane empty
-IsLocalBox side plane (Some box) = IsBoxOf plane box × IsInside side box
+IsLocalBox side plane (Some box) = IsBoxOf plane box × IsInSquare side box
 
 -- the square is known, and this is its box, from its upper left corner
 abbrev pub IsKnownBox : Book → Sq → Option Bounds → Type 0

@@ -5,8 +5,8 @@ use Rattle.plane.specs.Plane.{Plane}
 use Rattle.plane.specs.Square.{spans}
 
 -- whether the run has the cell at x
-abbrev pub is_in_run : ℤ → (ℤ × ℕ) → Bool
-is_in_run x run = spans run.1 (x -ℤ run.0)
+abbrev pub is_in_row_run : ℤ → (ℤ × ℕ) → Bool
+is_in_row_run x run = spans run.1 (x -ℤ run.0)
 
 -- the place behind the run's last cell
 abbrev pub end_of : (ℤ × ℕ) → ℤ
@@ -19,7 +19,7 @@ AreApart (run ∷ runs) = (0 < run.1) × AllByRecursion (λ other. end_of run <�
 
 -- whether one of the runs has the cell at x
 unfoldable pub is_in_some : List (ℤ × ℕ) → ℤ → Bool
-is_in_some runs x = list_any (is_in_run x) runs
+is_in_some runs x = list_any (is_in_row_run x) runs
 
 -- the runs of a row of a plane, from left to right, each as long as it can be
 pub record AreRowRuns (plane : Plane) (y : ℤ) (runs : List (ℤ × ℕ)) : Type 0 where
@@ -42,7 +42,7 @@ cells_at plane left y x = plane (x -ℤ left) (pos y)
 
 -- the cells of one run
 abbrev pub run_cells : ℤ → ℕ → ℤ → Bool
-run_cells first count x = is_in_run x (first, count)
+run_cells first count x = is_in_row_run x (first, count)
 
 -- a row has one list of runs
 abbrev pub OneListOfRuns : Type 0

@@ -1,6 +1,6 @@
 //! Shades of grey that show how many live cells blocks of cells have.
 
-ghost use Rattle.std.specs.Prelude.{◌≡◌, ◌≤◌, ◌<◌, ◌++◌, ◌^◌, pos, ◌≤ℤ◌, IfOk, IsOkUnless, OnOk};
+ghost use Rattle.std.specs.Prelude.{◌≡◌, ◌≤◌, ◌++◌, ◌^◌, pos, ◌≤ℤ◌, IfOk, IsOkUnless, OnOk};
 ghost use Rattle.plane.specs.Centred.{centred};
 ghost use Rattle.squares.specs.Book.{IsKnown, Keeps};
 ghost use Rattle.viewport.specs.Blocks.{IsBlockRange, block_counts, block_shades};
@@ -32,7 +32,7 @@ pub struct Blocks {
     pub height: u32,
 }
 
-/// The shades of blocks of a square of a level from 4 to 63, row by row from the upper left one: 255
+/// The shades of blocks of a square of a level from 3 to 63, row by row from the upper left one: 255
 /// (white) for a block without live cells. Where a block is one cell (exponent 0), 0 (black) for a
 /// live one; else 160 - floor(160 b / (2 exponent)) for one with p live cells, b = floor(log2 p), so
 /// that a single cell is seen and a full block is black. What lies outside the square is dead. Each
@@ -45,7 +45,6 @@ pub fn block_shades<L: Look>(
     blocks: Blocks,
 ) -> Result<Vec<u8>, Refusal>
     requires known { IsKnown (L.book look.now) sq.level sq }
-    requires low { 3 < sq.level }
     requires level { sq.level ≤ 63 }
     requires exponent { blocks.exponent ≤ 62 }
     requires columns { IsBlockRange blocks.exponent blocks.left blocks.width }
@@ -85,7 +84,6 @@ fn count_row<R: Reading>(
     found: &mut Vec<u128>,
 ) -> Result<(), AllocError>
     requires known { IsKnown (R.book from.old) sq.level sq }
-    requires low { 3 < sq.level }
     requires level { sq.level ≤ 63 }
     requires columns { IsNearRange blocks.now.left blocks.now.width }
     requires counted { AreCounts (R.book from.old) counts.old }

@@ -5,7 +5,7 @@ ghost use Rattle.std.specs.Option.{ForSome};
 ghost use Rattle.plane.specs.Centred.{centred};
 ghost use Rattle.plane.specs.Square.{bits_plane};
 ghost use Rattle.squares.specs.Book.{AddsSquares, IsKnown};
-ghost use Rattle.viewport.specs.BoundingBox.{AreBoxes, FitsMoved, HasBounds, IsInside, IsLocalBox, box_round, joined_boxes, moved_box};
+ghost use Rattle.viewport.specs.BoundingBox.{AreBoxes, FitsMoved, HasBounds, IsInSquare, IsLocalBox, box_round, joined_boxes, moved_box};
 
 use crate::sides::signed_half_side;
 use plane::{Bounds, Refusal};
@@ -106,9 +106,9 @@ fn box_of_quarters(
 ) -> Option<Bounds>
     requires low { 1 ≤ level }
     requires high { level ≤ 63 }
-    requires ne { ForSome ne (IsInside (2 ^ (level - 1))) }
-    requires sw { ForSome sw (IsInside (2 ^ (level - 1))) }
-    requires se { ForSome se (IsInside (2 ^ (level - 1))) }
+    requires ne { ForSome ne (IsInSquare (2 ^ (level - 1))) }
+    requires sw { ForSome sw (IsInSquare (2 ^ (level - 1))) }
+    requires se { ForSome se (IsInSquare (2 ^ (level - 1))) }
     ensures { result ≡ joined_boxes (2 ^ (level - 1)) nw ne sw se }
 {
     let half = signed_half_side(level);

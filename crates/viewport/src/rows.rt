@@ -4,7 +4,7 @@ ghost use Rattle.std.specs.Prelude.{◌≤◌, ◌^◌};
 ghost use Rattle.plane.specs.Centred.{centred};
 ghost use Rattle.plane.specs.Square.{bits_plane};
 ghost use Rattle.squares.specs.Book.{IsKnown};
-ghost use Rattle.viewport.specs.Halves.{beside};
+ghost use Rattle.viewport.specs.Halves.{side_by_side};
 ghost use Rattle.viewport.specs.Rows.{IsFirstRow, IsFirstRowBelow};
 
 use crate::sides::{row_at, rows_above, side, signed_half_side};
@@ -52,13 +52,13 @@ fn first_row_below<B: Look>(book: &B, sq: Sq, from: u64, end: u64) -> Option<u64
     Some(lower + half)
 }
 
-// The same of two squares beside one another.
+// The same of two squares side_by_side one another.
 #[cycle(first_row_below)]
 fn first_row_beside<B: Look>(book: &B, left: Sq, right: Sq, from: u64, end: u64) -> Option<u64>
     requires left { IsKnown (B.book book.now) left.level left }
     requires right { IsKnown (B.book book.now) left.level right }
     requires level { left.level ≤ 63 }
-    ensures { IsFirstRowBelow (beside (2 ^ left.level)
+    ensures { IsFirstRowBelow (side_by_side (2 ^ left.level)
         ((B.book book.now).cells left) ((B.book book.now).cells right)) from end result }
 {
     let found = first_row_below(book, left, from, end);

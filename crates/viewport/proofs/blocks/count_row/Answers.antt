@@ -10,7 +10,7 @@ pub returns-in_default-clause-ok : goal.returns-in_default-clause-ok
 returns-in_default-clause-ok g c =
     let book = g.R.Reading.book c.args.from.now in
     let j : SFits w64 c.args.j = c.ranges.j in
-    let low = c.requires.low in
+    let low = c.requires.known.low in
     let square = known_square book c.args.sq.level c.args.sq (g.met.R.Reading.is_book c.args.from.now) c.requires.known in
     on_ok_weaker c.add_dead.result
     (λ e. e
@@ -22,7 +22,7 @@ returns-in_default-clause-ok g c =
 
 pub count_strip-requires-clause-strip : goal.count_strip-requires-clause-strip
 count_strip-requires-clause-strip g c =
-    let low = c.requires.low in
+    let low = c.requires.known.low in
     let least = c.min-exponent.ensures in
     let left : SFits w64 c.args.blocks.now.left = omega (arith, ints) in
     let half : SFits w64 c.signed_half_side.result = search rules in
@@ -37,7 +37,7 @@ pub returns-clause-ok : goal.returns-clause-ok
 returns-clause-ok g c =
     let book = g.R.Reading.book c.args.from.now in
     let j : SFits w64 c.args.j = c.ranges.j in
-    let low = c.requires.low in
+    let low = c.requires.known.low in
     let square = known_square book c.args.sq.level c.args.sq (g.met.R.Reading.is_book c.args.from.now) c.requires.known in
     let columns = c.columns_beside-columns.result in
     let left : SFits w64 c.args.blocks.now.left = omega (arith, ints) in
