@@ -13,7 +13,7 @@ use Rattle.plane.specs.declared.refusal.Refusal.{Refusal}
 use Rattle.plane.specs.declared.refusal.Refusal.TheVariants.{NodesFull, NoMemory, TooFar}
 use Rattle.universe.specs.Tables.{HasFullTable}
 use Rattle.viewport.specs.BoundingBox.{HasBounds}
-use Rattle.engine.specs.Accepted.{HasRoomFor, IsAccepted, IsRefused, LeavesRange}
+use Rattle.engine.specs.Accepted.{KeepsToRange, IsAccepted, IsRefused, LeavesRange}
 use Rattle.engine.specs.Judgement.{ReadsRule, rule_refusal}
 use Rattle.patterns.specs.Meaning.{placeless, Meaning, is_macrocell, judged}
 use Rattle.engine.specs.Run.{IsOutOfRoom, IsRun}
@@ -27,7 +27,7 @@ pub bounds_as : {here there : Plane} {box : Option Bounds} → IsSame here there
 bounds_as same bounds = record { cells = bounds.cells; listing = listing_as same bounds.listing; bounds = bounds.bounds }
 
 module _ (meaning : Meaning) (generations : ℕ) (here : Plane) (box : Option Bounds) (start : ℕ) (bounds : HasBounds here box) (same : IsSame here meaning.live) (is : start ≡ meaning.generation) where
-  pub has_room : StaysWithin box start generations → HasRoomFor meaning generations here
+  pub has_room : StaysWithin box start generations → KeepsToRange meaning generations here
   has_room stays = record { cells = bounds.cells; listing = bounds.listing; same = same; stays = stays_as bounds.bounds is stays }
 
   pub leaves_range : (StaysWithin box start generations → ⊥) → LeavesRange meaning generations
@@ -65,7 +65,7 @@ module _ (bytes : List ℕ) (options : Options) (meaning : Meaning) (text : judg
       is = ap placeless far;
     })))
 
-    pub accepted : (here : Plane) → IsRule rule → HasRoomFor meaning options.gens here → IsAccepted bytes options meaning rule here
+    pub accepted : (here : Plane) → IsRule rule → KeepsToRange meaning options.gens here → IsAccepted bytes options meaning rule here
     accepted here lawful room = record {
       cells = room.cells;
       listing = room.listing;

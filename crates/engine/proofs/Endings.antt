@@ -22,11 +22,11 @@ use Rattle.plane.proofs.Uniqueness.{one_listing_lem}
 use Rattle.engine.specs.FileText.{HasText, IsFileText, Exceeds, Fits, Writes}
 use Rattle.engine.specs.Accepted.{IsAccepted, SumsUp}
 use Rattle.engine.specs.Judgement.{Start, ReadsRule}
-use Rattle.engine.specs.Report.{Shows, shown}
+use Rattle.engine.specs.Report.{AreLinesAfter, shown}
 use Rattle.engine.specs.Room.{IsStuckWithin}
 use Rattle.engine.specs.Drawing.{picture_of}
-use Rattle.engine.specs.Run.{CanBeWritten, IsAcceptedRun, IsBeginning, IsLast, IsReport, Finishes, HasBegun, HasFinished, HasStopped, IsBegun, IsRun, IsStopped, IsOutOfRoom, last_generation}
-use Rattle.engine.specs.SinkChange.{SinkChange, Fails, IsUnfailed, Takes}
+use Rattle.engine.specs.Run.{CanBeWritten, IsBeginning, IsLast, IsReport, Finishes, HasBegun, HasFailedToWrite, HasFinished, HasEndedEarly, IsBegun, IsRun, IsStopped, IsOutOfRoom, last_generation}
+use Rattle.engine.specs.SinkChange.{SinkChange, IsUnfailed, Takes}
 use Rattle.engine.specs.declared.running.Summary.{Summary}
 use Rattle.engine.specs.declared.format.Format.{Format}
 use Rattle.engine.specs.declared.format.Format.TheVariants.{Rle, Macrocell}
@@ -61,13 +61,13 @@ unfailed_same sink same = ap sink.failure_count same
 -- a run that stopped so is a run as it has to be, if without a format its file is as it was, and no sink failed but at
 -- `WriteFailed`
 pub stopped_early : {W V : Type 0} {bytes : List ℕ} {options : Options} {report : SinkChange W} {file : SinkChange V} {fault : Fault} →
-    (options.format ≡ None → file.new ≡ file.old) → (fault ≡ placeless WriteFailed) ⊎ (IsUnfailed file × IsUnfailed report) → HasStopped bytes options report file fault →
+    (options.format ≡ None → file.new ≡ file.old) → (fault ≡ placeless WriteFailed) ⊎ (IsUnfailed file × IsUnfailed report) → HasEndedEarly bytes options report file fault →
     IsRun bytes options report file (Err fault)
 stopped_early no_format unfailed stopped = record { finished = tt; no_format = no_format; unfailed = ⊎_elim (λ told. inl (ap Err told)) (λ both. inr both) unfailed; refused = stopped }
 
 -- a run that a failed sink stopped
 pub failed_early : {W V : Type 0} {bytes : List ℕ} {options : Options} {report : SinkChange W} {file : SinkChange V} {refusal : Refusal} →
-    (options.format ≡ None → file.new ≡ file.old) → refusal ≡ WriteFailed → (Fails report × (file.new ≡ file.old) × IsAcceptedRun bytes options) ⊎ (Fails file × CanBeWritten bytes options) →
+    (options.format ≡ None → file.new ≡ file.old) → refusal ≡ WriteFailed → HasFailedToWrite bytes options report file →
     IsRun bytes options report file (Err (placeless refusal))
 failed_early no_format is failed =
     let told = ap placeless is in
@@ -126,11 +126,11 @@ module _ (bytes : List ℕ) (options : Options) (meaning : Meaning) (rule : Coun
   start = record { meaning = meaning; rule = rule; cells = run.cells }
 
   -- the first lines of the report
-  pub first_said : (lines : ℕ) (said : List ℕ) → Shows rule here meaning.generation (take lines (shown options)) said → IsBeginning meaning rule options said
+  pub first_said : (lines : ℕ) (said : List ℕ) → AreLinesAfter rule here meaning.generation (take lines (shown options)) said → IsBeginning meaning rule options said
   first_said lines said shows = (lines, same_shows rule here meaning.live run.same.same meaning.generation (take lines (shown options)) said shows)
 
   -- a run that has said some lines
-  pub begun_some : (lines : ℕ) (said : List ℕ) → Shows rule here meaning.generation (take lines (shown options)) said → IsBegun bytes options said
+  pub begun_some : (lines : ℕ) (said : List ℕ) → AreLinesAfter rule here meaning.generation (take lines (shown options)) said → IsBegun bytes options said
   begun_some lines said shows = inr (record {
     meaning = meaning;
     rule = rule;
@@ -141,13 +141,13 @@ module _ (bytes : List ℕ) (options : Options) (meaning : Meaning) (rule : Coun
   })
 
   -- a run that has said all lines
-  pub begun_all : (said : List ℕ) → Shows rule here meaning.generation (shown options) said → IsBegun bytes options said
+  pub begun_all : (said : List ℕ) → AreLinesAfter rule here meaning.generation (shown options) said → IsBegun bytes options said
   begun_all said shows =
       let all : take (length (shown options)) (shown options) ≡ shown options = take_all (length (shown options)) (shown options) (omega arith) in
-      begun_some (length (shown options)) said (subst (λ ns. Shows rule here meaning.generation ns said) (sym all) shows)
+      begun_some (length (shown options)) said (subst (λ ns. AreLinesAfter rule here meaning.generation ns said) (sym all) shows)
 
   -- the lines and the picture of the last cells
-  pub whole_report : (last : Plane) (lines : List ℕ) → IsSame last (after rule here options.gens) → Shows rule here meaning.generation (shown options) lines →
+  pub whole_report : (last : Plane) (lines : List ℕ) → IsSame last (after rule here options.gens) → AreLinesAfter rule here meaning.generation (shown options) lines →
       IsReport meaning rule options (lines ++ picture_of options.window last)
   whole_report last lines is shows =
       let last_is = plane_equal last (after rule meaning.live options.gens) (same_generation rule here meaning.live run.same.same options.gens last is) in
@@ -158,7 +158,7 @@ module _ (bytes : List ℕ) (options : Options) (meaning : Meaning) (rule : Coun
       }
 
   -- a run that has said all
-  begun_whole : (last : Plane) (lines : List ℕ) → IsSame last (after rule here options.gens) → Shows rule here meaning.generation (shown options) lines →
+  begun_whole : (last : Plane) (lines : List ℕ) → IsSame last (after rule here options.gens) → AreLinesAfter rule here meaning.generation (shown options) lines →
       IsBegun bytes options (lines ++ picture_of options.window last)
   begun_whole last lines is shows = inr (record {
     meaning = meaning;
@@ -173,11 +173,11 @@ module _ (bytes : List ℕ) (options : Options) (meaning : Meaning) (rule : Coun
   last_cells last cells is listing = same_after rule here meaning.live run.same.same options.gens cells (listing_as is listing)
 
   -- what an accepted run that ends well writes and answers
-  pub finishes : (last : Plane) (lines : List ℕ) (cells : List Cell) (drawn : List ℕ) (answer : Summary) → IsSame last (after rule here options.gens) →
-      Shows rule here meaning.generation (shown options) lines → IsListing cells last → HasText options.format cells →
-      IsFileText options.format meaning.comments rule (last_generation start options) cells drawn → SumsUp (last_generation start options) last answer →
-      Finishes start options answer (lines ++ picture_of options.window last) drawn
-  finishes last lines cells drawn answer is shows listing fits file sum = record {
+  pub finishes : (last : Plane) (lines : List ℕ) (cells : List Cell) (written : List ℕ) (answer : Summary) → IsSame last (after rule here options.gens) →
+      AreLinesAfter rule here meaning.generation (shown options) lines → IsListing cells last → HasText options.format cells →
+      IsFileText options.format meaning.comments rule (last_generation start options) cells written → SumsUp (last_generation start options) last answer →
+      Finishes start options answer (lines ++ picture_of options.window last) written
+  finishes last lines cells written answer is shows listing fits file sum = record {
     cells = cells;
     last = last_cells last cells is listing;
     report = whole_report last lines is shows;
@@ -205,7 +205,7 @@ module _ (bytes : List ℕ) (options : Options) (meaning : Meaning) (rule : Coun
   }
 
   -- a run that has said some lines was stopped
-  pub stopped_by : (refusal : Refusal) (lines : ℕ) (said : List ℕ) → IsOutOfRoom refusal → Shows rule here meaning.generation (take lines (shown options)) said →
+  pub stopped_by : (refusal : Refusal) (lines : ℕ) (said : List ℕ) → IsOutOfRoom refusal → AreLinesAfter rule here meaning.generation (take lines (shown options)) said →
       (refusal ≡ NodesFull → IsStuckWithin rule here options.pairs options.gens) → IsStopped bytes options (placeless refusal) said
   stopped_by refusal lines said (inl memory) shows stuck = inl (ap placeless memory, begun_some lines said shows)
   stopped_by refusal lines said (inr is) shows stuck =
@@ -214,19 +214,19 @@ module _ (bytes : List ℕ) (options : Options) (meaning : Meaning) (rule : Coun
   -- in the middle of the report
   pub refused_reporting : {W V : Type 0} (generation : ℕ) (refusal : Refusal) (report : SinkChange W) (file : SinkChange V) → file.new ≡ file.old → generation ≡ meaning.generation →
       (refusal ≡ NodesFull → IsStuckWithin rule here options.pairs options.gens) →
-      (IsOutOfRoom refusal × IsUnfailed report × ((lines : ℕ) × (said : List ℕ) × Shows rule here generation (take lines (shown options)) said × Takes report said))
+      (IsOutOfRoom refusal × IsUnfailed report × ((lines : ℕ) × (said : List ℕ) × AreLinesAfter rule here generation (take lines (shown options)) said × Takes report said))
       ⊎ IsWriteRefusal (report.failure_count report.old) (report.failure_count report.new) refusal →
       IsRun bytes options report file (Err (placeless refusal))
   refused_reporting generation refusal report file same is_start stuck (inl (no_room, unfailed, (lines, said, shows, appends))) =
-      let shows_start = subst (λ n. Shows rule here n (take lines (shown options)) said) is_start shows in
+      let shows_start = subst (λ n. AreLinesAfter rule here n (take lines (shown options)) said) is_start shows in
       stopped_early (λ _. same) (inr (unfailed_same file same, unfailed)) (inr (inr (inl (same, (said, stopped_by refusal lines said no_room shows_start stuck, appends)))))
   refused_reporting generation refusal report file same is_start stuck (inr (is, failed)) = failed_early (λ _. same) is (inl (failed, same, (start, run.accepted)))
 
   -- after the lines, which count from the generation of the file
   module _ {W V : Type 0} (report : SinkChange W) (file : SinkChange V) (from : ℕ) (last : Plane) (lines_taken : Option (List ℕ)) (is_from : from ≡ meaning.generation) (is : IsSame last (after rule here options.gens))
-      (reported : (said : List ℕ) × Shows rule here from (shown options) said × Appends (report.taken report.old) lines_taken said) where
-    shows_all : Shows rule here meaning.generation (shown options) reported.0
-    shows_all = subst (λ (n : ℕ). Shows rule here n (shown options) reported.0) is_from reported.1
+      (reported : (said : List ℕ) × AreLinesAfter rule here from (shown options) said × Appends (report.taken report.old) lines_taken said) where
+    shows_all : AreLinesAfter rule here meaning.generation (shown options) reported.0
+    shows_all = subst (λ (n : ℕ). AreLinesAfter rule here n (shown options) reported.0) is_from reported.1
 
     -- memory ran out before the picture
     pub refused_counting : lines_taken ≡ report.taken report.new → file.new ≡ file.old → IsUnfailed report → IsRun bytes options report file (Err (placeless NoMemory))
@@ -238,11 +238,14 @@ module _ (bytes : List ℕ) (options : Options) (meaning : Meaning) (rule : Coun
       said_all : Takes report (reported.0 ++ picture_of options.window last)
       said_all = Appends-trans _ _ _ reported.0 (picture_of options.window last) reported.2 draws
 
-      -- the format can hold the last cells
-      can_be_written : (format : Option Format) (cells : List Cell) → options.format ≡ format → IsListing cells last → Fits format last → CanBeWritten bytes options
-      can_be_written None cells asked listing fits = record { start = start; cells = cells; accepted = run.accepted; last = last_cells last cells is listing; fits = rw asked tt }
-      can_be_written (Some Macrocell) cells asked listing fits = record { start = start; cells = cells; accepted = run.accepted; last = last_cells last cells is listing; fits = rw asked tt }
-      can_be_written (Some Rle) cells asked listing fits = record { start = start; cells = fits.cells; accepted = run.accepted; last = last_cells last fits.cells is fits.listing; fits = rw asked fits.fits }
+      -- the format can hold the last cells, and all is said
+      can_be_written : (format : Option Format) (cells : List Cell) → options.format ≡ format → IsListing cells last → Fits format last → CanBeWritten bytes options (reported.0 ++ picture_of options.window last)
+      can_be_written None cells asked listing fits =
+          record { start = start; cells = cells; accepted = run.accepted; last = last_cells last cells is listing; report = whole_report last reported.0 is shows_all; fits = rw asked tt }
+      can_be_written (Some Macrocell) cells asked listing fits =
+          record { start = start; cells = cells; accepted = run.accepted; last = last_cells last cells is listing; report = whole_report last reported.0 is shows_all; fits = rw asked tt }
+      can_be_written (Some Rle) cells asked listing fits =
+          record { start = start; cells = fits.cells; accepted = run.accepted; last = last_cells last fits.cells is fits.listing; report = whole_report last reported.0 is shows_all; fits = rw asked fits.fits }
 
       -- the file was not written
       pub refused_writing : (format : Option Format) (cells : List Cell) (refusal : Refusal) → options.format ≡ format → IsListing cells last → (options.format ≡ None → file.new ≡ file.old) → IsUnfailed report →
@@ -271,7 +274,7 @@ module _ (bytes : List ℕ) (options : Options) (meaning : Meaning) (rule : Coun
       refused_writing format cells refusal asked listing no_format unfailed (inr (inl (memory, unchanged))) =
           stopped_early no_format (inr (unfailed_same file unchanged, unfailed)) (inr (inr (inl (unchanged, (reported.0 ++ picture_of options.window last, inl (ap placeless memory, begun_whole last reported.0 is shows_all), said_all)))))
       refused_writing format cells refusal asked listing no_format unfailed (inr (inr ((failing, failed), fits))) =
-          failed_early no_format failing (inr (failed, can_be_written format cells asked listing fits))
+          failed_early no_format failing (inr (failed, (reported.0 ++ picture_of options.window last, can_be_written format cells asked listing fits, said_all)))
 
       -- what an accepted run that ends well writes and answers
       pub ends_well : (comments : List (List ℕ)) (answer : Summary) → comments ≡ meaning.comments → SumsUp (from + options.gens) last answer →

@@ -16,7 +16,7 @@ use Rattle.engine.specs.declared.format.Format.TheVariants.{Rle, Macrocell}
 use Rattle.pattern_writers.specs.McText.{mc_text}
 use Rattle.pattern_writers.proofs.WrittenReadBack.{one_smallest_level}
 use Rattle.engine.specs.Judgement.{Start, IsStart, Judges, StaysInRange, RefusesRange, RefusesRule, ReadsRule, rule_text_of}
-use Rattle.engine.specs.Report.{IsLineAfter, Shows, report_line, shown}
+use Rattle.engine.specs.Report.{IsLineAfter, AreLinesAfter, report_line, shown}
 use Rattle.engine.specs.Drawing.{picture_of}
 use Rattle.engine.specs.Run.{Finishes, IsReport, last_generation}
 use Rattle.engine.specs.declared.running.Summary.{Summary}
@@ -102,7 +102,7 @@ module _ (rule : CountRule) (plane : Plane) (start : ℕ) where
   one_lines (n ∷ ns) (x ∷ xs) (y ∷ ys) zipped other =
       ap (λ line. line ∷ xs) (one_line n x y zipped.0 other.0) ∙ ap (λ lines. y ∷ lines) (one_lines ns xs ys zipped.1 other.1)
 
-  one_text : (ns text other : List ℕ) → Shows rule plane start ns text → Shows rule plane start ns other → text ≡ other
+  one_text : (ns text other : List ℕ) → AreLinesAfter rule plane start ns text → AreLinesAfter rule plane start ns other → text ≡ other
   one_text ns text other shows also = shows.2 ∙ ap concat (one_lines ns shows.0 also.0 shows.1 also.1) ∙ sym also.2
 
 one_report : (meaning : Meaning) (rule : CountRule) (options : Options) (said others : List ℕ) → IsReport meaning rule options said → IsReport meaning rule options others → said ≡ others
@@ -119,12 +119,12 @@ one_file_text (Some Rle) comments rule generation cells a b is other = is ∙ sy
 one_file_text (Some Macrocell) comments rule generation cells a b is other =
     is.is ∙ ap (λ (level : ℕ). mc_text comments rule generation level (plane_of cells)) (one_smallest_level (plane_of cells) is.level other.level is.smallest other.smallest) ∙ sym other.is
 
-pub one_ending_lem : (start : Start) (options : Options) (a b : Summary) (said others drawn other : List ℕ) → Finishes start options a said drawn → Finishes start options b others other →
-    (a ≡ b) × (said ≡ others) × (drawn ≡ other)
-one_ending_lem start options a b said others drawn other finishes also =
+pub one_ending_lem : (start : Start) (options : Options) (a b : Summary) (said others written other : List ℕ) → Finishes start options a said written → Finishes start options b others other →
+    (a ≡ b) × (said ≡ others) × (written ≡ other)
+one_ending_lem start options a b said others written other finishes also =
     let cells = one_listing_lem (after start.rule start.meaning.live options.gens) finishes.cells also.cells finishes.last also.last in (
       finishes.summary ∙ rw cells refl ∙ sym also.summary,
       one_report start.meaning start.rule options said others finishes.report also.report,
-      one_file_text options.format start.meaning.comments start.rule (last_generation start options) also.cells drawn other
-          (subst (λ (c : List Cell). IsFileText options.format start.meaning.comments start.rule (last_generation start options) c drawn) cells finishes.file) also.file,
+      one_file_text options.format start.meaning.comments start.rule (last_generation start options) also.cells written other
+          (subst (λ (c : List Cell). IsFileText options.format start.meaning.comments start.rule (last_generation start options) c written) cells finishes.file) also.file,
     )

@@ -18,9 +18,9 @@ judged_as bytes options workers pairs (Err fault) (inr (inl rule)) =
 judged_as bytes options workers pairs (Err fault) (inr (inr range)) =
     inr (inr (record { start = range.start; accepted = start_as bytes options workers pairs range.start range.accepted; outside = range.outside; is = range.is }))
 
-pub finishes_as : (start : Start) (options : Options) (workers pairs : ℕ) (answer : Summary) (said drawn : List ℕ) →
-    Finishes start (with_workers workers pairs options) answer said drawn → Finishes start options answer said drawn
-finishes_as start options workers pairs answer said drawn ends = record {
+pub finishes_as : (start : Start) (options : Options) (workers pairs : ℕ) (answer : Summary) (said written : List ℕ) →
+    Finishes start (with_workers workers pairs options) answer said written → Finishes start options answer said written
+finishes_as start options workers pairs answer said written ends = record {
   cells = ends.cells;
   last = ends.last;
   report = record { lines = ends.report.lines; shows = ends.report.shows; is = ends.report.is };

@@ -12,7 +12,7 @@ use Rattle.plane.specs.declared.refusal.Refusal.{Refusal}
 use Rattle.plane.specs.declared.refusal.Refusal.TheVariants.{NoMemory}
 use Rattle.plane.proofs.Cones.{light_cone_lem}
 use Rattle.engine.specs.Run.{IsOutOfRoom}
-use Rattle.engine.specs.Report.{report_line, is_shown, shown, shown_until, IsLineAfter, IsSaid, Shows}
+use Rattle.engine.specs.Report.{report_line, is_shown, shown, shown_until, IsLineAfter, IsSaid, AreLinesAfter}
 use Rattle.engine.specs.declared.options.Options.{Options}
 
 -- ---- numbers in a row that pass a test
@@ -102,28 +102,28 @@ module _ (rule : CountRule) (plane : Plane) (start : ℕ) where
   concat-more [] x = sym (append-nil x)
   concat-more (y ∷ ys) x = append_assoc y (concat ys) x ∙ ap (λ l. y ++ l) (concat-more ys x)
 
-  pub shows_none : Shows rule plane start [] []
+  pub shows_none : AreLinesAfter rule plane start [] []
   shows_none = ([], tt, refl)
 
   -- one line more
-  pub shows_more : (ns : List ℕ) (n population : ℕ) (cells : List Cell) (generation : ℕ) (text : List ℕ) → Shows rule plane start ns text →
-      IsListing cells (after rule plane n) → generation ≡ start + n → population ≡ length cells → Shows rule plane start (ns ++ n ∷ []) (text ++ report_line generation population)
+  pub shows_more : (ns : List ℕ) (n population : ℕ) (cells : List Cell) (generation : ℕ) (text : List ℕ) → AreLinesAfter rule plane start ns text →
+      IsListing cells (after rule plane n) → generation ≡ start + n → population ≡ length cells → AreLinesAfter rule plane start (ns ++ n ∷ []) (text ++ report_line generation population)
   shows_more ns n population cells generation text shows listing generation_is population_is = (
     shows.0 ++ report_line generation population ∷ [],
     AllZip-append ns (n ∷ []) shows.0 (report_line generation population ∷ []) shows.1 ((cells, listing, rw (generation_is, population_is) refl), tt),
     ap (λ l. l ++ report_line generation population) shows.2 ∙ concat-more shows.0 (report_line generation population),
   )
 
-  same_shows_of : (ns ms text other : List ℕ) → ns ≡ ms → text ≡ other → Shows rule plane start ns text → Shows rule plane start ms other
-  same_shows_of ns ms text other numbers texts shows = subst (λ l. Shows rule plane start l other) numbers (subst (λ t. Shows rule plane start ns t) texts shows)
+  same_shows_of : (ns ms text other : List ℕ) → ns ≡ ms → text ≡ other → AreLinesAfter rule plane start ns text → AreLinesAfter rule plane start ms other
+  same_shows_of ns ms text other numbers texts shows = subst (λ l. AreLinesAfter rule plane start l other) numbers (subst (λ t. AreLinesAfter rule plane start ns t) texts shows)
 
   -- what is said of one of the generations, if it is shown
-  pub shows_next : (options : Options) (ns : List ℕ) (n : ℕ) (here : Plane) (text said : List ℕ) → Shows rule plane start ns text →
+  pub shows_next : (options : Options) (ns : List ℕ) (n : ℕ) (here : Plane) (text said : List ℕ) → AreLinesAfter rule plane start ns text →
       IsSame here (after rule plane n) → IsSaid options.quiet (start + n) here said → is_shown options n ≡ not options.quiet →
-      Shows rule plane start (ns ++ filter (is_shown options) (n ∷ [])) (text ++ said)
+      AreLinesAfter rule plane start (ns ++ filter (is_shown options) (n ∷ [])) (text ++ said)
   shows_next options ns n here text said shows same is_said shown_is = go options.quiet refl is_said
     where
-      go : (quiet : Bool) → options.quiet ≡ quiet → IsSaid quiet (start + n) here said → Shows rule plane start (ns ++ filter (is_shown options) (n ∷ [])) (text ++ said)
+      go : (quiet : Bool) → options.quiet ≡ quiet → IsSaid quiet (start + n) here said → AreLinesAfter rule plane start (ns ++ filter (is_shown options) (n ∷ [])) (text ++ said)
       go true is nothing =
           let no_line : is_shown options n ≡ false = shown_is ∙ ap not is in
           same_shows_of _ _ _ _
@@ -140,15 +140,15 @@ module _ (rule : CountRule) (plane : Plane) (start : ℕ) where
 -- ---- a report that stops
 
 -- the lines up to one of them are the first of all
-pub first_lines : (rule : CountRule) (plane : Plane) (start : ℕ) (options : Options) (done : ℕ) (said : List ℕ) → done ≤ options.gens → Shows rule plane start (shown_until options done) said →
-    Shows rule plane start (take (length (shown_until options done)) (shown options)) said
-first_lines rule plane start options done said within = subst (λ ns. Shows rule plane start ns said) (sym (shown_first options done options.gens within))
+pub first_lines : (rule : CountRule) (plane : Plane) (start : ℕ) (options : Options) (done : ℕ) (said : List ℕ) → done ≤ options.gens → AreLinesAfter rule plane start (shown_until options done) said →
+    AreLinesAfter rule plane start (take (length (shown_until options done)) (shown options)) said
+first_lines rule plane start options done said within = subst (λ ns. AreLinesAfter rule plane start ns said) (sym (shown_first options done options.gens within))
 
 -- where a line could not be said, what was said before stands, or the sink has failed
 pub stopped : {S : Type 0} (taken : S → Option (List ℕ)) (failures : S → ℕ) (start old new : S) (rule : CountRule) (plane : Plane) (generation : ℕ) (options : Options) (refusal : Refusal) (lines : ℕ) (said : List ℕ) →
-    failures old ≡ failures start → Shows rule plane generation (take lines (shown options)) said → Appends (taken start) (taken old) said →
+    failures old ≡ failures start → AreLinesAfter rule plane generation (take lines (shown options)) said → Appends (taken start) (taken old) said →
     ((refusal ≡ NoMemory) × (new ≡ old)) ⊎ IsWriteRefusal (failures old) (failures new) refusal →
-    (IsOutOfRoom refusal × (failures new ≡ failures start) × ((lines : ℕ) × (said : List ℕ) × Shows rule plane generation (take lines (shown options)) said × Appends (taken start) (taken new) said))
+    (IsOutOfRoom refusal × (failures new ≡ failures start) × ((lines : ℕ) × (said : List ℕ) × AreLinesAfter rule plane generation (take lines (shown options)) said × Appends (taken start) (taken new) said))
     ⊎ IsWriteRefusal (failures start) (failures new) refusal
 stopped taken failures start old new rule plane generation options refusal lines said unfailed shows appends (inl (memory, same)) =
     inl (inl memory, ap failures same ∙ unfailed, (lines, said, shows, subst (λ s. Appends (taken start) (taken s) said) (sym same) appends))
@@ -172,5 +172,5 @@ module _ (rule : CountRule) (plane other : Plane) (same : (x y : ℤ) → plane 
   same_lines start (n ∷ ns) (line ∷ lines) zipped =
       let first = zipped.0 in ((first.0, same_after n first.0 first.1, first.2), same_lines start ns lines zipped.1)
 
-  pub same_shows : (start : ℕ) (ns : List ℕ) (text : List ℕ) → Shows rule plane start ns text → Shows rule other start ns text
+  pub same_shows : (start : ℕ) (ns : List ℕ) (text : List ℕ) → AreLinesAfter rule plane start ns text → AreLinesAfter rule other start ns text
   same_shows start ns text shows = (shows.0, same_lines start ns shows.0 shows.1, shows.2)

@@ -17,7 +17,7 @@ use Rattle.engine.specs.declared.options.Options.{Options}
 use Rattle.engine.specs.declared.running.Summary.{Summary}
 
 -- the plane has the cells of the file, and from there so many generations stay in the range
-pub record HasRoomFor (meaning : Meaning) (generations : ℕ) (here : Plane) : Type 0 where
+pub record KeepsToRange (meaning : Meaning) (generations : ℕ) (here : Plane) : Type 0 where
   pub cells : List Cell
   pub listing : IsListing cells here
   pub same : IsSame here meaning.live

@@ -30,8 +30,8 @@ IsLineAfter rule plane start done line =
     (cells : List Cell) × IsListing cells (after rule plane done) × (line ≡ report_line (start + done) (length cells))
 
 -- the text is the lines after each of these numbers of generations
-abbrev pub Shows : CountRule → Plane → ℕ → List ℕ → List ℕ → Type 0
-Shows rule plane start numbers text =
+abbrev pub AreLinesAfter : CountRule → Plane → ℕ → List ℕ → List ℕ → Type 0
+AreLinesAfter rule plane start numbers text =
     (lines : List (List ℕ)) × AllZip (IsLineAfter rule plane start) numbers lines × (text ≡ concat lines)
 
 -- what is said of a generation with these cells: its line, or nothing where the report is left out

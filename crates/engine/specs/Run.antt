@@ -11,7 +11,7 @@ use Rattle.plane.specs.declared.refusal.Refusal.TheVariants.{BoxTooLarge, NodesF
 use Rattle.patterns.specs.Meaning.{Meaning, is_macrocell, judged, placeless}
 use Rattle.engine.specs.FileText.{HasText, IsFileText}
 use Rattle.engine.specs.Judgement.{Start, Judges, ReadsRule}
-use Rattle.engine.specs.Report.{Shows, shown}
+use Rattle.engine.specs.Report.{AreLinesAfter, shown}
 use Rattle.engine.specs.Room.{IsStuckWithin}
 use Rattle.engine.specs.SinkChange.{SinkChange, Fails, IsUnfailed, Takes}
 use Rattle.engine.specs.Drawing.{picture_of}
@@ -30,21 +30,21 @@ IsLast start options cells = IsListing cells (after start.rule start.meaning.liv
 -- the text is the whole report of a file that is run by the rule: its lines, and then the picture of the last cells
 pub record IsReport (meaning : Meaning) (rule : CountRule) (options : Options) (text : List ℕ) : Type 0 where
   pub lines : List ℕ
-  pub shows : Shows rule meaning.live meaning.generation (shown options) lines
+  pub shows : AreLinesAfter rule meaning.live meaning.generation (shown options) lines
   pub is : text ≡ lines ++ picture_of options.window (after rule meaning.live options.gens)
 
 -- the text is the first lines of the report, or none
 abbrev pub IsBeginning : Meaning → CountRule → Options → List ℕ → Type 0
 IsBeginning meaning rule options text =
-    (count : ℕ) × Shows rule meaning.live meaning.generation (take count (shown options)) text
+    (count : ℕ) × AreLinesAfter rule meaning.live meaning.generation (take count (shown options)) text
 
--- an accepted run says this in its report and draws this in its file, and gives this answer
-pub record Finishes (start : Start) (options : Options) (answer : Summary) (said drawn : List ℕ) : Type 0 where
+-- an accepted run says this in its report and writes this to its file, and gives this answer
+pub record Finishes (start : Start) (options : Options) (answer : Summary) (said written : List ℕ) : Type 0 where
   pub cells : List Cell
   pub last : IsLast start options cells
   pub report : IsReport start.meaning start.rule options said
   pub fits : HasText options.format cells
-  pub file : IsFileText options.format start.meaning.comments start.rule (last_generation start options) cells drawn
+  pub file : IsFileText options.format start.meaning.comments start.rule (last_generation start options) cells written
   pub summary : answer ≡ record {
     generation = last_generation start options;
     population = length cells;
@@ -82,9 +82,10 @@ pub record HasBegun (bytes : List ℕ) (options : Options) (said : List ℕ) : T
 abbrev pub IsBegun : List ℕ → Options → List ℕ → Type 0
 IsBegun bytes options said = ((is_macrocell bytes ≡ true) × (said ≡ [])) ⊎ HasBegun bytes options said
 
--- the text and the rule of a run are accepted, and it has said nothing; and a table of as many pair slots as the options allow,
--- which was opened under this rule without a square, is full, whatever filled it
-pub record IsFullAtFirst (bytes : List ℕ) (options : Options) (said : List ℕ) : Type 0 where
+-- a run has said nothing, before its first line or since it is quiet, and may stand at any generation. Its text and its rule are
+-- accepted. A table of as many pair slots as the options allow, opened under this rule without a square, is full, whatever
+-- filled it
+pub record IsFullWithNothingSaid (bytes : List ℕ) (options : Options) (said : List ℕ) : Type 0 where
   pub meaning : Meaning
   pub rule : CountRule
   pub text : judged bytes ≡ Ok meaning
@@ -100,9 +101,9 @@ pub record IsFullOnTheWay (bytes : List ℕ) (options : Options) (said : List �
   pub report : IsBeginning start.meaning start.rule options said
   pub stuck : IsStuckWithin start.rule start.meaning.live options.pairs options.gens
 
--- tables of as many pair slots as the options allow are full at first, or on the way
+-- tables of as many pair slots as the options allow are full and nothing is said, or they are full on the way
 abbrev pub IsOutOfTables : List ℕ → Options → List ℕ → Type 0
-IsOutOfTables bytes options said = IsFullAtFirst bytes options said ⊎ IsFullOnTheWay bytes options said
+IsOutOfTables bytes options said = IsFullWithNothingSaid bytes options said ⊎ IsFullOnTheWay bytes options said
 
 -- memory ran out, or the tables of squares are full
 abbrev pub IsOutOfRoom : Refusal → Type 0
@@ -113,29 +114,36 @@ abbrev pub IsStopped : List ℕ → Options → Fault → List ℕ → Type 0
 IsStopped bytes options fault said =
     ((fault ≡ placeless NoMemory) × IsBegun bytes options said) ⊎ ((fault ≡ placeless NodesFull) × IsOutOfTables bytes options said)
 
--- a run of these bytes ended well: its report and its file took what it says and draws
+-- a run of these bytes ended well: its report and its file took what it says and writes
 abbrev pub HasFinished : {W V : Type 0} → List ℕ → Options → SinkChange W → SinkChange V → Summary → Type 0
 HasFinished bytes options report file answer =
-    (start : Start) × (said : List ℕ) × (drawn : List ℕ) × Judges bytes options (Ok start) × Finishes start options answer said drawn
-    × Takes report said × Takes file drawn
+    (start : Start) × (said : List ℕ) × (written : List ℕ) × Judges bytes options (Ok start) × Finishes start options answer said written
+    × Takes report said × Takes file written
 
--- the run is accepted, and the format can hold its last cells
-pub record CanBeWritten (bytes : List ℕ) (options : Options) : Type 0 where
+-- the run is accepted, this is the whole of its report, and the format can hold its last cells
+pub record CanBeWritten (bytes : List ℕ) (options : Options) (said : List ℕ) : Type 0 where
   pub start : Start
   pub cells : List Cell
   pub accepted : Judges bytes options (Ok start)
   pub last : IsLast start options cells
+  pub report : IsReport start.meaning start.rule options said
   pub fits : HasText options.format cells
 
--- a run of these bytes was refused: they are not accepted, and nothing was written; or what comes out has no text in the
--- format, after the whole report; or memory ran out, or the tables are full; or they are accepted, and a sink failed: that of
--- the report, or that of the file where the format can hold the last cells
-abbrev pub HasStopped : {W V : Type 0} → List ℕ → Options → SinkChange W → SinkChange V → Fault → Type 0
-HasStopped bytes options report file fault =
+-- a sink of an accepted run failed. If it was that of the report, the file is unchanged. If it was that of the file, the report
+-- took all that it says, and the format can hold the last cells
+abbrev pub HasFailedToWrite : {W V : Type 0} → List ℕ → Options → SinkChange W → SinkChange V → Type 0
+HasFailedToWrite bytes options report file =
+    (Fails report × (file.new ≡ file.old) × IsAcceptedRun bytes options)
+    ⊎ (Fails file × ((said : List ℕ) × CanBeWritten bytes options said × Takes report said))
+
+-- a run of these bytes was refused, in one of four ways. The bytes are not accepted, and nothing is written. The format can't
+-- hold the last cells, and the report is whole. Memory ran out or the tables are full. A sink failed
+abbrev pub HasEndedEarly : {W V : Type 0} → List ℕ → Options → SinkChange W → SinkChange V → Fault → Type 0
+HasEndedEarly bytes options report file fault =
     (Judges bytes options (Err fault) × (report.new ≡ report.old) × (file.new ≡ file.old))
     ⊎ ((fault ≡ placeless BoxTooLarge) × (file.new ≡ file.old) × ((said : List ℕ) × IsTooLarge bytes options said × Takes report said))
     ⊎ ((file.new ≡ file.old) × ((said : List ℕ) × IsStopped bytes options fault said × Takes report said))
-    ⊎ ((fault ≡ placeless WriteFailed) × ((Fails report × (file.new ≡ file.old) × IsAcceptedRun bytes options) ⊎ (Fails file × CanBeWritten bytes options)))
+    ⊎ ((fault ≡ placeless WriteFailed) × HasFailedToWrite bytes options report file)
 
 -- what a run of these bytes by these options does to its report and to its file, and what it answers
 pub record IsRun {W V : Type 0} (bytes : List ℕ) (options : Options) (report : SinkChange W) (file : SinkChange V) (result : Result Summary Fault) : Type 0 where
@@ -144,6 +152,6 @@ pub record IsRun {W V : Type 0} (bytes : List ℕ) (options : Options) (report :
   pub no_format : options.format ≡ None → file.new ≡ file.old
   -- no sink failed, or the answer is that one did
   pub unfailed : (result ≡ Err (placeless WriteFailed)) ⊎ (IsUnfailed file × IsUnfailed report)
-  -- it refuses what is not accepted, by its name and at its place, and then has written nothing; what has no text in the
-  -- format, after the whole report; and else only where memory ran out, the tables are full, or a sink failed
-  pub refused : IfErr result (HasStopped bytes options report file)
+  -- what is not accepted is refused by its name and at its place, and nothing is written. What has no text in the format is
+  -- refused after the whole report. Else only memory, the tables or a sink end a run early
+  pub refused : IfErr result (HasEndedEarly bytes options report file)

@@ -3,7 +3,7 @@
 ghost use Rattle.std.specs.Prelude.{◌≡◌, ◌⊎◌, Some, Ok, Err, IfOk, IfErr};
 ghost use Rattle.rule_text.specs.CountRule.{IsRule};
 ghost use Rattle.rule_text.specs.declared.fault.RuleFault.{RuleFault};
-ghost use Rattle.engine.specs.Accepted.{HasRoomFor, IsAccepted, IsRefused, LeavesRange};
+ghost use Rattle.engine.specs.Accepted.{KeepsToRange, IsAccepted, IsRefused, LeavesRange};
 ghost use Rattle.engine.specs.Judgement.{ReadsRule, rule_refusal};
 ghost use Rattle.engine.specs.Run.{IsOutOfRoom};
 ghost use Rattle.patterns.specs.PatternFile.{meaning_of};
@@ -66,7 +66,7 @@ fn universe_of(
 ) -> Result<Universe, Refusal>
     requires { IsPairCount limit }
     ensures ok { IfOk result (λ universe.
-        HasRoomFor (meaning_of text.now) generations (live_cells universe)) }
+        KeepsToRange (meaning_of text.now) generations (live_cells universe)) }
     ensures rule { IfOk result (λ universe. rule_of universe ≡ rule.now) }
     ensures limit { IfOk result (λ universe. limit_of universe ≡ limit) }
     ensures refused { IfErr result (λ refusal. IsOutOfRoom refusal

@@ -17,9 +17,9 @@ pub fn one_judgement()
 /// An accepted run has one answer, one report and one file.
 pub fn one_ending()
     ensures { (start : Start) (options : Options) (a b : Summary)
-        (said others drawn other : List ℕ) →
-        Finishes start options a said drawn → Finishes start options b others other →
-        (a ≡ b) × (said ≡ others) × (drawn ≡ other) }
+        (said others written other : List ℕ) →
+        Finishes start options a said written → Finishes start options b others other →
+        (a ≡ b) × (said ≡ others) × (written ≡ other) }
 {}
 
 /// By every number of workers, and in tables of every size, a run has the same judgement, and an accepted one the same
@@ -29,8 +29,8 @@ pub fn every_number_of_workers()
         (a b : Result Start Fault) →
         Judges bytes options a → Judges bytes (with_workers workers pairs options) b → a ≡ b }
     ensures ended { (start : Start) (options : Options) (workers pairs : ℕ) (a b : Summary)
-        (said others drawn other : List ℕ) →
-        Finishes start options a said drawn →
+        (said others written other : List ℕ) →
+        Finishes start options a said written →
         Finishes start (with_workers workers pairs options) b others other →
-        (a ≡ b) × (said ≡ others) × (drawn ≡ other) }
+        (a ≡ b) × (said ≡ others) × (written ≡ other) }
 {}

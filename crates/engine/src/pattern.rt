@@ -99,7 +99,7 @@ impl Pattern {
                 write_rle(rt, alloc, &shared, root, comments, rule, generation, file)
             }
             Some(Format::Macrocell) => write_mc(
-                alloc, book, root, comments, rule, generation, file,
+                rt, alloc, book, root, comments, rule, generation, file,
             ),
             None => Ok(()),
         }

@@ -9,7 +9,7 @@ ghost use Rattle.plane.specs.declared.range.TheConstants.{GENERATION_LIMIT};
 ghost use Rattle.plane.specs.Device.{IsWriteRefusal};
 ghost use Rattle.universe.specs.Cells.{limit_of, live_cells, rule_of};
 ghost use Rattle.universe.specs.Held.{StaysHeld};
-ghost use Rattle.engine.specs.Report.{Shows, is_shown, shown};
+ghost use Rattle.engine.specs.Report.{AreLinesAfter, is_shown, shown};
 ghost use Rattle.engine.specs.Room.{IsStuckWithin};
 ghost use Rattle.engine.specs.Run.{IsOutOfRoom};
 
@@ -37,14 +37,14 @@ pub(crate) fn run_reported<R: Threads + Wait + Sync, G: Gate, W: Sink>(
     ensures cells { IfOk result (λ last. IsSame (live_cells last)
         (after (rule_of start) (live_cells start) options.now.gens)) }
     ensures reported { OnOk result ((said : List ℕ)
-        × Shows (rule_of start) (live_cells start) generation (shown options.now) said
+        × AreLinesAfter (rule_of start) (live_cells start) generation (shown options.now) said
         × Appends (W.taken report.old) (W.taken report.new) said) }
     ensures unfailed { OnOk result (W.failure_count report.new ≡ W.failure_count report.old) }
     ensures refused { IfErr result (λ refusal.
         (IsOutOfRoom refusal
         × (W.failure_count report.new ≡ W.failure_count report.old)
         × ((lines : ℕ) × (said : List ℕ)
-        × Shows (rule_of start) (live_cells start) generation (take lines (shown options.now)) said
+        × AreLinesAfter (rule_of start) (live_cells start) generation (take lines (shown options.now)) said
         × Appends (W.taken report.old) (W.taken report.new) said))
         ⊎ IsWriteRefusal (W.failure_count report.old) (W.failure_count report.new) refusal) }
     ensures full { IfErr result (λ refusal. refusal ≡ Refusal.NodesFull

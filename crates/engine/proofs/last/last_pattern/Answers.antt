@@ -1,4 +1,4 @@
-use Rattle.std.proofs.Common.{◌≡◌, ◌+◌, ◌≤◌, Err, rules, refl, subst, arith, inl}
+use Rattle.std.proofs.Common.{◌≡◌, Err, rules, refl, subst, arith, inl}
 use Rattle.plane.specs.declared.refusal.Refusal.TheVariants.{NoMemory}
 use Rattle.plane.proofs.Same.{same_refl, same_trans}
 use Rattle.patterns.specs.Meaning.{placeless}

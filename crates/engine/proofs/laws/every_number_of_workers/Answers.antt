@@ -6,5 +6,5 @@ pub returns-clause-judged : goal.returns-clause-judged
 returns-clause-judged c bytes options workers pairs a b judges also = one_judgement_lem bytes options a b judges (judged_as bytes options workers pairs b also)
 
 pub returns-clause-ended : goal.returns-clause-ended
-returns-clause-ended c start options workers pairs a b said others drawn other finishes also =
-    one_ending_lem start options a b said others drawn other finishes (finishes_as start options workers pairs b others other also)
+returns-clause-ended c start options workers pairs a b said others written other finishes also =
+    one_ending_lem start options a b said others written other finishes (finishes_as start options workers pairs b others other also)

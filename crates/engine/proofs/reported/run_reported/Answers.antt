@@ -6,7 +6,7 @@ use Rattle.plane.proofs.Same.{same_refl}
 use Rattle.universe.specs.Cells.{live_cells, rule_of}
 use Rattle.engine.specs.Generations.{IsRunOn}
 use Rattle.universe.proofs.Later.{empty_later}
-use Rattle.engine.specs.Report.{IsSaid, Shows, shown_until}
+use Rattle.engine.specs.Report.{IsSaid, AreLinesAfter, shown_until}
 use Rattle.engine.proofs.Onward.{held_on, later_on, none_later, stuck_on, then_same}
 use Rattle.engine.proofs.Reports.{first_lines, shown_next, shows_next, shows_none, start_shown, stopped}
 use Rattle.engine.proofs.reported.run_reported.Goals as goal
@@ -102,7 +102,7 @@ loop-done-preserved g c =
       unfailed = search rules;
       said = (
         said.0 ++ line.0,
-        subst (λ ns. Shows rule plane c.args.generation ns (said.0 ++ line.0)) (sym numbers) shows,
+        subst (λ ns. AreLinesAfter rule plane c.args.generation ns (said.0 ++ line.0)) (sym numbers) shows,
         Appends-trans _ _ _ said.0 line.0 said.2 line.2,
       );
     }
@@ -117,6 +117,6 @@ returns-clause-reported g c =
     let said = c.loop-done.invariant.said in
     let all : c.loop-done.done ≡ c.args.options.now.gens = omega (arith, c.loop-done-test.false, c.loop-done.invariant.within) in (
       said.0,
-      subst (λ n. Shows (rule_of c.args.start) (live_cells c.args.start) c.args.generation (shown_until c.args.options.now n) said.0) all said.1,
+      subst (λ n. AreLinesAfter (rule_of c.args.start) (live_cells c.args.start) c.args.generation (shown_until c.args.options.now n) said.0) all said.1,
       said.2,
     )

@@ -1,4 +1,4 @@
-use Rattle.std.proofs.Common.{◌≡◌, ◌+◌, ◌≤◌, Err, rules, refl, sym, ◌∙◌, ap, subst, inl, inr}
+use Rattle.std.proofs.Common.{◌≡◌, ◌+◌, ◌≤◌, Err, rules, refl, sym, ◌∙◌, subst, inl}
 use Rattle.plane.specs.declared.range.TheConstants.{GENERATION_LIMIT}
 use Rattle.plane.specs.declared.refusal.Refusal.TheVariants.{NoMemory}
 use Rattle.plane.specs.Device.{HasFailed}
