@@ -5,12 +5,13 @@ use Rattle.std.specs.Option.{option_map}
 use Rattle.clap.specs.Words.{App, Rule, Text, fault_of, new_app, new_rule, with_rule}
 use Rattle.clap.specs.declared.builder.action.ArgAction.TheVariants.{SetTrue}
 use Rattle.plane.specs.Window.{IsWindow, Rectangle}
-use Rattle.program_parts.specs.Asking.{CommandLine, IsFaultOf, text_in, value_in}
+use Rattle.program_parts.specs.Asking.{CommandLine, IsFaultOf, IsReasonOf, text_in, value_in}
 use Rattle.program_parts.specs.OptionRules.{file_argument, generation_option, node_option, numeric, rule_option, valued_in_short, window_option, worker_option}
 use Rattle.program_parts.specs.Values.{IsAskedRule, IsNumber, IsPairNumber, IsWorkerNumber}
 use Rattle.program_parts.specs.WindowText.{IsFitWindow, WritesWindow}
 use Rattle.program_parts.specs.declared.misfit.Misfit.{Misfit}
 use Rattle.program_parts.specs.declared.misfit.Misfit.TheVariants.{Ending, Window, Nodes, Other}
+use Rattle.program_parts.specs.declared.reason.WordsReason.{WordsReason}
 use Rattle.program_parts.specs.declared.words.WordsFault.{WordsFault}
 use Rattle.batch_program.specs.declared.request.Asked.{Asked}
 use Rattle.engine.specs.declared.format.Format.{Format}
@@ -112,3 +113,7 @@ command_line = record { form = command_form; IsFit = IsFit; IsMisfit = IsMisfit;
 -- why words ask for no run
 abbrev pub IsWordsFault : List Text → WordsFault → Type 0
 IsWordsFault words fault = IsFaultOf command_line words fault
+
+-- the same, with the value that is not fit
+abbrev pub IsWordsReason : List Text → WordsReason → Type 0
+IsWordsReason words reason = IsReasonOf command_line words reason

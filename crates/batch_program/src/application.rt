@@ -11,7 +11,7 @@ use crate::request::Asked;
 use clap::{ArgMatches, Command};
 use engine::run;
 use plane::{Fault, Sink};
-use program_parts::{Application, OutputFile, WordsFault, read_file};
+use program_parts::{Application, OutputFile, WordsReason, read_file};
 use std::alloc::{AllocError, Global};
 use std::rt::Files;
 use std::sync::Wait;
@@ -35,7 +35,7 @@ impl Application for Lifebatch {
         command(alloc)
     }
 
-    fn asked_by(alloc: Global, matches: &ArgMatches<'_>) -> Result<Asked, WordsFault> {
+    fn asked_by(alloc: Global, matches: &ArgMatches<'_>) -> Result<Asked, WordsReason> {
         asked_by(alloc, matches)
     }
 

@@ -7,7 +7,7 @@ ghost use Rattle.clap.specs.Words.{Text, found_of, one_text};
 ghost use Rattle.engine.specs.declared.format.Format.{Format};
 ghost use Rattle.program_parts.specs.Asking.{texts_of};
 ghost use Rattle.batch_program.specs.Matched.{AreMatchesOf, AskForOptions, HasFile};
-ghost use Rattle.batch_program.specs.CommandLine.{AsksFor, IsFlag, IsFormat, IsWordsFault, format_named};
+ghost use Rattle.batch_program.specs.CommandLine.{AsksFor, IsFlag, IsFormat, IsWordsFault, IsWordsReason, format_named};
 
 use crate::application::Lifebatch;
 use crate::names::ENDINGS;
@@ -16,7 +16,7 @@ use crate::window_option::{narrow_numbers, window_asked};
 use clap::ArgMatches;
 use engine::{Format, Options};
 use program_parts::{
-    Misfit, WordsFault, copied, number_for, pairs_asked, rule_asked, workers_asked,
+    Misfit, WordsFault, WordsReason, copied, number_for, pairs_asked, rule_asked, workers_asked,
 };
 use std::alloc::Global;
 
@@ -33,14 +33,14 @@ pub fn asked<'a>(alloc: Global, words: &'a [&'a str]) -> Result<Asked, WordsFaul
 }
 
 // What words ask for, by the matches that clap has found in them.
-pub(crate) fn asked_by(alloc: Global, matches: &ArgMatches<'_>) -> Result<Asked, WordsFault>
+pub(crate) fn asked_by(alloc: Global, matches: &ArgMatches<'_>) -> Result<Asked, WordsReason>
     ensures asks { (words : List Text) → AreMatchesOf words matches.now →
         IfOk result (AsksFor words) }
     ensures faults { (words : List Text) → AreMatchesOf words matches.now →
-        IfErr result (IsWordsFault words) }
+        IfErr result (IsWordsReason words) }
 {
     let Some(file) = matches.get_str("file") else {
-        return Err(WordsFault::Unfit(Misfit::Other));
+        return Err(WordsReason::Unfit(Misfit::Other));
     };
     let options = options_by(matches)?;
     Ok(Asked {
@@ -51,11 +51,11 @@ pub(crate) fn asked_by(alloc: Global, matches: &ArgMatches<'_>) -> Result<Asked,
 }
 
 // What a run is to do by the words, of which one names a file.
-fn options_by(matches: &ArgMatches<'_>) -> Result<Options, WordsFault>
+fn options_by(matches: &ArgMatches<'_>) -> Result<Options, WordsReason>
     ensures asks { (words : List Text) → AreMatchesOf words matches.now →
         IfOk result (AskForOptions words) }
     ensures faults { (words : List Text) → AreMatchesOf words matches.now →
-        HasFile words → IfErr result (IsWordsFault words) }
+        HasFile words → IfErr result (IsWordsReason words) }
 {
     let gens = number_for(matches, "generation")?;
     let step = number_for(matches, "stepsize")?;
@@ -85,16 +85,16 @@ fn is_set(matches: &ArgMatches<'_>, name: &str) -> bool
 }
 
 // The format of the file that is written, by the ending of its name.
-fn format_of(output: Option<&str>) -> Result<Option<Format>, WordsFault>
+fn format_of(output: Option<&str>) -> Result<Option<Format>, WordsReason>
     ensures ok { IfOk result (IsFormat (option_copied output.entry)) }
     ensures err { IfErr result (λ fault. (endings : Bor (List ℕ))
-        × (fault ≡ WordsFault.Unfit (Misfit.Ending endings))
+        × (fault ≡ WordsReason.Unfit (Misfit.Ending endings))
         × ((format : Option Format) → ¬ IsFormat (option_copied output.entry) format)) }
 {
     match output {
         Some(name) => match format_named(name) {
             Some(format) => Ok(Some(format)),
-            None => Err(WordsFault::Unfit(Misfit::Ending(ENDINGS))),
+            None => Err(WordsReason::Unfit(Misfit::Ending(ENDINGS))),
         },
         None => Ok(None),
     }

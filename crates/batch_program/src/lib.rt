@@ -17,5 +17,5 @@ pub use engine::{
 pub use entry::program;
 pub use names::NAME;
 pub use pattern_writers::{distinct_texts, same_text};
-pub use program_parts::{Misfit, WordsFault};
+pub use program_parts::WordsFault;
 pub use request::Asked;

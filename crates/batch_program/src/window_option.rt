@@ -7,17 +7,17 @@ ghost use Rattle.program_parts.specs.WindowText.{IsFitWindow, rectangle_of};
 ghost use Rattle.batch_program.specs.Windows.{AreNarrow, HasNoWindow, IsWindowOf};
 
 use plane::{Refusal, Window};
-use program_parts::{Misfit, WindowNumbers, WordsFault, window_numbers};
+use program_parts::{Misfit, WindowNumbers, WordsReason, window_numbers};
 
 // The numbers of the window that is asked for, if one is. `Unfit` with `Window` where the text is not four numbers, or those of columns
 // and rows have more than 32 bits.
-pub(crate) fn narrow_numbers(text: Option<&str>) -> Result<Option<WindowNumbers>, WordsFault>
+pub(crate) fn narrow_numbers(text: Option<&str>) -> Result<Option<WindowNumbers>, WordsReason>
     ensures ok { IfOk result (AreNarrow (option_copied text.entry)) }
     ensures err { IfErr result (λ fault.
-        (fault ≡ WordsFault.Unfit Misfit.Window) × ¬ IsFitWindow 32 (option_copied text.entry)) }
+        (fault ≡ WordsReason.Unfit Misfit.Window) × ¬ IsFitWindow 32 (option_copied text.entry)) }
 {
     match window_numbers(text)? {
-        Some(numbers) if !is_narrow(numbers) => Err(WordsFault::Unfit(Misfit::Window)),
+        Some(numbers) if !is_narrow(numbers) => Err(WordsReason::Unfit(Misfit::Window)),
         numbers => Ok(numbers),
     }
 }

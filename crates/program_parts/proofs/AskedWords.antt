@@ -7,11 +7,11 @@ use Rattle.clap.specs.declared.builder.command.Command.{Command}
 use Rattle.clap.specs.declared.error.Error.{Error}
 use Rattle.clap.specs.declared.parser.matches.ArgMatches.{ArgMatches}
 use Rattle.clap.proofs.WalkLemmas.{first_value-rows, one_text-rows}
-use Rattle.program_parts.specs.Asking.{AreMatchesIn, CommandLine, IsFaultOf, text_in, value_in}
+use Rattle.program_parts.specs.Asking.{AreMatchesIn, CommandLine, IsReasonOf, text_in, value_in}
 use Rattle.program_parts.specs.Faults.{IsToldAs}
 use Rattle.program_parts.specs.OptionRules.{HaveRules}
-use Rattle.program_parts.specs.declared.words.WordsFault.{WordsFault}
-use Rattle.program_parts.specs.declared.words.WordsFault.TheVariants.{Clap, Unfit, Refused}
+use Rattle.program_parts.specs.declared.reason.WordsReason.{WordsReason}
+use Rattle.program_parts.specs.declared.reason.WordsReason.TheVariants.{Clap, Unfit, Refused}
 
 -- a command to which arguments are added has their rules, in turn
 pub adds_rules : (args : List Arg) (rules : List Rule) (old new : Command) → AddsInTurn AddsArg old args new → HaveRules args rules → app_of new ≡ fold with_rule (app_of old) rules
@@ -28,8 +28,8 @@ fails_by form app words result free is fails =
     subst (λ (a : App). FailsBy (fault_of a words) result) is (fails (ap is_simple_and_free is ∙ free))
 
 -- an error among the faults of the form is told as a fault of the words
-pub told_by : {T : Type 0} (line : CommandLine) (words : List Text) (error : Error) (result : Result T WordsFault) →
-    HasKind (fault_of line.form words) error → IsErrAnd result (IsToldAs error) → IfErr result (IsFaultOf line words)
+pub told_by : {T : Type 0} (line : CommandLine) (words : List Text) (error : Error) (result : Result T WordsReason) →
+    HasKind (fault_of line.form words) error → IsErrAnd result (IsToldAs error) → IfErr result (IsReasonOf line words)
 told_by line words error (Ok value) has told = absurd told
 told_by line words error (Err (Clap fault)) (inl memory) (same, other) = absurd (other memory)
 told_by line words error (Err (Clap fault)) (inr among) (same, other) = subst (λ (e : Error). IsAmong (kind_of e) (fault_of line.form words)) (sym same) among

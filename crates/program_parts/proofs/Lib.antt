@@ -1,4 +1,5 @@
 pub mod AskedWords
+mod OneLine
 pub mod Statuses
 pub mod WordsFaults
 pub mod WindowTexts

@@ -10,8 +10,10 @@ use Rattle.plane.specs.declared.refusal.Refusal.{Refusal}
 use Rattle.plane.specs.declared.refusal.Refusal.TheVariants.{NoMemory, WindowTooLarge}
 use Rattle.program_parts.specs.Values.{IsAskedRule, IsRefusedRule}
 use Rattle.program_parts.specs.declared.misfit.Misfit.{Misfit}
+use Rattle.program_parts.specs.declared.reason.WordsReason.{WordsReason}
+use Rattle.program_parts.specs.declared.reason.WordsReason.TheVariants.{Clap, Unfit, Refused}
 use Rattle.program_parts.specs.declared.words.WordsFault.{WordsFault}
-use Rattle.program_parts.specs.declared.words.WordsFault.TheVariants.{Clap, Unfit, Refused}
+use Rattle.program_parts.specs.declared.words.WordsFault.TheVariants as fault
 
 -- a command line: its form, and which values are fit
 pub record CommandLine : Type 1 where
@@ -75,7 +77,14 @@ Refuses line words refusal = (refusal ≡ NoMemory) ⊎ RefusesRule line words r
 
 -- why words ask for no run: they are not of the form, or ask for the help; they are of the form, with this value that
 -- is not fit; or they are refused
+abbrev pub IsReasonOf : CommandLine → List Text → WordsReason → Type 0
+IsReasonOf line words (Clap error) = IsAmong (kind_of error) (fault_of line.form words)
+IsReasonOf line words (Unfit misfit) = (fault_of line.form words ≡ []) × line.IsMisfit words misfit
+IsReasonOf line words (Refused refusal) = Refuses line words refusal
+
+-- the same without the value. Some value is not fit, and so not all are
 abbrev pub IsFaultOf : CommandLine → List Text → WordsFault → Type 0
-IsFaultOf line words (Clap error) = IsAmong (kind_of error) (fault_of line.form words)
-IsFaultOf line words (Unfit misfit) = (fault_of line.form words ≡ []) × line.IsMisfit words misfit
-IsFaultOf line words (Refused refusal) = Refuses line words refusal
+IsFaultOf line words (fault.Clap error) = IsAmong (kind_of error) (fault_of line.form words)
+IsFaultOf line words fault.Unfit =
+    (fault_of line.form words ≡ []) × ((misfit : Misfit) × line.IsMisfit words misfit) × (line.IsFit words → ⊥)
+IsFaultOf line words (fault.Refused refusal) = Refuses line words refusal

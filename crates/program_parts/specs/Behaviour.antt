@@ -1,5 +1,5 @@
 -- What a program does, by its command line.
-use Rattle.std.specs.Prelude.{◌≡◌, ◌≤◌, ◌⊎◌, ℕ, List, Option}
+use Rattle.std.specs.Prelude.{◌≡◌, ◌≤◌, ◌⊎◌, ℕ, List, Option, Result, Err}
 use Rattle.std.specs.Io.KnownBytes.{Appends}
 use Rattle.clap.specs.Words.{Text}
 use Rattle.engine.specs.SinkChange.{SinkChange, Fails, IsUnfailed}
@@ -8,7 +8,7 @@ use Rattle.plane.specs.declared.fault.Fault.{Fault}
 use Rattle.plane.specs.declared.refusal.Refusal.{Refusal}
 use Rattle.plane.specs.declared.refusal.Refusal.TheVariants.{WriteFailed}
 use Rattle.program_parts.specs.Asking.{AsksForHelp, AsksForNothing, CommandLine, Refuses}
-use Rattle.program_parts.specs.Messages.{HasToldBadWords, HasToldFault, refused_status}
+use Rattle.program_parts.specs.Messages.{HasToldEnd, refused_status, status_of}
 use Rattle.program_parts.specs.declared.stops.Stop.{Stop}
 use Rattle.program_parts.specs.declared.stops.Stop.TheVariants as stop
 
@@ -40,22 +40,24 @@ module _ {Asked : Type 0} (behaviour : Behaviour Asked) (words : List Text) (bef
 
   -- why the program did not do what the words ask for
   abbrev pub IsStop : Type 0 → Type 0 → Stop → Type 0
-  IsStop unchanged failed (stop.BadWords fault) = AsksForNothing behaviour.line words × unchanged
+  IsStop unchanged failed (stop.BadWords reason) = AsksForNothing behaviour.line words × unchanged
   IsStop unchanged failed (stop.Refused fault) = IsRefused unchanged failed fault
 
 -- what a program of this name does to its standard output and to its standard error, and the exit status that it answers
 pub record EndsProgram {Asked O E : Type 0} (behaviour : Behaviour Asked) (name : List ℕ) (words : List Text) (out : SinkChange O) (err : SinkChange E) (answer : ℕ) : Type 0 where
-  pub status : answer ≤ 3
+  -- how doing what the words ask for ended. Standard error has no part in it, nor in what follows but for the last field
+  pub ended : Result Unit Stop
+  pub status : answer ≡ status_of ended
+  pub most : answer ≤ 3
   -- below 3 standard output did not fail
   pub unfailed : answer ≤ 2 → IsUnfailed out
-  -- at 0 a text for those who ask for the help went out, or what is said of what they ask for, and nothing was told
-  pub well : answer ≡ 0 → IsDone behaviour words (out.taken out.old) (out.taken out.new) × IsUnfailed out × (err.new ≡ err.old)
-  -- at 2 the words ask for nothing, and one message said so
-  pub bad_words : answer ≡ 2 →
-      AsksForNothing behaviour.line words × (out.new ≡ out.old)
-      × (Fails err ⊎ HasToldBadWords name (err.taken err.old) (err.taken err.new))
-  -- at 1 and at 3 it was refused, and one line said why
+  -- at 0 a text for those who ask for the help went out, or what is said of what they ask for
+  pub well : answer ≡ 0 → IsDone behaviour words (out.taken out.old) (out.taken out.new) × IsUnfailed out
+  -- at 2 the words ask for nothing
+  pub bad_words : answer ≡ 2 → AsksForNothing behaviour.line words × (out.new ≡ out.old)
+  -- at 1 and at 3 it was refused
   pub refused : (answer ≡ 1) ⊎ (answer ≡ 3) →
-      (fault : Fault) × (answer ≡ refused_status fault.refusal)
+      (fault : Fault) × (ended ≡ Err (stop.Refused fault)) × (answer ≡ refused_status fault.refusal)
       × IsRefused behaviour words (out.taken out.old) (out.taken out.new) (out.new ≡ out.old) (Fails out) fault
-      × (Fails err ⊎ HasToldFault name fault (err.taken err.old) (err.taken err.new))
+  -- where it ended well nothing is told; else one line says why, or standard error failed
+  pub told : HasToldEnd name ended err

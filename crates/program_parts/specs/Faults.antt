@@ -8,32 +8,40 @@ use Rattle.plane.specs.declared.refusal.Refusal.{Refusal}
 use Rattle.plane.specs.declared.refusal.Refusal.TheVariants.{NoMemory, WriteFailed}
 use Rattle.program_parts.specs.declared.stops.Stop.{Stop}
 use Rattle.program_parts.specs.declared.stops.Stop.TheVariants as stop
+use Rattle.program_parts.specs.declared.reason.WordsReason.{WordsReason}
+use Rattle.program_parts.specs.declared.reason.WordsReason.TheVariants.{Clap, Unfit, Refused}
 use Rattle.program_parts.specs.declared.words.WordsFault.{WordsFault}
-use Rattle.program_parts.specs.declared.words.WordsFault.TheVariants.{Clap, Unfit, Refused}
+use Rattle.program_parts.specs.declared.words.WordsFault.TheVariants as fault
+
+-- the fault of the words, which doesn't say which value is not fit
+abbrev pub fault_by : WordsReason → WordsFault
+fault_by (Clap error) = fault.Clap error
+fault_by (Unfit misfit) = fault.Unfit
+fault_by (Refused refusal) = fault.Refused refusal
 
 -- what an error of clap is told as
-abbrev pub IsToldAs : Error → WordsFault → Type 0
+abbrev pub IsToldAs : Error → WordsReason → Type 0
 IsToldAs error (Clap told) = (told ≡ error) × (kind_of error ≡ kind.OutOfMemory → ⊥)
 IsToldAs error (Unfit misfit) = ⊥
 IsToldAs error (Refused refusal) = (refusal ≡ NoMemory) × (kind_of error ≡ kind.OutOfMemory)
 
 -- the words ask for the help
-abbrev pub IsHelp : WordsFault → Type 0
+abbrev pub IsHelp : WordsReason → Type 0
 IsHelp (Clap error) = kind_of error ≡ kind.DisplayHelp
 IsHelp (Unfit misfit) = ⊥
 IsHelp (Refused refusal) = ⊥
 
 -- the words ask neither for the help nor for what is refused
-abbrev pub IsBad : WordsFault → Type 0
+abbrev pub IsBad : WordsReason → Type 0
 IsBad (Clap error) = kind_of error ≡ kind.DisplayHelp → ⊥
 IsBad (Unfit misfit) = ⊤
 IsBad (Refused refusal) = ⊥
 
--- why a program stopped whose words have this fault: they are bad, or refused; or the help that they ask for had no room, or
+-- why a program stopped whose words ask for no run by this reason: they are bad, or refused; or the help that they ask for had no room, or
 -- could not be written
-abbrev pub IsStopOf : WordsFault → Type 0 → Type 0 → Stop → Type 0
-IsStopOf fault unchanged failed (stop.BadWords told) = (told ≡ fault) × IsBad fault × unchanged
-IsStopOf fault unchanged failed (stop.Refused told) =
-    ((refusal : Refusal) × (fault ≡ Refused refusal) × (told ≡ placeless refusal) × unchanged)
-    ⊎ (IsHelp fault × (told ≡ placeless NoMemory) × unchanged)
-    ⊎ (IsHelp fault × (told ≡ placeless WriteFailed) × failed)
+abbrev pub IsStopOf : WordsReason → Type 0 → Type 0 → Stop → Type 0
+IsStopOf reason unchanged failed (stop.BadWords told) = (told ≡ reason) × IsBad reason × unchanged
+IsStopOf reason unchanged failed (stop.Refused told) =
+    ((refusal : Refusal) × (reason ≡ Refused refusal) × (told ≡ placeless refusal) × unchanged)
+    ⊎ (IsHelp reason × (told ≡ placeless NoMemory) × unchanged)
+    ⊎ (IsHelp reason × (told ≡ placeless WriteFailed) × failed)

@@ -1,6 +1,8 @@
 -- Exit statuses, and what is told on standard error.
-use Rattle.std.specs.Prelude.{ℕ, Option, None, Some, Result, Ok, Err, List, [], ◌++◌, codes, decimal}
+use Rattle.std.specs.Prelude.{◌≡◌, ◌≢◌, ◌⊎◌, ℕ, Option, None, Some, Result, Ok, Err, List, [], ◌++◌, codes, decimal}
 use Rattle.std.specs.Io.KnownBytes.{Appends}
+use Rattle.std.specs.List.{All}
+use Rattle.engine.specs.SinkChange.{SinkChange, Fails}
 use Rattle.plane.specs.Refusal.{name_of, number_of}
 use Rattle.plane.specs.declared.fault.Fault.{Fault}
 use Rattle.plane.specs.declared.refusal.Refusal.{Refusal}
@@ -29,9 +31,10 @@ refused_status ReadFailed = 3
 refused_status WriteFailed = 3
 refused_status _ = 1
 
--- between the two the message of a program went out that words are bad, and why
+-- between the two the message of a program went out that words are bad, and why: one line, since the reason has no line feed
 abbrev pub HasToldBadWords : List ℕ → Option (List ℕ) → Option (List ℕ) → Type 0
-HasToldBadWords program before after = (why : List ℕ) × Appends before after (bad_words_text program why)
+HasToldBadWords program before after =
+    (why : List ℕ) × All (λ byte. byte ≢ 10) why × Appends before after (bad_words_text program why)
 
 -- between the two the line of a program went out that says why a run was refused
 abbrev pub HasToldFault : List ℕ → Fault → Option (List ℕ) → Option (List ℕ) → Type 0
@@ -40,10 +43,15 @@ HasToldFault program fault before after = Appends before after (fault_line progr
 -- the exit status of a program that did what its words ask for, or stopped
 abbrev pub status_of : {T : Type 0} → Result T Stop → ℕ
 status_of (Ok _) = 0
-status_of (Err (BadWords fault)) = 2
+status_of (Err (BadWords reason)) = 2
 status_of (Err (Refused fault)) = refused_status fault.refusal
 
 -- between the two the message of a program went out that says why it stopped
 abbrev pub HasTold : List ℕ → Stop → Option (List ℕ) → Option (List ℕ) → Type 0
-HasTold program (BadWords fault) before after = HasToldBadWords program before after
+HasTold program (BadWords reason) before after = HasToldBadWords program before after
 HasTold program (Refused fault) before after = HasToldFault program fault before after
+
+-- a program told nothing where it ended well; else the message went out that says why it stopped, or the sink failed
+abbrev pub HasToldEnd : {E : Type 0} → List ℕ → Result Unit Stop → SinkChange E → Type 0
+HasToldEnd program (Ok done) messages = messages.new ≡ messages.old
+HasToldEnd program (Err stop) messages = Fails messages ⊎ HasTold program stop (messages.taken messages.old) (messages.taken messages.new)

@@ -10,8 +10,8 @@ use Rattle.engine.specs.Workers.{IsWorkerCount}
 use Rattle.table_core.specs.Sizes.{IsPairCount}
 use Rattle.program_parts.specs.WindowText.{IsUnsigned}
 use Rattle.program_parts.specs.declared.misfit.Misfit.{Misfit}
-use Rattle.program_parts.specs.declared.words.WordsFault.{WordsFault}
-use Rattle.program_parts.specs.declared.words.WordsFault.TheVariants.{Unfit}
+use Rattle.program_parts.specs.declared.reason.WordsReason.{WordsReason}
+use Rattle.program_parts.specs.declared.reason.WordsReason.TheVariants.{Unfit}
 
 -- the text is a numeral of this number, which is below 2^64
 abbrev pub IsNumber : Option Text → ℕ → Type 0
@@ -27,7 +27,7 @@ abbrev pub IsWorkerNumber : Option Text → ℕ → Type 0
 IsWorkerNumber text workers = IsNumber text workers × IsWorkerCount workers
 
 -- this value is not fit, and no number is read for it
-abbrev pub IsUnfit : Misfit → (ℕ → Type 0) → WordsFault → Type 0
+abbrev pub IsUnfit : Misfit → (ℕ → Type 0) → WordsReason → Type 0
 IsUnfit misfit IsRead fault = (fault ≡ Unfit misfit) × ((number : ℕ) → IsRead number → ⊥)
 
 -- the rule that is given, if one is

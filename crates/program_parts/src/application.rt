@@ -5,11 +5,11 @@ ghost use Rattle.std.specs.Thread.{IsSync};
 ghost use Rattle.clap.specs.Words.{Text, app_of, is_simple, is_simple_and_free};
 ghost use Rattle.patterns.specs.Meaning.{placeless};
 ghost use Rattle.plane.specs.Device.{HasFailed};
-ghost use Rattle.program_parts.specs.Asking.{AreMatchesIn, IsFaultOf};
+ghost use Rattle.program_parts.specs.Asking.{AreMatchesIn, IsReasonOf};
 ghost use Rattle.program_parts.specs.Behaviour.{Behaviour};
 ghost use Rattle.program_parts.specs.declared.misfit.Misfit.{Misfit};
 
-use crate::words::WordsFault;
+use crate::reason::WordsReason;
 use clap::{ArgMatches, Command};
 use plane::{Fault, Refusal, Sink};
 use std::alloc::{AllocError, Global};
@@ -37,11 +37,11 @@ pub trait Application {
         ensures { IfOk result (λ command. app_of command ≡ behaviour.line.form) };
 
     /// What words ask for, by the matches that clap has found in them.
-    fn asked_by(alloc: Global, matches: &ArgMatches<'_>) -> Result<Self::Asked, WordsFault>
+    fn asked_by(alloc: Global, matches: &ArgMatches<'_>) -> Result<Self::Asked, WordsReason>
         ensures asks { (words : List Text) → AreMatchesIn behaviour.line.form words matches.now →
             IfOk result (behaviour.AsksFor words) }
         ensures faults { (words : List Text) → AreMatchesIn behaviour.line.form words matches.now →
-            IfErr result (IsFaultOf behaviour.line words) };
+            IfErr result (IsReasonOf behaviour.line words) };
 
     /// Does what some words ask for, and says of it to `out` what there is to say.
     fn perform<R: Files + Input + Threads + Wait + Sync, O: Sink>(

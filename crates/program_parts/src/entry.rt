@@ -4,11 +4,12 @@ ghost use Rattle.std.specs.Prelude.{◌≡◌, ◌⊎◌, Err, IfOk, OnOk, IfErr
 ghost use Rattle.plane.specs.Device.{HasFailed};
 ghost use Rattle.patterns.specs.Meaning.{placeless};
 ghost use Rattle.engine.specs.SinkChange.{change_of};
-ghost use Rattle.program_parts.specs.Asking.{IsFaultOf, texts_of};
+ghost use Rattle.program_parts.specs.Asking.{IsFaultOf, IsReasonOf, texts_of};
 ghost use Rattle.program_parts.specs.Behaviour.{EndsProgram, IsDone, IsStop};
 ghost use Rattle.program_parts.specs.declared.stops.Stop.TheVariants.{Refused};
 
 use crate::application::Application;
+use crate::reason::WordsReason;
 use crate::stops::{Stop, end_of_words, tell_end};
 use crate::words::WordsFault;
 use plane::{Fault, Refusal, Sink};
@@ -24,6 +25,20 @@ pub fn asked<'a, A: Application>(
 ) -> Result<A::Asked, WordsFault>
     ensures asks { IfOk result (A.behaviour.AsksFor (texts_of words.entry.now)) }
     ensures faults { IfErr result (IsFaultOf A.behaviour.line (texts_of words.entry.now)) }
+{
+    match read_words::<A>(alloc, words) {
+        Ok(asked) => Ok(asked),
+        Err(reason) => Err(reason.fault()),
+    }
+}
+
+// Reads the words of a command line. What it answers says which value is not fit.
+fn read_words<'a, A: Application>(
+    alloc: Global,
+    words: &'a [&'a str],
+) -> Result<A::Asked, WordsReason>
+    ensures asks { IfOk result (A.behaviour.AsksFor (texts_of words.entry.now)) }
+    ensures faults { IfErr result (IsReasonOf A.behaviour.line (texts_of words.entry.now)) }
 {
     let matches = A::command(alloc)?.try_get_matches_from(words)?;
     A::asked_by(alloc, &matches)
@@ -62,8 +77,8 @@ fn perform_words<A: Application, R: Files + Input + Threads + Wait + Sync, O: Si
         (O.taken out.old) (O.taken out.new) (out.new ≡ out.old)
         (HasFailed (O.failure_count out.old) (O.failure_count out.new))) }
 {
-    match asked::<A>(alloc, words) {
+    match read_words::<A>(alloc, words) {
         Ok(asked) => Ok(A::perform::<R, O>(rt, alloc, &asked, out)?),
-        Err(fault) => end_of_words(alloc, fault, out),
+        Err(reason) => end_of_words(alloc, reason, out),
     }
 }

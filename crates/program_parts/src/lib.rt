@@ -11,6 +11,7 @@ mod numbers;
 mod options;
 mod output_file;
 mod ranges;
+mod reason;
 mod stops;
 mod window_text;
 mod words;
@@ -25,5 +26,6 @@ pub use options::{
     short_option, worker_option,
 };
 pub use output_file::OutputFile;
+pub use reason::WordsReason;
 pub use window_text::{WindowNumbers, window_numbers};
 pub use words::{WordsFault, tell_no_words};

@@ -1,11 +1,12 @@
 //! Messages and exit statuses.
 
-ghost use Rattle.std.specs.Prelude.{◌≡◌, ◌≤◌, ℕ, List, length, OnOk, IfErr};
+ghost use Rattle.std.specs.Prelude.{◌≡◌, ◌≢◌, ◌≤◌, ℕ, List, length, OnOk, IfErr};
 ghost use Rattle.std.specs.Io.KnownBytes.{Appends};
+ghost use Rattle.std.specs.List.{All};
 ghost use Rattle.plane.specs.Device.{IsWriteRefusal, TellsFailure};
 ghost use Rattle.program_parts.specs.Messages.{HasToldBadWords, HasToldFault, fault_line, refused_status};
 
-use crate::words::WordsFault;
+use crate::reason::WordsReason;
 use arrayvec::ArrayString;
 use itoa::Buffer;
 use plane::{Fault, Refusal, Sink, write_all};
@@ -59,19 +60,19 @@ pub(crate) fn refused_status(refusal: Refusal) -> u8
     }
 }
 
-// Says on one line that the words are bad, and why: the first paragraph of the fault's text.
+// Says on one line that the words are bad, and why: the first paragraph of the reason's text.
 pub(crate) fn tell_bad_words<E: Sink>(
     alloc: Global,
     messages: &mut E,
     program: &str,
-    fault: &WordsFault,
+    reason: &WordsReason,
 ) -> Result<(), Refusal>
     ensures told { OnOk result
         (HasToldBadWords program.now (E.taken messages.old) (E.taken messages.new)) }
     ensures refused { IfErr result
         (IsWriteRefusal (E.failure_count messages.old) (E.failure_count messages.new)) }
 {
-    match fault.to_string(alloc) {
+    match reason.to_string(alloc) {
         Ok(text) => tell_reason(messages, program, Some(text.as_str())),
         Err(_) => tell_reason(messages, program, None),
     }
@@ -96,10 +97,11 @@ pub(crate) fn tell_reason<E: Sink>(
     write_all(messages, b"\n")
 }
 
-// Writes the lines of a text up to the first empty one, each behind a space.
+// Writes the lines of a text up to the first empty one, each behind a space. What it writes has no line feed.
 fn tell_first_paragraph<E: Sink>(messages: &mut E, text: &str) -> Result<(), Refusal>
     ensures told { OnOk result
-        ((why : List ℕ) × Appends (E.taken messages.old) (E.taken messages.new) why) }
+        ((why : List ℕ) × All (λ byte. byte ≢ 10) why
+        × Appends (E.taken messages.old) (E.taken messages.new) why) }
     ensures failure { TellsFailure
         (E.failure_count messages.old) (E.failure_count messages.new) result }
 {

@@ -7,7 +7,7 @@ ghost use Rattle.program_parts.specs.Values.{IsAskedRule, IsNumber, IsPairNumber
 
 use crate::misfit::Misfit;
 use crate::ranges::MOST_WORKERS;
-use crate::words::WordsFault;
+use crate::reason::WordsReason;
 use clap::ArgMatches;
 use engine::rule_refusal;
 use plane::Refusal;
@@ -16,40 +16,40 @@ use std::alloc::{AllocError, Global};
 use table_core::Shape;
 
 /// The number that is read for an option. `Unfit` with `Other` if there is none.
-pub fn number_for(matches: &ArgMatches<'_>, name: &str) -> Result<u64, WordsFault>
+pub fn number_for(matches: &ArgMatches<'_>, name: &str) -> Result<u64, WordsReason>
     ensures ok { IfOk result (IsNumber (one_text (found_of matches.now) name.now)) }
     ensures err { IfErr result (IsUnfit Misfit.Other
         (IsNumber (one_text (found_of matches.now) name.now))) }
 {
     matches
         .get_one::<u64>(name)
-        .ok_or(WordsFault::Unfit(Misfit::Other))
+        .ok_or(WordsReason::Unfit(Misfit::Other))
 }
 
 /// The most pair slots that the tables may have. `Unfit` with `Nodes` if the number is no power of two from 2^10 to 2^28.
-pub fn pairs_asked(matches: &ArgMatches<'_>) -> Result<u32, WordsFault>
+pub fn pairs_asked(matches: &ArgMatches<'_>) -> Result<u32, WordsReason>
     ensures ok { IfOk result (IsPairNumber (one_text (found_of matches.now) (codes "nodes"))) }
     ensures err { IfErr result (IsUnfit Misfit.Nodes
         (IsPairNumber (one_text (found_of matches.now) (codes "nodes")))) }
 {
     let Some(number) = matches.get_one::<u64>("nodes") else {
-        return Err(WordsFault::Unfit(Misfit::Nodes));
+        return Err(WordsReason::Unfit(Misfit::Nodes));
     };
     match u32::try_from(number) {
         Ok(pairs) if Shape::is_pair_count(pairs) => Ok(pairs),
-        _ => Err(WordsFault::Unfit(Misfit::Nodes)),
+        _ => Err(WordsReason::Unfit(Misfit::Nodes)),
     }
 }
 
 /// How many workers run. `Unfit` with `Other` if it is not from 1 to 64.
-pub fn workers_asked(matches: &ArgMatches<'_>) -> Result<usize, WordsFault>
+pub fn workers_asked(matches: &ArgMatches<'_>) -> Result<usize, WordsReason>
     ensures ok { IfOk result (IsWorkerNumber (one_text (found_of matches.now) (codes "workers"))) }
     ensures err { IfErr result (IsUnfit Misfit.Other
         (IsWorkerNumber (one_text (found_of matches.now) (codes "workers")))) }
 {
     let number = number_for(matches, "workers")?;
     if number == 0 || number > MOST_WORKERS {
-        return Err(WordsFault::Unfit(Misfit::Other));
+        return Err(WordsReason::Unfit(Misfit::Other));
     }
     Ok(number as usize)
 }

@@ -9,7 +9,7 @@ ghost use Rattle.program_parts.specs.Messages.{HasTold, status_of};
 ghost use Rattle.program_parts.specs.declared.stops.Stop.TheVariants.{Refused};
 
 use crate::messages::{refused_status, tell_bad_words, tell_fault};
-use crate::words::WordsFault;
+use crate::reason::WordsReason;
 use clap::error::ErrorKind;
 use plane::{Fault, Refusal, Sink, write_all};
 use std::alloc::Global;
@@ -18,7 +18,7 @@ use std::alloc::Global;
 #[derive(Drop)]
 pub enum Stop {
     /// They ask for nothing.
-    BadWords(WordsFault),
+    BadWords(WordsReason),
     /// What they ask for was refused.
     Refused(Fault),
 }
@@ -48,8 +48,8 @@ pub(crate) fn tell_end<E: Sink>(
 {
     match ended {
         Ok(()) => 0,
-        Err(Stop::BadWords(fault)) => {
-            let _ = tell_bad_words(alloc, messages, program, &fault);
+        Err(Stop::BadWords(reason)) => {
+            let _ = tell_bad_words(alloc, messages, program, &reason);
             2
         }
         Err(Stop::Refused(fault)) => {
@@ -62,22 +62,22 @@ pub(crate) fn tell_end<E: Sink>(
 // Ends a program whose words ask for no run: shows the help where they ask for it, and stops else.
 pub(crate) fn end_of_words<O: Sink>(
     alloc: Global,
-    fault: WordsFault,
+    reason: WordsReason,
     out: &mut O,
 ) -> Result<(), Stop>
-    ensures shown { OnOk result (IsHelp fault
+    ensures shown { OnOk result (IsHelp reason
         × ((text : List ℕ) × Appends (O.taken out.old) (O.taken out.new) text)) }
     ensures unfailed { (result ≡ Err (Refused (placeless Refusal.WriteFailed)))
         ⊎ (O.failure_count out.new ≡ O.failure_count out.old) }
-    ensures stopped { IfErr result (IsStopOf fault (out.new ≡ out.old)
+    ensures stopped { IfErr result (IsStopOf reason (out.new ≡ out.old)
         (HasFailed (O.failure_count out.old) (O.failure_count out.new))) }
 {
-    match fault {
-        WordsFault::Refused(refusal) => Err(Stop::Refused(Fault::from(refusal))),
-        WordsFault::Clap(error) if error.kind() == ErrorKind::DisplayHelp => {
+    match reason {
+        WordsReason::Refused(refusal) => Err(Stop::Refused(Fault::from(refusal))),
+        WordsReason::Clap(error) if error.kind() == ErrorKind::DisplayHelp => {
             Ok(show_help(alloc, &error, out)?)
         }
-        fault => Err(Stop::BadWords(fault)),
+        reason => Err(Stop::BadWords(reason)),
     }
 }
 

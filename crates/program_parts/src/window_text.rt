@@ -6,7 +6,7 @@ ghost use Rattle.plane.specs.Window.{Rectangle};
 ghost use Rattle.program_parts.specs.WindowText.{AreNumbersOf, IsFitWindow, WritesWindow};
 
 use crate::misfit::Misfit;
-use crate::words::WordsFault;
+use crate::reason::WordsReason;
 
 /// The numbers of a window, which may be too large or too far away.
 #[derive(Clone, Copy, Debug, PartialEq, Eq)]
@@ -43,15 +43,15 @@ impl WindowNumbers {
 }
 
 /// The numbers of the window that is asked for, if one is. `Unfit` with `Window` where the text is not four numbers.
-pub fn window_numbers(text: Option<&str>) -> Result<Option<WindowNumbers>, WordsFault>
+pub fn window_numbers(text: Option<&str>) -> Result<Option<WindowNumbers>, WordsReason>
     ensures ok { IfOk result (AreNumbersOf (option_copied text.entry)) }
     ensures err { IfErr result (λ fault.
-        (fault ≡ WordsFault.Unfit Misfit.Window) × ¬ IsFitWindow 64 (option_copied text.entry)) }
+        (fault ≡ WordsReason.Unfit Misfit.Window) × ¬ IsFitWindow 64 (option_copied text.entry)) }
 {
     match text {
         Some(text) => match WindowNumbers::read(text) {
             Some(numbers) => Ok(Some(numbers)),
-            None => Err(WordsFault::Unfit(Misfit::Window)),
+            None => Err(WordsReason::Unfit(Misfit::Window)),
         },
         None => Ok(None),
     }

@@ -7,12 +7,13 @@ use Rattle.plane.specs.Window.{Rectangle}
 use Rattle.plane.specs.declared.cell.Bounds.{Bounds}
 use Rattle.engine.specs.declared.options.Options.{Options}
 use Rattle.pattern_picture.specs.Scale.{IsShown, IsSize}
-use Rattle.program_parts.specs.Asking.{CommandLine, IsFaultOf, text_in, value_in}
+use Rattle.program_parts.specs.Asking.{CommandLine, IsFaultOf, IsReasonOf, text_in, value_in}
 use Rattle.program_parts.specs.OptionRules.{file_argument, generation_option, node_option, rule_option, valued, valued_in_short, window_option, worker_option}
 use Rattle.program_parts.specs.Values.{IsAskedRule, IsNumber, IsPairNumber, IsWorkerNumber}
 use Rattle.program_parts.specs.WindowText.{IsFitWindow, WritesWindow}
 use Rattle.program_parts.specs.declared.misfit.Misfit.{Misfit}
 use Rattle.program_parts.specs.declared.misfit.Misfit.TheVariants.{Ending, Window, Nodes, Other}
+use Rattle.program_parts.specs.declared.reason.WordsReason.{WordsReason}
 use Rattle.program_parts.specs.declared.words.WordsFault.{WordsFault}
 use Rattle.view_program.specs.Shown.{sides_of}
 use Rattle.view_program.specs.declared.request.Asked.{Asked}
@@ -106,3 +107,7 @@ command_line = record { form = command_form; IsFit = IsFit; IsMisfit = IsMisfit;
 -- why words ask for no picture
 abbrev pub IsWordsFault : List Text → WordsFault → Type 0
 IsWordsFault words fault = IsFaultOf command_line words fault
+
+-- the same, with the value that is not fit
+abbrev pub IsWordsReason : List Text → WordsReason → Type 0
+IsWordsReason words reason = IsReasonOf command_line words reason

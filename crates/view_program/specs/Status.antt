@@ -19,8 +19,8 @@ HasViewed view name before after =
 
 -- some bytes could not be read, or were refused, or memory ran out, and nothing went out; or they are accepted, and standard
 -- output failed; or the picture's file failed, after the lines about it went out between the two
-abbrev pub HasStopped : View → List ℕ → Fault → Option (List ℕ) → Option (List ℕ) → Type 0 → Type 0 → Type 0
-HasStopped view name fault before after unchanged failed =
+abbrev pub HasStoppedView : View → List ℕ → Fault → Option (List ℕ) → Option (List ℕ) → Type 0 → Type 0 → Type 0
+HasStoppedView view name fault before after unchanged failed =
     ((fault ≡ placeless ReadFailed) × unchanged)
     ⊎ ((fault ≡ placeless NoMemory) × unchanged)
     ⊎ ((bytes : List ℕ) × IsRefusedRun bytes view.run fault × unchanged)
@@ -33,5 +33,5 @@ behaviour = record {
   line = command_line;
   AsksFor = AsksFor;
   HasDone = λ asked. HasViewed asked.view (string_bytes asked.output);
-  HasStopped = λ asked. HasStopped asked.view (string_bytes asked.output);
+  HasStopped = λ asked. HasStoppedView asked.view (string_bytes asked.output);
 }

@@ -33,8 +33,8 @@ HasDrawn bytes view name report file =
 
 -- a view was refused: its run was, or memory ran out, and nothing was written; or the run is accepted, and a sink failed:
 -- that of the report, and nothing was written to the file; or that of the file, after the whole report
-abbrev pub HasStopped : {W V : Type 0} → List ℕ → View → List ℕ → SinkChange W → SinkChange V → Fault → Type 0
-HasStopped bytes view name report file fault =
+abbrev pub HasNotDrawn : {W V : Type 0} → List ℕ → View → List ℕ → SinkChange W → SinkChange V → Fault → Type 0
+HasNotDrawn bytes view name report file fault =
     (IsRefused bytes view.run fault × (report.new ≡ report.old) × (file.new ≡ file.old))
     ⊎ ((fault ≡ placeless WriteFailed) × IsAcceptedRun bytes view.run × Fails report × (file.new ≡ file.old))
     ⊎ ((fault ≡ placeless WriteFailed) × ((said : List ℕ) × (drawn : List ℕ) × IsDrawn bytes view name said drawn × Takes report said) × Fails file)
@@ -47,4 +47,4 @@ pub record IsView {W V : Type 0} (bytes : List ℕ) (view : View) (name : List �
   pub unfailed : (result ≡ Err (placeless WriteFailed)) ⊎ (IsUnfailed file × IsUnfailed report)
   -- it refuses what is not accepted, by its name and at its place, and then has written nothing; and else only where memory
   -- ran out or the tables are full, and nothing was written, or where a sink failed
-  pub refused : IfErr result (HasStopped bytes view name report file)
+  pub refused : IfErr result (HasNotDrawn bytes view name report file)

@@ -5,7 +5,7 @@ ghost use Rattle.clap.specs.Words.{Text, found_of, one_text};
 ghost use Rattle.program_parts.specs.Asking.{texts_of};
 ghost use Rattle.program_parts.specs.Values.{IsUnfit};
 ghost use Rattle.view_program.specs.Matched.{AreMatchesOf, AskForView, HasFiles};
-ghost use Rattle.view_program.specs.CommandLine.{AsksFor, IsFitName, IsSizeNumber, IsWordsFault};
+ghost use Rattle.view_program.specs.CommandLine.{AsksFor, IsFitName, IsSizeNumber, IsWordsFault, IsWordsReason};
 
 use crate::application::Lifeview;
 use crate::names::ENDING;
@@ -14,7 +14,8 @@ use crate::shown::window_asked;
 use clap::ArgMatches;
 use engine::Options;
 use program_parts::{
-    Misfit, WordsFault, number_for, pairs_asked, rule_asked, window_numbers, workers_asked,
+    Misfit, WordsFault, WordsReason, number_for, pairs_asked, rule_asked, window_numbers,
+    workers_asked,
 };
 use std::alloc::Global;
 
@@ -31,20 +32,20 @@ pub fn asked<'a>(alloc: Global, words: &'a [&'a str]) -> Result<Asked, WordsFaul
 }
 
 // What words ask for, by the matches that clap has found in them.
-pub(crate) fn asked_by(alloc: Global, matches: &ArgMatches<'_>) -> Result<Asked, WordsFault>
+pub(crate) fn asked_by(alloc: Global, matches: &ArgMatches<'_>) -> Result<Asked, WordsReason>
     ensures asks { (words : List Text) → AreMatchesOf words matches.now →
         IfOk result (AsksFor words) }
     ensures faults { (words : List Text) → AreMatchesOf words matches.now →
-        IfErr result (IsWordsFault words) }
+        IfErr result (IsWordsReason words) }
 {
     let Some(file) = matches.get_str("file") else {
-        return Err(WordsFault::Unfit(Misfit::Other));
+        return Err(WordsReason::Unfit(Misfit::Other));
     };
     let Some(output) = matches.get_str("output") else {
-        return Err(WordsFault::Unfit(Misfit::Other));
+        return Err(WordsReason::Unfit(Misfit::Other));
     };
     if !is_fit_name(output) {
-        return Err(WordsFault::Unfit(Misfit::Ending(ENDING)));
+        return Err(WordsReason::Unfit(Misfit::Ending(ENDING)));
     }
     let view = view_by(matches)?;
     Ok(Asked {
@@ -55,11 +56,11 @@ pub(crate) fn asked_by(alloc: Global, matches: &ArgMatches<'_>) -> Result<Asked,
 }
 
 // What is drawn by the words, which name a file, and a picture whose name is fit.
-fn view_by(matches: &ArgMatches<'_>) -> Result<View, WordsFault>
+fn view_by(matches: &ArgMatches<'_>) -> Result<View, WordsReason>
     ensures asks { (words : List Text) → AreMatchesOf words matches.now →
         IfOk result (AskForView words) }
     ensures faults { (words : List Text) → AreMatchesOf words matches.now →
-        HasFiles words → IfErr result (IsWordsFault words) }
+        HasFiles words → IfErr result (IsWordsReason words) }
 {
     let gens = number_for(matches, "generation")?;
     let pairs = pairs_asked(matches)?;
@@ -85,7 +86,7 @@ fn view_by(matches: &ArgMatches<'_>) -> Result<View, WordsFault>
 }
 
 // The most pixels on a side of the picture.
-fn size_asked(matches: &ArgMatches<'_>) -> Result<u32, WordsFault>
+fn size_asked(matches: &ArgMatches<'_>) -> Result<u32, WordsReason>
     ensures ok { IfOk result (IsSizeNumber (one_text (found_of matches.now) (codes "size"))) }
     ensures err { IfErr result (IsUnfit Misfit.Other
         (IsSizeNumber (one_text (found_of matches.now) (codes "size")))) }
@@ -93,7 +94,7 @@ fn size_asked(matches: &ArgMatches<'_>) -> Result<u32, WordsFault>
     let number = number_for(matches, "size")?;
     match u32::try_from(number) {
         Ok(size) if size >= SMALLEST_SIZE && size <= LARGEST_SIZE => Ok(size),
-        _ => Err(WordsFault::Unfit(Misfit::Other)),
+        _ => Err(WordsReason::Unfit(Misfit::Other)),
     }
 }
 

@@ -2,7 +2,7 @@ use Rattle.std.proofs.Common.{◌≡◌, ◌∙◌, Err, codes, rules, subst, sy
 use Rattle.batch_program.specs.CommandLine.{IsAskedWindow, IsFlag, IsFormat, IsRefusedWindow}
 use Rattle.program_parts.specs.Values.{IsAskedRule, IsNumber, IsPairNumber, IsRefusedRule, IsWorkerNumber}
 use Rattle.program_parts.specs.WindowText.{IsFitWindow}
-use Rattle.program_parts.specs.declared.words.WordsFault.TheVariants.{Refused}
+use Rattle.program_parts.specs.declared.reason.WordsReason.TheVariants.{Refused}
 use Rattle.batch_program.proofs.AskedWords.{text_matched, value_matched}
 use Rattle.batch_program.proofs.WindowTexts.{asked_window, fit_window, refused_window}
 use Rattle.batch_program.proofs.asking.options_by.Goals as goal

@@ -14,9 +14,9 @@ returns-in_ok-perform-in-Ok-clause-done g c = inr (c.in-Ok.asked, c.in-Ok.ensure
 
 pub returns-in-Err-clause-done : goal.returns-in-Err-clause-done
 returns-in-Err-clause-done g c =
-    done_by_words g.A.Application.behaviour (texts_of c.args.words.now) c.in-Err.fault c.in-Err.ensures.faults _ _ c.end_of_words.result c.end_of_words.ensures.shown
+    done_by_words g.A.Application.behaviour (texts_of c.args.words.now) c.in-Err.reason c.in-Err.ensures.faults _ _ c.end_of_words.result c.end_of_words.ensures.shown
 
 pub returns-in-Err-clause-stopped : goal.returns-in-Err-clause-stopped
 returns-in-Err-clause-stopped g c =
     let words = texts_of c.args.words.now in
-    stopped_by_words g.A.Application.behaviour words c.in-Err.fault c.in-Err.ensures.faults _ _ c.end_of_words.result _ _ (g.met.A.Application.unfit words) c.end_of_words.ensures.stopped
+    stopped_by_words g.A.Application.behaviour words c.in-Err.reason c.in-Err.ensures.faults _ _ c.end_of_words.result _ _ (g.met.A.Application.unfit words) c.end_of_words.ensures.stopped

@@ -1,7 +1,7 @@
 use Rattle.std.proofs.Common.{◌≡◌, ◌∙◌, Err, codes, refl, rules, subst, sym, inl, inr}
 use Rattle.program_parts.specs.Values.{IsAskedRule, IsNumber, IsPairNumber, IsRefusedRule, IsWorkerNumber}
 use Rattle.program_parts.specs.WindowText.{IsFitWindow}
-use Rattle.program_parts.specs.declared.words.WordsFault.TheVariants.{Refused}
+use Rattle.program_parts.specs.declared.reason.WordsReason.TheVariants.{Refused}
 use Rattle.view_program.specs.CommandLine.{IsAskedRectangle, IsRefusedWindow, IsSizeNumber}
 use Rattle.view_program.proofs.AskedWords.{text_matched, value_matched}
 use Rattle.view_program.proofs.WindowTexts.{asked_rectangle, fit_window, refused_window}

@@ -1,0 +1,77 @@
+//! Why words ask for no run, to the value that is not fit.
+
+ghost use Rattle.std.specs.Prelude.{◌≡◌};
+ghost use Rattle.plane.specs.declared.refusal.Refusal.TheVariants.{NoMemory};
+ghost use Rattle.program_parts.specs.Faults.{IsToldAs};
+ghost use Rattle.program_parts.specs.declared.reason.WordsReason.TheVariants.{Refused};
+
+use crate::misfit::Misfit;
+use crate::words::WordsFault;
+use clap::error::ErrorKind;
+use plane::Refusal;
+use std::alloc::AllocError;
+use std::fmt;
+
+/// Why a command line asks for no run. As text it says so to the user.
+#[derive(Debug, Drop)]
+pub enum WordsReason {
+    /// The arguments have a syntax error, or ask for the help.
+    Clap(clap::Error),
+    /// The arguments have the right form, with this value that is not fit.
+    Unfit(Misfit),
+    /// Memory ran out while the words were read, or the rule or the window that they give is refused.
+    Refused(Refusal),
+}
+
+impl WordsReason {
+    ghost use Rattle.program_parts.specs.Faults.{fault_by};
+
+    // The fault of the words, which doesn't say which value is not fit.
+    pub(crate) fn fault(self) -> WordsFault
+        ensures { result ≡ fault_by self }
+    {
+        match self {
+            WordsReason::Clap(error) => WordsFault::Clap(error),
+            WordsReason::Unfit(_) => WordsFault::Unfit,
+            WordsReason::Refused(refusal) => WordsFault::Refused(refusal),
+        }
+    }
+}
+
+impl fmt::Display for WordsReason {
+    fn fmt<W: fmt::Write>(&self, f: &mut fmt::Formatter<W>) -> fmt::Result {
+        match self {
+            WordsReason::Clap(error) => write!(f, "{error}"),
+            WordsReason::Unfit(misfit) => write!(f, "{misfit}"),
+            WordsReason::Refused(refusal) => write!(f, "{refusal}"),
+        }
+    }
+}
+
+impl From<AllocError> for WordsReason {
+    ghost from_gives = { λ _ reason. reason ≡ Refused NoMemory };
+
+    fn from(_error: AllocError) -> WordsReason {
+        WordsReason::Refused(Refusal::NoMemory)
+    }
+}
+
+impl From<Refusal> for WordsReason {
+    ghost from_gives = { λ refusal reason. reason ≡ Refused refusal };
+
+    fn from(refusal: Refusal) -> WordsReason {
+        WordsReason::Refused(refusal)
+    }
+}
+
+impl From<clap::Error> for WordsReason {
+    ghost from_gives = { IsToldAs };
+
+    fn from(error: clap::Error) -> WordsReason {
+        if error.kind() == ErrorKind::OutOfMemory {
+            WordsReason::Refused(Refusal::NoMemory)
+        } else {
+            WordsReason::Clap(error)
+        }
+    }
+}
