@@ -1,0 +1,16 @@
+//! A file for each library.
+
+mod batch_program_calls;
+mod hashlife_step_calls;
+mod leaf_kernels_calls;
+mod macrocell_reader_calls;
+mod node_sweep_calls;
+mod node_table_calls;
+mod pattern_writers_calls;
+mod plane_calls;
+mod rle_reader_calls;
+mod rule_text_calls;
+mod squares_calls;
+mod table_core_calls;
+mod viewport_calls;
+mod worker_split_calls;
