@@ -3,6 +3,7 @@
 mod books;
 mod cells;
 mod futures;
+mod kernels;
 mod leaves;
 mod numbered_squares;
 mod orders;

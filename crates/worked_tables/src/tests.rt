@@ -8,6 +8,7 @@ mod leaves;
 mod reopened;
 mod retries;
 mod rounds;
+mod searches;
 mod steps;
 mod sweeps;
 mod tables;

@@ -219,8 +219,8 @@ pub(crate) const STEPS: &[Row] = &[
     },
 ];
 
-// Runs that no engine comes through cell by cell.
-pub(crate) const FAR: &[Row] = &[
+// Runs of the glider that no engine comes through cell by cell.
+pub(crate) const FAR_GLIDERS: &[Row] = &[
     FAR_GLIDER,
     Row {
         file: "x = 3, y = 3, rule = B3/S23\nbob$2bo$3o!",
@@ -231,7 +231,6 @@ pub(crate) const FAR: &[Row] = &[
          x = 3, y = 3, rule = B3/S23\nbo$2bo$3o!\n",
         ..RLE
     },
-    FAR_REPLICATOR,
 ];
 
 #[test]
@@ -246,7 +245,8 @@ fn runs_at_the_limits(rt: HostRuntime) -> Result<(), AllocError> {
 
 #[test]
 fn runs_far(rt: HostRuntime) -> Result<(), AllocError> {
-    assert_rows(&rt, FAR)
+    assert_rows(&rt, FAR_GLIDERS)?;
+    assert_rows(&rt, &[FAR_REPLICATOR])
 }
 
 #[test]

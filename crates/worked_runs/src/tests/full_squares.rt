@@ -2,10 +2,9 @@
 
 use crate::tests::ended::Ended;
 use crate::tests::macrocell::FULL;
-use crate::tests::rows::{MACROCELL, RLE, Row, assert_rows};
+use crate::tests::rows::{MACROCELL, RLE, Row, assert_rows, assert_told};
 use plane::Refusal;
 use std::alloc::AllocError;
-use std::process::Abort;
 
 // Where no RLE file can hold the box.
 const TOO_LARGE: Row = Row {
@@ -15,7 +14,7 @@ const TOO_LARGE: Row = Row {
 
 // The line behind the file of a full square, and how it runs. After one generation the corners live, and along each
 // side the cells outside it that have three neighbours.
-pub(crate) const SQUARES: &[(&str, Row)] = &[
+const SQUARES: &[(&str, Row)] = &[
     (
         "61 58",
         Row {
@@ -62,6 +61,7 @@ fn counts_the_cells_of_full_squares(rt: HostRuntime) -> Result<(), AllocError> {
 fn writes_a_full_square_by_the_lines_that_it_has(rt: HostRuntime) -> Result<(), AllocError> {
     let file = full_square("62 59");
     let end = Ended::of(&rt, file, &MACROCELL.options())?;
-    assert!(rt; end.outcome.is_ok() && end.file.text() == file);
+    let report = "0: 5316911983139663491615228241121378304\n";
+    assert_told(&rt, "62 59", &end, (None, report, file));
     Ok(())
 }

@@ -27,24 +27,20 @@ const PLACES: &[(Kind, u64, u32, u32, u32)] = &[
     (Kind::Pair, 1, 200, 576, 833),
 ];
 
-fn look(desk: usize, index: u32) -> Event {
-    Event::Look { desk, index }
+fn look(desk: usize, slot: u32) -> Event {
+    Event::Look { desk, slot }
 }
 
-fn claim(desk: usize, index: u32, word: u64) -> Event {
-    Event::Claim { desk, index, word }
+fn claim(desk: usize, slot: u32, word: u64) -> Event {
+    Event::Claim { desk, slot, word }
 }
 
-fn ask(desk: usize, index: u32) -> Event {
-    Event::Ask { desk, index }
+fn ask(desk: usize, slot: u32) -> Event {
+    Event::Ask { desk, slot }
 }
 
-fn tell(desk: usize, index: u32, number: u32) -> Event {
-    Event::Tell {
-        desk,
-        index,
-        number,
-    }
+fn tell(desk: usize, slot: u32, number: u32) -> Event {
+    Event::Tell { desk, slot, number }
 }
 
 fn shape_of(pairs: u32) -> Option<Shape> {
@@ -157,8 +153,8 @@ fn index_in(event: Event) -> usize
     ensures { result ≡ index_of event }
 {
     match event {
-        Event::Look { index, .. } | Event::Ask { index, .. } => index as usize,
-        Event::Claim { index, .. } | Event::Tell { index, .. } => index as usize,
+        Event::Look { slot, .. } | Event::Ask { slot, .. } => slot as usize,
+        Event::Claim { slot, .. } | Event::Tell { slot, .. } => slot as usize,
     }
 }
 

@@ -3,6 +3,7 @@
 ghost use Rattle.squares.specs.Book.{Keeps};
 
 use crate::tests::tables::{PAIRS, empty_table};
+use crate::tests::threads::numbers_and_refusals;
 use plane::Refusal;
 use squares::{Num, Sq, Squares};
 use std::process::Abort;
@@ -59,5 +60,12 @@ fn a_full_table_refuses_one_word_more(rt: HostRuntime) -> Result<(), Fail> {
     assert_eq!(rt; first_refused(&mut at), Some((257, Refusal::NodesFull)));
     assert_eq!(rt; leaf(&mut at, 1)?, first);
     assert_eq!(rt; leaf(&mut at, 0)?.num, Num(0));
+    Ok(())
+}
+
+#[test]
+fn at_one_desk_256_words_have_256_numbers(rt: HostRuntime) -> Result<(), Fail> {
+    let (table, desk) = empty_table(rt.alloc(), PAIRS, 0)?;
+    assert_eq!(rt; numbers_and_refusals(&mut table.at(desk)), (256, 1));
     Ok(())
 }

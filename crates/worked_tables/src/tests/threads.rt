@@ -60,7 +60,7 @@ fn count(seen: &[bool]) -> usize {
 }
 
 // How many numbers up to 256 the words 1 to 257 have, and how many of the words find no room.
-fn numbers_and_refusals<S: Squares>(book: &mut S) -> (usize, usize) {
+pub(crate) fn numbers_and_refusals<S: Squares>(book: &mut S) -> (usize, usize) {
     let mut numbers = [false; 257];
     let mut refused = [false; 258];
     for word in 1..=257 {

@@ -69,13 +69,19 @@ fn build(book: &mut PlainBook, square: Square) -> Result<Sq, Refusal>
 const OPENING: &[u8] = b"[M2] (lifebatch 1)\n#R B3/S23\n#G 4\n";
 
 // Whether this, behind the opening, is the macrocell text of a square, with the kept comments or with none.
-fn has_text(alloc: Global, square: Square, commented: bool, wanted: &str) -> Option<bool> {
+fn has_text<R: Threads + Sync>(
+    rt: &R,
+    alloc: Global,
+    square: Square,
+    commented: bool,
+    wanted: &str,
+) -> Option<bool> {
     let rule = Rule::read(b"23/3").ok()?;
     let mut book = PlainBook::new(alloc, rule, 0);
     let sq = build(&mut book, square).ok()?;
     let read = RleFile::open(if commented { COMMENTED } else { NO_COMMENTS }).ok()?;
     let mut file = Memory::with_room(alloc, 1000).ok()?;
-    write_mc(alloc, &book, sq, read.comments(), &rule, 4, &mut file).ok()?;
+    write_mc(rt, alloc, &book, sq, read.comments(), &rule, 4, &mut file).ok()?;
     Some(file.bytes().strip_prefix(OPENING) == Some(wanted.as_bytes()))
 }
 
@@ -120,9 +126,9 @@ const TEXTS: &[Text] = &[
 ];
 
 // The first text that a square does not have.
-fn first_missing(alloc: Global, rows: &[Text]) -> Option<&'static str> {
+fn first_missing<R: Threads + Sync>(rt: &R, alloc: Global, rows: &[Text]) -> Option<&'static str> {
     for (square, commented, wanted) in rows {
-        if has_text(alloc, *square, *commented, wanted) != Some(true) {
+        if has_text(rt, alloc, *square, *commented, wanted) != Some(true) {
             return Some(*wanted);
         }
     }
@@ -131,7 +137,7 @@ fn first_missing(alloc: Global, rows: &[Text]) -> Option<&'static str> {
 
 #[test]
 fn macrocell_texts(rt: HostRuntime) {
-    assert_eq!(rt; first_missing(rt.alloc(), TEXTS), None);
+    assert_eq!(rt; first_missing(&rt, rt.alloc(), TEXTS), None);
 }
 
 // What is answered where the first write fails, and then where none does, and how many have failed.
@@ -149,7 +155,7 @@ fn answers_of_writers<R: Threads + Sync>(
     let mut book = PlainBook::new(alloc, rule, 0);
     let sq = build(&mut book, Square::Alone([1; 4])).ok()?;
     let mut file = FailAt::new(memory, 1);
-    let first = write_mc(alloc, &book, sq, read.comments(), &rule, 0, &mut file);
+    let first = write_mc(rt, alloc, &book, sq, read.comments(), &rule, 0, &mut file);
     let second = write_rle(rt, alloc, &book, sq, read.comments(), &rule, 0, &mut file);
     Some((first, second, file.failures()))
 }

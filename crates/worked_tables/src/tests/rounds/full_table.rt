@@ -10,7 +10,7 @@ use node_table::{Desk, NodeTable};
 use plane::Refusal;
 use squares::{Num, Squares, join_leaves};
 use std::test::Fail;
-use worker_split::{OpenGate, Team, round};
+use worker_split::{OpenGate, round};
 
 // With the two of the blinker, there are as many leaves as slots for them.
 fn desk_with_leaves(table: &NodeTable, desk: Desk) -> Desk
@@ -34,16 +34,10 @@ const CORNER: [u64; 4] = [1, 0, 0, 0];
 #[test]
 fn a_refused_job_does_not_stop_the_other(rt: HostRuntime) -> Result<(), Fail> {
     let (table, desk) = empty_table(rt.alloc(), PAIRS, 0)?;
-    let team = Team {
-        runtime: &rt,
-        alloc: rt.alloc(),
-        workers: 2,
-        gate: &OpenGate,
-    };
     let desk = desk_with_leaves(&table, desk);
     let (desk, jobs) = jobs_at(rt.alloc(), &table, desk, &[CORNER, BLINKER]);
     let jobs = jobs?;
-    let (desk, futures) = round(&team, &table, desk, jobs.as_slice());
+    let (desk, futures) = round(&rt, rt.alloc(), &table, desk, jobs.as_slice(), 2, &OpenGate);
     assert_eq!(rt; futures.err(), Some(Refusal::NodesFull));
     let mut at = table.at(desk);
     assert_eq!(rt; result_of(&mut at, CORNER)?, Some(Num(0)));

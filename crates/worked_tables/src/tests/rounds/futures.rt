@@ -1,4 +1,4 @@
-//! The future of a square by a team, beside that of a plain book.
+//! The future of a square by several workers, beside that of a plain book.
 
 ghost use Rattle.std.specs.Prelude.{IfOk};
 ghost use Rattle.squares.specs.Book.{IsKnown, Keeps};
@@ -17,7 +17,7 @@ use std::process::Abort;
 use std::sync::Wait;
 use std::test::Fail;
 use std::thread::Threads;
-use worker_split::{OpenGate, Team, batch_future};
+use worker_split::{OpenGate, batch_future};
 
 // The R-pentomino with room round it for a step of 2^9 generations.
 fn padded<S: Squares>(book: &mut S) -> Result<Sq, Refusal>
@@ -38,7 +38,7 @@ pub(crate) fn job_at(table: &NodeTable, desk: Desk) -> (Desk, Result<Sq, Refusal
     (at.leave(), made)
 }
 
-// What a team of so many workers made: the words of its table, the future in them, and the expansions.
+// What so many workers made: the words of its table, the future in them, and the expansions.
 #[derive(Drop)]
 struct Made {
     words: Still,
@@ -55,15 +55,9 @@ fn made_by<R: Threads + Wait + Sync + Abort + AllocGlobal>(
 {
     assert!(rt; workers >= 1 && workers <= 64);
     let (table, desk) = empty_table(rt.alloc(), 262144, exponent)?;
-    let team = Team {
-        runtime: rt,
-        alloc: rt.alloc(),
-        workers,
-        gate: &OpenGate,
-    };
     let (desk, job) = job_at(&table, desk);
     let job = job?;
-    let (desk, made) = batch_future(&team, &table, desk, job);
+    let (desk, made) = batch_future(rt, rt.alloc(), &table, desk, job, workers, &OpenGate);
     let expansions = desk.expansions();
     let words = table.close(desk);
     let future = made?;
@@ -82,7 +76,7 @@ fn made_alone<S: Squares>(book: &mut S, tally: &mut Tally) -> Result<Sq, Refusal
 
 // Exponents for which the middle squares have futures too, and for which they give their centres.
 #[test]
-fn teams_find_the_future_of_one_alone(rt: HostRuntime) -> Result<(), Fail> {
+fn workers_find_the_future_of_one_alone(rt: HostRuntime) -> Result<(), Fail> {
     for exponent in [9, 12, 5] {
         let mut plain = PlainBook::new(rt.alloc(), Rule::read(b"B3/S23")?, exponent);
         let mut own = Tally { expansions: 0 };

@@ -7,7 +7,7 @@ use std::sync::Wait;
 use std::sync::atomic::{AtomicU64, Ordering};
 use std::test::Fail;
 use std::thread::Threads;
-use worker_split::{Gate, Team, round};
+use worker_split::{Gate, round};
 
 const TURNS: u64 = 1_000_000_000;
 
@@ -86,16 +86,10 @@ fn by_two<R: Threads + Wait + Sync + Abort + AllocGlobal, G: Gate>(
     jobs: u64,
 ) -> Result<usize, Fail> {
     let (table, desk) = empty_table(rt.alloc(), PAIRS, 0)?;
-    let team = Team {
-        runtime: rt,
-        alloc: rt.alloc(),
-        workers: 2,
-        gate,
-    };
     let leaves = leaves_of(rt.alloc(), jobs)?;
     let (desk, jobs) = jobs_at(rt.alloc(), &table, desk, leaves.as_slice());
     let jobs = jobs?;
-    let (_desk, futures) = round(&team, &table, desk, jobs.as_slice());
+    let (_desk, futures) = round(rt, rt.alloc(), &table, desk, jobs.as_slice(), 2, gate);
     Ok(futures?.len())
 }
 

@@ -4,7 +4,7 @@ use crate::tests::rounds::jobs_of_leaves::{jobs_at, leaves_of};
 use crate::tests::tables::{PAIRS, empty_table};
 use std::sync::atomic::{AtomicU64, Ordering};
 use std::test::Fail;
-use worker_split::{Gate, OpenGate, Team, round};
+use worker_split::{Gate, OpenGate, round};
 
 // The leaves of a square with a blinker on its columns 7 to 9, in row 7.
 pub(crate) const BLINKER: [u64; 4] = [0x8000000000000000, 0x0300000000000000, 0, 0];
@@ -12,13 +12,7 @@ pub(crate) const BLINKER: [u64; 4] = [0x8000000000000000, 0x0300000000000000, 0,
 #[test]
 fn no_jobs_give_no_futures(rt: HostRuntime) -> Result<(), Fail> {
     let (table, desk) = empty_table(rt.alloc(), PAIRS, 0)?;
-    let team = Team {
-        runtime: &rt,
-        alloc: rt.alloc(),
-        workers: 3,
-        gate: &OpenGate,
-    };
-    let (desk, futures) = round(&team, &table, desk, &[]);
+    let (desk, futures) = round(&rt, rt.alloc(), &table, desk, &[], 3, &OpenGate);
     assert_eq!(rt; futures?.len(), 0);
     assert_eq!(rt; desk.expansions(), 0);
     Ok(())
@@ -27,15 +21,9 @@ fn no_jobs_give_no_futures(rt: HostRuntime) -> Result<(), Fail> {
 #[test]
 fn a_blinker_takes_one_expansion(rt: HostRuntime) -> Result<(), Fail> {
     let (table, desk) = empty_table(rt.alloc(), PAIRS, 0)?;
-    let team = Team {
-        runtime: &rt,
-        alloc: rt.alloc(),
-        workers: 1,
-        gate: &OpenGate,
-    };
     let (desk, jobs) = jobs_at(rt.alloc(), &table, desk, &[BLINKER]);
     let jobs = jobs?;
-    let (desk, futures) = round(&team, &table, desk, jobs.as_slice());
+    let (desk, futures) = round(&rt, rt.alloc(), &table, desk, jobs.as_slice(), 1, &OpenGate);
     assert_eq!(rt; futures?.len(), 1);
     assert_eq!(rt; desk.expansions(), 1);
     Ok(())
@@ -89,16 +77,10 @@ fn each_job_is_done_once(rt: HostRuntime) -> Result<(), Fail> {
         begun: zeros(&rt, JOBS)?,
         ended: zeros(&rt, JOBS)?,
     };
-    let team = Team {
-        runtime: &rt,
-        alloc: rt.alloc(),
-        workers: 64,
-        gate: &gate,
-    };
     let leaves = leaves_of(rt.alloc(), JOBS as u64)?;
     let (desk, jobs) = jobs_at(rt.alloc(), &table, desk, leaves.as_slice());
     let jobs = jobs?;
-    let (desk, futures) = round(&team, &table, desk, jobs.as_slice());
+    let (desk, futures) = round(&rt, rt.alloc(), &table, desk, jobs.as_slice(), 64, &gate);
     assert_eq!(rt; futures?.len(), JOBS);
     assert_eq!(rt;
         (ones(gate.begun.as_slice()), ones(gate.ended.as_slice())),

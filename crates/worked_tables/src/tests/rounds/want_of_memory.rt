@@ -12,14 +12,14 @@ use squares::Sq;
 use std::sync::Wait;
 use std::test::Fail;
 use std::thread::Threads;
-use worker_split::{OpenGate, Team, batch_future};
+use worker_split::{OpenGate, batch_future};
 
 // Room for 2^9 generations of the R-pentomino.
 const PAIRS: u32 = 262144;
 
-// Whether a team finds the future of a square, at the second try if memory was wanting.
-fn is_found<R: Threads + Wait + Sync + Print>(
-    team: &Team<'_, R, OpenGate>,
+// Whether two workers find the future of a square, at the second try if memory was wanting.
+fn is_found<R: Threads + Wait + Sync + Print + AllocGlobal>(
+    rt: &R,
     table: &NodeTable,
     desk: Desk,
     job: Sq,
@@ -27,10 +27,10 @@ fn is_found<R: Threads + Wait + Sync + Print>(
     requires desk { IsDeskOf table.now desk }
     requires job { IsJob (book_at table.now desk) job }
 {
-    let (desk, made) = batch_future(team, table, desk, job);
+    let (desk, made) = batch_future(rt, rt.alloc(), table, desk, job, 2, &OpenGate);
     if made.err() == Some(Refusal::NoMemory) {
-        println!(team.runtime; "no round")?;
-        let (_desk, again) = batch_future(team, table, desk, job);
+        println!(rt; "no round")?;
+        let (_desk, again) = batch_future(rt, rt.alloc(), table, desk, job, 2, &OpenGate);
         return Ok(again.is_ok());
     }
     Ok(made.is_ok())
@@ -42,13 +42,7 @@ fn a_desk_comes_back_for_want_of_memory(rt: HostRuntime) -> Result<(), Fail> {
         return Ok(());
     };
     let (table, desk) = opened(&rt, still, 9)?;
-    let team = Team {
-        runtime: &rt,
-        alloc: rt.alloc(),
-        workers: 2,
-        gate: &OpenGate,
-    };
     let (desk, job) = job_at(&table, desk);
-    assert!(rt; is_found(&team, &table, desk, job?)?);
+    assert!(rt; is_found(&rt, &table, desk, job?)?);
     Ok(())
 }

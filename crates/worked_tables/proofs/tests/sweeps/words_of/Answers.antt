@@ -4,12 +4,12 @@ use Rattle.worked_tables.proofs.tests.sweeps.words_of.Goals as goal
 
 pub close-words-requires : goal.close-words-requires
 close-words-requires g c =
-    (is_back c.in_ok-table.table c.in_ok-table.desk c.leave-desk.result _ _ c.at-at.ensures c.make-root.ensures.keeps c.leave-desk.ensures).of_table
+    (is_back c.in_ok-table.table c.in_ok-table.desk c.leave-desk.result _ _ c.at-at.ensures.book c.make-root.ensures.keeps c.leave-desk.ensures.desk).of_table
 
 pub returns : goal.returns
 returns g c =
     let known = c.in_ok-root.ensures.known in
-    let back = is_back c.in_ok-table.table c.in_ok-table.desk c.leave-desk.result _ _ c.at-at.ensures c.make-root.ensures.keeps c.leave-desk.ensures in
+    let back = is_back c.in_ok-table.table c.in_ok-table.desk c.leave-desk.result _ _ c.at-at.ensures.book c.make-root.ensures.keeps c.leave-desk.ensures.desk in
     record {
       known = c.close-words.ensures.says.known c.in_ok-root.field-0 (back.known c.in_ok-root.field-0.level c.in_ok-root.field-0 known).known;
       at_level = refl;
