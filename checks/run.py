@@ -25,6 +25,7 @@ FOLDER = pathlib.Path(__file__).resolve().parent
 NAMES = [
     "page_links",
     "no_axioms",
+    "wrong_bodies",
     "faulty_programs",
     "failing_devices",
     "from_bgolly_page",

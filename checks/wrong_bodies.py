@@ -1,0 +1,77 @@
+#!/usr/bin/env python3
+"""Looks up each must-fail edit and each test that the table of wrong bodies in docs/testing.md names.
+
+    checks/wrong_bodies.py
+    checks/wrong_bodies.py --root FOLDER    the page and the crates of another copy
+
+A row of the table says which body is wrong, and names what refuses it: an edit as crate/file.edit, or a test as crate::module::test. The edit has to
+stand in crates/CRATE/must-fail, and the test in the module's file in crates/CRATE/src/tests. `rt ci` shows that the edits are refused and that the
+tests pass.
+"""
+import pathlib
+import re
+from collections.abc import Iterator
+
+from common.check import CannotRun, Check, end, status_of
+from common.program import ROOT
+
+CHECK = Check(
+    text=__doc__,
+    needs=(),
+    takes="1 s",
+    replay="run it again; the row and the name are printed.",
+)
+
+PAGE = pathlib.Path("docs") / "testing.md"
+HEAD = "| Wrong body | Refused by |"
+NAME = re.compile(r"`([^`]+)`")
+EDIT = re.compile(r"(\w+)/(\w+\.edit)")
+TEST = re.compile(r"(\w+)((?:::\w+)+)::(\w+)")
+
+
+def rows(page: pathlib.Path) -> Iterator[tuple[str, list[str]]]:
+    """The rows of the table: the wrong body, and what is named beside it."""
+    lines = iter(page.read_text(encoding="utf-8").splitlines())
+    if HEAD not in lines:
+        raise CannotRun(f"{page} has no table with the head {HEAD}")
+    next(lines, None)
+    for line in lines:
+        if not line.startswith("|"):
+            return
+        _, body, refused_by, _ = line.split("|")
+        yield body.strip(), NAME.findall(refused_by)
+
+
+def has_test(file: pathlib.Path, test: str) -> bool:
+    """Whether a file has a test of this name."""
+    return file.is_file() and re.search(rf"#\[test\]\nfn {test}\(", file.read_text(encoding="utf-8")) is not None
+
+
+def is_found(name: str, root: pathlib.Path) -> bool:
+    """Whether an edit or a test stands where its name says."""
+    edit, test = EDIT.fullmatch(name), TEST.fullmatch(name)
+    if edit:
+        return (root / "crates" / edit[1] / "must-fail" / edit[2]).is_file()
+    if test:
+        modules = test[2].removeprefix("::").split("::")
+        return has_test((root / "crates" / test[1] / "src" / "tests").joinpath(*modules).with_suffix(".rt"), test[3])
+    return False
+
+
+def main() -> int:
+    parser = CHECK.parser()
+    parser.add_argument("--root", type=pathlib.Path, default=ROOT, help="the folder of docs and crates (this repository)")
+    root = CHECK.options(parser).root.resolve()
+    count, missing = 0, 0
+    for body, names in rows(root / PAGE):
+        for name in names or ["nothing that is named"]:
+            count += 1
+            if not is_found(name, root):
+                missing += 1
+                print(f"differs: {body}: no {name}")
+    print(f"{count - missing} edits and tests of wrong bodies found, {missing} not")
+    return status_of(count, missing)
+
+
+if __name__ == "__main__":
+    end(main)
