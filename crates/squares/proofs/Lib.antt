@@ -4,6 +4,7 @@ pub mod CopyMaps
 pub mod EmptyFutures
 pub mod FourKnown
 pub mod FourLeaves
+pub mod JoinedRows
 pub mod Kept
 pub mod KeptResults
 pub mod KnownCopies
@@ -11,6 +12,7 @@ pub mod KnownQuarters
 pub mod NineSquares
 pub mod NodeLaws
 pub mod NodeLists
+pub mod LeafColumns
 pub mod NotedValues
 pub mod NumberMaps
 pub mod Places
@@ -19,7 +21,12 @@ pub mod PlainQuads
 pub mod Pushed
 pub mod RecordLists
 pub mod Results
+pub mod RowColumns
+pub mod RowPairs
 pub mod RunLevels
+pub mod RunOrder
 pub mod SpanCells
-pub mod SpanSquares
+pub mod SpanOrder
 pub mod SquareNumbers
+pub mod StripLaws
+pub mod StripRows

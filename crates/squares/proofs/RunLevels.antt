@@ -8,6 +8,7 @@ use Rattle.std.proofs.lemmas.Bool.Decides.{nat_tests, Decides-int_eq}
 use Rattle.std.proofs.lemmas.Int.{ints}
 use Rattle.plane.specs.Centred.{centred, is_round, Holds, IsSmallestLevel}
 use Rattle.plane.specs.Listing.{is_at, plane_of}
+use Rattle.plane.specs.Plane.{Plane}
 use Rattle.plane.specs.Range.{IsInRange}
 use Rattle.plane.specs.Runs.{IsRun, is_in_run, runs_plane}
 use Rattle.plane.specs.Square.{IsSame, spans, cut}
@@ -16,9 +17,8 @@ use Rattle.plane.proofs.Cuts.{and_left, and_right}
 use Rattle.plane.proofs.Paddings.{twice_half}
 use Rattle.plane.proofs.Same.{plane_equal}
 use Rattle.squares.specs.Book.{Book, IsKnown, Shows}
-use Rattle.squares.specs.Rounds.{IsRound}
+use Rattle.squares.specs.Rounds.{IsRound, square_plane}
 use Rattle.squares.specs.Spans.{FitsRound, in_span, in_spans, marked, single_run, span_of}
-use Rattle.squares.specs.declared.spans.Span.{Span}
 use Rattle.squares.specs.declared.sq.Sq.{Sq}
 use Rattle.squares.proofs.SpanCells.{none_in, first_in, marked_inside}
 
@@ -207,19 +207,20 @@ round_cells level runs least all = record { same = λ x y. by_case x y (is_round
         ∙ marked_inside (2 ^ level) f a.0 b.0 (ap (spans (2 ^ level)) (sym a.1) ∙ hx) (ap (spans (2 ^ level)) (sym b.1) ∙ hy)
         ∙ same_runs half x y a.0 b.0 a.1 b.1 runs all
 
-pub round_shown : (book : Book) (level : ℕ) (runs : List (Cell × ℕ)) (spans : List Span) (sq : Sq) → IsSmallestLevel level (runs_plane runs) → AllByRecursion (FitsRound (2 ^ (level - 1))) runs →
-    spans ≡ map (span_of (2 ^ (level - 1))) runs → Shows book level (cut (2 ^ level) 0 0 (marked (in_spans spans))) sq → IsRound book (runs_plane runs) sq
-round_shown book level runs spans sq smallest all e shown =
-    let least = smallest.least in
-    let shown_runs = subst (λ ss. Shows book level (cut (2 ^ level) 0 0 (marked (in_spans ss))) sq) e shown in
-    let level_is : level ≡ sq.level = sym shown.known.at_level in
-    record {
-      known = subst (λ l. IsKnown book l sq) level_is shown.known;
-      smallest = subst (λ l. IsSmallestLevel l (runs_plane runs)) level_is smallest;
-      cells = subst (λ l. IsSame (centred l (book.cells sq)) (runs_plane runs)) level_is (record {
-        same = λ x y. shown_runs.cells.same (x +ℤ pos (2 ^ (level - 1))) (y +ℤ pos (2 ^ (level - 1))) ∙ (round_cells level runs (omega arith) all).same x y;
-      });
-    }
+-- a square that shows the spans of the runs has the cells of the runs round (0,0)
+pub cells_shown : (book : Book) (level : ℕ) (runs : List (Cell × ℕ)) (sq : Sq) → 1 ≤ level → AllByRecursion (FitsRound (2 ^ (level - 1))) runs →
+    Shows book level (cut (2 ^ level) 0 0 (marked (in_spans (map (span_of (2 ^ (level - 1))) runs)))) sq → IsSame (square_plane book sq) (runs_plane runs)
+cells_shown book level runs sq least all shown = subst (λ l. IsSame (centred l (book.cells sq)) (runs_plane runs)) (sym shown.known.at_level) (record {
+  same = λ x y. shown.cells.same (x +ℤ pos (2 ^ (level - 1))) (y +ℤ pos (2 ^ (level - 1))) ∙ (round_cells level runs least all).same x y;
+})
+
+-- a known square of the smallest level that has the cells
+pub round_known : (book : Book) (level : ℕ) (plane : Plane) (sq : Sq) → IsSmallestLevel level plane → IsKnown book level sq → IsSame (square_plane book sq) plane → IsRound book plane sq
+round_known book level plane sq smallest known same = record {
+  known = subst (λ l. IsKnown book l sq) (sym known.at_level) known;
+  smallest = subst (λ l. IsSmallestLevel l plane) (sym known.at_level) smallest;
+  cells = same;
+}
 
 -- each cell of a set as a run
 single_run_is : (cell : Cell) → IsInRange cell → IsRun (single_run cell)

@@ -101,7 +101,7 @@ ones_shifted k s h f =
 at_least : (n : ℕ) → int_le (pos 0) (pos n) ≡ true
 at_least n = grind (arith, ints)
 
-in_pos : (n k : ℕ) → spans n (pos k) ≡ true → k < n
+pub in_pos : (n k : ℕ) → spans n (pos k) ≡ true → k < n
 in_pos n k h = grind (arith, ints)
 
 marked_at : (f : ℕ → ℕ → Bool) (a b : ℕ) → marked f (pos a) (pos b) ≡ f a b
@@ -110,10 +110,10 @@ marked_at f a b = ap (λ t. (t && int_le (pos 0) (pos b)) && f a b) (at_least a)
 moved : (a b : ℕ) → pos a +ℤ pos b ≡ pos (a + b)
 moved a b = omega (arith, ints)
 
-marked_moved : (f : ℕ → ℕ → Bool) (a b left top : ℕ) → marked f (pos a +ℤ pos left) (pos b +ℤ pos top) ≡ f (a + left) (b + top)
+pub marked_moved : (f : ℕ → ℕ → Bool) (a b left top : ℕ) → marked f (pos a +ℤ pos left) (pos b +ℤ pos top) ≡ f (a + left) (b + top)
 marked_moved f a b left top = ap (λ x. marked f x (pos b +ℤ pos top)) (moved a left) ∙ ap (marked f (pos (a + left))) (moved b top) ∙ marked_at f (a + left) (b + top)
 
-left_of : (n k : ℕ) → spans n (negsuc k) ≡ true → ⊥
+pub left_of : (n k : ℕ) → spans n (negsuc k) ≡ true → ⊥
 left_of n k h = grind (arith, ints)
 
 pub cut_marked : (side left top : ℕ) (f g : ℕ → ℕ → Bool) → ((x y : ℕ) → x < side → y < side → f x y ≡ g (x + left) (y + top)) → IsSame (cut side 0 0 (marked f)) (cut side left top (marked g))

@@ -9,3 +9,5 @@ pub mod Parts
 pub mod Quarters
 pub mod Rounds
 pub mod Spans
+pub mod SquareRows
+pub mod Strips

@@ -2,18 +2,20 @@
 
 ghost use Rattle.std.specs.Prelude.{◌≡◌, ◌-◌, ◌^◌, ◌≤◌, ◌↔◌, IfOk, IfErr, IsTrue, map};
 ghost use Rattle.std.specs.List.{AllByRecursion};
+ghost use Rattle.std.specs.List.Sorted.{IsPermutation};
 ghost use Rattle.plane.specs.Centred.{IsSmallestLevel};
 ghost use Rattle.plane.specs.CellSet.{IsCellSet};
 ghost use Rattle.plane.specs.Listing.{plane_of};
 ghost use Rattle.plane.specs.Runs.{IsRun, runs_plane};
-ghost use Rattle.plane.specs.Square.{cut};
-ghost use Rattle.squares.specs.Book.{AddsSquares, LacksMemoryOr, MayRefuse, Shows};
+ghost use Rattle.squares.specs.Book.{AddsSquares, LacksMemoryOr, MayRefuse};
 ghost use Rattle.squares.specs.Rounds.{IsRound};
-ghost use Rattle.squares.specs.Spans.{FitsRound, in_spans, marked, single_run};
+ghost use Rattle.squares.specs.Spans.{FitsRound, single_run};
+ghost use Rattle.squares.specs.Strips.{AreInReadingOrder};
 
 use crate::book::Squares;
-use crate::spans::{Span, distance, leaf_bits, spans_of, split_spans};
-use crate::sq::{HIGHEST_ROOT_LEVEL, LEAF_LEVEL, LOWEST_ROOT_LEVEL, Sq, half_side};
+use crate::spans::distance;
+use crate::sq::{HIGHEST_ROOT_LEVEL, LOWEST_ROOT_LEVEL, Sq, half_side};
+use crate::strips::{LiveRuns, ordered_runs_to_square};
 use plane::{Cell, CellSet, Refusal};
 use std::alloc::{AllocError, Global};
 
@@ -47,32 +49,31 @@ fn smallest_level(runs: &[(Cell, u64)]) -> u8
     HIGHEST_ROOT_LEVEL
 }
 
-// The square of this level with the spans' cells, made from the quarters up.
-fn spans_to_square<S: Squares>(
-    alloc: Global,
-    book: &mut S,
-    spans: Vec<Span>,
-    level: u8,
-) -> Result<Sq, Refusal>
-    requires level { (3 ≤ level) × (level ≤ 63) }
-    ensures ok { IfOk result (Shows (S.book book.new) level
-        (cut (2 ^ level) 0 0 (marked (in_spans spans.items)))) }
-    ensures refusal { IfErr result (LacksMemoryOr (MayRefuse (S.book book.new))) }
-    ensures adds { AddsSquares (S.book book.old) (S.book book.new) }
+// The runs in the order of reading.
+fn sorted_runs(alloc: Global, runs: &[(Cell, u64)]) -> Result<Vec<(Cell, u64)>, AllocError>
+    ensures order { IfOk result (λ sorted. AreInReadingOrder sorted.items) }
+    ensures same { IfOk result (λ sorted. IsPermutation runs.now sorted.items) }
 {
-    if spans.is_empty() {
-        return Ok(Sq::empty(level));
+    let mut sorted = Vec::new(alloc);
+    sorted.extend_from_slice(runs)?;
+    sorted.sort()?;
+    Ok(sorted)
+}
+
+// Runs of a slice that are left.
+#[derive(Drop)]
+struct SliceRuns<'a> {
+    runs: &'a [(Cell, u64)],
+}
+
+impl LiveRuns for SliceRuns<'_> {
+    ghost left = { λ slice. slice.runs.now };
+
+    fn next_run(&mut self) -> Option<(Cell, u64)> {
+        let (first, rest) = self.runs.split_first()?;
+        self.runs = rest;
+        Some(*first)
     }
-    if level == LEAF_LEVEL {
-        return book.leaf(leaf_bits(&spans));
-    }
-    let quarters = split_spans(alloc, &spans, half_side(level))?;
-    drop(spans);
-    let nw = spans_to_square(alloc, book, quarters.nw, level - 1)?;
-    let ne = spans_to_square(alloc, book, quarters.ne, level - 1)?;
-    let sw = spans_to_square(alloc, book, quarters.sw, level - 1)?;
-    let se = spans_to_square(alloc, book, quarters.se, level - 1)?;
-    book.quad([nw, ne, sw, se])
 }
 
 /// The square of the runs' cells, at the smallest level of at least 4 round (0,0): a square of
@@ -89,9 +90,9 @@ pub fn runs_to_square<S: Squares>(
     ensures refusal { IfErr result (LacksMemoryOr (MayRefuse (S.book book.new))) }
     ensures adds { AddsSquares (S.book book.old) (S.book book.new) }
 {
-    let level = smallest_level(runs);
-    let spans = spans_of(alloc, runs, half_side(level))?;
-    spans_to_square(alloc, book, spans, level)
+    let sorted = sorted_runs(alloc, runs)?;
+    let level = smallest_level(&sorted);
+    ordered_runs_to_square(alloc, book, SliceRuns { runs: &sorted }, level)
 }
 
 // Each cell of the set as a run.

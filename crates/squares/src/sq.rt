@@ -22,6 +22,14 @@ pub fn half_side(level: u8) -> u64
     1 << (level - 1)
 }
 
+/// The side of a square of this level, which is at most 63.
+pub(crate) fn side(level: u8) -> u64
+    requires { level ≤ 63 }
+    ensures { result ≡ 2 ^ level }
+{
+    1 << level
+}
+
 /// The number of a square in its book. Number 0 is the empty square of each level.
 #[derive(Clone, Copy, Debug, PartialEq, Eq, PartialOrd, Ord)]
 pub struct Num(pub u32);

@@ -1,15 +1,30 @@
-use Rattle.std.proofs.Common.{◌∙◌, ap, map}
-use Rattle.std.proofs.lemmas.Result.{IfOk-weaker}
-use Rattle.squares.specs.Spans.{span_of}
+use Rattle.std.proofs.Common.{◌≡◌, ◌∙◌, sym, subst, ap}
+use Rattle.std.specs.Prelude.{Result, Ok, Err, IfOk}
+use Rattle.std.specs.List.{AllByRecursion}
+use Rattle.plane.specs.Square.{IsSame}
+use Rattle.plane.specs.Centred.{IsSmallestLevel}
+use Rattle.plane.specs.Runs.{IsRun, runs_plane}
+use Rattle.plane.proofs.Same.{plane_equal}
+use Rattle.squares.specs.Rounds.{square_plane}
 use Rattle.squares.specs.declared.sq.Sq.{Sq}
-use Rattle.squares.proofs.RunLevels.{round_shown}
+use Rattle.squares.proofs.RunLevels.{round_known}
+use Rattle.squares.proofs.RunOrder.{all_sorted, same_runs_plane}
 use Rattle.squares.proofs.runs.runs_to_square.Goals as goal
+
+pub smallest_level-level-requires : goal.smallest_level-level-requires
+smallest_level-level-requires g c = subst (AllByRecursion IsRun) (sym c.deref.ensures.value) (all_sorted IsRun c.args.runs.now c.in_ok-sorted.sorted.items c.in_ok-sorted.ensures.same c.requires)
+
+-- what both clauses of a result that is Ok say
+both : {A E : Type 0} (result : Result A E) (P Q R : A → Type 0) → ((a : A) → P a → Q a → R a) → IfOk result P → IfOk result Q → IfOk result R
+both (Ok a) P Q R make p q = make a p q
+both (Err e) P Q R make p q = tt
 
 pub returns-clause-ok : goal.returns-clause-ok
 returns-clause-ok g c =
-    let runs = c.args.runs.now in
+    let book = g.S.Squares.book c.ordered_runs_to_square.new.book in
     let level = c.smallest_level-level.result in
-    IfOk-weaker c.spans_to_square.result _ _
-    (λ (sq : Sq) shown. round_shown (g.S.Squares.book c.spans_to_square.new.book) level runs c.in_ok-spans.spans.items sq c.smallest_level-level.ensures.smallest c.smallest_level-level.ensures.fits
-    (c.in_ok-spans.ensures ∙ ap (λ half. map (span_of half) runs) c.half_side.ensures.value) shown)
-    c.spans_to_square.ensures.ok
+    let first : runs_plane c.deref.result.now ≡ runs_plane c.args.runs.now = ap runs_plane c.deref.ensures.value ∙ plane_equal _ _ (same_runs_plane c.args.runs.now c.in_ok-sorted.sorted.items c.in_ok-sorted.ensures.same) in
+    let second : runs_plane c.deref-2.result.now ≡ runs_plane c.args.runs.now = ap runs_plane c.deref-2.ensures.value ∙ plane_equal _ _ (same_runs_plane c.args.runs.now c.in_ok-sorted.sorted.items c.in_ok-sorted.ensures.same) in
+    both c.ordered_runs_to_square.result _ _ _
+    (λ (sq : Sq) known cells. round_known book level (runs_plane c.args.runs.now) sq (subst (IsSmallestLevel level) first c.smallest_level-level.ensures.smallest) known (subst (IsSame (square_plane book sq)) second cells))
+    c.ordered_runs_to_square.ensures.known c.ordered_runs_to_square.ensures.cells
