@@ -10,6 +10,13 @@ const START_BITS: u8 = 12;
 // From how many pair slots on a table is large, as a power of two: it is larger than a processor's cache.
 pub(crate) const LARGE_BITS: u8 = 18;
 
+// How many pair slots a run's tables may have together unless it is told otherwise, as a power of two.
+const DEFAULT_LIMIT_BITS: u8 = 22;
+
+// From how many pair slots on a table grows by sixteen where it may have more slots than by default: who gives
+// so many needs them.
+const BITS_OF_LARGE_STEPS: u8 = 20;
+
 /// The shape of a new table: 4096 pair slots, or the largest.
 pub fn smallest(most: Shape) -> Shape
     ensures { result.bits ≡ min 12 most.bits }
@@ -25,9 +32,24 @@ pub enum GrowthFactor {
     Sixteen,
 }
 
+/// The shape of a new table for about so many squares: the smallest with as many pair slots, of those that a
+/// table grows through, or the largest.
+pub fn expected(squares: u64, most: Shape) -> Shape
+    ensures { result.bits ≤ most.bits }
+{
+    let mut shape = smallest(most);
+    'sizes: while pair_count(shape) < squares {
+        let Some(next) = larger(shape, most, GrowthFactor::Sixteen) else {
+            return shape;
+        };
+        shape = next;
+    }
+    shape
+}
+
 /// The shape of the table that replaces a full one. It has four or sixteen times as many pair slots, as the
-/// factor says, after a large one four times as many, and never more than the largest. `None` where the full
-/// one has the largest shape.
+/// factor says; after a large one four times as many, or sixteen times where the largest shape is above the
+/// default; and never more than the largest. `None` where the full one has the largest shape.
 pub fn larger(shape: Shape, most: Shape, growth_factor: GrowthFactor) -> Option<Shape>
     ensures some { IfSome result (λ next. (shape.bits < next.bits) × (next.bits ≤ most.bits)) }
     ensures none { IfNone result (most.bits ≤ shape.bits) }
@@ -35,10 +57,11 @@ pub fn larger(shape: Shape, most: Shape, growth_factor: GrowthFactor) -> Option<
     if shape.bits >= most.bits {
         return None;
     }
-    let bits = match growth_factor {
-        GrowthFactor::Sixteen if shape.bits < LARGE_BITS => shape.bits + 4,
-        _ => shape.bits + 2,
+    let grows_at_once = match growth_factor {
+        GrowthFactor::Sixteen if shape.bits < LARGE_BITS => true,
+        _ => shape.bits >= BITS_OF_LARGE_STEPS && most.bits > DEFAULT_LIMIT_BITS,
     };
+    let bits = shape.bits + if grows_at_once { 4 } else { 2 };
     let bits = most.bits.min(bits);
     Some(Shape { bits })
 }

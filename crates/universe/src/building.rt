@@ -15,17 +15,20 @@ use rule_text::Rule;
 use squares::{Build, Sq};
 use std::alloc::Global;
 use table_core::Shape;
-use table_growth::{GrowthFactor, TableHistory, larger, smallest};
+use table_growth::{GrowthFactor, TableHistory, expected, larger};
 
 impl Universe {
     ghost use Rattle.universe.specs.Cells.{limit_of, live_cells, rule_of};
 
-    /// The live cells of the source, in tables of together at most so many pair slots. `NodesFull` where
-    /// the largest table fills up before their square is built; `NoMemory` where memory runs out.
+    /// The live cells of the source, in tables of together at most so many pair slots. About how many
+    /// squares it takes may be said, so that the first table has room for them; 0 where nothing is known.
+    /// `NodesFull` where the largest table fills up before their square is built; `NoMemory` where memory
+    /// runs out.
     pub fn of<B: Build>(
         alloc: Global,
         rule: &Rule,
         source: &B,
+        squares: u64,
         limit: u32,
     ) -> Result<Universe, Refusal>
         requires source { B.is_lawful source.now }
@@ -39,7 +42,7 @@ impl Universe {
             (λ refusal. refusal ≡ Refusal.NodesFull → HasFullTable rule.now limit) }
     {
         let limit = Shape::new(limit);
-        let mut shape = smallest(limit);
+        let mut shape = expected(squares, limit);
         'sizes: loop {
             let made = OpenTable::of_source(alloc, rule, source, shape);
             if let Some((here, root)) = unless_full(made)? {

@@ -82,6 +82,6 @@ fn a_generation_that_has_no_room_is_made(rt: HostRuntime) -> Result<(), Fail> {
     let made = later(rt.alloc(), &mut table.at(desk), &cells);
     assert_eq!(rt; made, Err(Refusal::NodesFull));
     let source = Cells { cells: &cells };
-    let start = Universe::of(rt.alloc(), &Rule::read(b"B3/S23")?, &source, PAIRS)?;
+    let start = Universe::of(rt.alloc(), &Rule::read(b"B3/S23")?, &source, 0, PAIRS)?;
     assert_comes_to(&rt, start, &[(0, 12716), (1, 12716)])
 }

@@ -88,7 +88,7 @@ fn of_runs<R: Abort + AllocGlobal>(
 {
     assert!(rt; Shape::is_pair_count(limit));
     let rule = Rule::read(rule)?;
-    Ok(Universe::of(rt.alloc(), &rule, &Runs { runs }, limit)?)
+    Ok(Universe::of(rt.alloc(), &rule, &Runs { runs }, 0, limit)?)
 }
 
 // Few slots, so that tables grow, are swept and let go, and steps are halved; some; and many.
