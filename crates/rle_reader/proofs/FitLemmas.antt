@@ -20,7 +20,7 @@ use Rattle.rle_reader.specs.declared.item.Tag.{Tag}
 use Rattle.rle_reader.specs.declared.item.Tag.TheVariants.{Dead, Live, Row}
 use Rattle.rle_reader.proofs.FaultLemmas.{InReach, fits-capped, either_false, no_fault}
 
-or_none : {A : Type 0} (a b : Option A) → option_or a b ≡ None → (a ≡ None) × (b ≡ None)
+pub or_none : {A : Type 0} (a b : Option A) → option_or a b ≡ None → (a ≡ None) × (b ≡ None)
 or_none None b h = (refl, h)
 or_none (Some x) b h = cc
 
@@ -37,11 +37,11 @@ reach_after left state Live count left_reach reach stays = record { column = mov
 reach_after left state Row count left_reach reach stays = record { column = left_reach; row = moved_on state.row count reach.row stays }
 
 -- the reading of a tag has no fault in this state with this count
-record IsGood (state : State) (reading : Result Tag Refusal) (count : ℕ) : Type 0 where
-  tag : Tag
-  is : reading ≡ Ok tag
-  counted : (count == 0) ≡ false
-  none : motion_fault state tag count ≡ None
+pub record IsGood (state : State) (reading : Result Tag Refusal) (count : ℕ) : Type 0 where
+  pub tag : Tag
+  pub is : reading ≡ Ok tag
+  pub counted : (count == 0) ≡ false
+  pub none : motion_fault state tag count ≡ None
 
 -- of the two faults of a motion the second is absent too
 no_second_fault : (a b : Bool) → first_fault (when a OutOfRange ++ when b TooManyCells) ≡ None → b ≡ false
@@ -62,15 +62,15 @@ good_reading state (Ok tag) count none =
     good_count (count == 0) state tag count refl
     (ap first_fault (sym (append_assoc (when (count == 0) BadCount) (when (leaves_range state tag count) OutOfRange) (when (passes_cells state tag count) TooManyCells))) ∙ none)
 
-good_item : (state : State) (item : Item) → item_fault state item ≡ None → IsGood state (tag_of item.tag.byte) (count_of item.digits)
+pub good_item : (state : State) (item : Item) → item_fault state item ≡ None → IsGood state (tag_of item.tag.byte) (count_of item.digits)
 unfolding item_fault
 good_item state item none = good_reading state (tag_of item.tag.byte) (count_of item.digits) (mapped_none _ _ none)
 
-good_state : (left : ℤ) (state : State) (item : Item) (good : IsGood state (tag_of item.tag.byte) (count_of item.digits)) → state_after left state item ≡ after_item left state good.tag (count_of item.digits)
+pub good_state : (left : ℤ) (state : State) (item : Item) (good : IsGood state (tag_of item.tag.byte) (count_of item.digits)) → state_after left state item ≡ after_item left state good.tag (count_of item.digits)
 unfolding state_after
 good_state left state item good = rw good.is refl
 
-good_run : (source : List ℕ) (state : State) (item : Item) (good : IsGood state (tag_of item.tag.byte) (count_of item.digits)) →
+pub good_run : (source : List ℕ) (state : State) (item : Item) (good : IsGood state (tag_of item.tag.byte) (count_of item.digits)) →
     run_of source item ≡ Ok (record { text = slice_range source (place_of item.digits item.tag) (item.tag.place + 1); place = place_of item.digits item.tag; count = count_of item.digits; tag = good.tag })
 unfolding item_slice_from
 good_run source state item good = rw (good.is, good.counted) refl

@@ -17,3 +17,4 @@ mod RangeLemmas
 mod CountLemmas
 mod RunLists
 mod SliceLemmas
+mod LiveLemmas

@@ -1,27 +1,30 @@
 -- The live items of a file, listed as runs one after the other.
-use Rattle.std.proofs.Common.{◌≡◌, ℕ, ◌<◌, ◌==◌, Bool, true, false, cond, ◌||◌, List, [], ◌∷◌, ◌++◌, map, Option, None, Some, Result, Ok, Err, IfErr, refl, sym, ◌∙◌, ap, subst, ℤ, pos, ◌+ℤ◌, int_le, arith, inl, inr, ⊎_elim}
+use Rattle.std.proofs.Common.{◌≡◌, ℕ, ◌<◌, ◌==◌, Bool, true, false, cond, ◌||◌, ◌&&◌, List, [], ◌∷◌, ◌++◌, map, None, Result, Ok, Err, refl, ap, subst, ℤ, pos, ◌+ℤ◌, int_le, int_lt, arith, inl, inr, ⊎_elim}
 use Rattle.std.specs.List.{AllByRecursion}
-use Rattle.std.specs.Result.{is_err, ok_prefix}
+use Rattle.std.specs.Ordering.{int_eq}
+use Rattle.std.specs.Result.{ok_prefix}
 use Rattle.std.proofs.lemmas.Bool.Decides.{nat_tests}
 use Rattle.std.proofs.lemmas.Int.{ints}
-use Rattle.std.proofs.lemmas.List.{append-nil}
-use Rattle.std.proofs.lemmas.List.Folds.{list_any-append}
 use Rattle.plane.specs.declared.cell.Cell.{Cell}
 use Rattle.plane.specs.Limits.{coordinate_limit}
+use Rattle.plane.specs.Range.{IsInRange}
 use Rattle.plane.specs.declared.refusal.Refusal.{Refusal}
 use Rattle.plane.specs.declared.refusal.Refusal.TheVariants.{BadCount}
 use Rattle.plane.specs.Runs.{AreRising, AreRuns, IsRun, Precedes, is_in_run, runs_plane}
 use Rattle.plane.specs.Square.{IsSame}
-use Rattle.plane.proofs.Elements.{AllByRecursion-append, AllByRecursion-weaker}
-use Rattle.rle_reader.specs.Items.{ItemSlice, Item, item_slice_between, item_slice_from, run_of, tag_of}
-use Rattle.rle_reader.specs.LiveRuns.{live_run}
-use Rattle.rle_reader.specs.Meaning.{Meaning, StayInRange, is_covered, live_plane}
+use Rattle.text_lines.specs.Lines.{lines_from}
+use Rattle.rle_reader.specs.Body.{stripped, stripped_from}
+use Rattle.rle_reader.specs.Items.{ItemSlice, Item, item_slice_between, item_slice_from, items_of, run_of, tag_of}
+use Rattle.rle_reader.specs.LiveRuns.{live_run, live_runs_from, live_runs_of}
+use Rattle.rle_reader.specs.Meaning.{Meaning, StayInRange, body_fault, is_covered, is_live, live_plane, meaning_of}
 use Rattle.rle_reader.specs.Range.{IsWithinReach}
-use Rattle.rle_reader.specs.State.{State, state_at, start_at, after_item, leaves_range, passes_limit, motion_fault}
+use Rattle.rle_reader.specs.Seen.{opening_seen}
+use Rattle.rle_reader.specs.State.{State, state_at, start_at, after_item, leaves_range, passes_limit}
 use Rattle.rle_reader.specs.declared.item.Tag.{Tag}
 use Rattle.rle_reader.specs.declared.item.Tag.TheVariants.{Dead, Live, Row}
-use Rattle.rle_reader.proofs.FaultLemmas.{either_false}
-use Rattle.rle_reader.proofs.MotionLemmas.{stays-no_fault}
+use Rattle.rle_reader.specs.declared.preamble.Preamble.{Preamble}
+use Rattle.rle_reader.proofs.FaultLemmas.{InReach, either_false}
+use Rattle.rle_reader.proofs.FitLemmas.{reach_after, stay-accepted, within}
 
 -- ---- each item counts at least one
 
@@ -52,10 +55,6 @@ runs_counted source (item ∷ items) =
 abbrev EndsBefore : ℤ → ℤ → (Cell × ℕ) → Type 0
 EndsBefore column row run = Precedes run (record { y = row; x = column }, 0)
 
-rising_append : (runs more : List (Cell × ℕ)) → AreRising runs → AreRising more → AllByRecursion (λ run. AllByRecursion (Precedes run) more) runs → AreRising (runs ++ more)
-rising_append [] more rising later across = later
-rising_append (run ∷ runs) more rising later across = (AllByRecursion-append (Precedes run) runs more rising.0 across.0, rising_append runs more rising.1 later across.1)
-
 -- what ends before a place ends before each later one
 ends_further : (column row : ℤ) (count : ℕ) (run : Cell × ℕ) → EndsBefore column row run → EndsBefore (column +ℤ pos count) row run
 ends_further column row count run before = ⊎_elim inl (λ same. inr (same.0, omega (arith, ints, same.1))) before
@@ -63,57 +62,23 @@ ends_further column row count run before = ⊎_elim inl (λ same. inr (same.0, o
 ends_above : (column row left : ℤ) (count : ℕ) (run : Cell × ℕ) → 0 < count → EndsBefore column row run → EndsBefore left (row +ℤ pos count) run
 ends_above column row left count run some before = inl (⊎_elim (λ above. omega (arith, ints, above)) (λ same. omega (arith, ints, same.0)) before)
 
--- ---- the runs so far
+behind_item : (left : ℤ) (state : State) (tag : Tag) (count : ℕ) (run : Cell × ℕ) (later : List (Cell × ℕ)) → 0 < count → EndsBefore state.column state.row run →
+    (let next = after_item left state tag count in EndsBefore next.column next.row run → AllByRecursion (Precedes run) later) →
+    AllByRecursion (Precedes run) (live_run (record { y = state.row; x = state.column }) tag count ++ later)
+behind_item left state Dead count run later some before more = more (ends_further state.column state.row count run before)
+behind_item left state Live count run later some before more = (before, more (ends_further state.column state.row count run before))
+behind_item left state Row count run later some before more = more (ends_above state.column state.row left count run some before)
 
--- the live cells are those of the items that are left, of which the first begins here, and of these runs, which end before
-pub record IsListed (meaning : Meaning) (left column row : ℤ) (live : ℕ) (rest : List ItemSlice) (runs : List (Cell × ℕ)) : Type 0 where
-  pub left_is : left ≡ meaning.pos.x
-  pub stay : StayInRange left (state_at column row live) rest
-  pub counted : AllByRecursion IsCounted rest
-  pub each : AllByRecursion IsRun runs
-  pub rising : AreRising runs
-  pub before : AllByRecursion (EndsBefore column row) runs
-  pub plane : (x y : ℤ) → live_plane meaning x y ≡ (is_covered left (state_at column row live) rest x y || runs_plane runs x y)
+-- what ends before the first item precedes all runs of the items
+all_behind : (left : ℤ) (state : State) (items : List ItemSlice) (run : Cell × ℕ) → AllByRecursion IsCounted items → EndsBefore state.column state.row run →
+    AllByRecursion (Precedes run) (live_runs_from left state items)
+unfolding live_runs_from
+all_behind left state [] run counted before = tt
+all_behind left state (item ∷ items) run counted before =
+    let next = after_item left state item.tag item.count in
+    behind_item left state item.tag item.count run (live_runs_from left next items) counted.0 before (λ later. all_behind left next items run counted.1 later)
 
-or_false : (a : Bool) → a ≡ (a || false)
-or_false true = refl
-or_false false = refl
-
-listed_none : (meaning : Meaning) → StayInRange meaning.pos.x (start_at meaning.pos) meaning.runs → AllByRecursion IsCounted meaning.runs →
-    IsListed meaning meaning.pos.x meaning.pos.x meaning.pos.y 0 meaning.runs []
-unfolding runs_plane
-listed_none meaning stay counted = record {
-  left_is = refl;
-  stay = stay;
-  counted = counted;
-  each = tt;
-  rising = tt;
-  before = tt;
-  plane = λ x y. or_false (live_plane meaning x y);
-}
-
--- before the first item there is no run
-pub listed_start : (meaning : Meaning) (left column row : ℤ) (live : ℕ) (items : List ItemSlice) (runs : List (Cell × ℕ)) → runs ≡ [] → items ≡ meaning.runs → left ≡ meaning.pos.x →
-    state_at column row live ≡ start_at meaning.pos → StayInRange meaning.pos.x (start_at meaning.pos) meaning.runs → AllByRecursion IsCounted meaning.runs →
-    IsListed meaning left column row live items runs
-listed_start meaning left column row live items runs none items_is left_is state stay counted =
-    let at_start : IsListed meaning meaning.pos.x column row live meaning.runs [] =
-    subst (λ (s : State). IsListed meaning meaning.pos.x s.column s.row s.live meaning.runs []) (sym state) (listed_none meaning stay counted) in
-    subst (λ r. IsListed meaning left column row live items r) (sym none)
-    (subst (λ i. IsListed meaning left column row live i []) (sym items_is)
-    (subst (λ l. IsListed meaning l column row live meaning.runs []) (sym left_is) at_start))
-
-pub listed_all : (meaning : Meaning) (left column row : ℤ) (live : ℕ) (runs : List (Cell × ℕ)) → IsListed meaning left column row live [] runs → AreRuns runs × IsSame (runs_plane runs) (live_plane meaning)
-unfolding is_covered
-listed_all meaning left column row live runs listed = (record { each = listed.each; rising = listed.rising }, record { same = λ x y. sym (listed.plane x y) })
-
-or_swap : (a b c : Bool) → ((a || b) || c) ≡ (b || (c || (a || false)))
-or_swap true true c = refl
-or_swap true false true = refl
-or_swap true false false = refl
-or_swap false b true = refl
-or_swap false true false = refl
-or_swap false false false = refl
+-- ---- the runs of items that stay in the range
 
 -- a live item is a run of the range
 run_in_range : (column row : ℤ) (live count : ℕ) → IsWithinReach column → IsWithinReach row → leaves_range (state_at column row live) Live count ≡ false → 0 < count → IsRun (record { y = row; x = column }, count)
@@ -126,72 +91,69 @@ run_in_range column row live count across down stays some =
       end = grind (arith, ints);
     }
 
-runs_more : (runs : List (Cell × ℕ)) (run : Cell × ℕ) (x y : ℤ) → runs_plane (runs ++ run ∷ []) x y ≡ (runs_plane runs x y || (is_in_run x y run || false))
-unfolding runs_plane
-runs_more runs run x y = list_any-append (is_in_run x y) runs (run ∷ [])
+run_first : (state : State) (tag : Tag) (count : ℕ) (later : List (Cell × ℕ)) → InReach state → leaves_range state tag count ≡ false → 0 < count → AllByRecursion IsRun later →
+    AllByRecursion IsRun (live_run (record { y = state.row; x = state.column }) tag count ++ later)
+run_first state Dead count later reach stays some all = all
+run_first state Row count later reach stays some all = all
+run_first state Live count later reach stays some all = (run_in_range state.column state.row state.live count reach.column reach.row stays some, all)
 
--- one item more
-listed_step : (meaning : Meaning) (left column row : ℤ) (live : ℕ) (text : List ℕ) (place count : ℕ) (tag : Tag) (rest : List ItemSlice) (runs : List (Cell × ℕ)) →
-    IsWithinReach column → IsWithinReach row →
-    IsListed meaning left column row live (record { text = text; place = place; count = count; tag = tag } ∷ rest) runs →
-    let next = after_item left (state_at column row live) tag count in
-    IsListed meaning left next.column next.row next.live rest (runs ++ live_run (record { y = row; x = column }) tag count)
-unfolding is_covered
-listed_step meaning left column row live text place count Dead rest runs across down listed =
-    subst (IsListed meaning left (column +ℤ pos count) row live rest) (sym (append-nil runs)) (record {
-      left_is = listed.left_is;
-      stay = listed.stay.2;
-      counted = listed.counted.1;
-      each = listed.each;
-      rising = listed.rising;
-      before = AllByRecursion-weaker (EndsBefore column row) (EndsBefore (column +ℤ pos count) row) (ends_further column row count) runs listed.before;
-      plane = λ x y. listed.plane x y;
-    })
-listed_step meaning left column row live text place count Row rest runs across down listed =
-    subst (IsListed meaning left left (row +ℤ pos count) live rest) (sym (append-nil runs)) (record {
-      left_is = listed.left_is;
-      stay = listed.stay.2;
-      counted = listed.counted.1;
-      each = listed.each;
-      rising = listed.rising;
-      before = AllByRecursion-weaker (EndsBefore column row) (EndsBefore left (row +ℤ pos count)) (λ run. ends_above column row left count run listed.counted.0) runs listed.before;
-      plane = λ x y. listed.plane x y;
-    })
-listed_step meaning left column row live text place count Live rest runs across down listed =
-    let run : Cell × ℕ = (record { y = row; x = column }, count) in
-    let further = AllByRecursion-weaker (EndsBefore column row) (EndsBefore (column +ℤ pos count) row) (ends_further column row count) runs listed.before in
+each_run : (left : ℤ) (state : State) (items : List ItemSlice) → IsWithinReach left → InReach state → StayInRange left state items → AllByRecursion IsCounted items →
+    AllByRecursion IsRun (live_runs_from left state items)
+unfolding live_runs_from
+each_run left state [] left_reach reach stay counted = tt
+each_run left state (item ∷ items) left_reach reach stay counted =
+    let next = after_item left state item.tag item.count in
+    run_first state item.tag item.count (live_runs_from left next items) reach stay.0 counted.0
+    (each_run left next items left_reach (reach_after left state item.tag item.count left_reach reach stay.0) stay.2 counted.1)
+
+rising_first : (left : ℤ) (state : State) (tag : Tag) (count : ℕ) (items : List ItemSlice) → AllByRecursion IsCounted items →
+    AreRising (live_runs_from left (after_item left state tag count) items) →
+    AreRising (live_run (record { y = state.row; x = state.column }) tag count ++ live_runs_from left (after_item left state tag count) items)
+rising_first left state Dead count items counted later = later
+rising_first left state Row count items counted later = later
+rising_first left state Live count items counted later =
+    (all_behind left (after_item left state Live count) items (record { y = state.row; x = state.column }, count) counted (inr (refl, omega (arith, ints))), later)
+
+runs_rise : (left : ℤ) (state : State) (items : List ItemSlice) → AllByRecursion IsCounted items → AreRising (live_runs_from left state items)
+unfolding live_runs_from
+runs_rise left state [] counted = tt
+runs_rise left state (item ∷ items) counted =
+    rising_first left state item.tag item.count items counted.1 (runs_rise left (after_item left state item.tag item.count) items counted.1)
+
+-- ---- their cells
+
+covers_first : (state : State) (tag : Tag) (count : ℕ) (later : List (Cell × ℕ)) (rest : Bool) (x y : ℤ) → runs_plane later x y ≡ rest →
+    runs_plane (live_run (record { y = state.row; x = state.column }) tag count ++ later) x y
+    ≡ ((is_live tag && int_eq y state.row && int_le state.column x && int_lt x (state.column +ℤ pos count)) || rest)
+unfolding runs_plane
+covers_first state Dead count later rest x y is = is
+covers_first state Row count later rest x y is = is
+covers_first state Live count later rest x y is = ap (λ b. is_in_run x y (record { y = state.row; x = state.column }, count) || b) is
+
+runs_cover : (left : ℤ) (state : State) (items : List ItemSlice) (x y : ℤ) → runs_plane (live_runs_from left state items) x y ≡ is_covered left state items x y
+unfolding live_runs_from is_covered runs_plane
+runs_cover left state [] x y = refl
+runs_cover left state (item ∷ items) x y =
+    let next = after_item left state item.tag item.count in
+    covers_first state item.tag item.count (live_runs_from left next items) (is_covered left next items x y) x y (runs_cover left next items x y)
+
+-- ---- the runs of a meaning
+
+pub live_runs-cover : (meaning : Meaning) → IsSame (runs_plane (live_runs_of meaning)) (live_plane meaning)
+live_runs-cover meaning = record { same = λ x y. runs_cover meaning.pos.x (start_at meaning.pos) meaning.runs x y }
+
+pub live_runs-are : (meaning : Meaning) → IsInRange meaning.pos → StayInRange meaning.pos.x (start_at meaning.pos) meaning.runs → AllByRecursion IsCounted meaning.runs → AreRuns (live_runs_of meaning)
+live_runs-are meaning range stay counted =
+    let x = within meaning.pos.x range.x in
     record {
-      left_is = listed.left_is;
-      stay = listed.stay.2;
-      counted = listed.counted.1;
-      each = AllByRecursion-append IsRun runs (run ∷ []) listed.each (run_in_range column row live count across down listed.stay.0 listed.counted.0, tt);
-      rising = rising_append runs (run ∷ []) listed.rising (tt, tt) (AllByRecursion-weaker (EndsBefore column row) (λ r. AllByRecursion (Precedes r) (run ∷ [])) (λ r before. (before, tt)) runs listed.before);
-      before = AllByRecursion-append (EndsBefore (column +ℤ pos count) row) runs (run ∷ []) further (inr (refl, omega (arith, ints)), tt);
-      plane = λ x y. listed.plane x y ∙ or_swap (is_in_run x y run) (is_covered left (after_item left (state_at column row live) Live count) rest x y) (runs_plane runs x y)
-          ∙ ap (λ b. is_covered left (after_item left (state_at column row live) Live count) rest x y || b) (sym (runs_more runs run x y));
+      each = each_run meaning.pos.x (start_at meaning.pos) meaning.runs x (record { column = x; row = within meaning.pos.y range.y }) stay counted;
+      rising = runs_rise meaning.pos.x (start_at meaning.pos) meaning.runs counted;
     }
 
--- the same for an item that a reader took, and a cursor that passed it
-pub listed_more : (meaning : Meaning) (left column row left' column' row' : ℤ) (live live' : ℕ) (run : ItemSlice) (all rest : List ItemSlice) (runs more : List (Cell × ℕ)) → all ≡ run ∷ rest →
-    IsWithinReach column → IsWithinReach row → IsListed meaning left column row live all runs →
-    state_at column' row' live' ≡ after_item left (state_at column row live) run.tag run.count → left' ≡ left →
-    more ≡ runs ++ live_run (record { y = row; x = column }) run.tag run.count →
-    IsListed meaning left' column' row' live' rest more
-listed_more meaning left column row left' column' row' live live' run all rest runs more first across down before state left_is more_is =
-    let step = listed_step meaning left column row live run.text run.place run.count run.tag rest runs across down (subst (λ items. IsListed meaning left column row live items runs) first before) in
-    let at_state : IsListed meaning left column' row' live' rest (runs ++ live_run (record { y = row; x = column }) run.tag run.count) =
-    subst (λ (s : State). IsListed meaning left s.column s.row s.live rest (runs ++ live_run (record { y = row; x = column }) run.tag run.count)) (sym state) step in
-    subst (λ l. IsListed meaning l column' row' live' rest more) (sym left_is)
-    (subst (λ r. IsListed meaning left column' row' live' rest r) (sym more_is) at_state)
-
--- ---- no item of a checked file is refused
-
-pub passes_well : (meaning : Meaning) (left column row : ℤ) (live : ℕ) (run : ItemSlice) (all rest : List ItemSlice) (runs : List (Cell × ℕ)) → all ≡ run ∷ rest →
-    IsListed meaning left column row live all runs → motion_fault (state_at column row live) run.tag run.count ≡ None
-passes_well meaning left column row live run all rest runs first before =
-    let listed = subst (λ items. IsListed meaning left column row live items runs) first before in
-    stays-no_fault (state_at column row live) run.tag run.count listed.stay.0 listed.stay.1
-
-pub no_refusal : {A : Type 0} (result : Result A Refusal) (fault : Option Refusal) → fault ≡ None → IfErr result (λ refusal. fault ≡ Some refusal) → is_err result ≡ true → ⊥
-no_refusal (Ok done) fault none refused is = cc
-no_refusal (Err refusal) fault none refused is = cc
+-- those of an accepted text
+pub accepted_runs : (source : List ℕ) (preamble : Preamble) → IsInRange preamble.settings.pos → body_fault preamble.settings.pos (items_of (stripped_from source preamble.body true)) ≡ None →
+    AreRuns (live_runs_of (meaning_of source (opening_seen source preamble)))
+unfolding meaning_of
+accepted_runs source preamble range none =
+    live_runs-are (meaning_of source (opening_seen source preamble)) range (stay-accepted source preamble none)
+    (runs_counted source (items_of (stripped (lines_from source preamble.body))).items)

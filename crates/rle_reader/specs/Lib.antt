@@ -13,3 +13,4 @@ pub mod Meaning
 pub mod Seen
 pub mod Left
 pub mod LiveRuns
+pub mod LiveLeft

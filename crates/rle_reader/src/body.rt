@@ -97,7 +97,7 @@ impl<'a> Body<'a> {
 }
 
 /// Whether the byte is a blank, a CR or an LF.
-fn is_skipped(byte: u8) -> bool
+pub(crate) fn is_skipped(byte: u8) -> bool
     ensures { result ≡ is_skipped byte }
 {
     is_blank(byte) || byte == b'\r' || byte == b'\n'

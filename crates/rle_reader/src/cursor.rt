@@ -37,16 +37,6 @@ impl Cursor {
         }
     }
 
-    /// The cell at which the next item begins.
-    pub(crate) fn cell(&self) -> Cell
-        ensures { result ≡ record { y = self.now.row; x = self.now.column } }
-    {
-        Cell {
-            y: self.row,
-            x: self.column,
-        }
-    }
-
     /// The cursor past an item.
     #[tactic(auto, unfolding(crate::specs::State::motion_fault))]
     pub(crate) fn after(self, run: &Run<'_>) -> Result<Cursor, Refusal>

@@ -144,7 +144,7 @@ fn read_count(body: &mut Body<'_>, first: LocatedByte) -> Count
 
 /// The tag that a byte stands for.
 #[tactic(auto, unfolding(crate::specs::Items::tag_of))]
-fn tag_of(byte: u8) -> Result<Tag, Refusal>
+pub(crate) fn tag_of(byte: u8) -> Result<Tag, Refusal>
     ensures { result ≡ tag_of byte }
 {
     match byte {

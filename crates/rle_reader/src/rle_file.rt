@@ -3,7 +3,7 @@
 ghost use Rattle.std.specs.Prelude.{◌≡◌, ◌<◌, ◌≤◌, ◌++◌, length, IfOk, IfErr, OnOk};
 ghost use Rattle.std.specs.List.{AllByRecursion};
 ghost use Rattle.std.specs.Option.{option_copied};
-ghost use Rattle.rle_reader.specs.LiveRuns.{live_run};
+ghost use Rattle.rle_reader.specs.LiveRuns.{live_runs_of};
 ghost use Rattle.rle_reader.specs.Meaning.{StayInRange, judged, live_plane};
 ghost use Rattle.rle_reader.specs.Seen.{fault_in_body};
 ghost use Rattle.rle_reader.specs.State.{start_at};
@@ -14,6 +14,7 @@ ghost use Rattle.plane.specs.Square.{IsSame};
 use crate::body::Body;
 use crate::cursor::Cursor;
 use crate::item::{Run, Tag, next_run};
+use crate::live_runs::LiveRuns;
 use crate::preamble::Preamble;
 use crate::runs::Runs;
 use plane::{Cell, Fault};
@@ -125,33 +126,15 @@ impl<'a> RleFile<'a> {
     }
 
     /// The live items, each as its first cell and how many cells it has to the right, in the order of
-    /// reading. The only error is that there is no room for them.
-    pub fn live_runs(&self, alloc: Global) -> Result<Vec<(Cell, u64)>, AllocError>
-        ensures runs { IfOk result (λ runs. AreRuns runs.items) }
-        ensures cells { IfOk result (λ runs. IsSame (runs_plane runs.items) (live_plane self.now)) }
+    /// reading.
+    pub fn live_runs(&self) -> LiveRuns<'a>
+        ensures value { result ≡ live_runs_of self.now }
+        ensures runs { AreRuns result }
+        ensures cells { IsSame (runs_plane result) (live_plane self.now) }
     {
-        let mut live = Vec::new(alloc);
-        let mut cursor = Cursor::new(self.pos());
-        for run in self.runs() {
-            push_live(&mut live, cursor.cell(), &run)?;
-            let Ok(next) = cursor.after(&run) else {
-                unreachable!()
-            };
-            cursor = next;
-        }
-        Ok(live)
+        let preamble = &self.preamble;
+        LiveRuns::new(self.source, preamble.body, preamble.settings.pos)
     }
-}
-
-/// Adds the run of an item whose first cell is this one, if it is of live cells.
-fn push_live(live: &mut Vec<(Cell, u64)>, first: Cell, run: &Run<'_>) -> Result<(), AllocError>
-    ensures { OnOk result
-        (live.new.items ≡ live.old.items ++ live_run first run.now.tag run.now.count) }
-{
-    if run.tag == Tag::Live {
-        live.push((first, run.count))?;
-    }
-    Ok(())
 }
 
 /// Goes through the items, each with what comes before it.
