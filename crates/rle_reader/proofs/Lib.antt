@@ -18,3 +18,4 @@ mod CountLemmas
 mod RunLists
 mod SliceLemmas
 mod LiveLemmas
+mod ReachLemmas

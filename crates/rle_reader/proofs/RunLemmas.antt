@@ -1,10 +1,10 @@
 -- The runs of a body, one after the other.
-use Rattle.std.proofs.Common.{◌≡◌, ℕ, List, [], ◌∷◌, map, drop, Option, Some, Result, Ok, Err, refl, ap, sym}
+use Rattle.std.proofs.Common.{◌≡◌, ℕ, List, [], ◌∷◌, map, drop, Option, None, Some, Result, Ok, Err, refl, ap, sym, ◌∙◌}
 use Rattle.std.specs.Result.{ok_prefix}
 use Rattle.plane.specs.declared.fault.Fault.{Fault}
 use Rattle.plane.specs.declared.refusal.Refusal.{Refusal}
 use Rattle.rle_reader.specs.declared.body.LocatedByte.{LocatedByte}
-use Rattle.rle_reader.specs.Items.{Item, ItemSlice, items_of, next_among, run_of, kept}
+use Rattle.rle_reader.specs.Items.{Item, Items, ItemSlice, items_after, items_of, next_among, next_of, run_of, kept}
 use Rattle.rle_reader.specs.Meaning.{runs_kept}
 use Rattle.rle_reader.proofs.ItemLemmas.{as_kept, seen_some}
 
@@ -41,3 +41,17 @@ module _ (source : List ℕ) where
 pub runs_kept-nil : (source : List ℕ) → runs_kept source [] ≡ []
 unfolding runs_kept items_of
 runs_kept-nil source = refl
+
+-- the runs that are kept, one after the other
+pub runs_kept-first : (source source' : List ℕ) (bytes later : List LocatedByte) (run : ItemSlice) → as_kept (next_of source (items_of bytes)) ≡ Ok (Some run) →
+    source' ≡ source → items_of later ≡ items_after (items_of bytes) → runs_kept source bytes ≡ run ∷ runs_kept source' later
+runs_kept-first source source' bytes later run is same rest =
+    runs_kept-is source bytes
+    ∙ kept_runs-first source (items_of bytes).items (items_of bytes).left_over run is
+    ∙ ap (λ (f : Items). run ∷ kept_runs source f.items) (sym rest)
+    ∙ ap (λ s. run ∷ kept_runs s (items_of later).items) (sym same)
+    ∙ ap (λ r. run ∷ r) (sym (runs_kept-is source' later))
+
+pub runs_kept-none : (source : List ℕ) (bytes : List LocatedByte) → as_kept (next_of source (items_of bytes)) ≡ Ok None → runs_kept source bytes ≡ []
+runs_kept-none source bytes is =
+    runs_kept-is source bytes ∙ kept_runs-end source (items_of bytes).items (items_of bytes).left_over (Ok None) is (λ run same. cc)

@@ -18,7 +18,10 @@ use Rattle.text_lines.specs.Numbers.{capped}
 use Rattle.text_lines.specs.declared.lines.Line.{Line}
 use Rattle.rle_reader.specs.Body.{stripped_from}
 use Rattle.rle_reader.specs.Header.{header_rule}
-use Rattle.rle_reader.specs.Meaning.{body_fault}
+use Rattle.rle_reader.specs.LiveRuns.{live_runs_from}
+use Rattle.rle_reader.specs.Meaning.{body_fault, runs_kept}
+use Rattle.rle_reader.specs.State.{start_at}
+use Rattle.plane.specs.declared.cell.Cell.{Cell}
 use Rattle.rle_reader.specs.declared.item.Count.{Count}
 use Rattle.rle_reader.specs.declared.item.Run.{Run}
 use Rattle.rle_reader.specs.declared.preamble.Preamble.{Preamble}
@@ -39,6 +42,11 @@ seen_opening source found = result_map_both (opening_seen source) (λ fault. fau
 -- the first fault of the body behind what was read
 abbrev pub fault_in_body : List ℕ → Preamble → Option Fault
 fault_in_body source preamble = body_fault preamble.settings.pos (items_of (stripped_from source preamble.body true))
+
+-- the runs of the live items behind what was read, as a machine keeps them
+abbrev pub live_runs_kept : List ℕ → Preamble → List (Cell × ℕ)
+live_runs_kept source preamble =
+    live_runs_from preamble.settings.pos.x (start_at preamble.settings.pos) (runs_kept source (stripped_from source preamble.body true))
 
 -- the rule of a header line, or its fault
 abbrev pub rule_at : Line → Result (Option (List ℕ)) Fault

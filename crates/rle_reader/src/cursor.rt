@@ -37,6 +37,20 @@ impl Cursor {
         }
     }
 
+    /// The column of the next item.
+    pub(crate) fn column(&self) -> i64
+        ensures { result ≡ self.now.column }
+    {
+        self.column
+    }
+
+    /// The row of the next item.
+    pub(crate) fn row(&self) -> i64
+        ensures { result ≡ self.now.row }
+    {
+        self.row
+    }
+
     /// The cursor past an item.
     #[tactic(auto, unfolding(crate::specs::State::motion_fault))]
     pub(crate) fn after(self, run: &Run<'_>) -> Result<Cursor, Refusal>

@@ -11,6 +11,7 @@ mod laws;
 mod live_runs;
 mod number;
 mod preamble;
+mod reach;
 mod rle_file;
 mod runs;
 mod settings;

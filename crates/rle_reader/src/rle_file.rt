@@ -1,11 +1,11 @@
 //! A checked RLE file.
 
-ghost use Rattle.std.specs.Prelude.{◌≡◌, ◌<◌, ◌≤◌, ◌++◌, length, IfOk, IfErr, OnOk};
+ghost use Rattle.std.specs.Prelude.{◌≡◌, ◌<◌, ◌≤◌, ◌^◌, length, IfOk, IfErr, OnOk};
 ghost use Rattle.std.specs.List.{AllByRecursion};
 ghost use Rattle.std.specs.Option.{option_copied};
-ghost use Rattle.rle_reader.specs.LiveRuns.{live_runs_of};
+ghost use Rattle.rle_reader.specs.LiveRuns.{LiesWithin, live_runs_of};
 ghost use Rattle.rle_reader.specs.Meaning.{StayInRange, judged, live_plane};
-ghost use Rattle.rle_reader.specs.Seen.{fault_in_body};
+ghost use Rattle.rle_reader.specs.Seen.{fault_in_body, live_runs_kept};
 ghost use Rattle.rle_reader.specs.State.{start_at};
 ghost use Rattle.plane.specs.Range.{IsInRange};
 ghost use Rattle.plane.specs.Runs.{AreRuns, runs_plane};
@@ -13,12 +13,12 @@ ghost use Rattle.plane.specs.Square.{IsSame};
 
 use crate::body::Body;
 use crate::cursor::Cursor;
-use crate::item::{Run, Tag, next_run};
+use crate::item::next_run;
 use crate::live_runs::LiveRuns;
 use crate::preamble::Preamble;
+use crate::reach::{reach_of, rightmost};
 use crate::runs::Runs;
 use plane::{Cell, Fault};
-use std::alloc::{AllocError, Global};
 use std::marker::Model;
 use text_lines::{Comments, Lines};
 
@@ -28,10 +28,14 @@ use text_lines::{Comments, Lines};
 pub struct RleFile<'a> {
     source: &'a [u8],
     preamble: Preamble<'a>,
+    /// How far from 0 the coordinates of the live cells go, at most.
+    reach: u64,
 }
 
 impl<'a> Model for RleFile<'a> {
-    ghost use Rattle.std.specs.Prelude.{◌≡◌, ◌≤◌, None, Ok, length};
+    ghost use Rattle.std.specs.Prelude.{◌≡◌, ◌≤◌, ◌^◌, None, Ok, length};
+    ghost use Rattle.std.specs.List.{AllByRecursion};
+    ghost use Rattle.rle_reader.specs.LiveRuns.{LiesWithin, live_runs_of};
     ghost use Rattle.rle_reader.specs.Meaning.{Meaning, meaning_of};
     ghost use Rattle.rle_reader.specs.Opening.{opening_of};
     ghost use Rattle.text_lines.specs.Lines.{lines_from};
@@ -47,7 +51,10 @@ impl<'a> Model for RleFile<'a> {
         × IsInRange file.preamble.settings.pos
         × (fault_in_body file.source.now file.preamble ≡ None)
         × (Ok (opening_seen file.source.now file.preamble)
-        ≡ opening_of (length file.source.now) (lines_from file.source.now 0)) };
+        ≡ opening_of (length file.source.now) (lines_from file.source.now 0))
+        × (file.reach ≤ 2 ^ 62)
+        × AllByRecursion (LiesWithin file.reach)
+        (live_runs_of (meaning_of file.source.now (opening_seen file.source.now file.preamble))) };
 }
 
 impl<'a> RleFile<'a> {
@@ -68,8 +75,12 @@ impl<'a> RleFile<'a> {
         ensures { result ≡ judged source.now }
     {
         let preamble = Preamble::read(source)?;
-        check_body(source, &preamble)?;
-        Ok(RleFile { source, preamble })
+        let reach = check_body(source, &preamble)?;
+        Ok(RleFile {
+            source,
+            preamble,
+            reach,
+        })
     }
 
     /// The cell of the first item, the upper left corner of the pattern's box; (0, 0) if the file does
@@ -135,17 +146,33 @@ impl<'a> RleFile<'a> {
         let preamble = &self.preamble;
         LiveRuns::new(self.source, preamble.body, preamble.settings.pos)
     }
+
+    /// How far from 0 the coordinates of the live cells go: all live cells lie in the square of that half
+    /// side round (0, 0).
+    #[tactic(auto, unfolding(crate::specs::Meaning::meaning_of))]
+    pub fn reach(&self) -> u64
+        ensures bound { result ≤ 2 ^ 62 }
+        ensures within { AllByRecursion (LiesWithin result) (live_runs_of self.now) }
+    {
+        self.reach
+    }
 }
 
-/// Goes through the items, each with what comes before it.
-fn check_body(source: &[u8], preamble: &Preamble<'_>) -> Result<(), Fault>
+/// Goes through the items, each with what comes before it, and answers how far from 0 the coordinates of
+/// the live cells go.
+fn check_body(source: &[u8], preamble: &Preamble<'_>) -> Result<u64, Fault>
     requires body { preamble.now.body ≤ length source.now }
     requires in_range { IsInRange preamble.now.settings.pos }
     ensures ok { OnOk result (fault_in_body source.now preamble.now ≡ None) }
+    ensures bound { IfOk result (λ reach. reach ≤ 2 ^ 62) }
+    ensures reach { IfOk result (λ reach.
+        AllByRecursion (LiesWithin reach) (live_runs_kept source.now preamble.now)) }
     ensures err { IfErr result (λ fault. fault_in_body source.now preamble.now ≡ Some fault) }
 {
     let mut body = Body::new(source, preamble.body);
-    let mut cursor = Cursor::new(preamble.settings.pos);
+    let corner = preamble.settings.pos;
+    let mut cursor = Cursor::new(corner);
+    let mut right = corner.x;
     while let Some(run) = next_run(&mut body)? {
         cursor = match cursor.after(&run) {
             Ok(next) => next,
@@ -156,6 +183,7 @@ fn check_body(source: &[u8], preamble: &Preamble<'_>) -> Result<(), Fault>
                 });
             }
         };
+        right = rightmost(right, cursor.column());
     }
-    Ok(())
+    Ok(reach_of(corner, right, cursor.row()))
 }

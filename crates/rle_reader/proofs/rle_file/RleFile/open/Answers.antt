@@ -1,6 +1,7 @@
 use Rattle.std.proofs.lemmas.Result.{err_from_is_err_and}
 use Rattle.rle_reader.proofs.MeaningLemmas.{judged-opening_fault, judged-body_fault, judged-accepted}
 use Rattle.rle_reader.proofs.PositionLemmas.{read-in_range}
+use Rattle.rle_reader.proofs.ReachLemmas.{reach_accepted}
 use Rattle.rle_reader.proofs.rle_file.RleFile.open.Goals as goal
 
 pub returns-in_err-preamble : goal.returns-in_err-preamble
@@ -8,13 +9,13 @@ returns-in_err-preamble c =
     let p = err_from_is_err_and c.from_residual.result c.from_residual.ensures.1 in
     rw (p.1, p.2) (judged-opening_fault c.args.source.now c.in_err-preamble.field-0.0 c.in_err-preamble.ensures.opening)
 
-pub returns-in_err-check_body : goal.returns-in_err-check_body
-returns-in_err-check_body c =
-    let p = err_from_is_err_and c.from_residual-in_err-check_body.result c.from_residual-in_err-check_body.ensures.1 in
-    rw (p.1, p.2) (judged-body_fault c.args.source.now c.in_ok-preamble.preamble c.in_ok-preamble.ensures.opening c.in_err-check_body.field-0.0 c.in_err-check_body.ensures.err)
+pub returns-in_err-reach : goal.returns-in_err-reach
+returns-in_err-reach c =
+    let p = err_from_is_err_and c.from_residual-in_err-reach.result c.from_residual-in_err-reach.ensures.1 in
+    rw (p.1, p.2) (judged-body_fault c.args.source.now c.in_ok-preamble.preamble c.in_ok-preamble.ensures.opening c.in_err-reach.field-0.0 c.in_err-reach.ensures.err)
 
 pub returns : goal.returns
-returns c = judged-accepted c.args.source.now c.in_ok-preamble.preamble c.in_ok-preamble.ensures.opening c.in_ok-check_body.ensures.ok
+returns c = judged-accepted c.args.source.now c.in_ok-preamble.preamble c.in_ok-preamble.ensures.opening c.in_ok-reach.ensures.ok
 
 pub check_body-requires-clause-in_range : goal.check_body-requires-clause-in_range
 check_body-requires-clause-in_range c = read-in_range c.args.source.now c.in_ok-preamble.preamble c.in_ok-preamble.ensures.opening
@@ -24,6 +25,9 @@ invariant_of-result c =
     let preamble = c.in_ok-preamble.preamble in (
       c.in_ok-preamble.ensures.body,
       read-in_range c.args.source.now preamble c.in_ok-preamble.ensures.opening,
-      c.in_ok-check_body.ensures.ok,
+      c.in_ok-reach.ensures.ok,
       c.in_ok-preamble.ensures.opening,
+      c.in_ok-reach.ensures.bound,
+      reach_accepted c.args.source.now preamble c.in_ok-reach.reach (read-in_range c.args.source.now preamble c.in_ok-preamble.ensures.opening)
+          c.in_ok-reach.ensures.ok c.in_ok-reach.ensures.reach,
     )
