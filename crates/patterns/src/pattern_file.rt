@@ -5,11 +5,12 @@ ghost use Rattle.std.specs.Option.{option_copied};
 ghost use Rattle.patterns.specs.Meaning.{is_macrocell, judged, placeless};
 ghost use Rattle.patterns.specs.PatternFile.{meaning_of};
 
+use crate::live_runs::live_runs_to_square;
 use crate::nodes::nodes_to_square;
 use macrocell_reader::McFile;
 use plane::{Fault, Refusal};
 use rle_reader::RleFile;
-use squares::{Build, Sq, Squares, runs_to_square};
+use squares::{Build, Sq, Squares};
 use std::alloc::Global;
 use text_lines::{Comments, begins_with};
 
@@ -87,10 +88,7 @@ impl Build for PatternFile<'_> {
 
     fn build<S: Squares>(&self, alloc: Global, book: &mut S) -> Result<Sq, Refusal> {
         match self {
-            PatternFile::Rle(file) => {
-                let runs = file.live_runs(alloc)?;
-                runs_to_square(alloc, book, runs.as_slice())
-            }
+            PatternFile::Rle(file) => live_runs_to_square(alloc, book, file),
             PatternFile::Macrocell(file) => nodes_to_square(alloc, book, file.lines()),
         }
     }

@@ -1,0 +1,62 @@
+//! Squares made of the live items of an RLE file.
+
+ghost use Rattle.std.specs.Prelude.{◌≡◌, ◌≤◌, ◌-◌, ◌^◌, IfErr, IfOk};
+ghost use Rattle.rle_reader.specs.Meaning.{live_plane};
+ghost use Rattle.squares.specs.Book.{AddsSquares, LacksMemoryOr, MayRefuse};
+ghost use Rattle.squares.specs.Rounds.{IsRound};
+
+use hashlife_step::trim;
+use plane::{Cell, Refusal};
+use rle_reader::RleFile;
+use squares::{
+    HIGHEST_ROOT_LEVEL, LOWEST_ROOT_LEVEL, LiveRuns, Sq, Squares, half_side, ordered_runs_to_square,
+};
+use std::alloc::Global;
+
+// The live items of a file that are left.
+#[derive(Drop)]
+struct FileRuns<'a> {
+    runs: rle_reader::LiveRuns<'a>,
+}
+
+impl LiveRuns for FileRuns<'_> {
+    ghost left = { λ file. file.runs };
+
+    fn next_run(&mut self) -> Option<(Cell, u64)> {
+        self.runs.next()
+    }
+}
+
+// The square of the file's live cells round (0,0), at the smallest level of at least 4. The file is read once more.
+pub(crate) fn live_runs_to_square<S: Squares>(
+    alloc: Global,
+    book: &mut S,
+    file: &RleFile<'_>,
+) -> Result<Sq, Refusal>
+    ensures ok { IfOk result (IsRound (S.book book.new) (live_plane file.now)) }
+    ensures high { IfOk result (λ sq. sq.level ≤ 63) }
+    ensures refusal { IfErr result (LacksMemoryOr (MayRefuse (S.book book.new))) }
+    ensures adds { AddsSquares (S.book book.old) (S.book book.new) }
+{
+    let runs = FileRuns {
+        runs: file.live_runs(),
+    };
+    let level = level_round(file.reach());
+    let root = ordered_runs_to_square(alloc, book, runs, level)?;
+    trim(book, root)
+}
+
+// The lowest level of a square round (0,0) that goes so far in each direction.
+fn level_round(reach: u64) -> u8
+    requires { reach ≤ 2 ^ 62 }
+    ensures low { 4 ≤ result }
+    ensures high { result ≤ 63 }
+    ensures far { reach ≤ 2 ^ (result - 1) }
+{
+    for level in LOWEST_ROOT_LEVEL..HIGHEST_ROOT_LEVEL {
+        if reach <= half_side(level) {
+            return level;
+        }
+    }
+    HIGHEST_ROOT_LEVEL
+}
