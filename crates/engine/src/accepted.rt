@@ -22,8 +22,8 @@ use universe::Universe;
 // The rule of a file that names none.
 const LIFE: &[u8] = b"B3/S23";
 
-// About how many bytes of a large pattern file there are for each of its squares.
-const BYTES_A_SQUARE: u64 = 32;
+// About how many bytes of a large pattern file there are for each pair slot that its squares need.
+const BYTES_A_SLOT: u64 = 8;
 
 // What an accepted run begins with.
 #[derive(Drop)]
@@ -50,8 +50,8 @@ pub(crate) fn judge<'a>(
 {
     let text = PatternFile::open(alloc, bytes)?;
     let rule = given_or_named(&text, options.rule)?;
-    let squares = bytes.len() as u64 / BYTES_A_SQUARE;
-    let universe = universe_of(alloc, &rule, &text, squares, options.gens, options.pairs)?;
+    let expected = bytes.len() as u64 / BYTES_A_SLOT;
+    let universe = universe_of(alloc, &rule, &text, expected, options.gens, options.pairs)?;
     Ok(Accepted {
         text,
         rule,
@@ -59,13 +59,13 @@ pub(crate) fn judge<'a>(
     })
 }
 
-// The cells that a file makes live, of about so many squares, in tables of at most so many pair slots. It refuses `TooFar`
-// where so many generations leave the range, `NodesFull` and `NoMemory`.
+// The cells that a file makes live, in tables of at most `limit` pair slots, of which the first has about as many as are
+// `expected`. It refuses `TooFar` where so many generations leave the range, `NodesFull` and `NoMemory`.
 fn universe_of(
     alloc: Global,
     rule: &Rule,
     text: &PatternFile<'_>,
-    squares: u64,
+    expected: u64,
     generations: u64,
     limit: u32,
 ) -> Result<Universe, Refusal>
@@ -79,7 +79,7 @@ fn universe_of(
     ensures full { IfErr result
         (λ refusal. refusal ≡ Refusal.NodesFull → HasFullTable rule.now limit) }
 {
-    let (universe, bounds) = Universe::of(alloc, rule, text, squares, limit)?.bounds(alloc)?;
+    let (universe, bounds) = Universe::of(alloc, rule, text, expected, limit)?.bounds(alloc)?;
     reach(bounds, text.generation(), generations)?;
     Ok(universe)
 }

@@ -8,4 +8,4 @@ mod sizes;
 
 pub use history::TableHistory;
 pub use retries::{Retry, RetryPlan};
-pub use sizes::{GrowthFactor, expected, larger, pair_count, smallest};
+pub use sizes::{GrowthFactor, expected_shape, larger, pair_count, smallest};

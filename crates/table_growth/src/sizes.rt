@@ -32,13 +32,13 @@ pub enum GrowthFactor {
     Sixteen,
 }
 
-/// The shape of a new table for about so many squares: the smallest with as many pair slots, of those that a
-/// table grows through, or the largest.
-pub fn expected(squares: u64, most: Shape) -> Shape
+/// The shape of a new table that is likely to need so many pair slots: the smallest that has them, of those that
+/// a table grows through, or the largest.
+pub fn expected_shape(pairs: u64, most: Shape) -> Shape
     ensures { result.bits ≤ most.bits }
 {
     let mut shape = smallest(most);
-    'sizes: while pair_count(shape) < squares {
+    'sizes: while pair_count(shape) < pairs {
         let Some(next) = larger(shape, most, GrowthFactor::Sixteen) else {
             return shape;
         };

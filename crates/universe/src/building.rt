@@ -15,20 +15,19 @@ use rule_text::Rule;
 use squares::{Build, Sq};
 use std::alloc::Global;
 use table_core::Shape;
-use table_growth::{GrowthFactor, TableHistory, expected, larger};
+use table_growth::{GrowthFactor, TableHistory, expected_shape, larger};
 
 impl Universe {
     ghost use Rattle.universe.specs.Cells.{limit_of, live_cells, rule_of};
 
-    /// The live cells of the source, in tables of together at most so many pair slots. About how many
-    /// squares it takes may be said, so that the first table has room for them; 0 where nothing is known.
-    /// `NodesFull` where the largest table fills up before their square is built; `NoMemory` where memory
-    /// runs out.
+    /// The live cells of the source, in tables of together at most `limit` pair slots. The first table has
+    /// about as many as are `expected`; 0 where nothing is known. `NodesFull` where the largest table fills
+    /// up before their square is built; `NoMemory` where memory runs out.
     pub fn of<B: Build>(
         alloc: Global,
         rule: &Rule,
         source: &B,
-        squares: u64,
+        expected: u64,
         limit: u32,
     ) -> Result<Universe, Refusal>
         requires source { B.is_lawful source.now }
@@ -42,7 +41,7 @@ impl Universe {
             (λ refusal. refusal ≡ Refusal.NodesFull → HasFullTable rule.now limit) }
     {
         let limit = Shape::new(limit);
-        let mut shape = expected(squares, limit);
+        let mut shape = expected_shape(expected, limit);
         'sizes: loop {
             let made = OpenTable::of_source(alloc, rule, source, shape);
             if let Some((here, root)) = unless_full(made)? {

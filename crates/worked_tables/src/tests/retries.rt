@@ -76,6 +76,10 @@ fn each_retry_in_its_order(rt: HostRuntime) -> Result<(), Fail> {
         full(18, 20, 3, 0, "20 alone halve"),
         full(18, 22, 4, 0, "sweep 20 22 alone halve"),
         full(20, 20, 9, 2, "collect collect alone halve"),
+        full(16, 24, 0, 0, "20 24 alone halve"),
+        full(18, 28, 5, 0, "sweep 20 24 28 alone halve"),
+        full(20, 23, 0, 0, "23 alone halve"),
+        full(22, 25, 0, 0, "25 alone halve"),
     ];
     for case in &cases {
         assert_eq!(rt; order(rt.alloc(), case)?.as_str(), case.order);

@@ -1,5 +1,5 @@
 use Rattle.std.proofs.Common.{◌-◌, ◌≤◌}
-use Rattle.table_growth.proofs.sizes.expected.Given as goal
+use Rattle.table_growth.proofs.sizes.expected_shape.Given as goal
 
 abbrev pub invariant-sizes : goal.invariant-sizes
 invariant-sizes l = l.shape.bits ≤ l.most.bits
