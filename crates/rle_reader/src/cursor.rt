@@ -95,10 +95,13 @@ fn advance(coordinate: i64, count: u64) -> Result<i64, Refusal>
     ensures err { IfErr result (λ refusal. (passes_limit coordinate count ≡ true)
         × (refusal ≡ Refusal.OutOfRange)) }
 {
-    if count > COORDINATE_LIMIT.abs_diff(coordinate) {
+    let room = COORDINATE_LIMIT
+        .cast_unsigned()
+        .wrapping_sub(coordinate.cast_unsigned());
+    if count > room {
         return Err(Refusal::OutOfRange);
     }
-    Ok(coordinate.saturating_add_unsigned(count))
+    Ok(coordinate.wrapping_add_unsigned(count))
 }
 
 /// So many live cells more. `TooManyCells` if they are then too many.

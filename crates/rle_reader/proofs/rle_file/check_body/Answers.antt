@@ -75,7 +75,7 @@ loop-run-preserved c =
     let later = items_of (stripped_from c.next_run.new.body.source.now c.next_run.new.body.at c.next_run.new.body.line_begins) in
     let rest : later ≡ items_after found = subst (λ o. OnSome o (later ≡ items_after found)) c.in-Some.is c.in_ok-run.ensures.rest in
     let handed = handed_on c.rightmost-right.result c.rightmost-right.ensures.within in
-    let reached : next.column ≤ℤ c.rightmost-right.result = 
+    let reached : next.column ≤ℤ c.rightmost-right.result =
     subst (λ column. column ≤ℤ c.rightmost-right.result) (handed_on c.column.result (subst IsWithinReach (sym c.column.ensures) next.column_in_reach) ∙ c.column.ensures) c.rightmost-right.ensures.other in (
       c.in_ok-run.ensures.source ∙ c.loop-run.invariant.0,
       ap (λ (f : Items). first_fault_from next.left (state_at next.column next.row next.live) f.items f.left_over) rest
