@@ -207,6 +207,14 @@ module _ (source : List ℕ) (at : ℕ) where
         ∙ ap (λ b. with_byte b located (stripped_inside (at + 1) (drop (at + 1) source))) counts
         ∙ ap (λ b. located ∷ stripped_from source (at + 1) b) (sym no_end)
 
+    -- the same where the line has begun
+    pub first_left : is_skipped (get_or source at 0) ≡ false →
+        stripped_from source at false ≡ record { place = at; byte = get_or source at 0 } ∷ stripped_from source (at + 1) false
+    first_left counts =
+        let no_end : (get_or source at 0 == 10) ≡ false = grind (arith, nat_tests) in
+        stripped_from-byte false refl counts
+        ∙ ap (λ b. record { place = at; byte = get_or source at 0 } ∷ stripped_from source (at + 1) b) no_end
+
     skipped_end : (ends : Bool) → is_line_feed (get_or source at 0) ≡ ends → is_skipped (get_or source at 0) ≡ true → stripped_inside at (get_or source at 0 ∷ drop (at + 1) source) ≡ stripped_from source (at + 1) ends
     unfolding stripped_from with_byte
     skipped_end true is skipped = stripped_inside-end at (get_or source at 0) (drop (at + 1) source) is

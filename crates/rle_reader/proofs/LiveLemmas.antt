@@ -1,6 +1,5 @@
 -- The runs of live cells that are still to come, one byte after the other, and one item after the other.
-use Rattle.std.proofs.Common.{◌≡◌, ℕ, ◌+◌, ◌<◌, ◌≤◌, ◌⊎◌, inl, inr, length, get_or, ◌==◌, ◌^◌, ◌%◌, Bool, true, false, cond, List, [], ◌∷◌, ◌++◌, map, fold, max, min, None, Some, Result, Ok, Err, refl, ap, sym, subst, ◌∙◌, arith, ℤ, pos, ◌+ℤ◌, slice_range}
-use Rattle.std.specs.Option.{option_map, option_or}
+use Rattle.std.proofs.Common.{◌≡◌, ℕ, ◌+◌, ◌<◌, ◌≤◌, ◌⊎◌, inl, inr, length, get_or, ◌==◌, Bool, true, false, List, [], ◌∷◌, ◌++◌, map, fold, max, None, Result, Ok, Err, refl, ap, sym, ◌∙◌, arith, ℤ, pos, ◌+ℤ◌, slice_range}
 use Rattle.std.specs.Result.{ok_prefix}
 use Rattle.std.proofs.lemmas.Bool.{eqb-true}
 use Rattle.std.proofs.lemmas.Bool.Decides.{nat_tests}
@@ -10,7 +9,7 @@ use Rattle.plane.specs.declared.refusal.Refusal.{Refusal}
 use Rattle.text_lines.specs.Numbers.{decimal_value, capped}
 use Rattle.text_lines.specs.Numbers as numbers
 use Rattle.text_lines.proofs.NumberLemmas.{capped-fold}
-use Rattle.rle_reader.specs.Items.{Item, Items, ItemSlice, is_digit, is_end, items_of, with_digit, with_tag, count_of, tag_of, run_of, place_of}
+use Rattle.rle_reader.specs.Items.{Item, Items, ItemSlice, is_digit, is_end, items_of, with_digit, count_of, tag_of, run_of, place_of}
 use Rattle.rle_reader.specs.LiveLeft.{live_left, runs_at, column_after, row_after, further}
 use Rattle.rle_reader.specs.LiveRuns.{live_run, live_runs_from, live_runs_of}
 use Rattle.rle_reader.specs.Meaning.{body_fault, item_fault, first_fault_from, meaning_of, state_after}
@@ -21,7 +20,7 @@ use Rattle.rle_reader.specs.declared.item.Tag.{Tag}
 use Rattle.rle_reader.specs.declared.item.Tag.TheVariants.{Dead, Live, Row}
 use Rattle.std.specs.Char.{is_ascii_digit}
 use Rattle.rle_reader.specs.Body.{is_skipped, stripped, stripped_from}
-use Rattle.rle_reader.proofs.BodyLemmas.{stripped_from-byte, stripped_from-end}
+use Rattle.rle_reader.proofs.BodyLemmas.{first_left, stripped_from-end}
 use Rattle.plane.specs.Range.{IsInRange}
 use Rattle.text_lines.specs.Lines.{lines_from}
 use Rattle.rle_reader.specs.Seen.{opening_seen}
@@ -64,21 +63,13 @@ not_skipped byte tag true skipped is = absurd (skipped-no_tag byte tag (skipped_
 not_skipped byte tag false other is = other
 
 module _ (source : List ℕ) (at : ℕ) (within : at < length source) (left column row : ℤ) (count : ℕ) where
-  -- a byte that counts is the first of those that are left
-  first_left : is_skipped (get_or source at 0) ≡ false →
-      stripped_from source at false ≡ record { place = at; byte = get_or source at 0 } ∷ stripped_from source (at + 1) false
-  first_left counts =
-      let no_end : (get_or source at 0 == 10) ≡ false = grind (arith, nat_tests) in
-      stripped_from-byte source at within false refl counts
-      ∙ ap (λ b. record { place = at; byte = get_or source at 0 } ∷ stripped_from source (at + 1) b) no_end
-
   -- a digit
   pub left_digit : is_ascii_digit (get_or source at 0) ≡ true →
       live_left left column row count (stripped_from source at false)
       ≡ live_left left column row (capped (numbers.with_digit count (get_or source at 0))) (stripped_from source (at + 1) false)
   left_digit is =
       let counts : is_skipped (get_or source at 0) ≡ false = grind (arith, nat_tests) in
-      ap (live_left left column row count) (first_left counts)
+      ap (live_left left column row count) (first_left source at within counts)
       ∙ live_left-digit left column row count (record { place = at; byte = get_or source at 0 }) (stripped_from source (at + 1) false) is
 
   other_left : (reading : Result Tag Refusal) → is_ascii_digit (get_or source at 0) ≡ false → is_skipped (get_or source at 0) ≡ false → tag_of (get_or source at 0) ≡ reading →
@@ -86,7 +77,7 @@ module _ (source : List ℕ) (at : ℕ) (within : at < length source) (left colu
       ≡ runs_at (λ tag. live_run (record { y = row; x = column }) tag (max count 1)
       ++ live_left left (column_after left column tag (max count 1)) (row_after row tag (max count 1)) 0 (stripped_from source (at + 1) false)) reading
   other_left reading no_digit counts is =
-      ap (live_left left column row count) (first_left counts)
+      ap (live_left left column row count) (first_left source at within counts)
       ∙ live_left-other left column row count (record { place = at; byte = get_or source at 0 }) (stripped_from source (at + 1) false) no_digit
       ∙ ap (runs_at (λ tag. live_run (record { y = row; x = column }) tag (max count 1)
       ++ live_left left (column_after left column tag (max count 1)) (row_after row tag (max count 1)) 0 (stripped_from source (at + 1) false))) is

@@ -1,5 +1,5 @@
 -- What is left of a body.
-use Rattle.std.specs.Prelude.{List}
+use Rattle.std.specs.Prelude.{List, false}
 use Rattle.rle_reader.specs.declared.body.Body.{Body}
 use Rattle.rle_reader.specs.declared.body.LocatedByte.{LocatedByte}
 use Rattle.rle_reader.specs.Body.{stripped_from}
@@ -8,7 +8,7 @@ use Rattle.rle_reader.specs.Meaning.{runs_kept}
 
 -- the significant bytes that are left
 abbrev pub bytes_left : Body → List LocatedByte
-bytes_left body = stripped_from body.source.now body.at body.line_begins
+bytes_left body = stripped_from body.source.now body.at false
 
 -- the items that are left
 abbrev pub items_left : Body → Items

@@ -1,6 +1,6 @@
 //! The bytes of a body that count: without blanks, line ends and comments.
 
-ghost use Rattle.std.specs.Prelude.{◌≡◌, ◌<◌, ◌≤◌, [], ◌∷◌, true, length, slice_index, MatchOption, IsTrue};
+ghost use Rattle.std.specs.Prelude.{◌≡◌, ◌<◌, ◌≤◌, [], ◌∷◌, false, true, length, slice_index, MatchOption};
 ghost use Rattle.rle_reader.specs.Body.{is_skipped, stripped_from};
 
 use text_lines::{is_blank, line_length};
@@ -12,13 +12,11 @@ pub struct LocatedByte {
     pub byte: u8,
 }
 
-/// What is left of a body.
+/// What is left of a body. No comment begins at `at`.
 #[derive(Clone, Copy, Debug)]
 pub(crate) struct Body<'a> {
     source: &'a [u8],
     at: usize,
-    /// Whether a line begins at `at`.
-    line_begins: bool,
     ghost in_range: { at ≤ length source.now },
 }
 
@@ -27,13 +25,12 @@ impl<'a> Body<'a> {
     pub(crate) fn new(source: &'a [u8], at: usize) -> Self
         requires { at ≤ length source.now }
         ensures source { result.source.now ≡ source.now }
-        ensures at { result.at ≡ at }
-        ensures begins { result.line_begins ≡ true }
+        ensures bytes { stripped_from source.now result.at false
+            ≡ stripped_from source.now at true }
     {
         Body {
             source,
-            at,
-            line_begins: true,
+            at: past_comments(source, at),
         }
     }
 
@@ -47,7 +44,7 @@ impl<'a> Body<'a> {
     /// Drops what is left.
     pub(crate) fn close(&mut self)
         ensures source { self.new.source.now ≡ self.old.source.now }
-        ensures closed { stripped_from self.new.source.now self.new.at self.new.line_begins ≡ [] }
+        ensures closed { stripped_from self.new.source.now self.new.at false ≡ [] }
     {
         self.at = self.source.len();
     }
@@ -59,41 +56,52 @@ impl<'a> Body<'a> {
             (λ next. (self.old.at ≤ next.place) × (next.place < self.new.at)) }
         ensures within { self.new.at ≤ length self.new.source.now }
         ensures bytes { MatchOption result
-            ((stripped_from self.old.source.now self.old.at self.old.line_begins ≡ [])
-            × (stripped_from self.new.source.now self.new.at self.new.line_begins ≡ []))
-            (λ next. stripped_from self.old.source.now self.old.at self.old.line_begins
-            ≡ next ∷ stripped_from self.new.source.now self.new.at self.new.line_begins) }
+            ((stripped_from self.old.source.now self.old.at false ≡ [])
+            × (stripped_from self.new.source.now self.new.at false ≡ []))
+            (λ next. stripped_from self.old.source.now self.old.at false
+            ≡ next ∷ stripped_from self.new.source.now self.new.at false) }
     {
         while self.at < self.source.len() {
             let place = self.at;
             let byte = self.source[place];
-            if self.line_begins && byte == b'#' {
-                self.skip_line();
-                continue;
-            }
-            self.at = place + 1;
-            self.line_begins = byte == b'\n';
             if !is_skipped(byte) {
+                self.at = place + 1;
                 return Some(LocatedByte { place, byte });
             }
+            self.at = past_skipped(self.source, place);
         }
         None
     }
+}
 
-    /// Passes over the rest of a line and its LF.
-    fn skip_line(&mut self)
-        requires within { self.old.at < length self.old.source.now }
-        requires begins { IsTrue self.old.line_begins }
-        requires comment { slice_index self.old.source.now self.old.at ≡ 35 }
-        ensures source { self.new.source.now ≡ self.old.source.now }
-        ensures place { self.old.at < self.new.at }
-        ensures begins { self.new.line_begins ≡ true }
-        ensures bytes { stripped_from self.new.source.now self.new.at true
-            ≡ stripped_from self.old.source.now self.old.at true }
-    {
-        let rest = &self.source[self.at..];
-        self.at += (line_length(rest) + 1).min(rest.len());
+/// The place behind a byte that counts for nothing, and behind the comments that follow it if it is an LF.
+pub(crate) fn past_skipped(source: &[u8], at: usize) -> usize
+    requires within { at < length source.now }
+    requires skipped { is_skipped (slice_index source.now at) ≡ true }
+    ensures further { at < result }
+    ensures within { result ≤ length source.now }
+    ensures bytes { stripped_from source.now result false ≡ stripped_from source.now at false }
+{
+    if source[at] == b'\n' {
+        past_comments(source, at + 1)
+    } else {
+        at + 1
     }
+}
+
+/// The place behind the comments that begin at this one, the start of a line.
+pub(crate) fn past_comments(source: &[u8], at: usize) -> usize
+    requires { at ≤ length source.now }
+    ensures after { at ≤ result }
+    ensures within { result ≤ length source.now }
+    ensures bytes { stripped_from source.now result false ≡ stripped_from source.now at true }
+{
+    let mut place = at;
+    while place < source.len() && source[place] == b'#' {
+        let rest = &source[place..];
+        place += (line_length(rest) + 1).min(rest.len());
+    }
+    place
 }
 
 /// Whether the byte is a blank, a CR or an LF.

@@ -1,15 +1,15 @@
 //! The live items of a checked file, one after the other.
 
-ghost use Rattle.std.specs.Prelude.{◌≡◌, ◌<◌, ◌≤◌, ◌+◌, [], ◌∷◌, false, true, length, slice_index, MatchOption};
+ghost use Rattle.std.specs.Prelude.{◌≡◌, ◌<◌, ◌≤◌, ◌+◌, [], ◌∷◌, true, length, MatchOption};
 ghost use Rattle.std.specs.Iterator.{YieldsFirst, item_count};
-ghost use Rattle.rle_reader.specs.Body.{is_skipped, stripped_from};
+ghost use Rattle.rle_reader.specs.Body.{stripped_from};
 ghost use Rattle.rle_reader.specs.LiveLeft.{live_left, live_rest, column_after, row_after};
 
-use crate::body::is_skipped;
+use crate::body::{is_skipped, past_comments, past_skipped};
 use crate::item::{Tag, tag_of};
 use plane::Cell;
 use std::marker::Model;
-use text_lines::{line_length, with_digit};
+use text_lines::with_digit;
 
 /// The live items of a file, in order, each as its first cell and how many cells it has to the right. A
 /// contract sees those that are still to come.
@@ -31,6 +31,7 @@ impl<'a> Model for LiveRuns<'a> {
 impl<'a> LiveRuns<'a> {
     /// The live items of the body that begins at this place, the start of a line, in a text that was checked.
     pub(crate) fn new(source: &'a [u8], at: usize, pos: Cell) -> Self
+        requires { at ≤ length source.now }
         ensures { result ≡ live_left pos.x pos.x pos.y 0 (stripped_from source.now at true) }
     {
         LiveRuns {
@@ -85,7 +86,7 @@ impl<'a> LiveRest<'a> {
                 if !is_skipped(byte) {
                     break;
                 }
-                self.skip(byte);
+                self.at = past_skipped(self.source, self.at);
                 continue;
             };
             let run = (self.cell(), count.max(1));
@@ -126,36 +127,4 @@ impl<'a> LiveRest<'a> {
             self.column = self.column.wrapping_add_unsigned(count);
         }
     }
-
-    /// Passes a byte that counts for nothing, and the comments behind it if it is an LF.
-    fn skip(&mut self, byte: u8)
-        requires within { self.old.at < length self.old.source.now }
-        requires is { slice_index self.old.source.now self.old.at ≡ byte }
-        requires skipped { is_skipped byte ≡ true }
-        ensures at { self.old.at < self.new.at }
-        ensures source { self.new.source.now ≡ self.old.source.now }
-        ensures left { self.new.left ≡ self.old.left }
-        ensures column { self.new.column ≡ self.old.column }
-        ensures row { self.new.row ≡ self.old.row }
-        ensures bytes { stripped_from self.new.source.now self.new.at false
-            ≡ stripped_from self.old.source.now self.old.at false }
-    {
-        self.at += 1;
-        if byte == b'\n' {
-            self.at = past_comments(self.source, self.at);
-        }
-    }
-}
-
-/// The place behind the comments that begin at this one, the start of a line.
-fn past_comments(source: &[u8], at: usize) -> usize
-    ensures after { at ≤ result }
-    ensures bytes { stripped_from source.now result false ≡ stripped_from source.now at true }
-{
-    let mut place = at;
-    while place < source.len() && source[place] == b'#' {
-        let rest = &source[place..];
-        place += (line_length(rest) + 1).min(rest.len());
-    }
-    place
 }

@@ -1,4 +1,4 @@
-use Rattle.std.proofs.Common.{◌≡◌, ◌⊎◌, ◌≤ℤ◌, ◌<ℤ◌, pos, Ok, OnSome, true, ap, sym, subst, ◌∙◌}
+use Rattle.std.proofs.Common.{false, ◌≡◌, ◌⊎◌, ◌≤ℤ◌, ◌<ℤ◌, pos, Ok, OnSome, true, ap, sym, subst, ◌∙◌}
 use Rattle.std.proofs.lemmas.Result.{err_from_is_err_and}
 use Rattle.std.specs.Option.{option_map}
 use Rattle.rle_reader.specs.Body.{stripped_from}
@@ -25,10 +25,8 @@ loop-run-init c =
     let body = c.new-body.result in
     let cursor = c.new-cursor.result in
     let found = items_of (stripped_from c.args.source.now c.args.preamble.now.body true) in
-    let same : items_of (stripped_from body.source.now body.at body.line_begins) ≡ found =
-    ap (λ s. items_of (stripped_from s body.at body.line_begins)) c.new-body.ensures.source
-    ∙ ap (λ a. items_of (stripped_from c.args.source.now a body.line_begins)) c.new-body.ensures.at
-    ∙ ap (λ b. items_of (stripped_from c.args.source.now c.args.preamble.now.body b)) c.new-body.ensures.begins in (
+    let same : items_of (stripped_from body.source.now body.at false) ≡ found =
+    ap (λ s. items_of (stripped_from s body.at false)) c.new-body.ensures.source ∙ ap items_of c.new-body.ensures.bytes in (
       c.new-body.ensures.source,
       ap (λ (f : Items). first_fault_from cursor.left (state_at cursor.column cursor.row cursor.live) f.items f.left_over) same
           ∙ ap (λ left. first_fault_from left (state_at cursor.column cursor.row cursor.live) found.items found.left_over) c.new-cursor.ensures.left
@@ -36,9 +34,8 @@ loop-run-init c =
       subst IsWithinReach (sym (handed_on c.args.preamble.now.settings.pos.x (within c.args.preamble.now.settings.pos.x c.requires.in_range.x))) (within c.args.preamble.now.settings.pos.x c.requires.in_range.x),
       bounded_start c.args.preamble.now.settings.pos cursor.left cursor.column cursor.row cursor.live _ (runs_kept c.args.source.now (stripped_from c.args.source.now c.args.preamble.now.body true)) (runs_left body)
           c.new-cursor.ensures.left c.new-cursor.ensures.state
-          (ap (λ s. runs_kept s (stripped_from s body.at body.line_begins)) c.new-body.ensures.source
-          ∙ ap (λ a. runs_kept c.args.source.now (stripped_from c.args.source.now a body.line_begins)) c.new-body.ensures.at
-          ∙ ap (λ b. runs_kept c.args.source.now (stripped_from c.args.source.now c.args.preamble.now.body b)) c.new-body.ensures.begins),
+          (ap (λ s. runs_kept s (stripped_from s body.at false)) c.new-body.ensures.source
+          ∙ ap (runs_kept c.args.source.now) c.new-body.ensures.bytes),
     )
 
 pub returns-in_err-run-clause-err : goal.returns-in_err-run-clause-err
@@ -46,7 +43,7 @@ unfolding as_kept
 returns-in_err-run-clause-err c =
     let body = c.loop-run.body in
     let cursor = c.loop-run.cursor in
-    let found = items_of (stripped_from body.source.now body.at body.line_begins) in
+    let found = items_of (stripped_from body.source.now body.at false) in
     let p = err_from_is_err_and c.from_residual.result c.from_residual.ensures.1 in
     rw (p.1, p.2) (sym c.loop-run.invariant.1
     ∙ first_fault-read cursor.left (state_at cursor.column cursor.row cursor.live) body.source.now found.items found.left_over c.in_err-run.field-0.0 (sym c.in_err-run.ensures.next))
@@ -56,7 +53,7 @@ unfolding as_kept
 returns-in-Err-clause-err c =
     let body = c.loop-run.body in
     let cursor = c.loop-run.cursor in
-    let found = items_of (stripped_from body.source.now body.at body.line_begins) in
+    let found = items_of (stripped_from body.source.now body.at false) in
     let reach : InReach (state_at cursor.column cursor.row cursor.live) = record { column = cursor.column_in_reach; row = cursor.row_in_reach } in
     let run = run_seen c.in-Some.run' in
     sym c.loop-run.invariant.1
@@ -69,10 +66,10 @@ loop-run-preserved c =
     let body = c.loop-run.body in
     let cursor = c.loop-run.cursor in
     let next = c.in-Ok.next in
-    let found = items_of (stripped_from body.source.now body.at body.line_begins) in
+    let found = items_of (stripped_from body.source.now body.at false) in
     let reach : InReach (state_at cursor.column cursor.row cursor.live) = record { column = cursor.column_in_reach; row = cursor.row_in_reach } in
     let run = run_seen c.in-Some.run' in
-    let later = items_of (stripped_from c.next_run.new.body.source.now c.next_run.new.body.at c.next_run.new.body.line_begins) in
+    let later = items_of (stripped_from c.next_run.new.body.source.now c.next_run.new.body.at false) in
     let rest : later ≡ items_after found = subst (λ o. OnSome o (later ≡ items_after found)) c.in-Some.is c.in_ok-run.ensures.rest in
     let handed = handed_on c.rightmost-right.result c.rightmost-right.ensures.within in
     let reached : next.column ≤ℤ c.rightmost-right.result =
@@ -97,7 +94,7 @@ unfolding as_kept
 returns-clause-ok c =
     let body = c.loop-run.body in
     let cursor = c.loop-run.cursor in
-    let found = items_of (stripped_from body.source.now body.at body.line_begins) in
+    let found = items_of (stripped_from body.source.now body.at false) in
     sym c.loop-run.invariant.1
     ∙ first_fault-none cursor.left (state_at cursor.column cursor.row cursor.live) body.source.now found.items found.left_over
     (sym c.in_ok-run.ensures.next ∙ ap (λ o. Ok (option_map run_seen o)) c.in_default.is)

@@ -1,4 +1,4 @@
-use Rattle.std.proofs.Common.{◌≡◌, ◌-◌, length, true}
+use Rattle.std.proofs.Common.{false, ◌≡◌, ◌-◌, length, true}
 use Rattle.rle_reader.specs.Body.{stripped_from}
 use Rattle.rle_reader.specs.Items.{items_of}
 use Rattle.rle_reader.specs.Meaning.{body_fault, first_fault_from}
@@ -11,7 +11,7 @@ use Rattle.rle_reader.proofs.rle_file.check_body.Given as goal
 
 abbrev pub invariant-loop-run : goal.invariant-loop-run
 invariant-loop-run l =
-    let left = items_of (stripped_from l.body.source.now l.body.at l.body.line_begins) in
+    let left = items_of (stripped_from l.body.source.now l.body.at false) in
     (l.body.source.now ≡ l.source)
     × (first_fault_from l.cursor.left (state_at l.cursor.column l.cursor.row l.cursor.live) left.items left.left_over
     ≡ body_fault l.preamble.settings.pos (items_of (stripped_from l.source l.preamble.body true)))

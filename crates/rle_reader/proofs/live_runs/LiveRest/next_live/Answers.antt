@@ -1,4 +1,4 @@
-use Rattle.std.proofs.Common.{◌≡◌, ◌∷◌, ◌++◌, ◌+◌, Ok, List, ℕ, false, arith, rules, ap, sym, ◌∙◌, subst, length, refl}
+use Rattle.std.proofs.Common.{◌≡◌, ◌∷◌, ◌++◌, ◌+◌, false, arith, rules, ap, sym, ◌∙◌, length}
 use Rattle.plane.specs.declared.cell.Cell.{Cell}
 use Rattle.rle_reader.specs.Body.{stripped_from}
 use Rattle.rle_reader.specs.declared.item.Tag.TheVariants.{Live}

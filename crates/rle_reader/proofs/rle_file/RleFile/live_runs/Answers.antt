@@ -1,4 +1,4 @@
-use Rattle.std.proofs.Common.{◌≡◌, ap, sym, subst, ◌∙◌}
+use Rattle.std.proofs.Common.{ap, sym, subst, ◌∙◌}
 use Rattle.plane.specs.Runs.{AreRuns, runs_plane}
 use Rattle.plane.specs.Square.{IsSame}
 use Rattle.rle_reader.specs.LiveRuns.{live_runs_of}
