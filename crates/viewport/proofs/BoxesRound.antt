@@ -81,7 +81,7 @@ there_and_back z by = omega (arith, ints)
 shifted : (a b z by : ℤ) → (a ≤ℤ (z -ℤ by)) × ((z -ℤ by) ≤ℤ b) → ((a +ℤ by) ≤ℤ z) × (z ≤ℤ (b +ℤ by))
 shifted a b z by h = (omega (arith, ints), omega (arith, ints))
 
-here_too : (p : Plane) (right down x y : ℤ) → p x y ≡ true → moved right down p (x +ℤ right) (y +ℤ down) ≡ true
+pub here_too : (p : Plane) (right down x y : ℤ) → p x y ≡ true → moved right down p (x +ℤ right) (y +ℤ down) ≡ true
 here_too p right down x y e = ap (λ u. p u ((y +ℤ down) -ℤ down)) (there_and_back x right) ∙ ap (p x) (there_and_back y down) ∙ e
 
 -- the box of a plane that was moved
@@ -124,44 +124,8 @@ pub matches_from : (s : ℕ) (p : Plane) (o : Option Bounds) → IsLocalBox s p 
 matches_from s p None h = h
 matches_from s p (Some box) h = h.0
 
--- the lower quarters, each moved by itself
-apart : (h : ℕ) (sw se : Plane) → IsSame (moved (pos 0) (pos h) (side_by_side h sw se)) (either (moved (pos 0) (pos h) sw) (moved (pos h) (pos h) se))
-apart h sw se = record {
-  same = λ x y. ap (λ u. sw (x -ℤ pos 0) (y -ℤ pos h) || se (u -ℤ pos h) ((y -ℤ pos h) -ℤ pos 0)) (from_nothing x)
-      ∙ ap (λ v. sw (x -ℤ pos 0) (y -ℤ pos h) || se (x -ℤ pos h) v) (from_nothing (y -ℤ pos h));
-}
-
--- the box of a square from those of its quarters
-pub four_boxes : (h : ℕ) (p nw ne sw se : Plane) (a b c d : Option Bounds) → IsSquare (h + h) p → IsQuartered h p nw ne sw se →
-    IsLocalBox h nw a → IsLocalBox h ne b → IsLocalBox h sw c → IsLocalBox h se d → IsLocalBox (h + h) p (joined_boxes h a b c d)
-four_boxes h p nw ne sw se a b c d is quarters is_a is_b is_c is_d =
-    let lower : Plane = either (moved (pos 0) (pos h) sw) (moved (pos h) (pos h) se) in
-    let all : p ≡ either (side_by_side h nw ne) lower = over h p nw ne sw se quarters ∙ ap (either (side_by_side h nw ne)) (plane_equal _ _ (apart h sw se)) in
-    local_from (h + h) p (joined_boxes h a b c d) is (subst (λ q. BoxMatches q (joined_boxes h a b c d)) (sym all)
-    (either_box (side_by_side h nw ne) lower (box_round a (moved_box (pos h) (pos 0) b)) (box_round (moved_box (pos 0) (pos h) c) (moved_box (pos h) (pos h) d))
-    (either_box nw (moved (pos h) (pos 0) ne) a (moved_box (pos h) (pos 0) b) (matches_from h nw a is_a) (moved_matches (pos h) (pos 0) ne b (matches_from h ne b is_b)))
-    (either_box (moved (pos 0) (pos h) sw) (moved (pos h) (pos h) se) (moved_box (pos 0) (pos h) c) (moved_box (pos h) (pos h) d)
-    (moved_matches (pos 0) (pos h) sw c (matches_from h sw c is_c)) (moved_matches (pos h) (pos h) se d (matches_from h se d is_d)))))
-
--- the box of a leaf, of the cells that it shows
-pub leaf_as : (level : ℕ) (p q : Plane) (o : Option Bounds) → level ≡ 3 → IsSame p q → IsLocalBox 8 q o → IsLocalBox (2 ^ level) p o
-leaf_as level p q o e same is =
-    subst (λ n. IsLocalBox (2 ^ n) p o) (sym e) (subst (λ r. IsLocalBox 8 r o) (plane_equal _ _ (same_sym same)) is)
-
-pub box_level : (level other : ℕ) (p : Plane) (o : Option Bounds) → level ≡ other → IsLocalBox (2 ^ level) p o → IsLocalBox (2 ^ other) p o
-box_level level other p o e is = subst (λ n. IsLocalBox (2 ^ n) p o) e is
-
 pub inside_of : (side : ℕ) (p : Plane) (o : Option Bounds) (box : Bounds) → o ≡ Some box → IsLocalBox side p o → IsInSquare side box
 inside_of side p o box e is = let some : IsLocalBox side p (Some box) = subst (λ (r : Option Bounds). IsLocalBox side p r) e is in some.1
-
--- a box in a quarter of the largest square can be moved by its side
-pub room : (right down side : ℕ) (box : Bounds) → right ≤ 2 ^ 62 → down ≤ 2 ^ 62 → side ≤ 2 ^ 62 → IsInSquare side box → FitsMoved (pos right) (pos down) box
-room right down side box r d s is = record {
-  at_left = omega (arith, ints, is.left, is.right, is.wide);
-  at_top = omega (arith, ints, is.top, is.bottom, is.tall);
-  at_right = omega (arith, ints, is.left, is.right, is.wide);
-  at_bottom = omega (arith, ints, is.top, is.bottom, is.tall);
-}
 
 -- a box in the largest square can be moved back by half its side
 pub room_back : (half side : ℕ) (box : Bounds) → half ≤ 2 ^ 62 → side ≤ 2 ^ 63 → IsInSquare side box → FitsMoved (pos 0 -ℤ pos half) (pos 0 -ℤ pos half) box

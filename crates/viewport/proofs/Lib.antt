@@ -1,13 +1,15 @@
 pub mod Beside
 pub mod BlockRows
 pub mod BlocksOfPlanes
-pub mod BoxesLater
+pub mod BoxesOfGaps
 pub mod BoxesRound
 pub mod CellsOfSquares
 pub mod CentredBlocks
 pub mod Counts
 pub mod CountsLater
 pub mod FirstRows
+pub mod GapsLater
+pub mod GapsOfQuarters
 pub mod HalvesOfSquares
 pub mod LeafBlocks
 pub mod LeafBoxes

@@ -1,5 +1,6 @@
 pub mod Blocks
 pub mod BoundingBox
+pub mod Gaps
 pub mod Halves
 pub mod Picture
 pub mod Places

@@ -7,8 +7,10 @@
 
 mod blocks;
 mod boxes;
+mod gaps;
 mod halves;
 mod laws;
+mod leaf_boxes;
 mod pictures;
 mod populations;
 mod rows;

@@ -8,8 +8,8 @@ use Rattle.plane.specs.Square.{bits_plane}
 use Rattle.viewport.specs.BoundingBox.{box_round}
 use Rattle.viewport.proofs.BoxesRound.{BoxMatches, local_from}
 use Rattle.viewport.proofs.LeafBoxes.{all_bits, leaf_square, bit_taken, bit_passed, cell_box, point_box, up_to}
-use Rattle.viewport.proofs.boxes.leaf_box.Goals as goal
-use Rattle.viewport.proofs.boxes.leaf_box.Goals.{then-word-place-eq1, else-word-place-eq1}
+use Rattle.viewport.proofs.leaf_boxes.leaf_box.Goals as goal
+use Rattle.viewport.proofs.leaf_boxes.leaf_box.Goals.{then-word-place-eq1, else-word-place-eq1}
 
 pub loop-place-preserved : goal.loop-place-preserved
 loop-place-preserved c =

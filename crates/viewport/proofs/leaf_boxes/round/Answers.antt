@@ -1,6 +1,6 @@
 use Rattle.std.proofs.Common.{rules, w64, SFits}
 use Rattle.std.proofs.lemmas.Int.{to_z-of_z}
-use Rattle.viewport.proofs.boxes.round.Goals as goal
+use Rattle.viewport.proofs.leaf_boxes.round.Goals as goal
 
 pub returns-in-Some-Some : goal.returns-in-Some-Some
 returns-in-Some-Some c =

@@ -1,0 +1,43 @@
+//! The smallest box round the live cells of a leaf.
+
+ghost use Rattle.std.specs.Prelude.{◌≡◌};
+ghost use Rattle.plane.specs.Square.{bits_plane};
+ghost use Rattle.viewport.specs.BoundingBox.{IsLocalBox, box_round};
+
+use plane::Bounds;
+
+// The smallest box round two boxes, either of which may hold nothing.
+fn round(a: Option<Bounds>, b: Option<Bounds>) -> Option<Bounds>
+    ensures { result ≡ box_round a b }
+{
+    match (a, b) {
+        (Some(a), Some(b)) => Some(Bounds {
+            left: a.left.min(b.left),
+            top: a.top.min(b.top),
+            right: a.right.max(b.right),
+            bottom: a.bottom.max(b.bottom),
+        }),
+        (None, b) => b,
+        (a, None) => a,
+    }
+}
+
+// The box of a leaf's live cells.
+pub fn leaf_box(word: u64) -> Option<Bounds>
+    ensures { IsLocalBox 8 (bits_plane word) result }
+{
+    let mut bounds = None;
+    for place in 0..64u8 {
+        if (word >> place) & 1 == 1 {
+            let (x, y) = (i64::from(place % 8), i64::from(place / 8));
+            let cell = Bounds {
+                left: x,
+                top: y,
+                right: x,
+                bottom: y,
+            };
+            bounds = round(bounds, Some(cell));
+        }
+    }
+    bounds
+}
