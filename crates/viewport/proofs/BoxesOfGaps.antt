@@ -1,15 +1,15 @@
 -- The box of a square and the gaps at its sides, each by the other.
-use Rattle.std.proofs.Common.{◌≡◌, ℕ, ◌-◌, ◌<◌, ℤ, pos, ◌-ℤ◌, ◌≤ℤ◌, true, sym, ◌∙◌, ap, arith}
-use Rattle.std.specs.Prelude.{Some}
-use Rattle.std.proofs.lemmas.Int.{ints}
+use Rattle.std.proofs.Common.{◌≡◌, ℕ, ◌-◌, ◌^◌, ◌≤◌, ◌<◌, ℤ, pos, ◌-ℤ◌, ◌≤ℤ◌, true, sym, ◌∙◌, ap, subst, arith, w64, to_z}
+use Rattle.std.specs.Prelude.{Option, Some}
+use Rattle.std.proofs.lemmas.Int.{ints, to_z_pos}
 use Rattle.plane.specs.declared.cell.Bounds.{Bounds}
 use Rattle.plane.specs.Plane.{Plane}
 use Rattle.plane.specs.Square.{IsSquare}
 use Rattle.viewport.specs.BoundingBox.{IsBoxOf, IsLocalBox}
 use Rattle.viewport.specs.declared.gaps.Side.{Side}
 use Rattle.viewport.specs.declared.gaps.Side.TheVariants.{Left, Right, Top, Bottom}
-use Rattle.viewport.specs.Gaps.{IsNearest}
-use Rattle.viewport.proofs.BoxesRound.{local_from}
+use Rattle.viewport.specs.Gaps.{IsGap, IsNearest}
+use Rattle.viewport.proofs.BoxesRound.{local_from, same_bounds}
 use Rattle.viewport.proofs.GapsOfQuarters.{gap_inside}
 
 -- how far a box lies from a side of a square of this size
@@ -68,3 +68,21 @@ box_of_gaps size left right top bottom p is l r t b =
       at_top = (t.reached.x, ap (λ z. p t.reached.x z) (sym t.reached.there) ∙ t.reached.live);
       at_bottom = (b.reached.x, ap (λ z. p b.reached.x z) (last_before size bottom b.reached.y bottom_in b.reached.there) ∙ b.reached.live);
     })
+
+as_read : (size gap : ℕ) → size ≤ 2 ^ 63 → gap < size → to_z w64 gap ≡ pos gap
+as_read size gap most h = to_z_pos w64 gap (omega (arith, most, h))
+
+-- the same box, of numbers that are read as signed ones
+pub read_box : (size left right top bottom : ℕ) (p : Plane) → IsSquare size p → size ≤ 2 ^ 63 → IsNearest Left size p left → IsNearest Right size p right → IsNearest Top size p top → IsNearest Bottom size p bottom →
+    IsLocalBox size p (Some (record { left = to_z w64 left; top = to_z w64 top; right = to_z w64 (size - 1 - right); bottom = to_z w64 (size - 1 - bottom) }))
+read_box size left right top bottom p is most l r t b =
+    let left_in = gap_inside Left size left p is l in
+    let top_in = gap_inside Top size top p is t in
+    subst (λ (box : Bounds). IsLocalBox size p (Some box))
+    (sym (same_bounds _ (box_within size left right top bottom) (as_read size left most left_in) (as_read size top most top_in)
+    (as_read size (size - 1 - right) most (omega (arith, left_in))) (as_read size (size - 1 - bottom) most (omega (arith, left_in)))))
+    (box_of_gaps size left right top bottom p is l r t b)
+
+-- a gap that was found
+pub found_gap : (side : Side) (size gap : ℕ) (p : Plane) (o : Option ℕ) → o ≡ Some gap → IsGap side size p o → IsNearest side size p gap
+found_gap side size gap p o e is = let some : IsGap side size p (Some gap) = subst (λ (r : Option ℕ). IsGap side size p r) e is in some

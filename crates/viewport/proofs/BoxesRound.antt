@@ -156,7 +156,7 @@ between p box h cell live = record {
 both_ways : (a b : ℤ) → a ≤ℤ b → b ≤ℤ a → a ≡ b
 both_ways a b h k = omega (arith, ints)
 
-same_bounds : (a b : Bounds) → a.left ≡ b.left → a.top ≡ b.top → a.right ≡ b.right → a.bottom ≡ b.bottom → a ≡ b
+pub same_bounds : (a b : Bounds) → a.left ≡ b.left → a.top ≡ b.top → a.right ≡ b.right → a.bottom ≡ b.bottom → a ≡ b
 same_bounds a b l t r m = λ i. record { left = l i; top = t i; right = r i; bottom = m i }
 
 -- the smallest box of a listing is the box of its plane

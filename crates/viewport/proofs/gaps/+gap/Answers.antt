@@ -6,7 +6,7 @@ use Rattle.squares.proofs.Kept.{known_kept}
 use Rattle.squares.proofs.NotedValues.{true_of_kept, true_of_same}
 use Rattle.viewport.specs.Gaps.{IsGap, IsKnownGap}
 use Rattle.viewport.proofs.GapsOfQuarters.{either_gap, far_found, far_small, known_halves, near_gap, none_live, of_two_quarters, pair_kept, side_known}
-use Rattle.viewport.proofs.GapsLater.{gap_as, gap_level, kept_gaps}
+use Rattle.viewport.proofs.GapsLater.{gap_as, gap_later, gap_level, kept_gaps}
 use Rattle.viewport.proofs.gaps.+gap.Goals as goal
 
 pub gap-returns-then-sq-eq-LEAF_LEVEL-clause-noted : goal.gap-returns-then-sq-eq-LEAF_LEVEL-clause-noted
@@ -19,7 +19,7 @@ gap-returns-clause-noted g t c =
     let keeps = c.in_ok-whole.ensures.adds.keeps in
     record {
       gap = true_of_kept (IsKnownGap now c.args.side) c.quarters_gap-2.new.gaps c.insert.new.self c.args.sq c.in_ok-whole.whole c.in_ok-whole.ensures.noted.gap
-          (keeps.known c.args.sq c.requires.known.known, gap_as c.args.side (2 ^ c.args.sq.level) (now.cells c.args.sq) (was.cells c.args.sq) c.in_ok-whole.whole (keeps.cells c.args.sq c.requires.known.known) c.in_ok-whole.ensures.ok)
+          (keeps.known c.args.sq c.requires.known.known, gap_later c.args.side was now c.args.sq c.in_ok-whole.whole keeps c.requires.known.known c.in_ok-whole.ensures.ok)
           c.in_ok-insert.ensures.updates;
     }
 
