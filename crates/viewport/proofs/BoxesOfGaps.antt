@@ -1,5 +1,5 @@
 -- The box of a square and the gaps at its sides, each by the other.
-use Rattle.std.proofs.Common.{◌≡◌, ℕ, ◌-◌, ◌^◌, ◌≤◌, ◌<◌, ℤ, pos, ◌-ℤ◌, ◌≤ℤ◌, true, sym, ◌∙◌, ap, subst, arith, w64, to_z}
+use Rattle.std.proofs.Common.{◌≡◌, ℕ, ◌-◌, ◌^◌, ◌≤◌, ◌<◌, ℤ, pos, ◌-ℤ◌, ◌≤ℤ◌, sym, ◌∙◌, ap, subst, arith, w64, to_z}
 use Rattle.std.specs.Prelude.{Option, Some}
 use Rattle.std.proofs.lemmas.Int.{ints, to_z_pos}
 use Rattle.plane.specs.declared.cell.Bounds.{Bounds}
@@ -10,7 +10,7 @@ use Rattle.viewport.specs.declared.gaps.Side.{Side}
 use Rattle.viewport.specs.declared.gaps.Side.TheVariants.{Left, Right, Top, Bottom}
 use Rattle.viewport.specs.Gaps.{IsGap, IsNearest}
 use Rattle.viewport.proofs.BoxesRound.{local_from, same_bounds}
-use Rattle.viewport.proofs.GapsOfQuarters.{gap_inside}
+use Rattle.viewport.proofs.GapsOfHalves.{gap_inside}
 
 -- how far a box lies from a side of a square of this size
 abbrev pub box_distance : Side → ℕ → Bounds → ℤ

@@ -1,5 +1,5 @@
 -- Boxes round planes: of two planes, of a plane that was moved, of a square, and of a listing.
-use Rattle.std.proofs.Common.{◌≡◌, ℕ, ◌+◌, ◌-◌, ◌^◌, ◌≤◌, ℤ, pos, ◌+ℤ◌, ◌-ℤ◌, ◌≤ℤ◌, ◌<ℤ◌, Bool, true, false, cond, ◌||◌, List, [], ◌∷◌, map, refl, sym, ◌∙◌, ap, subst, arith}
+use Rattle.std.proofs.Common.{◌≡◌, ℕ, ◌-◌, ◌^◌, ◌≤◌, ℤ, pos, ◌+ℤ◌, ◌-ℤ◌, ◌≤ℤ◌, ◌<ℤ◌, Bool, true, false, cond, ◌||◌, List, [], ◌∷◌, map, refl, sym, ◌∙◌, ap, subst, arith}
 use Rattle.std.specs.Prelude.{Option, Some, None, int_lt}
 use Rattle.std.specs.Int.{int_min, int_max}
 use Rattle.std.specs.List.{AllByRecursion, list_any}
@@ -19,11 +19,11 @@ use Rattle.plane.proofs.Boxes.{smallest_box_lem, some_box, box_at}
 use Rattle.plane.proofs.Listings.{is_at-own}
 use Rattle.plane.proofs.Paddings.{centred_moved}
 use Rattle.plane.proofs.Same.{plane_equal, same_sym}
-use Rattle.viewport.specs.BoundingBox.{HasBounds, IsBoxOf, IsInSquare, IsLocalBox, FitsMoved, box_round, joined_boxes, moved_box}
+use Rattle.viewport.specs.BoundingBox.{HasBounds, IsBoxOf, IsInSquare, IsLocalBox, FitsMoved, box_round, moved_box}
 use Rattle.viewport.proofs.Counts.{centred_listing}
 use Rattle.squares.proofs.NumberMaps.{by_cases}
-use Rattle.viewport.specs.Halves.{either, side_by_side}
-use Rattle.viewport.proofs.Quarters.{dead_column, dead_row, from_nothing, IsQuartered, over}
+use Rattle.viewport.specs.Halves.{either}
+use Rattle.viewport.proofs.Quarters.{dead_column, dead_row}
 
 -- the box of a plane, if it has any live cell
 abbrev pub BoxMatches : Plane → Option Bounds → Type 0

@@ -9,7 +9,7 @@ pub mod Counts
 pub mod CountsLater
 pub mod FirstRows
 pub mod GapsLater
-pub mod GapsOfQuarters
+pub mod GapsOfHalves
 pub mod HalvesOfSquares
 pub mod LeafBlocks
 pub mod LeafBoxes
@@ -20,6 +20,7 @@ pub mod OneList
 pub mod PictureLines
 pub mod Products
 pub mod Quarters
+pub mod QuartersAtSides
 pub mod RowsOfSquares
 pub mod RunsBeside
 pub mod RunsOfLeaves

@@ -1,5 +1,5 @@
 -- The smallest box round the live cells of planes and squares.
-use Rattle.std.specs.Prelude.{◌≡◌, ℕ, ◌^◌, ℤ, pos, ◌+ℤ◌, ◌≤ℤ◌, ◌<ℤ◌, true, IsTrue, List, Option, None, Some, FitsSigned}
+use Rattle.std.specs.Prelude.{◌≡◌, ℕ, ℤ, pos, ◌+ℤ◌, ◌≤ℤ◌, ◌<ℤ◌, true, List, Option, None, Some, FitsSigned}
 use Rattle.std.specs.Int.{int_min, int_max, w64}
 use Rattle.std.specs.Option.{option_map}
 use Rattle.plane.specs.declared.cell.Cell.{Cell}
@@ -8,9 +8,6 @@ use Rattle.plane.specs.Bounds.{bounds_of}
 use Rattle.plane.specs.Listing.{IsListing}
 use Rattle.plane.specs.Plane.{Plane}
 use Rattle.plane.specs.Square.{IsSame, empty}
-use Rattle.squares.specs.Book.{Book}
-use Rattle.squares.specs.declared.sq.Sq.{Sq}
-use Rattle.squares.specs.Noted.{Noted, value_of}
 
 -- the box of the plane's live cells, if it has any
 pub record HasBounds (plane : Plane) (box : Option Bounds) : Type 0 where
@@ -41,14 +38,6 @@ abbrev pub IsLocalBox : ℕ → Plane → Option Bounds → Type 0
 IsLocalBox side plane None = IsSame plane empty
 IsLocalBox side plane (Some box) = IsBoxOf plane box × IsInSquare side box
 
--- the square is known, and this is its box, from its upper left corner
-abbrev pub IsKnownBox : Book → Sq → Option Bounds → Type 0
-IsKnownBox book sq box = IsTrue (book.knows sq) × IsLocalBox (2 ^ sq.level) (book.cells sq) box
-
--- each box that is kept is that of its square, which is known
-pub record AreBoxes (book : Book) (boxes : Noted (Option Bounds)) : Type 0 where
-  pub box : (sq : Sq) (box : Option Bounds) → value_of boxes sq ≡ Some box → IsKnownBox book sq box
-
 -- the box, moved so far to the right and down
 abbrev pub moved_bounds : ℤ → ℤ → Bounds → Bounds
 moved_bounds right down box = record {
@@ -78,8 +67,3 @@ box_round (Some a) (Some b) = Some (record {
   right = int_max a.right b.right;
   bottom = int_max a.bottom b.bottom;
 })
-
--- the box round those of the quarters of a square, each of which has this side
-abbrev pub joined_boxes : ℕ → Option Bounds → Option Bounds → Option Bounds → Option Bounds → Option Bounds
-joined_boxes side nw ne sw se =
-    box_round (box_round nw (moved_box (pos side) (pos 0) ne)) (box_round (moved_box (pos 0) (pos side) sw) (moved_box (pos side) (pos side) se))

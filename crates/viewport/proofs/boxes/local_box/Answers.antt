@@ -1,4 +1,4 @@
-use Rattle.std.proofs.Common.{ℕ, ◌^◌, pow_mono, sym, subst, arith}
+use Rattle.std.proofs.Common.{ℕ, ◌^◌, pow_mono}
 use Rattle.plane.specs.Plane.{Plane}
 use Rattle.squares.proofs.Kept.{keeps_trans}
 use Rattle.viewport.specs.declared.gaps.Side.TheVariants.{Left, Right, Top, Bottom}

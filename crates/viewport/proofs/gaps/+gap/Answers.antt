@@ -1,12 +1,13 @@
-use Rattle.std.proofs.Common.{◌+◌, ◌-◌, ◌^◌, ℕ, sym, ◌∙◌, ap, subst, arith, rules}
+use Rattle.std.proofs.Common.{◌+◌, ◌-◌, ◌^◌, ℕ, sym, ◌∙◌, subst, arith, rules}
 use Rattle.std.specs.Prelude.{Option}
 use Rattle.std.specs.Option.{option_map}
 use Rattle.plane.proofs.Paddings.{twice_half}
 use Rattle.squares.proofs.Kept.{known_kept}
 use Rattle.squares.proofs.NotedValues.{true_of_kept, true_of_same}
 use Rattle.viewport.specs.Gaps.{IsGap, IsKnownGap}
-use Rattle.viewport.proofs.GapsOfQuarters.{either_gap, far_found, far_small, known_halves, near_gap, none_live, of_two_quarters, pair_kept, side_known}
 use Rattle.viewport.proofs.GapsLater.{gap_as, gap_later, gap_level, kept_gaps}
+use Rattle.viewport.proofs.GapsOfHalves.{far_found, far_small, near_gap, none_live}
+use Rattle.viewport.proofs.QuartersAtSides.{known_halves, of_two_quarters, pair_kept, side_known}
 use Rattle.viewport.proofs.gaps.+gap.Goals as goal
 
 pub gap-returns-then-sq-eq-LEAF_LEVEL-clause-noted : goal.gap-returns-then-sq-eq-LEAF_LEVEL-clause-noted
@@ -75,7 +76,7 @@ quarters_gap-farther-requires g t c = λ x e.
     let known = side_known c.args.side read sq.level (was.cells sq) quarters squares c.side_first.ensures c.quarters_of-quarters.ensures.value in
     let halves = known_halves c.args.side was read sq quarters squares (g.met.R.Reading.is_book c.quarters_of-quarters.new.self) c.quarters_of-quarters.ensures.adds.keeps c.requires.known c.requires.low c.quarters_of-quarters.ensures.value c.side_first.ensures in
     let small = far_small c.args.side h (was.cells sq) _ _ c.in_ok-far.far halves
-        (gap_as c.args.side h _ _ c.in_ok-far.far (pair_kept read one _ _ c.in_ok-near.ensures.adds.keeps known.third.known known.fourth.known) (gap_level c.args.side _ _ _ c.in_ok-far.far known.third.at_level c.in_ok-far.ensures.ok)) x e in
+    (gap_as c.args.side h _ _ c.in_ok-far.far (pair_kept read one _ _ c.in_ok-near.ensures.adds.keeps known.third.known known.fourth.known) (gap_level c.args.side _ _ _ c.in_ok-far.far known.third.at_level c.in_ok-far.ensures.ok)) x e in
     let side_is = c.half_side.ensures.value in let bound = c.half_side.ensures.bound in omega (arith, small, side_is, bound)
 
 pub quarters_gap-returns-clause-ok : goal.quarters_gap-returns-clause-ok

@@ -1,12 +1,10 @@
-use Rattle.std.proofs.Common.{pos, ◌-ℤ◌, sym, subst, arith, rules, w64, SFits}
+use Rattle.std.proofs.Common.{pos, ◌-ℤ◌, subst, arith, rules, w64, SFits}
 use Rattle.std.specs.Prelude.{Option, Some}
 use Rattle.std.proofs.lemmas.Int.{to_z-of_z, ints}
 use Rattle.plane.specs.declared.cell.Bounds.{Bounds}
 use Rattle.plane.specs.Square.{bits_plane}
 use Rattle.viewport.specs.BoundingBox.{IsLocalBox}
-use Rattle.viewport.specs.declared.gaps.Side.{Side}
 use Rattle.viewport.specs.declared.gaps.Side.TheVariants.{Left, Right, Top, Bottom}
-use Rattle.viewport.specs.Gaps.{IsNearest}
 use Rattle.viewport.proofs.BoxesOfGaps.{gap_of_box}
 use Rattle.viewport.proofs.gaps.leaf_gap.Goals as goal
 

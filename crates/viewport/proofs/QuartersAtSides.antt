@@ -1,111 +1,21 @@
--- Gaps at the sides of squares: of planes laid over one another, and of a square by its quarters.
-use Rattle.std.proofs.Common.{◌≡◌, ℕ, ◌+◌, ◌-◌, ◌^◌, ◌≤◌, ◌<◌, ◌⊎◌, ℤ, pos, ◌+ℤ◌, ◌-ℤ◌, ◌≤ℤ◌, ◌<ℤ◌, true, false, ◌||◌, List, refl, sym, ◌∙◌, ap, subst, inl, inr, arith, min}
-use Rattle.std.specs.Prelude.{IsTrue, Option, Some, None, is_some}
-use Rattle.std.specs.Option.{option_map}
-use Rattle.std.proofs.Math.Nat.{min-le_left, min-le_right}
+-- The quarters of a square, as they lie at its sides: the two halves at a side, and what the search in them asks for.
+use Rattle.std.proofs.Common.{◌≡◌, ℕ, ◌+◌, ◌-◌, ◌^◌, ◌≤◌, ◌<◌, ◌⊎◌, ℤ, pos, ◌+ℤ◌, ◌-ℤ◌, true, ◌||◌, List, refl, sym, ◌∙◌, ap, subst, inl, inr, arith}
+use Rattle.std.specs.Prelude.{IsTrue}
 use Rattle.std.proofs.lemmas.Int.{ints}
-use Rattle.std.proofs.lemmas.Bool.{false≢true}
 use Rattle.plane.specs.Laws.{moved}
 use Rattle.plane.specs.Plane.{Plane}
-use Rattle.plane.specs.Square.{IsSame, IsSquare, spans, empty}
+use Rattle.plane.specs.Square.{IsSame, IsSquare}
 use Rattle.plane.proofs.Same.{plane_equal}
 use Rattle.squares.specs.Book.{Book, IsBook, IsKnown, Keeps, AreQuarters, nth}
-use Rattle.squares.proofs.Kept.{known_kept}
 use Rattle.squares.specs.declared.sq.Sq.{Sq}
-use Rattle.squares.proofs.NumberMaps.{by_cases}
+use Rattle.squares.proofs.Kept.{known_kept}
 use Rattle.viewport.specs.declared.gaps.Side.{Side}
 use Rattle.viewport.specs.declared.gaps.Side.TheVariants.{Left, Right, Top, Bottom}
-use Rattle.viewport.specs.Gaps.{HasCellAt, IsGap, IsNearest, distance_from, lesser, near_first}
+use Rattle.viewport.specs.Gaps.{HasCellAt, distance_from, near_first}
 use Rattle.viewport.specs.Halves.{either, side_by_side}
-use Rattle.viewport.proofs.BoxesRound.{both_dead, here_too, live_in_column, live_in_row, or_case, or_false, or_left, or_right, within_span}
+use Rattle.viewport.proofs.BoxesRound.{both_dead, here_too, or_case, or_left, or_right}
+use Rattle.viewport.proofs.GapsOfHalves.{IsHalved}
 use Rattle.viewport.proofs.Quarters.{IsQuartered, from_nothing, over, own_level, quartered}
-
--- cells of a square lie between its sides
-between_sides : (side : Side) (size : ℕ) (x y n : ℤ) → (pos 0 ≤ℤ x) × (x <ℤ pos size) → (pos 0 ≤ℤ y) × (y <ℤ pos size) → distance_from side size x y ≡ n → (pos 0 ≤ℤ n) × (n <ℤ pos size)
-between_sides Left size x y n h k e = (omega (arith, ints), omega (arith, ints))
-between_sides Right size x y n h k e = (omega (arith, ints), omega (arith, ints))
-between_sides Top size x y n h k e = (omega (arith, ints), omega (arith, ints))
-between_sides Bottom size x y n h k e = (omega (arith, ints), omega (arith, ints))
-
-pub inside : (side : Side) (size : ℕ) (p : Plane) (n : ℤ) → IsSquare size p → HasCellAt side size p n → (pos 0 ≤ℤ n) × (n <ℤ pos size)
-inside side size p n is cell =
-    between_sides side size cell.x cell.y n (within_span size cell.x (live_in_column size p is _ _ cell.live)) (within_span size cell.y (live_in_row size p is _ _ cell.live)) cell.there
-
-pub gap_inside : (side : Side) (size gap : ℕ) (p : Plane) → IsSquare size p → IsNearest side size p gap → gap < size
-gap_inside side size gap p is h = let between = inside side size p (pos gap) is h.reached in omega (arith, ints, between.0, between.1)
-
-no_nearer : (a b : ℕ) (z : ℤ) → (pos a ≤ℤ z) ⊎ (pos b ≤ℤ z) → pos (min a b) ≤ℤ z
-no_nearer a b z (inl h) = let m = min-le_left a b in omega (arith, ints, m)
-no_nearer a b z (inr h) = let m = min-le_right a b in omega (arith, ints, m)
-
--- one of two numbers is the lesser
-min_of : (P : ℕ → Type 0) (a b : ℕ) → P a → P b → P (min a b)
-min_of P a b h k = elim (is_min a b) [ inl e ↦ subst P (sym e) h | inr e ↦ subst P (sym e) k ] where
-  is_min : (m n : ℕ) → (min m n ≡ m) ⊎ (min m n ≡ n)
-  is_min m n = grind arith
-
--- the gap of two planes that are laid over one another
-pub either_gap : (side : Side) (size : ℕ) (p q : Plane) (a b : Option ℕ) → IsGap side size p a → IsGap side size q b → IsGap side size (either p q) (lesser a b)
-either_gap side size p q None None h k = record { same = λ x y. both_dead (p x y) (q x y) (h.same x y) (k.same x y) }
-either_gap side size p q None (Some b) h k = subst (λ r. IsNearest side size r b) (plane_equal _ _ (record { same = λ x y. sym (ap (λ t. t || q x y) (h.same x y)) })) k
-either_gap side size p q (Some a) None h k = subst (λ r. IsNearest side size r a) (plane_equal _ _ (record { same = λ x y. sym (or_false (p x y) (q x y) (k.same x y)) })) h
-either_gap side size p q (Some a) (Some b) h k = record {
-  clear = λ x y live. no_nearer a b _ (or_case (p x y) (q x y) live (λ e. inl (h.clear x y e)) (λ e. inr (k.clear x y e)));
-  reached = min_of (λ n. HasCellAt side size (either p q) (pos n)) a b
-      (record { x = h.reached.x; y = h.reached.y; live = or_left _ _ h.reached.live; there = h.reached.there })
-      (record { x = k.reached.x; y = k.reached.y; live = or_right _ _ k.reached.live; there = k.reached.there });
-}
-
--- the halves of a square of twice this side: the one at the side, and the other
-pub record IsHalved (side : Side) (h : ℕ) (p near far : Plane) : Type 0 where
-  pub near_square : IsSquare h near
-  pub far_square : IsSquare h far
-  pub near_cell : (n : ℤ) → HasCellAt side h near n → HasCellAt side (h + h) p (n +ℤ pos 0)
-  pub far_cell : (n : ℤ) → HasCellAt side h far n → HasCellAt side (h + h) p (n +ℤ pos h)
-  pub each : (x y : ℤ) → p x y ≡ true → HasCellAt side h near (distance_from side (h + h) x y -ℤ pos 0) ⊎ HasCellAt side h far (distance_from side (h + h) x y -ℤ pos h)
-
-near_clear : (g h : ℕ) (d z : ℤ) → pos g ≤ℤ d → d ≡ z -ℤ pos 0 → pos g ≤ℤ z
-near_clear g h d z k e = omega (arith, ints)
-
-far_behind : (g h : ℕ) (z : ℤ) → g < h → pos 0 ≤ℤ (z -ℤ pos h) → pos g ≤ℤ z
-far_behind g h z k e = omega (arith, ints)
-
-far_clear : (g h : ℕ) (d z : ℤ) → pos g ≤ℤ d → d ≡ z -ℤ pos h → pos (g + h) ≤ℤ z
-far_clear g h d z k e = omega (arith, ints)
-
-no_farther : (g : ℕ) → pos g +ℤ pos 0 ≡ pos g
-no_farther g = omega (arith, ints)
-
-farther_by : (g h : ℕ) → pos g +ℤ pos h ≡ pos (g + h)
-farther_by g h = omega (arith, ints)
-
--- a gap in the half at the side is that of the square
-pub near_found : (side : Side) (h gap : ℕ) (p near far : Plane) → IsHalved side h p near far → IsNearest side h near gap → IsNearest side (h + h) p gap
-near_found side h gap p near far is found = record {
-  clear = λ x y live. elim (is.each x y live) [
-    | inl cell ↦ near_clear gap h _ _ (found.clear cell.x cell.y cell.live) cell.there
-    | inr cell ↦ far_behind gap h _ (gap_inside side h gap near is.near_square found) (inside side h far _ is.far_square cell).0
-  ];
-  reached = subst (HasCellAt side (h + h) p) (no_farther gap) (is.near_cell (pos gap) found.reached);
-}
-
--- where that half has no live cell, it is the gap of the other half, farther by half the side
-pub far_found : (side : Side) (h : ℕ) (p near far : Plane) (o : Option ℕ) → IsHalved side h p near far → IsSame near empty → IsGap side h far o → IsGap side (h + h) p (option_map (λ g. g + h) o)
-far_found side h p near far None is none found = record {
-  same = λ x y. by_cases (p x y)
-      (λ live. elim (is.each x y live) [
-        | inl cell ↦ absurd (false≢true (sym (none.same cell.x cell.y) ∙ cell.live))
-        | inr cell ↦ absurd (false≢true (sym (found.same cell.x cell.y) ∙ cell.live))
-      ])
-      (λ dead. dead);
-}
-far_found side h p near far (Some gap) is none found = record {
-  clear = λ x y live. elim (is.each x y live) [
-    | inl cell ↦ absurd (false≢true (sym (none.same cell.x cell.y) ∙ cell.live))
-    | inr cell ↦ far_clear gap h _ _ (found.clear cell.x cell.y cell.live) cell.there
-  ];
-  reached = subst (HasCellAt side (h + h) p) (farther_by gap h) (is.far_cell (pos gap) found.reached);
-}
 
 -- how much farther from the side of a square of twice this side a cell lies that was moved so far to the right and down
 abbrev pub farther_off : Side → ℕ → ℤ → ℤ → ℤ
@@ -264,24 +174,8 @@ known_halves side was read sq quarters squares laws keeps known above are e =
     let whole = quartered read sq quarters laws (known_kept keeps known) above parts in
     subst (λ (list : List Sq). IsHalved side (2 ^ (sq.level - 1)) (was.cells sq) (either (read.cells (nth list 0)) (read.cells (nth list 1))) (either (read.cells (nth list 2)) (read.cells (nth list 3)))) (sym e)
     (subst (λ (p : Plane). IsHalved side (2 ^ (sq.level - 1)) p (either (read.cells (nth (near_first side quarters) 0)) (read.cells (nth (near_first side quarters) 1)))
-        (either (read.cells (nth (near_first side quarters) 2)) (read.cells (nth (near_first side quarters) 3)))) same
+    (either (read.cells (nth (near_first side quarters) 2)) (read.cells (nth (near_first side quarters) 3)))) same
     (side_halves side (2 ^ (sq.level - 1)) read (read.cells sq) quarters whole))
-
--- the gap of a square, if it was found in the half at the side
-pub near_gap : (side : Side) (h : ℕ) (p near far : Plane) (o : Option ℕ) → IsHalved side h p near far → is_some o ≡ true → IsGap side h near o → IsGap side (h + h) p o
-near_gap side h p near far None is some found = absurd (false≢true some)
-near_gap side h p near far (Some gap) is some found = near_found side h gap p near far is found
-
--- no cell is live where no gap was found
-pub none_live : (side : Side) (h : ℕ) (p : Plane) (o : Option ℕ) → is_some o ≡ false → IsGap side h p o → IsSame p empty
-none_live side h p None none found = found
-none_live side h p (Some gap) none found = absurd (false≢true (sym none))
-
--- a gap in the other half is less than half the side
-pub far_small : (side : Side) (h : ℕ) (p near far : Plane) (o : Option ℕ) → IsHalved side h p near far → IsGap side h far o → (gap : ℕ) → o ≡ Some gap → gap < h
-far_small side h p near far o is found gap e =
-    let some : IsGap side h far (Some gap) = subst (λ (r : Option ℕ). IsGap side h far r) e found in
-    gap_inside side h gap far is.far_square some
 
 -- what the search in two quarters asks for: that they are known, their level, and more
 pub of_two_quarters : {More : Type 0} (book : Book) (level : ℕ) (a b : Sq) → level ≤ 63 → IsKnown book (level - 1) a → IsKnown book (level - 1) b → More →
