@@ -6,22 +6,28 @@
     bench/compare.py --rounds 5 --rows gun     the rows with "gun" in their names, the best of five
     bench/compare.py --set rules               soups by rules other than Life
     bench/compare.py --set formats             the rows that read, write and count, and run little
+    bench/compare.py --set files               large files: the rows that read one, some of which write it again
+    bench/compare.py --set files --lifeview    and the times of lifeview on these files, beside lifebatch
     bench/compare.py --set long                long runs, most of which fill the tables
+    bench/compare.py --nodes 16777216          with another limit of the node tables than the default of lifebatch
+    bench/compare.py --golly-memory 1024       with another limit of memory than the default of bgolly, in megabytes
     bench/compare.py --processors 2            on two processors
     bench/compare.py --aims                    with the aims in brackets
     bench/compare.py --json FILE --svg FILE    the table as JSON too, and the ratios as a bar chart
 
 In a round each program runs once, one after the other, so that load affects both equally. A ratio is the time of lifebatch divided by that of
-bgolly: below 1 lifebatch is faster. "Memory" is the same ratio of the peaks of memory, where bgolly takes 30 MB or more. lifebatch runs with
-the setting of malloc that ./lifebatch gives it. --aims shows an aim for the mean only if all rows have the same aims. A row differs if the programs report
-different populations, or if lifebatch fails.
+bgolly: below 1 lifebatch is faster. "Memory" is the same ratio of the peaks of memory, where bgolly takes 30 MiB or more. "Serial", with more than one
+worker, is the part of the time in which one of them ran, if all ran in the rest of it: (w * clock - processor) / ((w - 1) * clock) for w workers, where
+clock is the time of the best run and processor its user and system time. Waiting counts as serial too, so it exceeds 100 % if the run waits for a
+processor. lifebatch runs with the setting of malloc that ./lifebatch gives it. --aims shows an aim for the mean only if all rows have the same aims. A
+row differs if the programs report different populations, or if lifebatch or lifeview fails. The soups of the set files are the same in every run of this
+script; bgolly makes their macrocell files.
 """
 import argparse
 import json
 import math
 import os
 import pathlib
-import shutil
 import sys
 import tempfile
 from collections.abc import Sequence
@@ -30,23 +36,23 @@ from dataclasses import asdict, dataclass
 sys.path.insert(0, str(pathlib.Path(__file__).resolve().parent.parent / "checks"))
 
 from chart import Group, svg
-from common.check import BGOLLY, BUILT, DIFFERS, HOLDS, NOT_RUN, CannotRun, Check, end
-from common.program import PATTERNS, unpacked
+from commands import bgolly, lifebatch, pattern_file
+from common.check import BGOLLY, BUILT, BUILT_VIEW, DIFFERS, HOLDS, NOT_RUN, CannotRun, Check, Need, add_view, end
 from rows import AIMS, SETS, Aims, Row
-from timing import Command, Found, Run, best_of_rounds
+from timing import Found, Run, best_of_rounds
+from views import View, print_views
+
+VIEW_IF_ASKED = Need(f"{BUILT_VIEW.name} (for --lifeview)", BUILT_VIEW.brings, lambda options: not options.lifeview or BUILT_VIEW.is_there(options))
 
 CHECK = Check(
     text=__doc__,
-    needs=(BUILT, BGOLLY),
+    needs=(BUILT, VIEW_IF_ASKED, BGOLLY),
     takes="a minute for the sets runs and steps by one worker, and four minutes for a round of the set long, on a machine that does nothing else",
     replay="give the name of the row, or a part of it, to --rows.",
 )
 
-# What ./lifebatch asks of malloc.
-LAUNCHER_SETTING = "glibc.malloc.hugetlb=1:glibc.malloc.mmap_threshold=1048576"
-
-# Memory is compared if bgolly takes as many megabytes or more.
-COUNTED_MEGABYTES = 30
+# Memory is compared if bgolly takes as many mebibytes or more.
+COUNTED_MEBIBYTES = 30
 
 
 @dataclass(frozen=True)
@@ -71,11 +77,16 @@ class Result:
         both = isinstance(ours, Run) and isinstance(self.theirs, Run)
         return ours.seconds / self.theirs.seconds if both else None
 
+    def serial(self, workers: int) -> float | None:
+        """The serial part of the time of more than one worker, if lifebatch ended well."""
+        ours = self.ours.get(workers)
+        return ours.serial(workers) if workers > 1 and isinstance(ours, Run) else None
+
     def memory(self) -> float | None:
         """The largest ratio of the memories, if they count."""
-        if not self.is_compared() or self.theirs.megabytes < COUNTED_MEGABYTES:
+        if not self.is_compared() or self.theirs.mebibytes < COUNTED_MEBIBYTES:
             return None
-        return max(it.megabytes for it in self.ours.values()) / self.theirs.megabytes
+        return max(it.mebibytes for it in self.ours.values()) / self.theirs.mebibytes
 
     def lasts(self) -> list[str]:
         return sorted({it.last for it in self.runs()})
@@ -92,26 +103,13 @@ class Result:
         return "same" if self.is_compared() else "not compared"
 
 
-def pattern_file(row: Row, folder: pathlib.Path) -> pathlib.Path | None:
-    """The path of a row's pattern, or None if Golly's patterns are not there."""
-    source = row.source() if callable(row.source) else row.source
-    if "\n" in source:
-        path = folder / "pattern.rle"
-        path.write_text(source)
-        return path
-    return unpacked(PATTERNS / source, folder) if (PATTERNS / source).is_file() else None
-
-
 def result(name: str, row: Row, options: argparse.Namespace, folder: pathlib.Path) -> Result:
     """Runs a row of a set."""
     path = pattern_file(row, folder)
     if path is None:
         return Result(name, row, {}, "Golly's patterns are not installed")
-    program = [str(options.program.resolve()), *options.words.split(), "--workers"]
-    settings = {"GLIBC_TUNABLES": LAUNCHER_SETTING}
-    commands = [Command([*program, str(workers), *row.words(path)], settings) for workers in options.workers]
-    commands.append(Command([shutil.which("bgolly"), "-a", "HashLife", *row.words(path)]))
-    *ours, theirs = best_of_rounds(commands, options.rounds, folder)
+    commands = [lifebatch(row, path, workers, options) for workers in options.workers]
+    *ours, theirs = best_of_rounds([*commands, bgolly(row, path, options)], options.rounds, folder)
     return Result(name, row, dict(zip(options.workers, ours)), theirs)
 
 
@@ -121,12 +119,17 @@ def with_aim(ratio: float | None, aim: float | None) -> str:
     return f"{ratio:.2f}" if aim is None else f"{ratio:.2f} ({aim})"
 
 
+def percent(part: float | None) -> str:
+    return "" if part is None else f"{round(100 * part)} %"
+
+
 def table_row(found: Result, options: argparse.Namespace) -> str:
     """A row of the table."""
     cells = [found.row.name, found.row.said()]
     for workers in options.workers:
         aim = found.row.aim or found.aims.time
         cells += [str(found.ours.get(workers, "")), with_aim(found.ratio(workers), aim if options.aims and workers == 1 else None)]
+        cells += [percent(found.serial(workers))] if workers > 1 else []
     cells += [str(found.theirs), with_aim(found.memory(), found.aims.memory if options.aims else None), found.population()]
     return f"| {' | '.join(cells)} |"
 
@@ -134,7 +137,7 @@ def table_row(found: Result, options: argparse.Namespace) -> str:
 def table_head(options: argparse.Namespace) -> str:
     heads = ["Pattern", "Generations"]
     for workers in options.workers:
-        heads += [said(workers), "Ratio"]
+        heads += [said(workers), "Ratio", *(["Serial"] if workers > 1 else [])]
     heads += ["bgolly, HashLife", "Memory", "Last population"]
     return f"| {' | '.join(heads)} |\n{'|---' * len(heads)}|"
 
@@ -167,20 +170,27 @@ def run_data(found: Found) -> dict:
 def row_data(found: Result, options: argparse.Namespace) -> dict:
     row = found.row
     data = {"set": found.set, "pattern": row.name, "generations": row.generations, "step": row.step, "output": row.output}
-    data["lifebatch"] = {str(it): {**run_data(run), "ratio": found.ratio(it)} for it, run in found.ours.items()}
+    data["lifebatch"] = {str(it): {**run_data(run), "ratio": found.ratio(it), "serial": found.serial(it)} for it, run in found.ours.items()}
     data |= {"bgolly": run_data(found.theirs), "memory_ratio": found.memory(), "last_population": found.population()}
     if options.aims:
         data["aims"] = {"time": row.aim or found.aims.time, "memory": found.aims.memory}
     return data
 
 
-def json_text(results: Sequence[Result], options: argparse.Namespace) -> str:
-    """The table as JSON: seconds, megabytes and ratios as numbers."""
+def view_data(found: View) -> dict:
+    return {"pattern": found.row.name, "lifebatch": run_data(found.ours), "lifeview": run_data(found.view)}
+
+
+def json_text(results: Sequence[Result], views: Sequence[View], options: argparse.Namespace) -> str:
+    """The tables as JSON: seconds, mebibytes and ratios as numbers."""
     data = {
         "rounds": options.rounds,
         "words": options.words,
+        "nodes": options.nodes,
+        "golly_memory": options.golly_memory,
         "processors": len(os.sched_getaffinity(0)),
         "rows": [row_data(it, options) for it in results],
+        "lifeview": [view_data(it) for it in views],
         "geometric_means": {str(it): mean(results, it) for it in options.workers},
     }
     return json.dumps(data, indent=2) + "\n"
@@ -192,14 +202,14 @@ def svg_text(results: Sequence[Result], options: argparse.Namespace) -> str:
     return svg("Shorter than bgolly to the left, longer to the right", "lifebatch time / bgolly time", "bgolly", [said(it) for it in options.workers], groups)
 
 
-def write_files(results: Sequence[Result], options: argparse.Namespace) -> None:
+def write_files(results: Sequence[Result], views: Sequence[View], options: argparse.Namespace) -> None:
     if options.json:
-        options.json.write_text(json_text(results, options))
+        options.json.write_text(json_text(results, views, options))
     if options.svg:
         options.svg.write_text(svg_text(results, options))
 
 
-def status(results: Sequence[Result]) -> int:
+def status(results: Sequence[Result | View]) -> int:
     if any(it.differs() for it in results):
         return DIFFERS
     return HOLDS if all(it.is_compared() for it in results) else NOT_RUN
@@ -214,13 +224,25 @@ def chosen(options: argparse.Namespace) -> list[tuple[str, Row]]:
     return found
 
 
+def viewed(rows: Sequence[tuple[str, Row]], options: argparse.Namespace) -> list[Row]:
+    """The rows whose files lifeview draws: those of the set files that read alone, if it is asked for."""
+    found = [row for name, row in rows if options.lifeview and name == "files" and row.reads_alone()]
+    if options.lifeview and not found:
+        raise CannotRun("--lifeview needs a row of the set files that reads alone")
+    return found
+
+
 def parsed() -> argparse.Namespace:
     parser = CHECK.parser()
+    add_view(parser)
     parser.add_argument("--rounds", type=int, default=3, help="how many runs of each; the best counts (3)")
     parser.add_argument("--set", nargs="+", choices=sorted(SETS), default=["runs", "steps"], help="which rows (runs steps)")
     parser.add_argument("--rows", nargs="+", default=[], help="only the rows with one of these texts in their names")
     parser.add_argument("--workers", type=int, nargs="+", default=[1], help="the numbers of workers (1)")
-    parser.add_argument("--words", default="", help="more options for lifebatch, as '--nodes 65536'")
+    parser.add_argument("--nodes", type=int, metavar="N", help="limit the node tables of lifebatch to N slots in total (its default)")
+    parser.add_argument("--golly-memory", type=int, metavar="M", help="limit the memory of bgolly to M megabytes (its default)")
+    parser.add_argument("--words", default="", help="more options for lifebatch, as '--window=0,0,64,64'")
+    parser.add_argument("--lifeview", action="store_true", help="time lifeview on the files of the set files that are read alone")
     parser.add_argument("--processors", type=int, help="how many processors both may use (all)")
     parser.add_argument("--aims", action="store_true", help="show the aims in brackets")
     parser.add_argument("--json", type=pathlib.Path, metavar="FILE", help="write the table as JSON")
@@ -232,15 +254,19 @@ def main() -> int:
     options = parsed()
     if options.processors:
         os.sched_setaffinity(0, sorted(os.sched_getaffinity(0))[: options.processors])
-    rows, results = chosen(options), []
+    rows, results, views = chosen(options), [], []
+    drawn = viewed(rows, options)
     print(table_head(options))
-    with tempfile.TemporaryDirectory() as folder:
-        for name, row in rows:
-            results.append(result(name, row, options, pathlib.Path(folder)))
+    with tempfile.TemporaryDirectory() as name:
+        folder = pathlib.Path(name)
+        for set_name, row in rows:
+            results.append(result(set_name, row, options, folder))
             print(table_row(results[-1], options), flush=True)
-    print_means(results, options)
-    write_files(results, options)
-    return status(results)
+        print_means(results, options)
+        if drawn:
+            views = print_views(drawn, options, folder)
+    write_files(results, views, options)
+    return status([*results, *views])
 
 
 if __name__ == "__main__":

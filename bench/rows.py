@@ -5,14 +5,16 @@ import re
 from collections.abc import Callable
 from dataclasses import dataclass
 
+from soups import Soup
+
 
 @dataclass(frozen=True)
 class Aims:
-    """The aims beside bgolly: the most time of one worker, the mean of the times with a number of workers, and the most memory."""
+    """The aims beside bgolly: the most time of one worker, the mean of the times with a number of workers, and the most memory, if there is such an aim."""
 
     time: float
     means: dict[int, float]
-    memory: float
+    memory: float | None
 
 
 @dataclass(frozen=True)
@@ -20,8 +22,8 @@ class Row:
     """A run of both programs."""
 
     name: str
-    # A file of Golly's, a text, or a function that makes one.
-    source: str | Callable[[], str]
+    # A file of Golly's, a text, a function that makes one, or a file of random cells.
+    source: str | Callable[[], str] | Soup
     generations: int
     step: int = 0
     output: str = ""
@@ -35,12 +37,18 @@ class Row:
         words += ["-o", self.output] if self.output else []
         return [*words, str(path)]
 
+    def reads_alone(self) -> bool:
+        """Whether it runs no generation and writes no file."""
+        return self.generations == 0 and not self.output
+
     def said(self) -> str:
         """The generations, with the step if there is one."""
         return f"{self.generations}, every {self.step}" if self.step else str(self.generations)
 
     def label(self) -> str:
-        """The name and the generations in words, for a chart."""
+        """The name and the generations in words, for a chart, or the name alone if no generation is run."""
+        if self.generations == 0:
+            return self.name
         reports = f", a report every {self.step}" if self.step else ""
         return f"{self.name}, {self.generations} generations{reports}"
 
@@ -70,6 +78,7 @@ AIMS = {
     "steps": USUAL,
     "rules": Aims(time=0.35, means={}, memory=1.5),
     "formats": USUAL,
+    "files": Aims(time=1.5, means={1: 1.0}, memory=None),
     "long": Aims(time=2.0, means={1: 1.3, 4: 0.6}, memory=1.0),
 }
 SETS = {
@@ -108,6 +117,20 @@ SETS = {
         Row("spacefiller", "Life/Breeders/spacefiller.rle", 2**14),
         Row("Turing machine", "Life/Signal-Circuitry/Turing-Machine-3-state.rle", 2**14),
         Row("metapixel galaxy, written", "HashLife/metapixel-galaxy.mc.gz", 0, output="out.rle"),
+    ],
+    # The last two are the largest files of Golly's, of each format, with two states.
+    "files": [
+        Row("soup of 4096 by 4096, a third live, RLE", Soup(4096, 1 / 3), 0),
+        Row("soup of 2048 by 2048, half live, RLE", Soup(2048, 1 / 2), 0),
+        Row("soup of 4096 by 4096, 3 in 100 live, RLE", Soup(4096, 3 / 100), 0),
+        Row("soup of 4096 by 4096, a third live, macrocell", Soup(4096, 1 / 3, "mc"), 0),
+        Row("soup of 2048 by 2048, half live, macrocell", Soup(2048, 1 / 2, "mc"), 0),
+        Row("soup of 4096 by 4096, 3 in 100 live, macrocell", Soup(4096, 3 / 100, "mc"), 0),
+        Row("soup of 4096 by 4096, a third live, RLE to RLE", Soup(4096, 1 / 3), 0, output="out.rle"),
+        Row("soup of 4096 by 4096, a third live, macrocell to macrocell", Soup(4096, 1 / 3, "mc"), 0, output="out.mc"),
+        Row("soup of 4096 by 4096, a third live, macrocell to RLE", Soup(4096, 1 / 3, "mc"), 0, output="out.rle"),
+        Row("high-bandwidth-telegraph, RLE", "Life/Signal-Circuitry/high-bandwidth-telegraph.rle.gz", 0),
+        Row("demonoid-c512-hashlife-friendly, macrocell", "HashLife/demonoid-c512-hashlife-friendly.mc.gz", 0),
     ],
     "long": [
         Row("hexadecimal", "HashLife/hexadecimal.mc.gz", 2**18),

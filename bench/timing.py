@@ -20,14 +20,20 @@ class Command:
 
 @dataclass(frozen=True)
 class Run:
-    """The time and the peak memory of a run, and the last generation that it reported with its population."""
+    """The time of a run, that of its processors, its peak memory, and the last generation that it reported with its population."""
 
     seconds: float
-    megabytes: float
+    # User and system time, of all threads.
+    processor: float
+    mebibytes: float
     last: str
 
     def __str__(self) -> str:
-        return f"{self.seconds:.3f} s, {self.megabytes:.0f} MB"
+        return f"{self.seconds:.3f} s, {self.mebibytes:.0f} MiB"
+
+    def serial(self, workers: int) -> float:
+        """The part of the time in which one of some workers ran, if all of them ran in the rest of it."""
+        return (workers * self.seconds - self.processor) / ((workers - 1) * self.seconds)
 
 
 # A run, or why there is none.
@@ -60,7 +66,7 @@ def run_once(command: Command, folder: pathlib.Path) -> Found:
     process.returncode = 0
     if status:
         return f"status {os.waitstatus_to_exitcode(status)}"
-    return Run(seconds, usage.ru_maxrss / 1024, last_line(report))
+    return Run(seconds, usage.ru_utime + usage.ru_stime, usage.ru_maxrss / 1024, last_line(report))
 
 
 def best_of_rounds(commands: Sequence[Command], rounds: int, folder: pathlib.Path) -> list[Found]:
