@@ -23,7 +23,7 @@ use universe::Universe;
 const LIFE: &[u8] = b"B3/S23";
 
 // About how many bytes of a large pattern file there are for each pair slot that its squares need.
-const BYTES_A_SLOT: u64 = 8;
+const BYTES_A_SLOT: u64 = 10;
 
 // What an accepted run begins with.
 #[derive(Drop)]

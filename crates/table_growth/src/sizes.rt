@@ -32,17 +32,16 @@ pub enum GrowthFactor {
     Sixteen,
 }
 
-/// The shape of a new table that is likely to need so many pair slots: the smallest that has them, of those that
-/// a table grows through, or the largest.
+/// The shape of a new table that is likely to need so many pair slots: the smallest that has them of 2^12, 2^16,
+/// 2^20 and each larger power of two, or the largest.
 pub fn expected_shape(pairs: u64, most: Shape) -> Shape
     ensures { result.bits ≤ most.bits }
 {
     let mut shape = smallest(most);
-    'sizes: while pair_count(shape) < pairs {
-        let Some(next) = larger(shape, most, GrowthFactor::Sixteen) else {
-            return shape;
-        };
-        shape = next;
+    'sizes: while shape.bits < most.bits && pair_count(shape) < pairs {
+        let step = if shape.bits < BITS_OF_LARGE_STEPS { 4 } else { 1 };
+        let bits = most.bits.min(shape.bits + step);
+        shape = Shape { bits };
     }
     shape
 }
