@@ -111,6 +111,11 @@ impl TableHistory {
         }
     }
 
+    /// Whether the table's cells have taken no step.
+    pub fn has_no_step(self) -> bool {
+        self.steps == 0
+    }
+
     /// How many workers the next step may have: one, where the last one was short.
     pub fn most_workers(self) -> usize
         ensures { 1 ≤ result }

@@ -6,6 +6,9 @@ use crate::history::TableHistory;
 use crate::sizes::larger;
 use table_core::Shape;
 
+// So many workers make the squares of a first step again faster than one thread copies them.
+const LARGE_TEAM: usize = 8;
+
 // After so many collections for one step, the cells alone are tried.
 const MOST_COLLECTIONS: u32 = 1 << 20;
 
@@ -16,18 +19,22 @@ pub enum Retry {
     Swept,
     /// Of this larger size, with all squares and results.
     Enlarged(Shape),
+    /// Of this larger size, with the cells alone.
+    Restarted(Shape),
     /// Of the largest size, with what a collection keeps. The number counts the collections.
     Collected(u32),
     /// Of the largest size, with the cells alone.
     CellsAlone,
 }
 
-/// The shape and the history of the table at which a step was tried first, and the largest shape.
+/// The shape and the history of the table at which a step was tried first, the largest shape, and how many
+/// workers take the step.
 #[derive(Clone, Copy)]
 pub struct RetryPlan {
     pub shape: Shape,
     pub history: TableHistory,
     pub limit: Shape,
+    pub workers: usize,
 }
 
 impl RetryPlan {
@@ -36,7 +43,7 @@ impl RetryPlan {
 
     /// What comes after this try, which met a full table; `None` stands for the first try, at the table as it
     /// was. A table that earlier steps have filled is swept, if it isn't the largest; then comes each larger
-    /// size; then collections, as long as one helps; and at last the cells alone. If they fill the largest
+    /// size, in the first step of many workers with the cells alone; then collections, as long as one helps; and at last the cells alone. If they fill the largest
     /// table too, nothing comes: the step has to be halved.
     pub fn next(&self, tried: Option<Retry>, collection_helps: bool) -> Option<Retry>
         ensures within { IfSome result (IsWithinLimit self.now.limit) }
@@ -48,6 +55,7 @@ impl RetryPlan {
             None if bits < limit && self.history.should_sweep_first(bits) => Some(Retry::Swept),
             None | Some(Retry::Swept) => Some(self.next_larger(self.shape, collection_helps)),
             Some(Retry::Enlarged(shape)) => Some(self.next_larger(shape, collection_helps)),
+            Some(Retry::Restarted(shape)) => Some(self.next_larger(shape, collection_helps)),
             Some(Retry::Collected(times)) => Some(self.next_largest(times, collection_helps)),
             Some(Retry::CellsAlone) => None,
         }
@@ -59,9 +67,16 @@ impl RetryPlan {
         ensures fewer { LeavesFewer self.now.limit (Some (Enlarged shape)) result }
     {
         match larger(shape, self.limit, self.history.growth_factor()) {
+            Some(larger) if self.should_restart() => Retry::Restarted(larger),
             Some(larger) => Retry::Enlarged(larger),
             None => self.next_largest(0, collection_helps),
         }
+    }
+
+    // Whether the step begins again with the cells alone at a larger table: many workers take the first step
+    // of the table's cells.
+    fn should_restart(&self) -> bool {
+        self.workers >= LARGE_TEAM && self.history.has_no_step()
     }
 
     // What comes after a table of the largest shape, which was collected so many times.

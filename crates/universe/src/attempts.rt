@@ -39,6 +39,7 @@ impl Universe {
             shape: self.here.table.key().shape,
             history: self.here.history,
             limit: self.others.limit,
+            workers: team.workers,
         };
         let mut attempt = self.step_here(team)?;
         let mut tried = None;
@@ -72,6 +73,7 @@ impl Universe {
         match retry {
             Retry::Swept => self.step_in(team, own, Keep::CellsAlone),
             Retry::Enlarged(shape) => self.step_in(team, shape, Keep::Everything),
+            Retry::Restarted(shape) => self.step_in(team, shape, Keep::CellsAlone),
             Retry::Collected(_) => self.step_in(team, limit, Keep::Collected),
             Retry::CellsAlone => self.step_in(team, limit, Keep::CellsAlone),
         }

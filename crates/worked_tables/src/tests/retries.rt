@@ -8,13 +8,15 @@ use table_core::Shape;
 use table_growth::{Retry, RetryPlan, TableHistory};
 
 // A table that is full, and what is tried then: its size and the largest one's, the steps that it has taken,
-// and how many collections help. A number in the order is the size of a larger table.
+// how many collections help, and how many workers there are. A number in the order is the size of a larger
+// table; one with "alone" has the cells alone.
 #[derive(Clone, Copy)]
 struct Case {
     shape: Shape,
     limit: Shape,
     steps: u32,
     collections: u32,
+    workers: usize,
     order: &'static str,
 }
 
@@ -28,6 +30,7 @@ fn order(alloc: Global, case: &Case) -> Result<String, Fail> {
         shape: case.shape,
         history,
         limit: case.limit,
+        workers: case.workers,
     };
     let mut order = String::new(alloc);
     let mut left = case.collections;
@@ -37,6 +40,7 @@ fn order(alloc: Global, case: &Case) -> Result<String, Fail> {
         match tried {
             Some(Retry::Swept) => order.push_str("sweep ")?,
             Some(Retry::Enlarged(shape)) => write!(order, "{} ", shape.bits)?,
+            Some(Retry::Restarted(shape)) => write!(order, "{}-alone ", shape.bits)?,
             Some(Retry::Collected(_)) => {
                 left = left.saturating_sub(1);
                 order.push_str("collect ")?;
@@ -59,8 +63,15 @@ fn full(bits: u8, limit: u8, steps: u32, collections: u32, order: &'static str) 
         limit: Shape { bits: limit },
         steps,
         collections,
+        workers: 1,
         order,
     }
+}
+
+// The same, with so many workers.
+fn by_team(workers: usize, mut case: Case) -> Case {
+    case.workers = workers;
+    case
 }
 
 #[test]
@@ -80,6 +91,9 @@ fn each_retry_in_its_order(rt: HostRuntime) -> Result<(), Fail> {
         full(18, 28, 5, 0, "sweep 20 24 28 alone halve"),
         full(20, 23, 0, 0, "23 alone halve"),
         full(22, 25, 0, 0, "25 alone halve"),
+        by_team(7, full(12, 22, 0, 1, "16 20 22 collect alone halve")),
+        by_team(8, full(12, 22, 0, 1, "16-alone 20-alone 22-alone collect alone halve")),
+        by_team(64, full(12, 17, 1, 0, "16 17 alone halve")),
     ];
     for case in &cases {
         assert_eq!(rt; order(rt.alloc(), case)?.as_str(), case.order);

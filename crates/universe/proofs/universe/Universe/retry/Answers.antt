@@ -13,3 +13,8 @@ pub step_in-requires-in-Enlarged-clause-shape : goal.step_in-requires-in-Enlarge
 step_in-requires-in-Enlarged-clause-shape g c κs within =
     let below = subst (IsWithinLimit c.args.self.others.limit) c.in-Enlarged.is c.requires.within in
     pow_mono {i = c.in-Enlarged.shape.bits} {j = c.args.self.others.limit.bits} below
+
+pub step_in-requires-in-Restarted-clause-shape : goal.step_in-requires-in-Restarted-clause-shape
+step_in-requires-in-Restarted-clause-shape g c κs within =
+    let below = subst (IsWithinLimit c.args.self.others.limit) c.in-Restarted.is c.requires.within in
+    pow_mono {i = c.in-Restarted.shape.bits} {j = c.args.self.others.limit.bits} below
