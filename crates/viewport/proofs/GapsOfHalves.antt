@@ -1,19 +1,16 @@
--- Gaps at the sides of squares: of planes laid over one another, and of a square by its two halves.
-use Rattle.std.proofs.Common.{◌≡◌, ℕ, ◌+◌, ◌<◌, ◌⊎◌, ℤ, pos, ◌+ℤ◌, ◌-ℤ◌, ◌≤ℤ◌, ◌<ℤ◌, true, false, ◌||◌, sym, ◌∙◌, ap, subst, inl, inr, arith, min}
+-- Gaps at the sides of squares: of a square by its two halves.
+use Rattle.std.proofs.Common.{◌≡◌, ℕ, ◌+◌, ◌<◌, ◌⊎◌, ℤ, pos, ◌+ℤ◌, ◌-ℤ◌, ◌≤ℤ◌, ◌<ℤ◌, true, false, sym, ◌∙◌, subst, inl, inr, arith}
 use Rattle.std.specs.Prelude.{Option, Some, None, is_some}
 use Rattle.std.specs.Option.{option_map}
-use Rattle.std.proofs.Math.Nat.{min-le_left, min-le_right}
 use Rattle.std.proofs.lemmas.Int.{ints}
 use Rattle.std.proofs.lemmas.Bool.{false≢true}
 use Rattle.plane.specs.Plane.{Plane}
 use Rattle.plane.specs.Square.{IsSame, IsSquare, empty}
-use Rattle.plane.proofs.Same.{plane_equal}
 use Rattle.squares.proofs.NumberMaps.{by_cases}
 use Rattle.viewport.specs.declared.gaps.Side.{Side}
 use Rattle.viewport.specs.declared.gaps.Side.TheVariants.{Left, Right, Top, Bottom}
-use Rattle.viewport.specs.Gaps.{HasCellAt, IsGap, IsNearest, distance_from, lesser}
-use Rattle.viewport.specs.Halves.{either}
-use Rattle.viewport.proofs.BoxesRound.{both_dead, live_in_column, live_in_row, or_case, or_false, or_left, or_right, within_span}
+use Rattle.viewport.specs.Gaps.{HasCellAt, IsGap, IsNearest, distance_from}
+use Rattle.viewport.proofs.BoxesRound.{live_in_column, live_in_row, within_span}
 
 -- cells of a square lie between its sides
 between_sides : (side : Side) (size : ℕ) (x y n : ℤ) → (pos 0 ≤ℤ x) × (x <ℤ pos size) → (pos 0 ≤ℤ y) × (y <ℤ pos size) → distance_from side size x y ≡ n → (pos 0 ≤ℤ n) × (n <ℤ pos size)
@@ -28,28 +25,6 @@ inside side size p n is cell =
 
 pub gap_inside : (side : Side) (size gap : ℕ) (p : Plane) → IsSquare size p → IsNearest side size p gap → gap < size
 gap_inside side size gap p is h = let between = inside side size p (pos gap) is h.reached in omega (arith, ints, between.0, between.1)
-
-no_nearer : (a b : ℕ) (z : ℤ) → (pos a ≤ℤ z) ⊎ (pos b ≤ℤ z) → pos (min a b) ≤ℤ z
-no_nearer a b z (inl h) = let m = min-le_left a b in omega (arith, ints, m)
-no_nearer a b z (inr h) = let m = min-le_right a b in omega (arith, ints, m)
-
--- one of two numbers is the lesser
-min_of : (P : ℕ → Type 0) (a b : ℕ) → P a → P b → P (min a b)
-min_of P a b h k = elim (is_min a b) [ inl e ↦ subst P (sym e) h | inr e ↦ subst P (sym e) k ] where
-  is_min : (m n : ℕ) → (min m n ≡ m) ⊎ (min m n ≡ n)
-  is_min m n = grind arith
-
--- the gap of two planes that are laid over one another
-pub either_gap : (side : Side) (size : ℕ) (p q : Plane) (a b : Option ℕ) → IsGap side size p a → IsGap side size q b → IsGap side size (either p q) (lesser a b)
-either_gap side size p q None None h k = record { same = λ x y. both_dead (p x y) (q x y) (h.same x y) (k.same x y) }
-either_gap side size p q None (Some b) h k = subst (λ r. IsNearest side size r b) (plane_equal _ _ (record { same = λ x y. sym (ap (λ t. t || q x y) (h.same x y)) })) k
-either_gap side size p q (Some a) None h k = subst (λ r. IsNearest side size r a) (plane_equal _ _ (record { same = λ x y. sym (or_false (p x y) (q x y) (k.same x y)) })) h
-either_gap side size p q (Some a) (Some b) h k = record {
-  clear = λ x y live. no_nearer a b _ (or_case (p x y) (q x y) live (λ e. inl (h.clear x y e)) (λ e. inr (k.clear x y e)));
-  reached = min_of (λ n. HasCellAt side size (either p q) (pos n)) a b
-      (record { x = h.reached.x; y = h.reached.y; live = or_left _ _ h.reached.live; there = h.reached.there })
-      (record { x = k.reached.x; y = k.reached.y; live = or_right _ _ k.reached.live; there = k.reached.there });
-}
 
 -- the halves of a square of twice this side: the one at the side, and the other
 pub record IsHalved (side : Side) (h : ℕ) (p near far : Plane) : Type 0 where

@@ -49,16 +49,16 @@ fn local_box<R: Reading>(alloc: Global, book: &mut R, sq: Sq) -> Result<Option<B
     ensures ok { IfOk result (IsLocalBox (2 ^ sq.level) ((R.book book.old).cells sq)) }
     ensures adds { AddsSquares (R.book book.old) (R.book book.new) }
 {
-    let Some(left) = own_gap(alloc, book, sq, Side::Left)? else {
+    let Some(left) = side_gap(alloc, book, sq, Side::Left)? else {
         return Ok(None);
     };
-    let Some(right) = own_gap(alloc, book, sq, Side::Right)? else {
+    let Some(right) = side_gap(alloc, book, sq, Side::Right)? else {
         return Ok(None);
     };
-    let Some(top) = own_gap(alloc, book, sq, Side::Top)? else {
+    let Some(top) = side_gap(alloc, book, sq, Side::Top)? else {
         return Ok(None);
     };
-    let Some(bottom) = own_gap(alloc, book, sq, Side::Bottom)? else {
+    let Some(bottom) = side_gap(alloc, book, sq, Side::Bottom)? else {
         return Ok(None);
     };
     let last = side(sq.level) - 1;
@@ -70,8 +70,8 @@ fn local_box<R: Reading>(alloc: Global, book: &mut R, sq: Sq) -> Result<Option<B
     }))
 }
 
-// The gap of the square at this side, where none is known.
-fn own_gap<R: Reading>(
+// The gap of the square at this side, where none is known yet.
+fn side_gap<R: Reading>(
     alloc: Global,
     book: &mut R,
     sq: Sq,

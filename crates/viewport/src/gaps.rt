@@ -90,7 +90,7 @@ fn quarters_gap<R: Reading>(
     Ok(farther(far, half_side(sq.level)))
 }
 
-// The gap of two squares of a level that lie equally far from the side.
+// The lesser gap of two squares of a level: that of both, laid over one another.
 #[cycle(gap)]
 fn half_gap<R: Reading>(
     book: &mut R,
