@@ -39,7 +39,11 @@ pub fn expected_shape(pairs: u64, most: Shape) -> Shape
 {
     let mut shape = smallest(most);
     'sizes: while shape.bits < most.bits && pair_count(shape) < pairs {
-        let step = if shape.bits < BITS_OF_LARGE_STEPS { 4 } else { 1 };
+        let step = if shape.bits < BITS_OF_LARGE_STEPS {
+            4
+        } else {
+            1
+        };
         let bits = most.bits.min(shape.bits + step);
         shape = Shape { bits };
     }
