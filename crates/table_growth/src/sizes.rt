@@ -37,17 +37,16 @@ pub enum GrowthFactor {
 pub fn expected_shape(pairs: u64, most: Shape) -> Shape
     ensures { result.bits ≤ most.bits }
 {
-    let mut shape = smallest(most);
-    'sizes: while shape.bits < most.bits && pair_count(shape) < pairs {
-        let step = if shape.bits < BITS_OF_LARGE_STEPS {
-            4
+    let mut bits = smallest(most).bits;
+    while bits < most.bits && (1u64 << bits) < pairs {
+        let larger = if bits < BITS_OF_LARGE_STEPS {
+            bits + 4
         } else {
-            1
+            bits + 1
         };
-        let bits = most.bits.min(shape.bits + step);
-        shape = Shape { bits };
+        bits = most.bits.min(larger);
     }
-    shape
+    Shape { bits }
 }
 
 /// The shape of the table that replaces a full one. It has four or sixteen times as many pair slots, as the

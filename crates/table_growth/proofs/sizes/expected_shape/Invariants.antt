@@ -1,8 +1,8 @@
 use Rattle.std.proofs.Common.{◌-◌, ◌≤◌}
 use Rattle.table_growth.proofs.sizes.expected_shape.Given as goal
 
-abbrev pub invariant-sizes : goal.invariant-sizes
-invariant-sizes l = l.shape.bits ≤ l.most.bits
+abbrev pub invariant-loop-bits : goal.invariant-loop-bits
+invariant-loop-bits l = record { low : 10 ≤ l.bits; high : l.bits ≤ l.most.bits }
 
-abbrev pub decreases-sizes : goal.decreases-sizes
-decreases-sizes l = l.most.bits - l.shape.bits
+abbrev pub decreases-loop-bits : goal.decreases-loop-bits
+decreases-loop-bits l = l.most.bits - l.bits
