@@ -1,3 +1,7 @@
-pub mod Blocks
+pub mod Bits
 pub mod Chunks
+pub mod Cuts
 pub mod Rows
+pub mod RowsOfCodes
+pub mod Sends
+pub mod Streams

@@ -1,7 +1,12 @@
 pub mod Adler32
+pub mod Bits
 pub mod Chunk
+pub mod Codes
 pub mod Crc32
 pub mod Examples
+pub mod Items
 pub mod Picture
+pub mod Repeats
 pub mod Rows
+pub mod Sends
 pub mod Zlib

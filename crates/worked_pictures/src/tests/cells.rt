@@ -19,7 +19,7 @@ const LEAVES: [u64; 4] = [
     0x0000_0000_0000_0001,
 ];
 
-// Draws these cells, and asserts the length of the file and the checksum of its pixels.
+// Draws these cells, and asserts the length of the file and the checksum of its last pixels.
 fn assert_drawn<R: Abort + AllocGlobal>(
     rt: &R,
     shown: Bounds,
@@ -50,18 +50,18 @@ const fn sides(left: i64, top: i64, right: i64, bottom: i64) -> Bounds
 #[test]
 fn cells_as_squares_of_pixels(rt: HostRuntime) -> Result<(), Fail> {
     let all = sides(-8, -8, 7, 7);
-    assert_drawn(&rt, all, 16, (340, 0x165d_77bf))?;
-    assert_drawn(&rt, all, 37, (1124, 0x6004_b776))?;
-    assert_drawn(&rt, sides(-3, -2, 1, 2), 16, (308, 0xd504_0303))?;
-    assert_drawn(&rt, all, 4096, (65_865, 0xf410_8722))?;
-    assert_drawn(&rt, sides(-9, 3, -9, 3), 16, (340, 0x17b2_7e30))
+    assert_drawn(&rt, all, 16, (109, 0xdfe9_b4f3))?;
+    assert_drawn(&rt, all, 37, (128, 0xe63a_e817))?;
+    assert_drawn(&rt, sides(-3, -2, 1, 2), 16, (92, 0x8de6_a592))?;
+    assert_drawn(&rt, all, 4096, (779, 0xacc3_5aa7))?;
+    assert_drawn(&rt, sides(-9, 3, -9, 3), 16, (71, 0xcc57_9dcd))
 }
 
 #[test]
 fn blocks_as_pixels(rt: HostRuntime) -> Result<(), Fail> {
     let far = 1 << 62;
-    assert_drawn(&rt, sides(-8, -8, 8, 7), 16, (148, 0x16fa_ba5d))?;
-    assert_drawn(&rt, sides(-100, -100, 100, 99), 16, (278, 0x1fa6_7f26))?;
-    assert_drawn(&rt, sides(-40, -1, 1000, 2), 100, (202, 0xf753_1ac6))?;
-    assert_drawn(&rt, sides(-far, -far, far, far), 16, (158, 0x1a00_7547))
+    assert_drawn(&rt, sides(-8, -8, 8, 7), 16, (101, 0xfbc1_3687))?;
+    assert_drawn(&rt, sides(-100, -100, 100, 99), 16, (82, 0x20c0_b365))?;
+    assert_drawn(&rt, sides(-40, -1, 1000, 2), 100, (81, 0xb4e0_c089))?;
+    assert_drawn(&rt, sides(-far, -far, far, far), 16, (82, 0x38cc_d082))
 }

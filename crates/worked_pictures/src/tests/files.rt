@@ -5,7 +5,7 @@ use png_writer::Image;
 use std::alloc::Global;
 use std::test::Fail;
 
-// The length of a picture's file, and the checksum of its chunk of pixels.
+// The length of a picture's file, and the checksum of its last chunk of pixels.
 pub(crate) fn length_and_checksum(alloc: Global, image: &Image) -> Result<(usize, u32), Fail> {
     let mut file = Memory::with_room(alloc, 140_000)?;
     image.write(&mut file)?;
