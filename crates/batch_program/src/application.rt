@@ -9,9 +9,9 @@ use crate::command_line::command;
 use crate::names::NAME;
 use crate::request::Asked;
 use clap::{ArgMatches, Command};
-use engine::run;
+use engine::run_from;
 use plane::{Fault, Sink};
-use program_parts::{Application, OutputFile, WordsReason, read_file};
+use program_parts::{Application, OutputFile, WordsReason, open_input};
 use std::alloc::{AllocError, Global};
 use std::rt::Files;
 use std::sync::Wait;
@@ -46,17 +46,10 @@ impl Application for Lifebatch {
         asked: &Asked,
         out: &mut O,
     ) -> Result<(), Fault> {
-        let bytes = read_file(rt, alloc, asked.file.as_str())?;
+        let mut source = open_input(rt, asked.file.as_str())?;
         let name = asked.output.as_ref().map_or("", |name| name.as_str());
         let mut output = OutputFile::new(rt, name);
-        run(
-            rt,
-            alloc,
-            bytes.as_slice(),
-            &asked.options,
-            out,
-            &mut output,
-        )?;
+        run_from(rt, alloc, &mut source, &asked.options, out, &mut output)?;
         Ok(())
     }
 

@@ -3,13 +3,13 @@
 ghost use Rattle.std.specs.Prelude.{codes};
 ghost use Rattle.engine.specs.SinkChange.{change_of};
 ghost use Rattle.program_parts.specs.Asking.{texts_of};
-ghost use Rattle.program_parts.specs.Behaviour.{EndsProgram};
+ghost use Rattle.program_parts.specs.Behaviour.{EndsProgram, StartsProgram};
 ghost use Rattle.batch_program.specs.Status.{behaviour};
 
 use crate::application::Lifebatch;
 use plane::Sink;
 use std::alloc::Global;
-use std::rt::Files;
+use std::rt::{Env, Files};
 use std::sync::Wait;
 use std::thread::Threads;
 
@@ -34,4 +34,18 @@ pub fn program<R: Files + Input + Threads + Wait + Sync, O: Sink, E: Sink>(
         (change_of E.taken E.failure_count err.old err.new) result }
 {
     program_parts::program::<Lifebatch, R, O, E>(rt, alloc, words, out, err)
+}
+
+/// The whole program on the words that the system gives it. Where there are none, since one is not UTF-8 or memory ran
+/// out, it says so on one line, with status 2 or 1.
+pub fn start<R: Env + Files + Input + AllocGlobal + Threads + Wait + Sync, O: Sink, E: Sink>(
+    rt: &R,
+    out: &mut O,
+    err: &mut E,
+) -> u8
+    ensures { StartsProgram behaviour (codes "lifebatch")
+        (change_of O.taken O.failure_count out.old out.new)
+        (change_of E.taken E.failure_count err.old err.new) result }
+{
+    program_parts::start::<Lifebatch, R, O, E>(rt, out, err)
 }

@@ -14,7 +14,7 @@ pub use engine::{
     Format, Gate, OpenGate, Options, Summary, every_number_of_workers, load, one_ending,
     one_judgement, run, run_gated,
 };
-pub use entry::program;
+pub use entry::{program, start};
 pub use names::NAME;
 pub use pattern_writers::{distinct_texts, same_text};
 pub use program_parts::WordsFault;

@@ -6,4 +6,5 @@ mod Onward
 pub mod OneRun
 pub mod OtherWorkers
 pub mod Reports
+pub mod ShownBoxes
 pub mod Steps

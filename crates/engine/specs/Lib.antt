@@ -9,6 +9,7 @@ pub mod Pattern
 pub mod Report
 pub mod Room
 pub mod Run
+pub mod RunOptions
 pub mod SinkChange
 pub mod SummaryLine
 pub mod Workers

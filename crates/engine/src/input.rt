@@ -1,6 +1,7 @@
 //! The bytes of a source.
 
 ghost use Rattle.std.specs.Prelude.{◌≡◌, IfOk, IfErr, OnOk};
+ghost use Rattle.std.specs.Io.KnownBytes.{Appends};
 ghost use Rattle.engine.specs.Devices.{IsWholeInput, IsReadRefusal};
 
 use plane::{Refusal, Source};
@@ -13,6 +14,9 @@ const CHUNK: usize = 8192;
 /// failed in this call; what was read until then is dropped.
 pub fn load<R: Source>(alloc: Global, source: &mut R) -> Result<Vec<u8>, Refusal>
     ensures whole { IfOk result (λ bytes. IsWholeInput (R.remaining source.old) bytes.items) }
+    ensures given { IfOk result (λ bytes.
+        Appends (R.given source.old) (R.given source.new) bytes.items) }
+    ensures end { OnOk result (R.has_ended source.new) }
     ensures unfailed { OnOk result (R.failure_count source.new ≡ R.failure_count source.old) }
     ensures refused { IfErr result
         (IsReadRefusal (R.failure_count source.old) (R.failure_count source.new)) }

@@ -5,10 +5,11 @@ ghost use Rattle.table_core.specs.Sizes.{IsPairCount};
 ghost use Rattle.engine.specs.Accepted.{IsRefused};
 ghost use Rattle.engine.specs.Last.{EndsWith};
 ghost use Rattle.engine.specs.Pattern.{plane_of};
+ghost use Rattle.engine.specs.RunOptions.{without_output};
 ghost use Rattle.engine.specs.Workers.{IsWorkerCount};
 
 use crate::accepted::judge;
-use crate::options::Options;
+use crate::options::RunOptions;
 use crate::pattern::Pattern;
 use crate::running::{Summary, finish, team_of};
 use plane::Fault;
@@ -18,8 +19,7 @@ use std::thread::Threads;
 use worker_split::OpenGate;
 
 /// Runs the pattern in a file's bytes as [`run`](crate::run) does, without a report and without a file, and answers its
-/// last generation beside what the run ends with. Of the options it takes the number of generations, the rule, the pair
-/// slots and the workers.
+/// last generation beside what the run ends with.
 ///
 /// It refuses what `run` refuses before its report, `NoMemory`, and `NodesFull`, if the cells of the file or those after
 /// a single generation have no room in the tables that the options allow.
@@ -27,18 +27,20 @@ pub fn last_pattern<R: Threads + Wait + Sync>(
     rt: &R,
     alloc: Global,
     bytes: &[u8],
-    options: &Options,
+    run: &RunOptions,
 ) -> Result<(Pattern, Summary), Fault>
-    requires pairs { IsPairCount options.now.pairs }
-    requires workers { IsWorkerCount options.now.workers }
+    requires pairs { IsPairCount run.now.pairs }
+    requires workers { IsWorkerCount run.now.workers }
     // It runs accepted files to their last generation, and sums that up.
-    ensures ok { IfOk result (λ last. EndsWith bytes.now options.now (plane_of last.0) last.1) }
+    ensures ok { IfOk result (λ last.
+        EndsWith bytes.now (without_output run.now) (plane_of last.0) last.1) }
     // It refuses what is not accepted, by its name and at its place, and else only where memory ran out or the tables are full.
-    ensures refused { IfErr result (IsRefused bytes.now options.now) }
+    ensures refused { IfErr result (IsRefused bytes.now (without_output run.now)) }
 {
-    let begun = judge(alloc, bytes, options)?;
+    let options = run.without_output();
+    let begun = judge(alloc, bytes, &options)?;
     let start = begun.text.generation();
-    let team = team_of(rt, alloc, options, &OpenGate);
+    let team = team_of(rt, alloc, &options, &OpenGate);
     let universe = begun.universe.after(&team, options.gens)?;
     let last = finish(alloc, universe, start + options.gens)?;
     Ok(last)

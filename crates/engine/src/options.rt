@@ -1,5 +1,8 @@
 //! What a run is asked to do.
 
+ghost use Rattle.std.specs.Prelude.{◌≡◌};
+ghost use Rattle.engine.specs.RunOptions.{without_output};
+
 use crate::format::Format;
 use plane::Window;
 use rule_text::Rule;
@@ -23,4 +26,35 @@ pub struct Options {
     pub workers: usize,
     /// Whether the lines of the report are left out.
     pub quiet: bool,
+}
+
+/// What a run is asked to do that has neither a report nor a file.
+#[derive(Clone, Copy, Debug, PartialEq, Eq)]
+pub struct RunOptions {
+    /// The number of generations to run on from the file's own.
+    pub gens: u64,
+    /// The rule to run by in place of the file's, if one is given.
+    pub rule: Option<Rule>,
+    /// The most pair slots that all tables of squares may have together: a power of two, from 2^10 to 2^28.
+    pub pairs: u32,
+    /// How many workers take the steps, from 1 to 64. One starts no thread.
+    pub workers: usize,
+}
+
+impl RunOptions {
+    // The same for a quiet run that draws and writes nothing.
+    pub(crate) fn without_output(&self) -> Options
+        ensures { result ≡ without_output self.now }
+    {
+        Options {
+            gens: self.gens,
+            step: 0,
+            rule: self.rule,
+            window: None,
+            format: None,
+            pairs: self.pairs,
+            workers: self.workers,
+            quiet: true,
+        }
+    }
 }

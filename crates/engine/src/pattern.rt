@@ -3,17 +3,19 @@
 ghost use Rattle.std.specs.Prelude.{◌≡◌, None, IfOk, IfErr, OnOk, IsOkUnless};
 ghost use Rattle.plane.specs.Square.{IsSame};
 ghost use Rattle.universe.specs.Cells.{live_cells};
+ghost use Rattle.pattern_picture.specs.Drawn.{IsPictureOf};
+ghost use Rattle.pattern_picture.specs.Scale.{IsShown, IsSize};
 ghost use Rattle.viewport.specs.BoundingBox.{HasBounds};
 
 use crate::format::Format;
 use pattern_writers::{write_mc, write_rle};
 use plane::{Bounds, Refusal, Sink, Window};
+use png_writer::Image;
 use rule_text::Rule;
 use std::alloc::Global;
 use std::thread::Threads;
 use text_lines::Comments;
 use universe::{RootedStill, Universe};
-use viewport::picture;
 
 /// Live cells in the range, of which no more generations are asked for.
 #[derive(Drop)]
@@ -27,7 +29,6 @@ impl Pattern {
     ghost use Rattle.engine.specs.FileText.{Exceeds, Fits, IsReadBack, Writes};
     ghost use Rattle.engine.specs.Pattern.{plane_of};
     ghost use Rattle.engine.specs.Drawing.{picture_of};
-    ghost use Rattle.universe.specs.Cells.{still_cells};
     ghost use Rattle.std.specs.Io.KnownBytes.{Appends};
 
     /// The live cells of a universe. Its tables are freed, except for the words that hold these cells.
@@ -47,11 +48,16 @@ impl Pattern {
         self.cells.bounds(alloc)
     }
 
-    /// The live cells as a square in words, for what looks at them.
-    pub fn square(&self) -> &RootedStill
-        ensures { still_cells result.now ≡ plane_of self.now }
+    /// A picture of a rectangle of the pattern, whose sides lie from -2^62 to 2^62, as large as can be with at most `size`
+    /// pixels on each side, 16 to 4096. `NoMemory` where there is no room for it.
+    pub fn picture(&self, alloc: Global, shown: Bounds, size: u32) -> Result<Image, Refusal>
+        requires shown { IsShown shown }
+        requires size { IsSize size }
+        ensures drawn { IfOk result (IsPictureOf (plane_of self.now) shown size) }
+        ensures memory { IsOkUnless result Refusal.NoMemory }
     {
-        &self.cells
+        let (still, root) = (self.cells.still(), self.cells.root());
+        pattern_picture::picture(alloc, still, root, shown, size)
     }
 
     /// Draws a window of the pattern, if one is asked for.
@@ -62,7 +68,9 @@ impl Pattern {
             (W.failure_count report.old) (W.failure_count report.new) result }
     {
         match window {
-            Some(window) => picture(self.cells.still(), self.cells.root(), &window, report),
+            Some(window) => {
+                viewport::picture(self.cells.still(), self.cells.root(), &window, report)
+            }
             None => Ok(()),
         }
     }

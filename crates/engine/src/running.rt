@@ -5,16 +5,18 @@ ghost use Rattle.table_core.specs.Sizes.{IsPairCount};
 ghost use Rattle.plane.specs.Square.{IsSame};
 ghost use Rattle.universe.specs.Cells.{live_cells};
 ghost use Rattle.engine.specs.Accepted.{SumsUp};
+ghost use Rattle.engine.specs.Devices.{IsDoneWithAll, reading_of};
 ghost use Rattle.engine.specs.Pattern.{plane_of};
 ghost use Rattle.engine.specs.Run.{IsRun};
 ghost use Rattle.engine.specs.SinkChange.{change_of};
 ghost use Rattle.engine.specs.Workers.{IsWorkerCount};
 
 use crate::accepted::judge;
+use crate::input::load;
 use crate::options::Options;
 use crate::pattern::Pattern;
 use crate::reported::run_reported;
-use plane::{Bounds, Fault, Refusal, Sink};
+use plane::{Bounds, Fault, Refusal, Sink, Source};
 use std::alloc::Global;
 use std::sync::Wait;
 use std::thread::Threads;
@@ -59,7 +61,30 @@ pub fn run<R: Threads + Wait + Sync, W: Sink, V: Sink>(
     run_gated(rt, alloc, bytes, options, report, file, &OpenGate)
 }
 
-/// The same, with a gate, which is called before and after each job of several workers. No clause can say that
+/// Reads all bytes of a source, and runs the pattern in them as [`run`] does. It refuses `ReadFailed` where the source
+/// failed, and `NoMemory`; before all bytes are read, nothing is written.
+pub fn run_from<R: Threads + Wait + Sync, S: Source, W: Sink, V: Sink>(
+    rt: &R,
+    alloc: Global,
+    source: &mut S,
+    options: &Options,
+    report: &mut W,
+    file: &mut V,
+) -> Result<Summary, Fault>
+    requires pairs { IsPairCount options.now.pairs }
+    requires workers { IsWorkerCount options.now.workers }
+    ensures { IsDoneWithAll
+        (reading_of S.remaining S.given S.has_ended S.failure_count source.old source.new)
+        (λ bytes. IsRun bytes options.now
+        (change_of W.taken W.failure_count report.old report.new)
+        (change_of V.taken V.failure_count file.old file.new) result)
+        result ((report.new ≡ report.old) × (file.new ≡ file.old)) }
+{
+    let bytes = load(alloc, source)?;
+    run(rt, alloc, bytes.as_slice(), options, report, file)
+}
+
+/// The same as [`run`], with a gate, which is called before and after each job of several workers. No clause can say that
 /// it is called. Tests show it: in a run by two workers each sees, before its first job, that the other has begun.
 pub fn run_gated<R: Threads + Wait + Sync, G: Gate, W: Sink, V: Sink>(
     rt: &R,

@@ -1,24 +1,19 @@
 -- The census of a pattern.
-use Rattle.std.specs.Prelude.{◌≡◌, ℕ, zero, suc, ◌^◌, None, Ok, List, [], ◌++◌, length, true}
-use Rattle.plane.specs.Bounds.{bounds_of}
-use Rattle.plane.specs.declared.cell.Cell.{Cell}
-use Rattle.engine.specs.Judgement.{Start, Judges}
-use Rattle.engine.specs.Run.{IsLast, last_generation}
+use Rattle.std.specs.Prelude.{◌≡◌, ℕ, zero, suc, ◌^◌, None, List, [], ◌++◌}
+use Rattle.plane.specs.Plane.{Plane}
+use Rattle.engine.specs.Last.{EndsWith}
+use Rattle.engine.specs.RunOptions.{without_output}
 use Rattle.engine.specs.SummaryLine.{summary_line}
-use Rattle.engine.specs.declared.options.Options.{Options}
+use Rattle.engine.specs.declared.options.RunOptions.{RunOptions}
 use Rattle.engine.specs.declared.running.Summary.{Summary}
 
--- a quiet run of so many generations, by two workers
-abbrev pub quiet_run : ℕ → Options
-quiet_run generations = record { gens = generations; step = 0; rule = None; window = None; format = None; pairs = 4194304; workers = 2; quiet = true }
+-- a run of so many generations, by two workers
+abbrev pub run_of : ℕ → RunOptions
+run_of generations = record { gens = generations; rule = None; pairs = 4194304; workers = 2 }
 
 -- the number, population and bounding box of the generation that comes so many after the first one of an accepted file
-pub record IsSummaryAfter (bytes : List ℕ) (generations : ℕ) (summary : Summary) : Type 0 where
-  pub start : Start
-  pub cells : List Cell
-  pub accepted : Judges bytes (quiet_run generations) (Ok start)
-  pub last : IsLast start (quiet_run generations) cells
-  pub is : summary ≡ record { generation = last_generation start (quiet_run generations); population = length cells; bounds = bounds_of cells }
+abbrev pub IsSummaryAfter : List ℕ → ℕ → Summary → Type 0
+IsSummaryAfter bytes generations summary = (plane : Plane) × EndsWith bytes (without_output (run_of generations)) plane summary
 
 -- the text is the lines after 1, 2, 4, .. generations, so many of them
 abbrev pub IsCensus : List ℕ → ℕ → List ℕ → Type 0

@@ -4,8 +4,8 @@ ghost use Rattle.std.specs.Prelude.{◌≡◌, ◌<◌, ◌≤◌, ◌^◌, ℕ,
 ghost use Rattle.std.specs.Io.KnownBytes.{Appends};
 ghost use Rattle.example_census.specs.Census.{IsCensus, IsSummaryAfter};
 
-use engine::{Options, Summary, run, write_summary};
-use plane::{Fault, Memory, Refusal, Sink};
+use engine::{RunOptions, Summary, last_pattern, write_summary};
+use plane::{Fault, Sink};
 use std::alloc::Global;
 use std::sync::Wait;
 use std::thread::Threads;
@@ -14,7 +14,7 @@ use std::thread::Threads;
 const PAIRS: u32 = 4194304;
 
 /// Writes `lines` lines, one each after 1, 2, 4, 8, .. generations: the generation, the population and the bounding
-/// box. Each run has two workers. It refuses what `run` refuses.
+/// box. Each run has two workers. It refuses what `last_pattern` refuses, and `WriteFailed`.
 pub(crate) fn census<R: Threads + Wait + Sync, W: Sink>(
     rt: &R,
     alloc: Global,
@@ -49,22 +49,12 @@ fn summary_after<R: Threads + Wait + Sync>(
 ) -> Result<Summary, Fault>
     ensures { IfOk result (IsSummaryAfter bytes.now generations) }
 {
-    let options = Options {
+    let run = RunOptions {
         gens: generations,
-        step: 0,
         rule: None,
-        window: None,
-        format: None,
         pairs: PAIRS,
         workers: 2,
-        quiet: true,
     };
-    let mut report = nothing(alloc)?;
-    let mut file = nothing(alloc)?;
-    run(rt, alloc, bytes, &options, &mut report, &mut file)
-}
-
-// A sink without room: a quiet run writes nothing.
-fn nothing(alloc: Global) -> Result<Memory, Refusal> {
-    Ok(Memory::with_room(alloc, 0)?)
+    let (_, summary) = last_pattern(rt, alloc, bytes, &run)?;
+    Ok(summary)
 }

@@ -1,10 +1,19 @@
-use Rattle.std.specs.Prelude.{◌≡◌, ℕ, ◌+◌, ◌-◌, ◌^◌, ◌<◌, ◌≤◌, ◌↔◌, ◌⊎◌, ◌++◌, min, Result, Ok, Err, Option, Some, List, OnOk, IfErr, IfOk, IsOk, drop, length, take}
+use Rattle.std.specs.Prelude.{◌≡◌, ℕ, ◌+◌, ◌-◌, ◌^◌, ◌<◌, ◌≤◌, ◌↔◌, ◌⊎◌, ◌++◌, min, Result, Ok, Err, Option, Some, List, MatchResult, OnOk, IfErr, IfOk, IsOk, drop, length, take}
+use Rattle.std.specs.Io.KnownBytes.{Appends, Keeps}
 use Rattle.plane.specs.declared.refusal.Refusal.{Refusal}
 use Rattle.plane.specs.declared.refusal.Refusal.TheVariants.{WriteFailed}
 
 -- the largest count of failures: it stays there
 abbrev pub most_failures : ℕ
 most_failures = 2 ^ 64 - 1
+
+-- a read gave the bytes that it put to the front of the buffer, and none at `Err`
+abbrev pub ReadGives : {E : Type 0} → Option (List ℕ) → Option (List ℕ) → Result ℕ E → List ℕ → Type 0
+ReadGives old new answer buffer = MatchResult answer (λ count. Appends old new (take count buffer)) (λ _. Keeps old new)
+
+-- a read that had room gave no byte
+abbrev pub FindsEnd : {E : Type 0} → Result ℕ E → List ℕ → Type 0
+FindsEnd answer buffer = (answer ≡ Ok 0) × (0 < length buffer)
 
 -- a failed call raises the count of failures by one, up to the largest, and no other call does
 abbrev pub failures_after : {T E : Type 0} → Result T E → ℕ → ℕ
@@ -38,6 +47,10 @@ unread bytes room = record { bytes = bytes; position = 0; room = room; failures 
 -- the bytes that were not read yet
 abbrev pub memory_remaining : MemoryContents → Option (List ℕ)
 memory_remaining memory = Some (drop memory.position memory.bytes)
+
+-- the bytes that were read
+abbrev pub memory_given : MemoryContents → Option (List ℕ)
+memory_given memory = Some (take memory.position memory.bytes)
 
 -- a memory gives the next bytes, as many as there are and as have room in the buffer, and the rest of the buffer stays
 pub record ReadsMemory {E : Type 0} (old : MemoryContents) (before : List ℕ) (answer : Result ℕ E) (new : MemoryContents) (after : List ℕ) : Type 0 where

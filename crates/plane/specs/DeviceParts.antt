@@ -1,4 +1,4 @@
-use Rattle.std.specs.Prelude.{◌≡◌, ◌≢◌, ℕ, ◌-◌, IsErr, Result}
+use Rattle.std.specs.Prelude.{◌≡◌, ◌≢◌, ℕ, ◌-◌, IsErr, IsTrue, List, Result}
 use Rattle.plane.specs.declared.device.counted.Counted.{Counted}
 use Rattle.plane.specs.declared.device.fail_at.FailAt.{FailAt}
 use Rattle.plane.specs.declared.device.traits.Failed.{Failed}
@@ -7,6 +7,18 @@ use Rattle.plane.specs.Device.{failures_after}
 -- the reader or the writer
 abbrev pub counted_inner : {T : Type 0} → Counted T → T
 counted_inner device = device.inner
+
+-- the bytes that it has given since it was made
+abbrev pub counted_given : {T : Type 0} → Counted T → List ℕ
+counted_given device = device.given.bytes
+
+-- the bytes that it has taken since it was made
+abbrev pub counted_taken : {T : Type 0} → Counted T → List ℕ
+counted_taken device = device.taken.bytes
+
+-- the last read that did not fail had room and gave no byte
+abbrev pub counted_has_ended : {T : Type 0} → Counted T → Type 0
+counted_has_ended device = IsTrue device.ended
 
 -- how many calls have failed
 abbrev pub counted_failures : {T : Type 0} → Counted T → ℕ

@@ -2,6 +2,7 @@
 
 mod counted;
 mod fail_at;
+mod history;
 mod memory;
 mod traits;
 mod writing;

@@ -8,7 +8,7 @@ use Rattle.plane.specs.declared.fault.Fault.{Fault}
 use Rattle.plane.specs.declared.refusal.Refusal.{Refusal}
 use Rattle.plane.specs.declared.refusal.Refusal.TheVariants.{WriteFailed}
 use Rattle.program_parts.specs.Asking.{AsksForHelp, AsksForNothing, CommandLine, Refuses}
-use Rattle.program_parts.specs.Messages.{HasToldEnd, refused_status, status_of}
+use Rattle.program_parts.specs.Messages.{HasNoWords, HasToldEnd, refused_status, status_of}
 use Rattle.program_parts.specs.declared.stops.Stop.{Stop}
 use Rattle.program_parts.specs.declared.stops.Stop.TheVariants as stop
 
@@ -61,3 +61,8 @@ pub record EndsProgram {Asked O E : Type 0} (behaviour : Behaviour Asked) (name 
       × IsRefused behaviour words (out.taken out.old) (out.taken out.new) (out.new ≡ out.old) (Fails out) fault
   -- where it ended well nothing is told; else one line says why, or standard error failed
   pub told : HasToldEnd name ended err
+
+-- a program ran on some words; or it has none, and standard output is unchanged
+abbrev pub StartsProgram : {Asked O E : Type 0} → Behaviour Asked → List ℕ → SinkChange O → SinkChange E → ℕ → Type 0
+StartsProgram behaviour name out err answer =
+    ((words : List Text) × EndsProgram behaviour name words out err answer) ⊎ (HasNoWords name err answer × (out.new ≡ out.old))

@@ -3,5 +3,6 @@ pub mod Behaviour
 pub mod Faults
 pub mod Messages
 pub mod OptionRules
+pub mod OutputFile
 pub mod Values
 pub mod WindowText

@@ -3,10 +3,11 @@ use Rattle.std.specs.Prelude.{◌≡◌, ◌≢◌, ◌⊎◌, ℕ, Option, None
 use Rattle.std.specs.Io.KnownBytes.{Appends}
 use Rattle.std.specs.List.{All}
 use Rattle.engine.specs.SinkChange.{SinkChange, Fails}
+use Rattle.patterns.specs.Meaning.{placeless}
 use Rattle.plane.specs.Refusal.{name_of, number_of}
 use Rattle.plane.specs.declared.fault.Fault.{Fault}
 use Rattle.plane.specs.declared.refusal.Refusal.{Refusal}
-use Rattle.plane.specs.declared.refusal.Refusal.TheVariants.{ReadFailed, WriteFailed}
+use Rattle.plane.specs.declared.refusal.Refusal.TheVariants.{NoMemory, ReadFailed, WriteFailed}
 use Rattle.program_parts.specs.declared.stops.Stop.{Stop}
 use Rattle.program_parts.specs.declared.stops.Stop.TheVariants.{BadWords, Refused}
 
@@ -55,3 +56,9 @@ HasTold program (Refused fault) before after = HasToldFault program fault before
 abbrev pub HasToldEnd : {E : Type 0} → List ℕ → Result Unit Stop → SinkChange E → Type 0
 HasToldEnd program (Ok done) messages = messages.new ≡ messages.old
 HasToldEnd program (Err stop) messages = Fails messages ⊎ HasTold program stop (messages.taken messages.old) (messages.taken messages.new)
+
+-- a program has no words: one is not UTF-8, or memory ran out, which one line says; or standard error failed
+abbrev pub HasNoWords : {E : Type 0} → List ℕ → SinkChange E → ℕ → Type 0
+HasNoWords name err answer =
+    ((answer ≡ 2) × (Fails err ⊎ HasToldBadWords name (err.taken err.old) (err.taken err.new)))
+    ⊎ ((answer ≡ 1) × (Fails err ⊎ HasToldFault name (placeless NoMemory) (err.taken err.old) (err.taken err.new)))

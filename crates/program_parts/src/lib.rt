@@ -13,12 +13,13 @@ mod output_file;
 mod ranges;
 mod reason;
 mod stops;
+mod system_words;
 mod window_text;
 mod words;
 
 pub use application::Application;
 pub use entry::{asked, program};
-pub use input::read_file;
+pub use input::open_input;
 pub use misfit::Misfit;
 pub use numbers::{copied, number_for, pairs_asked, rule_asked, workers_asked};
 pub use options::{
@@ -27,5 +28,6 @@ pub use options::{
 };
 pub use output_file::OutputFile;
 pub use reason::WordsReason;
+pub use system_words::start;
 pub use window_text::{WindowNumbers, window_numbers};
 pub use words::{WordsFault, tell_no_words};

@@ -1,7 +1,9 @@
 //! The output file, created at its first byte.
 
-ghost use Rattle.std.specs.Prelude.{◌≡◌, ◌<◌, None, length, IfOk};
+ghost use Rattle.std.specs.Prelude.{◌≡◌, ◌<◌, Some, [], length, IfOk};
 ghost use Rattle.std.specs.Io.{WritesAtMost};
+ghost use Rattle.std.specs.Io.KnownBytes.{WriteAppends};
+ghost use Rattle.program_parts.specs.OutputFile.{taken_by};
 
 use plane::{Counted, Failed, Sink};
 use std::fs;
@@ -19,7 +21,8 @@ pub struct OutputFile<'a, R: Files> {
 impl<'a, R: Files> OutputFile<'a, R> {
     /// The file of this name.
     pub fn new(runtime: &'a R, path: &'a str) -> Self
-        ensures { result.failures ≡ 0 }
+        ensures failures { result.failures ≡ 0 }
+        ensures taken { taken_by result.file ≡ [] }
     {
         OutputFile {
             runtime,
@@ -33,6 +36,8 @@ impl<'a, R: Files> OutputFile<'a, R> {
     fn pass_on(&mut self, bytes: &[u8]) -> Result<usize, Failed>
         ensures bound { WritesAtMost result bytes.now }
         ensures progress { 0 < length bytes.now → IfOk result (λ count. 0 < count) }
+        ensures bytes { WriteAppends (Some (taken_by self.old.file)) (Some (taken_by self.new.file))
+            result bytes.now }
         ensures failures { self.new.failures ≡ self.old.failures }
     {
         if bytes.is_empty() {
@@ -52,8 +57,8 @@ impl<'a, R: Files> OutputFile<'a, R> {
 }
 
 impl<'a, R: Files> Sink for OutputFile<'a, R> {
-    // Nothing is claimed of what a file holds.
-    ghost taken = { λ _. None };
+    // What the file took from the writes of this value.
+    ghost taken = { λ output. Some (taken_by output.file) };
 
     ghost failure_count = { λ output. output.failures };
 

@@ -5,7 +5,8 @@ ghost use Rattle.std.specs.IoError.{error_kind};
 ghost use Rattle.plane.specs.Device.{HasFailed};
 ghost use Rattle.plane.specs.declared.refusal.Refusal.TheVariants.{NoMemory};
 ghost use Rattle.patterns.specs.Meaning.{placeless};
-ghost use Rattle.program_parts.specs.Messages.{HasToldBadWords, HasToldFault};
+ghost use Rattle.engine.specs.SinkChange.{change_of};
+ghost use Rattle.program_parts.specs.Messages.{HasNoWords, HasToldBadWords, HasToldFault};
 
 use crate::messages::{refused_status, tell_fault, tell_reason};
 use plane::{Fault, Refusal, Sink};
@@ -47,6 +48,8 @@ pub fn tell_no_words<E: Sink>(messages: &mut E, program: &str, error: &io::Error
     ensures bad_words { error_kind error.now ≡ ErrorKind.InvalidData → (result ≡ 2)
         × (HasFailed (E.failure_count messages.old) (E.failure_count messages.new)
         ⊎ HasToldBadWords program.now (E.taken messages.old) (E.taken messages.new)) }
+    ensures told { HasNoWords program.now
+        (change_of E.taken E.failure_count messages.old messages.new) result }
 {
     if error.kind() == ErrorKind::InvalidData {
         let _ = tell_reason(messages, program, Some("a word is not UTF-8"));

@@ -2,7 +2,6 @@
 use Rattle.std.proofs.Common.{◌≡◌, ℕ, Option, List, ◌++◌, Ok, Err, refl, ◌∙◌, ap, subst, inl, inr}
 use Rattle.std.specs.Io.KnownBytes.{Appends}
 use Rattle.std.proofs.KnownBytes.{Appends-trans}
-use Rattle.node_table.specs.Stills.{book_in}
 use Rattle.plane.specs.Plane.{Plane}
 use Rattle.plane.specs.declared.cell.Bounds.{Bounds}
 use Rattle.plane.specs.declared.fault.Fault.{Fault}
@@ -12,21 +11,17 @@ use Rattle.patterns.specs.Meaning.{placeless}
 use Rattle.engine.specs.Accepted.{IsRefused}
 use Rattle.engine.specs.Last.{EndsWith}
 use Rattle.engine.specs.Run.{IsAcceptedRun}
+use Rattle.engine.specs.RunOptions.{without_output}
 use Rattle.engine.specs.SinkChange.{SinkChange, Fails, IsUnfailed, Takes}
 use Rattle.engine.specs.SummaryLine.{summary_line}
 use Rattle.engine.specs.declared.options.Options.{Options}
 use Rattle.engine.specs.declared.running.Summary.{Summary}
 use Rattle.engine.proofs.Endings.{begun_none}
-use Rattle.png_writer.specs.Picture.{Picture, png_text}
+use Rattle.png_writer.specs.Picture.{IsPngFile, Picture}
 use Rattle.pattern_picture.specs.Drawn.{IsPictureOf}
 use Rattle.pattern_picture.specs.Scale.{IsScale}
 use Rattle.pattern_picture.specs.declared.scale.Scale.{Scale}
 use Rattle.pattern_picture.proofs.OneScale.{one_scale_lem}
-use Rattle.squares.specs.Book.{Book}
-use Rattle.squares.specs.declared.sq.Sq.{Sq}
-use Rattle.squares.specs.Rounds.{square_plane}
-use Rattle.universe.specs.Cells.{root_of, still_cells, still_of}
-use Rattle.universe.specs.declared.rooted_still.RootedStill.{RootedStill}
 use Rattle.view_program.specs.PictureLine.{picture_line}
 use Rattle.view_program.specs.Shown.{rectangle_shown}
 use Rattle.view_program.specs.View.{IsDrawn, IsView}
@@ -38,15 +33,9 @@ unfolding IsRefused
 out_of_memory bytes options plane answer ends =
     let text = ends.accepted.0 in inr (inl (refl, inr (begun_none bytes options ends.start.meaning ends.start.rule text.text text.rule)))
 
--- the picture of a square in words is that of its plane
-pub picture_of_plane : (plane : Plane) (rooted : RootedStill) (book : Book) (root : Sq) (shown : Bounds) (size : ℕ) (picture : Picture) → still_cells rooted ≡ plane → book ≡ book_in (still_of rooted) →
-    root ≡ root_of rooted → IsPictureOf (square_plane book root) shown size picture → IsPictureOf plane shown size picture
-picture_of_plane plane rooted book root shown size picture cells same_book same_root is =
-    subst (λ (p : Plane). IsPictureOf p shown size picture) (ap (λ b. square_plane b root) same_book ∙ ap (square_plane (book_in (still_of rooted))) same_root ∙ cells) is
-
 module _ {W V : Type 0} (bytes : List ℕ) (view : View) (name : List ℕ) (report : SinkChange W) (file : SinkChange V) where
   -- a view that was refused before it has written anything
-  pub refused_at_once : (fault : Fault) → report.new ≡ report.old → file.new ≡ file.old → IsRefused bytes view.run fault → IsView bytes view name report file (Err fault)
+  pub refused_at_once : (fault : Fault) → report.new ≡ report.old → file.new ≡ file.old → IsRefused bytes (without_output view.run) fault → IsView bytes view name report file (Err fault)
   refused_at_once fault same same_file refused = record {
     finished = tt;
     unfailed = inr (ap file.failure_count same_file, ap report.failure_count same);
@@ -54,12 +43,12 @@ module _ {W V : Type 0} (bytes : List ℕ) (view : View) (name : List ℕ) (repo
   }
 
   -- a view whose report failed
-  pub report_failed : (refusal : Refusal) → refusal ≡ WriteFailed → IsAcceptedRun bytes view.run → Fails report → file.new ≡ file.old → IsView bytes view name report file (Err (placeless refusal))
+  pub report_failed : (refusal : Refusal) → refusal ≡ WriteFailed → IsAcceptedRun bytes (without_output view.run) → Fails report → file.new ≡ file.old → IsView bytes view name report file (Err (placeless refusal))
   report_failed refusal is accepted failed same_file =
       let told = ap placeless is in record { finished = tt; unfailed = inl (ap Err told); refused = inr (inl (told, accepted, failed, same_file)) }
 
   -- a view that has written its two lines
-  module _ (plane : Plane) (answer : Summary) (ends : EndsWith bytes view.run plane answer) (picture : Picture) (shows : IsPictureOf plane (rectangle_shown view.window answer.bounds) view.size picture)
+  module _ (plane : Plane) (answer : Summary) (ends : EndsWith bytes (without_output view.run) plane answer) (picture : Picture) (shows : IsPictureOf plane (rectangle_shown view.window answer.bounds) view.size picture)
       (between : Option (List ℕ)) (first : Appends (report.taken report.old) between (summary_line answer))
       (second : (scale : Scale) × IsScale (rectangle_shown view.window answer.bounds) view.size scale × Appends between (report.taken report.new) (picture_line name (rectangle_shown view.window answer.bounds) scale)) where
     abbrev shown : Bounds
@@ -68,8 +57,8 @@ module _ {W V : Type 0} (bytes : List ℕ) (view : View) (name : List ℕ) (repo
     abbrev lines : List ℕ
     lines = summary_line answer ++ picture_line name shown shows.scale
 
-    is_drawn : IsDrawn bytes view name lines (png_text picture.width picture.rows)
-    is_drawn = record { plane = plane; answer = answer; ends = ends; picture = picture; shows = shows; lines = refl; file = refl }
+    is_drawn : IsDrawn bytes view name lines picture
+    is_drawn = record { plane = plane; answer = answer; ends = ends; shows = shows; lines = refl }
 
     takes_lines : Takes report lines
     takes_lines =
@@ -80,12 +69,12 @@ module _ {W V : Type 0} (bytes : List ℕ) (view : View) (name : List ℕ) (repo
     pub file_failed : (refusal : Refusal) → refusal ≡ WriteFailed → Fails file → IsView bytes view name report file (Err (placeless refusal))
     file_failed refusal is failed =
         let told = ap placeless is in
-        record { finished = tt; unfailed = inl (ap Err told); refused = inr (inr (told, (lines, png_text picture.width picture.rows, is_drawn, takes_lines), failed)) }
+        record { finished = tt; unfailed = inl (ap Err told); refused = inr (inr (told, (lines, picture, is_drawn, takes_lines), failed)) }
 
     -- and the picture
-    pub ends_well : IsUnfailed report → IsUnfailed file → Takes file (png_text picture.width picture.rows) → IsView bytes view name report file (Ok tt)
+    pub ends_well : IsUnfailed report → IsUnfailed file → ((drawn : List ℕ) × IsPngFile picture.width picture.rows drawn × Takes file drawn) → IsView bytes view name report file (Ok tt)
     ends_well unfailed file_unfailed takes = record {
-      finished = (lines, png_text picture.width picture.rows, is_drawn, takes_lines, takes);
+      finished = (lines, picture, is_drawn, takes_lines, takes);
       unfailed = inr (file_unfailed, unfailed);
       refused = tt;
     }

@@ -5,7 +5,6 @@ use Rattle.clap.specs.Words.{App, Rule, Text, fault_of, new_app, with_rule}
 use Rattle.clap.specs.declared.builder.value_parser.ValueParser.TheVariants as parser
 use Rattle.plane.specs.Window.{Rectangle}
 use Rattle.plane.specs.declared.cell.Bounds.{Bounds}
-use Rattle.engine.specs.declared.options.Options.{Options}
 use Rattle.pattern_picture.specs.Scale.{IsShown, IsSize}
 use Rattle.program_parts.specs.Asking.{CommandLine, IsFaultOf, IsReasonOf, text_in, value_in}
 use Rattle.program_parts.specs.OptionRules.{file_argument, generation_option, node_option, rule_option, valued, valued_in_short, window_option, worker_option}
@@ -57,10 +56,6 @@ IsAskedRectangle None window = window ≡ None
 IsAskedRectangle (Some text) window =
     (given : Rectangle) × WritesWindow 64 text given × IsShown (sides_of given) × (window ≡ Some (sides_of given))
 
--- the run reports nothing, draws no text and writes no pattern file
-abbrev pub IsSilent : Options → Type 0
-IsSilent options = (options.step ≡ 0) × (options.window ≡ None) × (options.format ≡ None) × (options.quiet ≡ true)
-
 -- the words are of the form, and ask for this
 pub record AsksFor (words : List Text) (asked : Asked) : Type 0 where
   pub form : fault_of command_form words ≡ []
@@ -73,7 +68,6 @@ pub record AsksFor (words : List Text) (asked : Asked) : Type 0 where
   pub size : IsSizeNumber (value_for (codes "size") words) asked.view.size
   pub pairs : IsPairNumber (value_for (codes "nodes") words) asked.view.run.pairs
   pub workers : IsWorkerNumber (value_for (codes "workers") words) asked.view.run.workers
-  pub silent : IsSilent asked.view.run
 
 -- ---- faults of the words
 

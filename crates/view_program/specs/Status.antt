@@ -6,6 +6,8 @@ use Rattle.plane.specs.declared.refusal.Refusal.TheVariants.{NoMemory, ReadFaile
 use Rattle.patterns.specs.Meaning.{placeless}
 use Rattle.engine.specs.Accepted.{IsRefused as IsRefusedRun}
 use Rattle.engine.specs.Run.{IsAcceptedRun}
+use Rattle.engine.specs.RunOptions.{without_output}
+use Rattle.png_writer.specs.Picture.{Picture}
 use Rattle.program_parts.specs.Behaviour.{Behaviour}
 use Rattle.view_program.specs.CommandLine.{AsksFor, command_line}
 use Rattle.view_program.specs.View.{IsDrawn}
@@ -15,7 +17,7 @@ use Rattle.view_program.specs.declared.request.View.{View}
 -- some bytes can be drawn, and between the two the lines about the picture went out
 abbrev pub HasViewed : View → List ℕ → Option (List ℕ) → Option (List ℕ) → Type 0
 HasViewed view name before after =
-    (bytes : List ℕ) × (said : List ℕ) × (drawn : List ℕ) × IsDrawn bytes view name said drawn × Appends before after said
+    (bytes : List ℕ) × (said : List ℕ) × (picture : Picture) × IsDrawn bytes view name said picture × Appends before after said
 
 -- some bytes could not be read, or were refused, or memory ran out, and nothing went out; or they are accepted, and standard
 -- output failed; or the picture's file failed, after the lines about it went out between the two
@@ -23,8 +25,8 @@ abbrev pub HasStoppedView : View → List ℕ → Fault → Option (List ℕ) �
 HasStoppedView view name fault before after unchanged failed =
     ((fault ≡ placeless ReadFailed) × unchanged)
     ⊎ ((fault ≡ placeless NoMemory) × unchanged)
-    ⊎ ((bytes : List ℕ) × IsRefusedRun bytes view.run fault × unchanged)
-    ⊎ ((fault ≡ placeless WriteFailed) × ((bytes : List ℕ) × IsAcceptedRun bytes view.run) × failed)
+    ⊎ ((bytes : List ℕ) × IsRefusedRun bytes (without_output view.run) fault × unchanged)
+    ⊎ ((fault ≡ placeless WriteFailed) × ((bytes : List ℕ) × IsAcceptedRun bytes (without_output view.run)) × failed)
     ⊎ ((fault ≡ placeless WriteFailed) × HasViewed view name before after)
 
 -- what the program does: it draws what words ask for

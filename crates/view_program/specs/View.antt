@@ -7,37 +7,36 @@ use Rattle.patterns.specs.Meaning.{placeless}
 use Rattle.engine.specs.Accepted.{IsRefused}
 use Rattle.engine.specs.Last.{EndsWith}
 use Rattle.engine.specs.Run.{IsAcceptedRun}
+use Rattle.engine.specs.RunOptions.{without_output}
 use Rattle.engine.specs.SinkChange.{SinkChange, Fails, IsUnfailed, Takes}
 use Rattle.engine.specs.SummaryLine.{summary_line}
 use Rattle.engine.specs.declared.running.Summary.{Summary}
-use Rattle.png_writer.specs.Picture.{Picture, png_text}
+use Rattle.png_writer.specs.Picture.{IsPngFile, Picture}
 use Rattle.pattern_picture.specs.Drawn.{IsPictureOf}
 use Rattle.view_program.specs.PictureLine.{picture_line}
 use Rattle.view_program.specs.Shown.{rectangle_shown}
 use Rattle.view_program.specs.declared.request.View.{View}
 
--- a run of these bytes ends with a generation of which this is said, under the name of its picture, and this is drawn
-pub record IsDrawn (bytes : List ℕ) (view : View) (name said drawn : List ℕ) : Type 0 where
+-- a run of these bytes ends with a generation of which this is said, under the name of its picture, and this is the picture
+pub record IsDrawn (bytes : List ℕ) (view : View) (name said : List ℕ) (picture : Picture) : Type 0 where
   pub plane : Plane
   pub answer : Summary
-  pub ends : EndsWith bytes view.run plane answer
-  pub picture : Picture
+  pub ends : EndsWith bytes (without_output view.run) plane answer
   pub shows : IsPictureOf plane (rectangle_shown view.window answer.bounds) view.size picture
   pub lines : said ≡ summary_line answer ++ picture_line name (rectangle_shown view.window answer.bounds) shows.scale
-  pub file : drawn ≡ png_text picture.width picture.rows
 
--- a view ended well: its report and its file took what it says and draws
+-- a view ended well: its report took what it says, and its file a PNG file of the picture
 abbrev pub HasDrawn : {W V : Type 0} → List ℕ → View → List ℕ → SinkChange W → SinkChange V → Type 0
 HasDrawn bytes view name report file =
-    (said : List ℕ) × (drawn : List ℕ) × IsDrawn bytes view name said drawn × Takes report said × Takes file drawn
+    (said : List ℕ) × (picture : Picture) × IsDrawn bytes view name said picture × Takes report said × ((drawn : List ℕ) × IsPngFile picture.width picture.rows drawn × Takes file drawn)
 
 -- a view was refused: its run was, or memory ran out, and nothing was written; or the run is accepted, and a sink failed:
 -- that of the report, and nothing was written to the file; or that of the file, after the whole report
 abbrev pub HasNotDrawn : {W V : Type 0} → List ℕ → View → List ℕ → SinkChange W → SinkChange V → Fault → Type 0
 HasNotDrawn bytes view name report file fault =
-    (IsRefused bytes view.run fault × (report.new ≡ report.old) × (file.new ≡ file.old))
-    ⊎ ((fault ≡ placeless WriteFailed) × IsAcceptedRun bytes view.run × Fails report × (file.new ≡ file.old))
-    ⊎ ((fault ≡ placeless WriteFailed) × ((said : List ℕ) × (drawn : List ℕ) × IsDrawn bytes view name said drawn × Takes report said) × Fails file)
+    (IsRefused bytes (without_output view.run) fault × (report.new ≡ report.old) × (file.new ≡ file.old))
+    ⊎ ((fault ≡ placeless WriteFailed) × IsAcceptedRun bytes (without_output view.run) × Fails report × (file.new ≡ file.old))
+    ⊎ ((fault ≡ placeless WriteFailed) × ((said : List ℕ) × (picture : Picture) × IsDrawn bytes view name said picture × Takes report said) × Fails file)
 
 -- what a view of these bytes does to its report and to its file, and what it answers
 pub record IsView {W V : Type 0} (bytes : List ℕ) (view : View) (name : List ℕ) (report : SinkChange W) (file : SinkChange V) (result : Result Unit Fault) : Type 0 where

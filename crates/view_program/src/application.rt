@@ -6,12 +6,12 @@ ghost use Rattle.view_program.specs.Status.{behaviour};
 
 use crate::asking::asked_by;
 use crate::command_line::command;
-use crate::drawing::draw;
+use crate::drawing::draw_from;
 use crate::names::NAME;
 use crate::request::Asked;
 use clap::{ArgMatches, Command};
 use plane::{Fault, Sink};
-use program_parts::{Application, OutputFile, WordsReason, read_file};
+use program_parts::{Application, OutputFile, WordsReason, open_input};
 use std::alloc::{AllocError, Global};
 use std::rt::Files;
 use std::sync::Wait;
@@ -46,18 +46,10 @@ impl Application for Lifeview {
         asked: &Asked,
         out: &mut O,
     ) -> Result<(), Fault> {
-        let bytes = read_file(rt, alloc, asked.file.as_str())?;
+        let mut source = open_input(rt, asked.file.as_str())?;
         let name = asked.output.as_str();
         let mut picture = OutputFile::new(rt, name);
-        draw(
-            rt,
-            alloc,
-            bytes.as_slice(),
-            &asked.view,
-            name,
-            out,
-            &mut picture,
-        )
+        draw_from(rt, alloc, &mut source, &asked.view, name, out, &mut picture)
     }
 
     ghost form_is_simple = { form_is_simple };

@@ -12,7 +12,7 @@ use crate::names::ENDING;
 use crate::request::{Asked, LARGEST_SIZE, SMALLEST_SIZE, View};
 use crate::shown::window_asked;
 use clap::ArgMatches;
-use engine::Options;
+use engine::RunOptions;
 use program_parts::{
     Misfit, WordsFault, WordsReason, number_for, pairs_asked, rule_asked, window_numbers,
     workers_asked,
@@ -70,15 +70,11 @@ fn view_by(matches: &ArgMatches<'_>) -> Result<View, WordsReason>
     let rule = rule_asked(matches.get_str("rule"))?;
     let window = window_asked(numbers)?;
     Ok(View {
-        run: Options {
+        run: RunOptions {
             gens,
-            step: 0,
             rule,
-            window: None,
-            format: None,
             pairs,
             workers,
-            quiet: true,
         },
         window,
         size,

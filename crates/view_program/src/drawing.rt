@@ -1,7 +1,8 @@
 //! A run, and the picture of its last generation.
 
-ghost use Rattle.std.specs.Prelude.{IfSome};
+ghost use Rattle.std.specs.Prelude.{◌≡◌, IfSome};
 ghost use Rattle.table_core.specs.Sizes.{IsPairCount};
+ghost use Rattle.engine.specs.Devices.{IsDoneWithAll, reading_of};
 ghost use Rattle.engine.specs.SinkChange.{change_of};
 ghost use Rattle.engine.specs.Workers.{IsWorkerCount};
 ghost use Rattle.pattern_picture.specs.Scale.{IsShown, IsSize};
@@ -10,9 +11,8 @@ ghost use Rattle.view_program.specs.View.{IsView};
 use crate::picture_line::write_picture_line;
 use crate::request::View;
 use crate::shown::rectangle_shown;
-use engine::{last_pattern, write_summary};
-use pattern_picture::picture;
-use plane::{Fault, Sink};
+use engine::{last_pattern, load, write_summary};
+use plane::{Fault, Sink, Source};
 use std::alloc::Global;
 use std::sync::Wait;
 use std::thread::Threads;
@@ -45,10 +45,35 @@ pub fn draw<R: Threads + Wait + Sync, W: Sink, V: Sink>(
 {
     let (last, summary) = last_pattern(rt, alloc, bytes, &view.run)?;
     let shown = rectangle_shown(view.window, summary.bounds);
-    let square = last.square();
-    let image = picture(alloc, square.still(), square.root(), shown, view.size)?;
+    let image = last.picture(alloc, shown, view.size)?;
     write_summary(report, &summary)?;
     write_picture_line(report, name, shown, view.size)?;
     image.write(file)?;
     Ok(())
+}
+
+/// Reads all bytes of a source, and draws the pattern in them as [`draw`] does. It refuses `ReadFailed` where the source
+/// failed, and `NoMemory`; before all bytes are read, nothing is written.
+pub fn draw_from<R: Threads + Wait + Sync, S: Source, W: Sink, V: Sink>(
+    rt: &R,
+    alloc: Global,
+    source: &mut S,
+    view: &View,
+    name: &str,
+    report: &mut W,
+    file: &mut V,
+) -> Result<(), Fault>
+    requires pairs { IsPairCount view.now.run.pairs }
+    requires workers { IsWorkerCount view.now.run.workers }
+    requires window { IfSome view.now.window IsShown }
+    requires size { IsSize view.now.size }
+    ensures { IsDoneWithAll
+        (reading_of S.remaining S.given S.has_ended S.failure_count source.old source.new)
+        (λ bytes. IsView bytes view.now name.now
+        (change_of W.taken W.failure_count report.old report.new)
+        (change_of V.taken V.failure_count file.old file.new) result)
+        result ((report.new ≡ report.old) × (file.new ≡ file.old)) }
+{
+    let bytes = load(alloc, source)?;
+    draw(rt, alloc, bytes.as_slice(), view, name, report, file)
 }

@@ -13,8 +13,8 @@ mod request;
 mod shown;
 
 pub use asking::asked;
-pub use drawing::draw;
-pub use entry::program;
+pub use drawing::{draw, draw_from};
+pub use entry::{program, start};
 pub use names::NAME;
 pub use program_parts::WordsFault;
 pub use request::{Asked, LARGEST_SIZE, SMALLEST_SIZE, View};

@@ -1,6 +1,6 @@
 //! What the words of a command line ask for.
 
-use engine::Options;
+use engine::RunOptions;
 use plane::Bounds;
 use png_writer::SIDE_LIMIT;
 
@@ -13,8 +13,8 @@ pub const LARGEST_SIZE: u32 = SIDE_LIMIT;
 /// What is drawn: the last generation of a run.
 #[derive(Clone, Copy, Debug, PartialEq, Eq)]
 pub struct View {
-    /// The run. Of its options the number of generations, the rule, the pair slots and the workers count.
-    pub run: Options,
+    /// The run whose last generation it is.
+    pub run: RunOptions,
     /// The rectangle of cells that is shown, if one is given; its sides lie from -2^62 to 2^62. Else it is the bounding
     /// box of the live cells, or the cell (0,0) where there are none.
     pub window: Option<Bounds>,

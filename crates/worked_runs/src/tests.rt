@@ -14,5 +14,6 @@ mod pictures;
 mod refused;
 mod rows;
 mod short_writes;
+mod sources;
 mod want_of_memory;
 mod workers;

@@ -3,7 +3,7 @@
 ghost use Rattle.std.specs.Prelude.{◌≡◌, ◌≢◌, ◌-◌, ◌<◌, ◌↔◌, length, IfOk, IsErr, IsTrue};
 ghost use Rattle.std.specs.Io.{ReadsAtMost, WritesAtMost};
 ghost use Rattle.std.specs.Io.KnownBytes.{ReadConsumes, WriteAppends};
-ghost use Rattle.plane.specs.Device.{failures_after};
+ghost use Rattle.plane.specs.Device.{FindsEnd, ReadGives, failures_after};
 ghost use Rattle.plane.specs.DeviceParts.{PassesOn, calls_until_failure, fail_at_failures, fail_at_inner};
 
 use super::{Failed, Sink, Source};
@@ -67,6 +67,10 @@ impl<T> FailAt<T> {
 impl<T: Source> Source for FailAt<T> {
     ghost remaining = { λ device. T.remaining device.inner };
 
+    ghost given = { λ device. T.given device.inner };
+
+    ghost has_ended = { λ device. T.has_ended device.inner };
+
     ghost failure_count = { λ device. device.failures };
 
     ghost reads = { λ old before answer new after.
@@ -76,6 +80,9 @@ impl<T: Source> Source for FailAt<T> {
         ensures bound { ReadsAtMost result buffer.new }
         ensures bytes { ReadConsumes (T.remaining (fail_at_inner self.old))
             (T.remaining (fail_at_inner self.new)) result buffer.new }
+        ensures given { ReadGives (T.given (fail_at_inner self.old))
+            (T.given (fail_at_inner self.new)) result buffer.new }
+        ensures end { FindsEnd result buffer.new → T.has_ended (fail_at_inner self.new) }
         ensures failures { fail_at_failures self.new
             ≡ failures_after result (fail_at_failures self.old) }
         // It fails at its one call, and there passes nothing on.

@@ -3,7 +3,7 @@
 ghost use Rattle.std.specs.Prelude.{◌≡◌, ◌+◌, ◌≤◌, ◌<◌, ◌↔◌, ◌++◌, [], Some, drop, length, min, take, IsOk, IfOk};
 ghost use Rattle.std.specs.Io.{ReadsAtMost, WritesAtMost};
 ghost use Rattle.std.specs.Io.KnownBytes.{ReadConsumes, WriteAppends};
-ghost use Rattle.plane.specs.Device.{ReadsMemory, WritesMemory, failures_after, memory_remaining, unread};
+ghost use Rattle.plane.specs.Device.{FindsEnd, ReadGives, ReadsMemory, WritesMemory, failures_after, memory_given, memory_remaining, unread};
 
 use super::{Failed, Sink, Source};
 use std::alloc::{AllocError, Global};
@@ -83,6 +83,10 @@ fn copy_front(bytes: &[u8], buffer: &mut [u8]) -> usize
 impl Source for Memory {
     ghost remaining = { memory_remaining };
 
+    ghost given = { memory_given };
+
+    ghost has_ended = { λ memory. memory_remaining memory ≡ Some [] };
+
     ghost failure_count = { λ memory. memory.failures };
 
     ghost reads = { λ old before answer new after. ReadsMemory old before answer new after };
@@ -91,6 +95,9 @@ impl Source for Memory {
         ensures bound { ReadsAtMost result buffer.new }
         ensures bytes { ReadConsumes
             (memory_remaining self.old) (memory_remaining self.new) result buffer.new }
+        ensures given { ReadGives
+            (memory_given self.old) (memory_given self.new) result buffer.new }
+        ensures end { FindsEnd result buffer.new → memory_remaining self.new ≡ Some [] }
         ensures failures { self.new.failures ≡ failures_after result self.old.failures }
         ensures succeeds { IsOk result }
         ensures does { ReadsMemory self.old buffer.old result self.new buffer.new }

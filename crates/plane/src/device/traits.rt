@@ -1,9 +1,9 @@
 //! What bytes are read from and written to.
 
-ghost use Rattle.std.specs.Prelude.{◌≡◌, ℕ, ◌<◌, List, Option, Result, length, IfOk};
+ghost use Rattle.std.specs.Prelude.{◌≡◌, ℕ, ◌<◌, List, None, Option, Result, length, IfOk};
 ghost use Rattle.std.specs.Io.{ReadsAtMost, WritesAtMost};
 ghost use Rattle.std.specs.Io.KnownBytes.{ReadConsumes, WriteAppends};
-ghost use Rattle.plane.specs.Device.{failures_after};
+ghost use Rattle.plane.specs.Device.{FindsEnd, ReadGives, failures_after};
 ghost use Rattle.plane.specs.declared.device.traits.Failed.{Failed};
 
 use std::error::Error;
@@ -26,6 +26,12 @@ pub trait Source {
     // The bytes that are still to come, where the device tells them.
     ghost remaining: { Self → Option (List ℕ) };
 
+    // The bytes that were given so far, where the device tells them.
+    ghost given: { Self → Option (List ℕ) } = { λ _. None };
+
+    // The last read that did not fail found the end, where the device tells that.
+    ghost has_ended: { Self → Type 0 } = { λ _. Unit {0} };
+
     // How many calls have failed, or 2^64 - 1 for any more.
     ghost failure_count: { Self → ℕ };
 
@@ -38,6 +44,8 @@ pub trait Source {
     fn read_some(&mut self, buffer: &mut [u8]) -> Result<usize, Failed>
         ensures bound { ReadsAtMost result buffer.new }
         ensures bytes { ReadConsumes (remaining self.old) (remaining self.new) result buffer.new }
+        ensures given { ReadGives (given self.old) (given self.new) result buffer.new }
+        ensures end { FindsEnd result buffer.new → has_ended self.new }
         ensures failures { failure_count self.new
             ≡ failures_after result (failure_count self.old) }
         ensures does { reads self.old buffer.old result self.new buffer.new };

@@ -4,7 +4,7 @@ use crate::tests::accepted::{LIMITS, PATTERNS, STEPS};
 use crate::tests::ended::Ended;
 use crate::tests::refused::REFUSED;
 use crate::tests::rows::Row;
-use engine::{Summary, last_pattern};
+use engine::{RunOptions, Summary, last_pattern};
 use plane::{Fault, Refusal};
 use std::alloc::AllocError;
 use std::process::Abort;
@@ -17,10 +17,15 @@ fn answer_of<R: Abort + AllocGlobal + Threads + Wait + Sync>(
     rt: &R,
     row: &Row,
 ) -> Result<Summary, Fault> {
-    let options = row.options();
-    assert!(rt; Shape::is_pair_count(options.pairs));
-    assert!(rt; options.workers >= 1 && options.workers <= 64);
-    let (_, summary) = last_pattern(rt, rt.alloc(), row.file.as_bytes(), &options)?;
+    let run = RunOptions {
+        gens: row.generations,
+        rule: None,
+        pairs: row.pairs,
+        workers: row.workers,
+    };
+    assert!(rt; Shape::is_pair_count(run.pairs));
+    assert!(rt; run.workers >= 1 && run.workers <= 64);
+    let (_, summary) = last_pattern(rt, rt.alloc(), row.file.as_bytes(), &run)?;
     Ok(summary)
 }
 

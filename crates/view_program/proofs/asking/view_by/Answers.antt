@@ -1,4 +1,4 @@
-use Rattle.std.proofs.Common.{◌≡◌, ◌∙◌, Err, codes, refl, rules, subst, sym, inl, inr}
+use Rattle.std.proofs.Common.{◌≡◌, ◌∙◌, Err, codes, rules, subst, sym, inl, inr}
 use Rattle.program_parts.specs.Values.{IsAskedRule, IsNumber, IsPairNumber, IsRefusedRule, IsWorkerNumber}
 use Rattle.program_parts.specs.WindowText.{IsFitWindow}
 use Rattle.program_parts.specs.declared.reason.WordsReason.TheVariants.{Refused}
@@ -92,5 +92,4 @@ returns-clause-asks c = λ words are asked file output name.
       size = subst (λ given. IsSizeNumber given c.in_ok-size.size) (value (codes "size")) c.in_ok-size.ensures.ok;
       pairs = subst (λ given. IsPairNumber given c.in_ok-pairs.pairs) (value (codes "nodes")) c.in_ok-pairs.ensures.ok;
       workers = subst (λ given. IsWorkerNumber given c.in_ok-workers.workers) (value (codes "workers")) c.in_ok-workers.ensures.ok;
-      silent = (refl, refl, refl, refl);
     }

@@ -1,17 +1,17 @@
-use Rattle.std.proofs.Common.{◌≡◌, Err, rules, refl, sym, ◌∙◌, ap, subst}
+use Rattle.std.proofs.Common.{◌≡◌, Err, rules, refl, sym, ◌∙◌, subst}
 use Rattle.std.specs.Io.KnownBytes.{Appends}
-use Rattle.node_table.specs.Stills.{book_in}
 use Rattle.plane.specs.Device.{HasFailed}
 use Rattle.plane.specs.declared.cell.Bounds.{Bounds}
 use Rattle.plane.specs.declared.refusal.Refusal.TheVariants.{NoMemory}
 use Rattle.patterns.specs.Meaning.{placeless}
 use Rattle.engine.specs.Pattern.{plane_of}
+use Rattle.engine.specs.RunOptions.{without_output}
 use Rattle.pattern_picture.specs.Drawn.{IsPictureOf}
 use Rattle.pattern_picture.specs.Scale.{IsScale, IsShown}
 use Rattle.pattern_picture.specs.declared.scale.Scale.{Scale}
 use Rattle.view_program.specs.PictureLine.{picture_line}
 use Rattle.view_program.proofs.ShownBoxes.{can_be_shown}
-use Rattle.view_program.proofs.Views.{ends_well, file_failed, out_of_memory, picture_of_plane, refused_at_once, report_failed}
+use Rattle.view_program.proofs.Views.{ends_well, file_failed, out_of_memory, refused_at_once, report_failed}
 use Rattle.view_program.proofs.drawing.draw.Goals as goal
 
 pub returns-in_err-last : goal.returns-in_err-last
@@ -33,7 +33,7 @@ pub returns-in_err-image : goal.returns-in_err-image
 returns-in_err-image g c =
     let is : c.from_residual-in_err-image.result ≡ Err (placeless NoMemory) = search rules in
     rw is (refused_at_once c.args.bytes.now c.args.view.now c.args.name.now _ _ (placeless NoMemory) refl refl
-    (out_of_memory c.args.bytes.now c.args.view.now.run (plane_of c.in_ok-last.last) c.in_ok-last.summary c.in_ok-last.ensures.ok))
+    (out_of_memory c.args.bytes.now (without_output c.args.view.now.run) (plane_of c.in_ok-last.last) c.in_ok-last.summary c.in_ok-last.ensures.ok))
 
 pub returns-in_err-write_summary : goal.returns-in_err-write_summary
 returns-in_err-write_summary g c =
@@ -58,7 +58,7 @@ returns-in_err-write g c =
     let image = c.in_ok-image.image in
     let same = c.rectangle_shown-shown.ensures in
     let shows = subst (λ (box : Bounds). IsPictureOf plane box view.size image) same
-    (picture_of_plane plane c.square-square.result.now (book_in c.still.result.now) c.root.result c.rectangle_shown-shown.result view.size image c.square-square.ensures (ap book_in c.still.ensures) c.root.ensures.root c.in_ok-image.ensures.drawn) in
+    c.in_ok-image.ensures.drawn in
     let line = subst (λ (box : Bounds). (scale : Scale) × IsScale box view.size scale × Appends (g.W.Sink.taken c.write_summary.new.out) (g.W.Sink.taken c.write_picture_line.new.out) (picture_line c.args.name.now box scale)) same
     c.in_ok-write_picture_line.ensures.written in
     let is : c.from_residual-in_err-write.result ≡ Err (placeless c.in_err-write.field-0.0) = search rules in
@@ -73,7 +73,7 @@ returns g c =
     let image = c.in_ok-image.image in
     let same = c.rectangle_shown-shown.ensures in
     let shows = subst (λ (box : Bounds). IsPictureOf plane box view.size image) same
-    (picture_of_plane plane c.square-square.result.now (book_in c.still.result.now) c.root.result c.rectangle_shown-shown.result view.size image c.square-square.ensures (ap book_in c.still.ensures) c.root.ensures.root c.in_ok-image.ensures.drawn) in
+    c.in_ok-image.ensures.drawn in
     let line = subst (λ (box : Bounds). (scale : Scale) × IsScale box view.size scale × Appends (g.W.Sink.taken c.write_summary.new.out) (g.W.Sink.taken c.write_picture_line.new.out) (picture_line c.args.name.now box scale)) same
     c.in_ok-write_picture_line.ensures.written in
     ends_well c.args.bytes.now view c.args.name.now _ _ plane answer c.in_ok-last.ensures.ok image shows (g.W.Sink.taken c.write_summary.new.out) c.in_ok-write_summary.ensures.written line

@@ -1,14 +1,17 @@
 use Rattle.std.proofs.Common.{◌≡◌, Err, rules}
-use Rattle.batch_program.proofs.Endings.{stopped_run}
+use Rattle.batch_program.proofs.Endings.{finished_from, stopped_from}
 use Rattle.batch_program.proofs.application.LifebatchApplication.perform.Goals as goal
 
-pub run-requires-clause-pairs : goal.run-requires-clause-pairs
-run-requires-clause-pairs g c κs within = c.requires.asked.1.pairs.1
+pub run_from-requires-clause-pairs : goal.run_from-requires-clause-pairs
+run_from-requires-clause-pairs g c κs within = c.requires.asked.1.pairs.1
 
-pub run-requires-clause-workers : goal.run-requires-clause-workers
-run-requires-clause-workers g c κs within = c.requires.asked.1.workers.1
+pub run_from-requires-clause-workers : goal.run_from-requires-clause-workers
+run_from-requires-clause-workers g c κs within = c.requires.asked.1.workers.1
 
-pub returns-in_err-run-clause-stopped : goal.returns-in_err-run-clause-stopped
-returns-in_err-run-clause-stopped g c =
-    let is : c.from_residual-in_err-run.result ≡ Err c.in_err-run.field-0.0 = search rules in
-    rw is (stopped_run _ _ _ _ _ c.new-output.ensures c.in_err-run.ensures)
+pub returns-in_err-run_from-clause-stopped : goal.returns-in_err-run_from-clause-stopped
+returns-in_err-run_from-clause-stopped g c =
+    let is : c.from_residual-in_err-run_from.result ≡ Err c.in_err-run_from.field-0.0 = search rules in
+    rw is (stopped_from _ _ _ _ _ c.new-output.ensures.failures c.in_err-run_from.ensures)
+
+pub returns-clause-done : goal.returns-clause-done
+returns-clause-done g c = (finished_from _ _ _ _ _ c.in_ok-run_from.ensures).0

@@ -1,0 +1,17 @@
+-- Runs that have neither a report nor a file.
+use Rattle.std.specs.Prelude.{None, true}
+use Rattle.engine.specs.declared.options.Options.{Options}
+use Rattle.engine.specs.declared.options.RunOptions.{RunOptions}
+
+-- the same run: it is quiet, and draws and writes nothing
+abbrev pub without_output : RunOptions → Options
+without_output run = record {
+  gens = run.gens;
+  step = 0;
+  rule = run.rule;
+  window = None;
+  format = None;
+  pairs = run.pairs;
+  workers = run.workers;
+  quiet = true;
+}
