@@ -17,11 +17,11 @@ import sys
 import tempfile
 from dataclasses import dataclass
 
-from common.check import BGOLLY, BUILT, C_COMPILER, DIFFERS, GOLLY_PATTERNS, HOLDS, NOT_RUN, PARALLEL, Check, end, sum_up
+from common.check import BGOLLY, BUILT, BUILT_VIEW, C_COMPILER, DIFFERS, FFMPEG, GOLLY, GOLLY_PATTERNS, HOLDS, NOT_RUN, PARALLEL, XVFB, Check, end, sum_up
 
 CHECK = Check(
     text=__doc__,
-    needs=(BUILT, BGOLLY, GOLLY_PATTERNS, C_COMPILER, PARALLEL),
+    needs=(BUILT, BUILT_VIEW, BGOLLY, GOLLY, GOLLY_PATTERNS, XVFB, C_COMPILER, PARALLEL, FFMPEG),
     takes="a minute",
     replay="give the row, or a part of it, to --only.",
 )
@@ -92,6 +92,13 @@ ROWS = [
     Row("from_bgolly_page", "--only commas", "prints another population", DIFFERS),
     Row("from_bgolly_page", "--only no-such-name", RIGHT, NOT_RUN),
     Row("from_bgolly_page", "", "", NOT_RUN),
+    Row("golly_scripts", "--only pentomino", RIGHT, HOLDS),
+    Row("golly_scripts", "--only pentomino", "crashes", DIFFERS),
+    Row("golly_scripts", "--only pentomino --seconds 5", "hangs", DIFFERS),
+    Row("golly_scripts", "--only pentomino", "prints another population", DIFFERS),
+    Row("golly_scripts", "--only pentomino", "is missing", NOT_RUN),
+    Row("golly_scripts", "--only no-such-name", RIGHT, NOT_RUN),
+    Row("golly_scripts", "", "", NOT_RUN),
     Row("failing_devices", "--only pipe", RIGHT, HOLDS),
     Row("failing_devices", "--only pipe", "crashes", DIFFERS),
     Row("failing_devices", "--only pipe", "is missing", NOT_RUN),
@@ -127,8 +134,8 @@ ROWS = [
 class Bench:
     """A folder with the faulty programs and pages."""
 
-    def __init__(self, real: pathlib.Path, folder: pathlib.Path):
-        self.folder = folder
+    def __init__(self, real: pathlib.Path, view: pathlib.Path, folder: pathlib.Path):
+        self.folder, self.view = folder, view.resolve()
         # The user `nobody` has to be able to go through it.
         folder.chmod(0o755)
         for name, text in PROGRAMS.items():
@@ -142,6 +149,7 @@ class Bench:
     def run(self, row: Row) -> subprocess.CompletedProcess:
         words = [sys.executable, str(FOLDER / f"{row.check}.py"), *row.options.split()]
         words += ["--root" if row.check == "page_links" else "--program", str(self.folder / (row.fault or RIGHT))]
+        words += ["--view", str(self.view)] if row.check in ("golly_scripts", "many_patterns") else []
         settings = os.environ | {"TMPDIR": str(self.folder)} | ({} if row.fault else {"PATH": "/nowhere"})
         return subprocess.run(words, cwd=FOLDER, env=settings, stdin=subprocess.DEVNULL, capture_output=True, text=True)
 
@@ -160,7 +168,7 @@ def main() -> int:
     parser.add_argument("--only", default="", help="only the rows with this text in them")
     options = CHECK.options(parser)
     with tempfile.TemporaryDirectory() as name:
-        bench = Bench(options.program, pathlib.Path(name))
+        bench = Bench(options.program, options.view, pathlib.Path(name))
         held = [bench.holds(row) for row in ROWS if options.only in row.says()]
     return sum_up(held, "rows")
 

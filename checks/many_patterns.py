@@ -6,7 +6,8 @@
 
 The script takes the commands from the page. It makes 200 patterns, of which one has a fault and one fills small tables, and runs each by itself.
 Then it runs the page's commands: it kills the first with all runs that it started, and repeats it. A script takes the place of ssh, and the
-array job of Slurm runs by its number alone. Each report and each pattern has to be the same as that of the plain run.
+array job of Slurm runs by its number alone. Each report and each pattern has to be the same as that of the plain run. The frames of a film have to
+be the pictures of their generations, and the film has to have them all.
 """
 import os
 import pathlib
@@ -17,12 +18,12 @@ import subprocess
 import tempfile
 import time
 
-from common.check import BUILT, PARALLEL, CannotRun, Check, end, status_of
+from common.check import BUILT, BUILT_VIEW, FFMPEG, PARALLEL, CannotRun, Check, end, status_of
 from common.program import ROOT
 
 CHECK = Check(
     text=__doc__,
-    needs=(BUILT, PARALLEL),
+    needs=(BUILT, BUILT_VIEW, PARALLEL, FFMPEG),
     takes="a minute",
     quick=("--patterns", "40"),
     quickly="15 s",
@@ -36,6 +37,8 @@ SECONDS = 300
 # The check replaces the page's numbers: tables that one pattern fills, and then enough for it.
 SMALL, ENOUGH = 65536, 4194304
 GENERATIONS = 300
+# The frames of the film, five generations apart as on the page.
+FRAMES, APART = 20, 5
 SSH = """#!/bin/sh
 while [ "$1" != -- ]; do shift; done
 shift
@@ -53,15 +56,17 @@ def soup(side: int, seed: int) -> str:
 class Folder:
     """The folder in which the page's commands run, with a number of patterns."""
 
-    def __init__(self, path: pathlib.Path, program: pathlib.Path, count: int):
-        self.path, self.program, self.differences = path, program, 0
+    def __init__(self, path: pathlib.Path, program: pathlib.Path, view: pathlib.Path, count: int):
+        self.path, self.program, self.view, self.differences = path, program, view, 0
         (path / "patterns").mkdir()
         (path / "bin").mkdir()
         (path / "bin" / "lifebatch").symlink_to(program)
+        (path / "bin" / "lifeview").symlink_to(view)
         (path / "bin" / "ssh").write_text(SSH)
         (path / "bin" / "ssh").chmod(0o755)
-        texts = {f"soup {number}": soup(16 + number % 48, number) for number in range(count - 2)}
-        self.texts = texts | {"faulty": "x = 3, y = 1\n0b3o!\n", "large": soup(1280, count)}
+        texts = {f"soup {number}": soup(16 + number % 48, number) for number in range(count - 3)}
+        pentomino = (ROOT / "examples" / "r-pentomino.rle").read_text()
+        self.texts = texts | {"faulty": "x = 3, y = 1\n0b3o!\n", "large": soup(1280, count), "r-pentomino": pentomino}
         for name, text in self.texts.items():
             (path / "patterns" / f"{name}.rle").write_text(text)
 
@@ -105,6 +110,17 @@ class Folder:
         files = [self.path / "out" / f"{name}.{ending}" for ending in ("rle", "txt", "err")]
         return tuple(it.read_bytes() if it.exists() else b"" for it in files)
 
+    def picture(self, generation: int, words: list[str]) -> bytes:
+        """The picture of the film's pattern at a generation, drawn by itself."""
+        file = self.path / "plain.png"
+        words = [self.view, "-m", str(generation), *words, "-o", file, self.path / "patterns" / "r-pentomino.rle"]
+        subprocess.run(words, stdin=subprocess.DEVNULL, capture_output=True, timeout=SECONDS)
+        return file.read_bytes()
+
+    def frame(self, number: int) -> bytes:
+        file = self.path / "frames" / f"{number:03}.png"
+        return file.read_bytes() if file.exists() else b""
+
     def unlike(self, plain: dict[str, tuple[bytes, bytes, bytes]]) -> list[str]:
         """The patterns of which something else was written."""
         return [name for name in plain if self.written(name) != plain[name]]
@@ -137,10 +153,10 @@ def killed_in_the_middle(folder: Folder, block: str) -> bool:
 
 
 def page_blocks() -> list[str]:
-    """The commands of the page: for a folder, for failures, with larger tables, on several machines, and for Slurm."""
+    """The commands of the page: for a folder, for failures, with larger tables, on several machines, for Slurm, for frames, and for their film."""
     blocks = BLOCK.findall(PAGE.read_text())
-    if len(blocks) != 5:
-        raise CannotRun(f"{PAGE.name} has {len(blocks)} blocks of commands, not five")
+    if len(blocks) != 7:
+        raise CannotRun(f"{PAGE.name} has {len(blocks)} blocks of commands, not seven")
     return blocks
 
 
@@ -150,8 +166,20 @@ def in_place_of(old: str, new: str, block: str) -> str:
     return block.replace(old, new)
 
 
+def try_film(folder: Folder, frames: str, film: str) -> None:
+    drawn = re.search(r"--window=\S+ --size \d+", frames)
+    if f"-m {APART} " not in frames or not drawn:
+        raise CannotRun(f"{PAGE.name} has other frames")
+    folder.run(in_place_of("0 199", f"0 {FRAMES - 1}", frames))
+    are_alike = [folder.frame(number) == folder.picture(APART * number, drawn[0].split()) for number in range(FRAMES)]
+    folder.tell("each frame is the picture of its generation", all(are_alike))
+    folder.run(film)
+    counted = folder.run("ffprobe -v error -count_frames -show_entries stream=nb_read_frames -of csv=p=0 film.mp4")
+    folder.tell("the film has all frames", counted.strip() == str(FRAMES))
+
+
 def try_page(folder: Folder) -> None:
-    one_folder, failures, larger, machines, task = page_blocks()
+    one_folder, failures, larger, machines, task, *film = page_blocks()
     one_folder = in_place_of("GENERATIONS=1000 NODES=4194304", f"GENERATIONS={GENERATIONS} NODES={SMALL}", one_folder)
     larger = in_place_of("NODES=67108864", f"NODES={ENOUGH}", larger)
     plain, whole = folder.plain(SMALL), folder.plain(ENOUGH)
@@ -180,6 +208,7 @@ def try_page(folder: Folder) -> None:
     for number in range(len(names)):
         folder.run(f"SLURM_ARRAY_TASK_ID={number + 1} sh task.sh")
     folder.tell("an array job runs the pattern of its number", all(folder.written(it) == plain[it] for it in names))
+    try_film(folder, *film)
 
 
 def main() -> int:
@@ -187,10 +216,10 @@ def main() -> int:
     parser.add_argument("--patterns", type=int, default=200, help="how many patterns (200)")
     options = CHECK.options(parser)
     with tempfile.TemporaryDirectory() as name:
-        folder = Folder(pathlib.Path(name), options.program.resolve(), options.patterns)
+        folder = Folder(pathlib.Path(name), options.program.resolve(), options.view.resolve(), options.patterns)
         try_page(folder)
     print(f"{options.patterns} patterns; {folder.differences} rows differ")
-    return status_of(7, folder.differences)
+    return status_of(9, folder.differences)
 
 
 if __name__ == "__main__":

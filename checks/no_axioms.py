@@ -1,11 +1,12 @@
 #!/usr/bin/env python3
-"""Tests whether crates/ takes anything without proof: unsafe code, foreign functions, axioms or postulates.
+"""Tests whether crates/ takes anything without proof: unsafe code, foreign functions, axioms or holes of proofs.
 
     checks/no_axioms.py
     checks/no_axioms.py --root FOLDER    the crates of another copy
 
-The script searches each .rt and .antt file of src/, specs/ and proofs/, including comments and texts, for the words that declare such a thing.
-It also looks for files of C. It reads no proof: `rt ci` shows that the rest is proved.
+The script searches each .rt and .antt file of src/, specs/ and proofs/, including comments and texts, for the words that declare such a thing, and
+for holes, which are written ?, ?name or {! .. !}. It also looks for files of C. It reads no proof: `rt ci` shows that the rest is proved. The kit's
+own list of what the proofs of a crate take as written is `rt check --list-axioms`, in the crate's folder.
 """
 import pathlib
 import re
@@ -22,7 +23,8 @@ CHECK = Check(
 
 WORDS = {
     ".rt": re.compile(r"\b(unsafe|extern|no_mangle|sorry)\b"),
-    ".antt": re.compile(r"\b(axiom|Axiom|postulate|sorry)\b"),
+    # A `?` within a name, as in get_elem?, is no hole.
+    ".antt": re.compile(r"(\b[Aa]xioms?\b|(?:^|(?<=[\s(\[{,;=]))\?|\{!)"),
 }
 C_FILES = {".c", ".h", ".o", ".a", ".so"}
 
@@ -54,7 +56,7 @@ def main() -> int:
         for it in findings(file):
             found += 1
             print(f"differs: {file.relative_to(root)}, {it}")
-    print(f"{read} files read, {found} words or files that bring in something unproved")
+    print(f"{read} files read, {found} words, holes or files that bring in something unproved")
     return status_of(read, found)
 
 

@@ -8,7 +8,7 @@ import traceback
 from collections.abc import Callable, Sequence
 from dataclasses import dataclass
 
-from common.program import PATTERNS, PROGRAM, VIEW
+from common.program import PATTERNS, PROGRAM, VIEW, games_path
 
 HOLDS, DIFFERS, NOT_RUN = 0, 1, 2
 
@@ -49,9 +49,12 @@ BUILT = Need("the built program", "./lifebatch --help builds it", lambda options
 BUILT_VIEW = Need("the built program lifeview", "./lifeview --help builds it", lambda options: can_run(options.view))
 BGOLLY = tool("bgolly", "golly")
 GOLLY_PATTERNS = Need("the folder of Golly's patterns", "apt-get install golly brings it", has_patterns)
+GOLLY = Need("golly", "apt-get install golly brings it", lambda _: shutil.which("golly", path=games_path()) is not None)
+XVFB = tool("xvfb-run", "xvfb")
 C_COMPILER = tool("cc", "gcc libc6-dev")
 PGREP = tool("pgrep", "procps")
 PARALLEL = tool("parallel", "parallel")
+FFMPEG = tool("ffmpeg", "ffmpeg")
 PNGCHECK = tool("pngcheck", "pngcheck")
 
 

@@ -1,5 +1,6 @@
 """Where the programs and Golly's patterns are, and how a program is run."""
 import gzip
+import os
 import pathlib
 import re
 import subprocess
@@ -13,6 +14,9 @@ VIEW = ROOT / "crates" / "lifeview" / "out" / "lifeview"
 # The folders in which packages of Golly put its patterns.
 PLACES = [pathlib.Path(it) / "Patterns" for it in ("/usr/share/golly", "/usr/local/share/golly", "/usr/lib/golly")]
 PATTERNS = next((it for it in PLACES if it.is_dir()), PLACES[0])
+
+# The folder in which Debian puts Golly, which is not on every PATH.
+GAMES = "/usr/games"
 
 REFUSED = re.compile(r"lifebatch: refused \d+(?: at \d+)?: (\w+)\n")
 
@@ -28,6 +32,11 @@ class Ended:
     def __str__(self) -> str:
         status = "no end" if self.status is None else f"status {self.status}"
         return f"{status} {' '.join(self.message.split())}".strip()
+
+
+def games_path() -> str:
+    """The PATH, with the folder of Golly's window at its end."""
+    return f"{os.environ.get('PATH', os.defpath)}:{GAMES}"
 
 
 def text_of(printed: bytes | None) -> str:
