@@ -9,6 +9,7 @@
     bench/compare.py --set files               large files: the rows that read one, some of which write it again
     bench/compare.py --set files --lifeview    and the times of lifeview on these files, beside lifebatch
     bench/compare.py --set long                long runs, most of which fill the tables
+    bench/compare.py --set large-tables        four long runs that need more slots than the default, for --nodes and --golly-memory
     bench/compare.py --nodes 16777216          with another limit of the node tables than the default of lifebatch
     bench/compare.py --golly-memory 1024       with another limit of memory than the default of bgolly, in megabytes
     bench/compare.py --processors 2            on two processors

@@ -80,6 +80,7 @@ AIMS = {
     "formats": USUAL,
     "files": Aims(time=1.5, means={1: 1.0}, memory=None),
     "long": Aims(time=2.0, means={1: 1.3, 4: 0.6}, memory=1.0),
+    "large-tables": Aims(time=2.0, means={1: 1.0, 4: 1.0}, memory=None),
 }
 SETS = {
     "runs": [
@@ -147,5 +148,11 @@ SETS = {
         Row("metapixel-parity64", "HashLife/metapixel-parity64.mc.gz", 2**24),
         Row("linear-propagator-p237228340", "HashLife/linear-propagator-p237228340.mc.gz", 2**23),
         Row("broken-lines", "HashLife/broken-lines.mc", 2**22),
+    ],
+    "large-tables": [
+        Row("hexadecimal", "HashLife/hexadecimal.mc.gz", 2**20),
+        Row("metapixel-p216-gun", "HashLife/metapixel-p216-gun.mc.gz", 2**24),
+        Row("jagged", "HashLife/jagged.mc", 2**24),
+        Row("nick-gotts-1", "HashLife/nick-gotts-1.mc", 2**24),
     ],
 }
