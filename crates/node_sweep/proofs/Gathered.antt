@@ -1,30 +1,41 @@
 -- What is wanted is copied, and its results.
-use Rattle.std.proofs.Common.{◌≡◌, ◌≢◌, ℕ, ◌-◌, ◌^◌, ◌⊎◌, List, sym, ◌∙◌, ap, subst, arith, inl, inr, ⊎_elim}
+use Rattle.std.proofs.Common.{◌≡◌, ◌≢◌, ℕ, ◌+◌, ◌-◌, ◌^◌, ◌⊎◌, List, sym, ◌∙◌, ap, subst, arith, inl, inr, ⊎_elim}
 use Rattle.std.specs.Prelude.{slice_index}
 use Rattle.table_core.specs.declared.key.Key.{Key}
 use Rattle.table_core.specs.declared.shape.Kind.{Kind}
 use Rattle.table_core.specs.declared.shape.Kind.TheVariants.{Pair}
-use Rattle.table_core.specs.Layout.{IsSlot}
+use Rattle.table_core.specs.Layout.{IsSlot, result_of}
 use Rattle.table_core.specs.Blocks.{Words, IsBlock, square_rank}
 use Rattle.table_core.specs.Good.{TellsFuture, IsFutureOf, IsGood}
 use Rattle.table_core.proofs.Comparisons.{same_or_other}
 use Rattle.table_core.proofs.Ways.{not_head}
-use Rattle.node_sweep.specs.Collects.{Collects, IsResultCopiedOrGone}
-use Rattle.node_sweep.specs.Copies.{IsCopy, IsCopyOf, IsWantedCopy}
+use Rattle.node_sweep.specs.Copies.{IsCopy, IsCopyOf, IsSomeBlock, IsWantedCopy}
 use Rattle.node_sweep.specs.Ends.{AreEndsCopied, IsEndCopied}
 use Rattle.node_sweep.specs.Keeping.{IsCopiedResult, IsKeeping}
 use Rattle.node_sweep.specs.Reaching.{Reaches, IsCollected, IsEnd, the_root, low_pair, high_pair, high_result}
-use Rattle.node_sweep.proofs.Futures.{copy_at, no_copy_of_zero}
+use Rattle.node_sweep.specs.Copying.{IsCopying}
+use Rattle.node_sweep.specs.WantedCopies.{CopiesWanted, IsResultCopiedOrGone}
+use Rattle.node_sweep.proofs.Futures.{copy_at, keeping_start, no_copy_of_zero}
 use Rattle.node_sweep.proofs.SameBlocks.{HasTwin, block_some, copy_none, empty_copy, same_copy, same_original, twin_of}
 use Rattle.node_sweep.proofs.Swept.{kind_of_block}
 
+-- the result of a pair is a block
+pub result_block : (key : Key) (words : Words) (pair future : ℕ) → IsGood key words → IsSlot key.shape.bits Pair pair → words (result_of key.shape.bits pair) ≡ 2 ^ 32 + future →
+    IsSomeBlock key.shape.bits words future
+result_block key words pair future good slot told =
+    let t : TellsFuture key words pair = good.results pair slot (λ z. omega arith) in
+    let f : IsFutureOf key words pair t.0 = t.2 in
+    let is = t.1 in
+    let same : t.0 ≡ future = omega arith in
+    (square_rank (f.level - 1), subst (IsBlock key.shape.bits words (square_rank (f.level - 1))) same f.shown.stands)
+
 module _ (from to : Key) (old : Words) (wanted : ℕ → Type 0) (copies new : List ℕ) (good : IsGood from old) (same_rule : to.rule ≡ from.rule) (same_exponent : to.exponent ≡ from.exponent)
-    (h : IsKeeping from to old wanted copies new (2 ^ from.shape.bits)) where
+    (done : ℕ) (h : IsKeeping from to old wanted copies new done) where
   -- whatever a number with a copy reaches has a copy
   pub reached_copied : (rank end n : ℕ) → IsBlock from.shape.bits old rank end → (end ≡ 0) ⊎ (slice_index copies end ≢ 0) → Reaches from.shape.bits old end n → n ≢ 0 → slice_index copies n ≢ 0
   reached_copied rank end n block there reached some =
       let top : IsCopy from.shape.bits to.shape.bits old (slice_index new) rank end (slice_index copies end) =
-      copy_at from to old wanted copies new good same_rule same_exponent (2 ^ from.shape.bits) h rank end block there in
+      copy_at from to old wanted copies new good same_rule same_exponent done h rank end block there in
       let t : HasTwin from to old (slice_index new) good h.good.good (slice_index copies end) n = twin_of from to old (slice_index new) good h.good.good rank end (slice_index copies end) n top reached in
       let nonzero : t.twin ≢ 0 = λ z. some (copy_none from to old (slice_index new) good h.good.good t.rank n t.twin t.is z) in
       let k = kind_of_block to.shape.bits (slice_index new) t.rank t.twin nonzero t.is.now in
@@ -34,6 +45,8 @@ module _ (from to : Key) (old : Words) (wanted : ℕ → Type 0) (copies new : L
       (subst (IsCopy from.shape.bits to.shape.bits old (slice_index new) c.rank m.0) m.1 c.shown) t.is nonzero in
       λ z. nonzero (sym m.1 ∙ ap (slice_index copies) same ∙ z)
 
+module _ (from to : Key) (old : Words) (wanted : ℕ → Type 0) (copies new : List ℕ) (good : IsGood from old) (same_rule : to.rule ≡ from.rule) (same_exponent : to.exponent ≡ from.exponent)
+    (h : IsKeeping from to old wanted copies new (2 ^ from.shape.bits)) where
   -- each leaf and pair is a copy of what is wanted
   pub wanted_copy : (kind : Kind) (i : ℕ) → IsSlot to.shape.bits kind i → slice_index new i ≢ 0 → (n : ℕ) × IsWantedCopy from.shape.bits to.shape.bits old (slice_index new) wanted n i
   wanted_copy kind i slot some =
@@ -57,10 +70,10 @@ module _ (from to : Key) (old : Words) (wanted : ℕ → Type 0) (copies new : L
         (copy_at from to old wanted copies new good same_rule same_exponent (2 ^ from.shape.bits) h rank n b there);
   }
 
-  -- where all that is wanted has a copy
-  module _ (all : (n : ℕ) → wanted n → n ≢ 0 → slice_index copies n ≢ 0) where
-    there : (n : ℕ) → wanted n → (n ≡ 0) ⊎ (slice_index copies n ≢ 0)
-    there n is = ⊎_elim (λ z. inl z) (λ some. inr (all n is some)) (same_or_other n 0)
+  -- where each block that is wanted has a copy
+  module _ (all : (rank n : ℕ) → IsBlock from.shape.bits old rank n → wanted n → n ≢ 0 → slice_index copies n ≢ 0) where
+    there : (rank n : ℕ) → IsBlock from.shape.bits old rank n → wanted n → (n ≡ 0) ⊎ (slice_index copies n ≢ 0)
+    there rank n b is = ⊎_elim (λ z. inl z) (λ some. inr (all rank n b is some)) (same_or_other n 0)
 
     kept_or_gone : (pair : ℕ) → IsSlot from.shape.bits Pair pair → slice_index copies pair ≢ 0 →
         IsResultCopiedOrGone from.shape.bits to.shape.bits old (slice_index new) wanted pair (slice_index copies pair)
@@ -76,7 +89,7 @@ module _ (from to : Key) (old : Words) (wanted : ℕ → Type 0) (copies new : L
         (λ t. inr (
           (λ future may. t.0 future (record {
             told = may.told;
-            there = ⊎_elim (λ z. inl z) (λ is. there future is) may.there;
+            there = ⊎_elim (λ z. inl z) (λ is. let b = result_block from old pair future good slot may.told in there b.0 future b.1 is) may.there;
           })),
           t.1,
         ))
@@ -86,15 +99,15 @@ module _ (from to : Key) (old : Words) (wanted : ℕ → Type 0) (copies new : L
         IsResultCopiedOrGone from.shape.bits to.shape.bits old (slice_index new) wanted pair i
     result_of_copy pair rank i slot is_wanted is =
         let nonzero : pair ≢ 0 = not_head from.shape.bits Pair pair slot in
-        let some : slice_index copies pair ≢ 0 = all pair is_wanted nonzero in
+        let some : slice_index copies pair ≢ 0 = all rank pair is.was is_wanted nonzero in
         let c : IsWantedCopy from.shape.bits to.shape.bits old (slice_index new) wanted pair (slice_index copies pair) = h.copied pair some in
         let same : slice_index copies pair ≡ i = same_copy from to old (slice_index new) good h.good.good c.rank rank pair (slice_index copies pair) i c.shown is nonzero in
         subst (IsResultCopiedOrGone from.shape.bits to.shape.bits old (slice_index new) wanted pair) same (kept_or_gone pair slot some)
 
-    pub all_collected : Collects from to old wanted new
-    all_collected = record {
+    pub all_copied : CopiesWanted from to old wanted new
+    all_copied = record {
       good = h.good;
-      copies = λ rank n b is. (slice_index copies n, copy_at from to old wanted copies new good same_rule same_exponent (2 ^ from.shape.bits) h rank n b (there n is));
+      copies = λ rank n b is. (slice_index copies n, copy_at from to old wanted copies new good same_rule same_exponent (2 ^ from.shape.bits) h rank n b (there rank n b is));
       originals = wanted_copy;
       results = result_of_copy;
       no_others = h.vacant;
@@ -117,22 +130,12 @@ module _ (key : Key) (old : Words) (root low high rank : ℕ) (copies : List ℕ
   end_copied n (low_pair r pair slot b less) = record { rank = r; block = b; there = inr ((end_at pair slot).small.copied r b less) }
   end_copied n (high_pair r pair future f above) = record { rank = r; block = f.block; there = inr ((end_at pair f.slot).finished.copied r future f above) }
   end_copied n (high_result r pair future f above) =
-      let t : TellsFuture key old pair = good.results pair f.slot (λ z. let told = f.told in omega arith) in
-      let g : IsFutureOf key old pair t.0 = t.2 in
-      let one = t.1 in
-      let two = f.told in
-      let same : t.0 ≡ future = omega arith in
-      record {
-        rank = square_rank (g.level - 1);
-        block = subst (IsBlock key.shape.bits old (square_rank (g.level - 1))) same g.shown.stands;
-        there = (end_at pair f.slot).finished.result r future f above;
-      }
+      let b = result_block key old pair future good f.slot f.told in
+      record { rank = b.0; block = b.1; there = (end_at pair f.slot).finished.result r future f above }
 
--- then all that a collection wants has a copy
-pub collected : (from to : Key) (old : Words) (root low high rank : ℕ) (copies new : List ℕ) (good : IsGood from old) → to.rule ≡ from.rule → to.exponent ≡ from.exponent →
-    IsKeeping from to old (IsCollected from.shape.bits old root low high) copies new (2 ^ from.shape.bits) → IsBlock from.shape.bits old rank root → (root ≡ 0) ⊎ (slice_index copies root ≢ 0) →
-    AreEndsCopied from.shape.bits old low high copies (2 ^ from.shape.bits) → Collects from to old (IsCollected from.shape.bits old root low high) new
-collected from to old root low high rank copies new good same_rule same_exponent h block noted ends =
-    all_collected from to old (IsCollected from.shape.bits old root low high) copies new good same_rule same_exponent h
-    (λ n is some. let e : IsCopiedBlock from.shape.bits old copies is.end = end_copied from old root low high rank copies good block noted ends is.end is.is_end in
-    reached_copied from to old (IsCollected from.shape.bits old root low high) copies new good same_rule same_exponent h e.rank is.end n e.block e.there is.reached some)
+  -- then all that a collection wants has a copy
+  pub collected : (to : Key) (wanted : ℕ → Type 0) (new : List ℕ) (same_rule : to.rule ≡ key.rule) (same_exponent : to.exponent ≡ key.exponent) →
+      IsCopying key to old wanted new copies → (n : ℕ) → IsCollected key.shape.bits old root low high n → n ≢ 0 → slice_index copies n ≢ 0
+  collected to wanted new same_rule same_exponent h n is some =
+      let e : IsCopiedBlock key.shape.bits old copies is.end = end_copied is.end is.is_end in
+      reached_copied key to old wanted copies new good same_rule same_exponent 0 (keeping_start key to old wanted new copies good h) e.rank is.end n e.block e.there is.reached some

@@ -14,7 +14,6 @@ pub mod Transferred
 pub mod Ranked
 pub mod Ending
 pub mod Gathered
-pub mod Compacted
 pub mod Tallies
 pub mod Ordering
 pub mod SideBySide

@@ -13,7 +13,7 @@ use Rattle.table_core.proofs.Lists.{length_set}
 use Rattle.table_core.proofs.Ways.{not_head}
 use Rattle.node_sweep.specs.Copies.{IsLowBlock, IsSomeBlock}
 use Rattle.node_sweep.specs.Ends.{IsEndCopied, IsFinishedCopied, IsFinishedFrom, IsSmallCopied, IsUnfinished}
-use Rattle.node_sweep.specs.Marks.{AreMarks, ArePartsMarked, AreVisited, AreVisitedTo, GetsMarks, IsMarked, IsMarkSet, IsVisited, KeepsMarked, KeepsMarks}
+use Rattle.node_sweep.specs.Marks.{AreMarks, ArePartsMarked, AreVisited, AreVisitedTo, GetsMarks, IsMarked, IsMarkSet, IsVisited, KeepsMarks}
 use Rattle.node_sweep.specs.Orders.{IsListed, IsOrderOf}
 use Rattle.node_sweep.specs.Reaching.{IsAny, IsFinished}
 use Rattle.node_sweep.specs.Ranks.{IsPart}
@@ -53,9 +53,6 @@ marks_on transfer old new number h set b is = record {
   blocks = λ other some. ⊎_elim (λ had. h.blocks other had) (λ e. subst (IsSomeBlock (old_bits transfer) (old_words transfer)) (sym e) b) (set_only old new number other set some);
   wanted = λ other some. ⊎_elim (λ had. h.wanted other had) (λ e. subst (wants transfer) (sym e) is) (set_only old new number other set some);
 }
-
-pub gets_none : (bits : ℕ) (words : Words) (rank pair : ℕ) (marks : List ℕ) → GetsMarks bits words rank pair marks marks
-gets_none bits words rank pair marks = record { kept = λ number some. some; only = λ number some. inl some }
 
 pub gets_pair : (bits : ℕ) (words : Words) (rank pair : ℕ) (old new : List ℕ) → IsMarkSet old new pair → GetsMarks bits words rank pair old new
 gets_pair bits words rank pair old new set = record {
@@ -175,30 +172,6 @@ marked_inside transfer marks rank number h b =
     let long = h.long in
     omega arith
 
-pub kept_start : (bits : ℕ) (marks ranks : List ℕ) → KeepsMarked bits marks ranks ranks 0
-kept_start bits marks ranks = record { marked = λ slot less has. refl; gone = λ slot less none. absurd (omega arith); rest = λ slot above. refl }
-
--- one more slot is looked at
-pub kept_on : (bits : ℕ) (marks old new : List ℕ) (slot : ℕ) → KeepsMarked bits marks old new slot → IsMarked marks (start bits Pair + slot) → KeepsMarked bits marks old new (slot + 1)
-kept_on bits marks old new slot h some = record {
-  marked = λ other less has. ⊎_elim (λ e. h.rest other (omega arith)) (λ apart. h.marked other (omega arith) has) (same_or_other other slot);
-  gone = λ other less none. ⊎_elim (λ e. absurd (some (ap (λ s. slice_index marks (start bits Pair + s)) (sym e) ∙ none))) (λ apart. h.gone other (omega arith) none) (same_or_other other slot);
-  rest = λ other above. h.rest other (omega arith);
-}
-
-pub gone_on : (bits : ℕ) (marks old new : List ℕ) (slot : ℕ) → KeepsMarked bits marks old new slot → slice_index marks (start bits Pair + slot) ≡ 0 → slot < length new → KeepsMarked bits marks old (slice_set new slot 0) (slot + 1)
-gone_on bits marks old new slot h none inside = record {
-  marked = λ other less has. ⊎_elim
-      (λ e. absurd (has (ap (λ s. slice_index marks (start bits Pair + s)) e ∙ none)))
-      (λ apart. get_or-set_other new slot other 0 0 apart ∙ h.marked other (omega arith) has)
-      (same_or_other other slot);
-  gone = λ other less free. ⊎_elim
-      (λ e. ap (slice_index (slice_set new slot 0)) e ∙ get_or-set_same new slot 0 0 inside)
-      (λ apart. get_or-set_other new slot other 0 0 apart ∙ h.gone other (omega arith) free)
-      (same_or_other other slot);
-  rest = λ other above. get_or-set_other new slot other 0 0 (λ z. absurd (omega arith)) ∙ h.rest other (omega arith);
-}
-
 -- the result that was read of a large pair
 pub too_small : (bits : ℕ) (words : Words) (high rank pair : ℕ) → pair ≢ 0 → IsBlock bits words rank pair → rank < high → IsUnfinished bits words high pair
 too_small bits words high rank pair some b below = record {
@@ -241,8 +214,8 @@ part_of_marked transfer marks rank pair part h p has is =
       block = b;
       low = (rank - 1, omega arith, b);
       wanted = ⊎_elim
-          (λ e. subst (wants transfer) (sym e) (wanted_first (old_bits transfer) (old_words transfer) transfer.wish pair p.slot (h.wanted pair has)))
-          (λ e. subst (wants transfer) (sym e) (wanted_second (old_bits transfer) (old_words transfer) transfer.wish pair p.slot (h.wanted pair has)))
+          (λ e. subst (wants transfer) (sym e) (wanted_first (old_bits transfer) (old_words transfer) transfer.keep transfer.ends pair p.slot (h.wanted pair has)))
+          (λ e. subst (wants transfer) (sym e) (wanted_second (old_bits transfer) (old_words transfer) transfer.keep transfer.ends pair p.slot (h.wanted pair has)))
           is;
     }
 
@@ -254,9 +227,6 @@ parts_marked words one two three pair first second e f h k = record {
       (λ at. subst (IsMarked three) (sym (at ∙ sym f)) k.now)
       is;
 }
-
-pub not_marked : (words : Words) (marks : List ℕ) (pair : ℕ) → slice_index marks pair ≡ 0 → ArePartsMarked words marks pair
-not_marked words marks pair none = record { marked = λ part has is. absurd (has none) }
 
 -- the pairs of an order
 pub pair_in_order : (transfer : Transfer) (kept : ℕ → Type 0) (slots ends : List ℕ) (below place pair rank : ℕ) → IsOrderOf (old_bits transfer) (old_words transfer) kept slots ends → below < 124 →
@@ -281,11 +251,5 @@ place_visited transfer kept slots ends old new low high below place pair rank or
     (p.slot, p.block))
     at h
 
-pub no_places : (bits : ℕ) (words : Words) (low high : ℕ) (slots marks : List ℕ) (from : ℕ) → AreVisitedTo bits words low high slots marks from from
-no_places bits words low high slots marks from = record { here = λ place above less. absurd (omega arith) }
-
 pub marks_kept : (one two three : List ℕ) → KeepsMarks one two → ((number : ℕ) → IsMarked two number → IsMarked three number) → KeepsMarks one three
 marks_kept one two three h k = record { kept = λ number some. k number (h.kept number some) }
-
-pub marks_same : (marks : List ℕ) → KeepsMarks marks marks
-marks_same marks = record { kept = λ number some. some }

@@ -26,9 +26,6 @@ use Rattle.node_sweep.proofs.Underway.{already_noted, copy_some, empty_noted, no
 pub keeps_on : (one two three : Words) → KeepsWords one two → KeepsWords two three → KeepsWords one three
 keeps_on one two three h k = record { kept = λ i some. k.kept i (λ z. some (sym (h.kept i some) ∙ z)) ∙ h.kept i some }
 
-pub keeps_all : (words : Words) → KeepsWords words words
-keeps_all words = record { kept = λ i some. refl }
-
 -- a part of a pair is a block of one rank less
 pub part_block : (bits : ℕ) (words : Words) (rank number part : ℕ) → number ≢ 0 → IsBlock bits words (suc rank) number → IsPart (words number) part → IsBlock bits words rank part
 part_block bits words rank number part some b is =

@@ -1,22 +1,19 @@
 -- The square that a sweep is given, and the one that it gives.
-use Rattle.std.proofs.Common.{◌≡◌, ℕ, ◌≤◌, List, [], sym, subst, arith}
+use Rattle.std.proofs.Common.{◌≡◌, ◌≤◌, [], sym, subst, arith}
 use Rattle.plane.proofs.Same.{same_trans}
 use Rattle.squares.specs.declared.sq.Sq.{Sq}
 use Rattle.squares.specs.Book.{IsKnown, Shows}
-use Rattle.table_core.specs.declared.key.Key.{Key}
 use Rattle.table_core.specs.Blocks.{IsBlock, square_rank, cells_of, ShowsBlock}
 use Rattle.table_core.proofs.Knowing.{block_true}
 use Rattle.node_table.specs.declared.still.Still.{Still}
 use Rattle.node_table.specs.Books.{known_cells}
 use Rattle.node_table.specs.GoodWords.{all_known}
 use Rattle.node_table.specs.Rule.{everything}
-use Rattle.node_table.specs.Stills.{key_of, items_of, words_of, book_in, HasWords}
+use Rattle.node_table.specs.Stills.{key_of, words_of, book_in}
 use Rattle.node_table.proofs.Books.{shows_of}
 use Rattle.node_table.proofs.Entries.{block_of}
 use Rattle.node_table.proofs.Everything.{all_coherent}
 use Rattle.node_sweep.specs.Copies.{IsCopy}
-use Rattle.node_sweep.specs.Sweeps.{Sweeps}
-use Rattle.node_sweep.specs.SweptStills.{IsResized, IsSwept}
 
 -- a known square is a block
 pub known_shows : (still : Still) (root : Sq) → IsKnown (book_in still) root.level root →
@@ -42,19 +39,3 @@ shown_as still root copy now known e c =
     let s : Shows (book_in now) copy.level (cells_of (words_of now) (square_rank copy.level) copy.num.0) copy = block_shown now copy (omega arith) (omega arith) at in
     let t : Shows (book_in now) root.level (cells_of (words_of now) (square_rank root.level) copy.num.0) copy = subst (λ l. Shows (book_in now) l (cells_of (words_of now) (square_rank l) copy.num.0) copy) e s in
     record { known = t.known; cells = same_trans t.cells (same_trans c.cells (known_shows still root known).cells) }
-
--- the swept words, in one owner's hands
-pub is_swept : (still : Still) (root copy : Sq) (pairs : ℕ) (to : Key) (words : List ℕ) (now : Still) → IsKnown (book_in still) root.level root → copy.level ≡ root.level →
-    IsResized (key_of still) to pairs → HasWords now to words →
-    Sweeps (key_of still) to (words_of still) (square_rank root.level) root.num.0 words copy.num.0 → IsSwept still root pairs now copy
-is_swept still root copy pairs to words now known e resized has swept =
-    let keyed : Sweeps (key_of still) (key_of now) (words_of still) (square_rank root.level) root.num.0 words copy.num.0 =
-    subst (λ (k : Key). Sweeps (key_of still) k (words_of still) (square_rank root.level) root.num.0 words copy.num.0) (sym has.same_key) swept in
-    let all : Sweeps (key_of still) (key_of now) (words_of still) (square_rank root.level) root.num.0 (items_of now) copy.num.0 =
-    subst (λ (ws : List ℕ). Sweeps (key_of still) (key_of now) (words_of still) (square_rank root.level) root.num.0 ws copy.num.0) (sym has.same_words) keyed in
-    record {
-      resized = subst (λ (k : Key). IsResized (key_of still) k pairs) (sym has.same_key) resized;
-      level = e;
-      shown = shown_as still root copy now known e all.shown;
-      swept = all;
-    }

@@ -1,12 +1,10 @@
 pub mod Blocks
-pub mod CollectedStills
-pub mod Collects
+pub mod CopiedStills
 pub mod Copies
 pub mod Copying
 pub mod Ends
-pub mod EnlargedStills
-pub mod Enlarges
 pub mod Filled
+pub mod FromStills
 pub mod Keeping
 pub mod Marks
 pub mod OldWords
@@ -14,6 +12,5 @@ pub mod Orders
 pub mod Placing
 pub mod Ranks
 pub mod Reaching
-pub mod Sweeps
-pub mod SweptStills
 pub mod Transfers
+pub mod WantedCopies

@@ -9,7 +9,6 @@ use Rattle.node_sweep.specs.Orders.{IsOrderOf}
 use Rattle.node_sweep.specs.Ranks.{IsPart}
 use Rattle.node_sweep.specs.Transfers.{number_count, old_bits, old_words, wants}
 use Rattle.node_sweep.specs.declared.collecting.Kept.{Kept}
-use Rattle.node_sweep.specs.declared.transfer.Ends.{Ends}
 use Rattle.node_sweep.specs.declared.transfer.Transfer.{Transfer}
 
 -- the number has a mark
@@ -70,38 +69,38 @@ pub record AreKept (transfer : Transfer) (root low high : ℕ) (marks slots ends
 -- ---- marks of a transfer
 
 -- the result of a pair of this rank, which is large
-abbrev pub IsLargeResult : Transfer → Ends → (rank pair future : ℕ) → Type 0
-IsLargeResult transfer ends rank pair future = IsFinishedFrom (old_bits transfer) (old_words transfer) ends.high rank pair future
+abbrev pub IsLargeResult : Transfer → (rank pair future : ℕ) → Type 0
+IsLargeResult transfer rank pair future = IsFinishedFrom (old_bits transfer) (old_words transfer) transfer.ends.high rank pair future
 
 -- the pair isn't large or has no result
-abbrev pub HasNoLargeResult : Transfer → Ends → ℕ → Type 0
-HasNoLargeResult transfer ends pair = IsUnfinished (old_bits transfer) (old_words transfer) ends.high pair
+abbrev pub HasNoLargeResult : Transfer → ℕ → Type 0
+HasNoLargeResult transfer pair = IsUnfinished (old_bits transfer) (old_words transfer) transfer.ends.high pair
 
 -- the pair has a mark, if it is small
-abbrev pub IsMarkedIfSmall : Transfer → Ends → List ℕ → ℕ → Type 0
-IsMarkedIfSmall transfer ends marks pair = IsSmallCopied (old_bits transfer) (old_words transfer) ends.low marks pair
+abbrev pub IsMarkedIfSmall : Transfer → List ℕ → ℕ → Type 0
+IsMarkedIfSmall transfer marks pair = IsSmallCopied (old_bits transfer) (old_words transfer) transfer.ends.low marks pair
 
 -- the pair and its result have marks, if it is large and has one
-abbrev pub IsMarkedIfFinished : Transfer → Ends → List ℕ → ℕ → Type 0
-IsMarkedIfFinished transfer ends marks pair = IsFinishedCopied (old_bits transfer) (old_words transfer) ends.high marks pair
+abbrev pub IsMarkedIfFinished : Transfer → List ℕ → ℕ → Type 0
+IsMarkedIfFinished transfer marks pair = IsFinishedCopied (old_bits transfer) (old_words transfer) transfer.ends.high marks pair
 
 -- no mark is gone; a new one is that of the pair of this rank or of a block of a lower one
 abbrev pub MarksAtMost : Transfer → (rank pair : ℕ) → (old new : List ℕ) → Type 0
 MarksAtMost transfer rank pair old new = GetsMarks (old_bits transfer) (old_words transfer) rank pair old new
 
 -- the pair was visited
-abbrev pub IsPairVisited : Transfer → Ends → List ℕ → ℕ → Type 0
-IsPairVisited transfer ends marks pair = IsVisited (old_bits transfer) (old_words transfer) ends.low ends.high marks pair
+abbrev pub IsPairVisited : Transfer → List ℕ → ℕ → Type 0
+IsPairVisited transfer marks pair = IsVisited (old_bits transfer) (old_words transfer) transfer.ends.low transfer.ends.high marks pair
 
 -- each pair above this rank was visited
-abbrev pub ArePairsVisited : Transfer → Ends → List ℕ → ℕ → Type 0
-ArePairsVisited transfer ends marks rank = AreVisited (old_bits transfer) (old_words transfer) ends.low ends.high marks rank
+abbrev pub ArePairsVisited : Transfer → List ℕ → ℕ → Type 0
+ArePairsVisited transfer marks rank = AreVisited (old_bits transfer) (old_words transfer) transfer.ends.low transfer.ends.high marks rank
 
 -- of all ranks only those of marked pairs are left
 abbrev pub KeepsMarkedRanks : Transfer → List ℕ → (old new : List ℕ) → Type 0
 KeepsMarkedRanks transfer marks old new = KeepsMarked (old_bits transfer) marks old new (2 ^ old_bits transfer)
 
 -- what is wanted has marks, and its pairs stand in order
-abbrev pub KeepsWanted : Transfer → Ends → Kept → Type 0
-KeepsWanted transfer ends kept =
-    AreKept transfer ends.root ends.low ends.high kept.marks.items kept.order.slots.items kept.order.ends
+abbrev pub KeepsWanted : Transfer → Kept → Type 0
+KeepsWanted transfer kept =
+    AreKept transfer transfer.ends.root transfer.ends.low transfer.ends.high kept.marks.items kept.order.slots.items kept.order.ends

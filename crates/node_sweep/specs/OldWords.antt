@@ -4,6 +4,9 @@ use Rattle.table_core.specs.Blocks.{Words}
 use Rattle.node_sweep.specs.Orders.{IsOrderOf}
 use Rattle.node_sweep.specs.Ranks.{AreAllRanks}
 use Rattle.node_sweep.specs.Reaching.{IsAny}
+use Rattle.node_sweep.specs.declared.census.Survey.{Survey}
+use Rattle.node_sweep.specs.declared.keep.Keep.{Keep}
+use Rattle.node_sweep.specs.declared.keep.Keep.TheVariants.{CellsAlone, Collected, Everything}
 use Rattle.node_sweep.specs.declared.order.Order.{Order}
 use Rattle.node_sweep.specs.declared.transfer.OldWords.{OldWords}
 
@@ -22,3 +25,14 @@ pub record AreRanksOf (old : OldWords) (ranks : List ℕ) : Type 0 where
 -- all pairs, in the order of their ranks
 abbrev pub IsOrderOfAll : OldWords → Order → Type 0
 IsOrderOfAll old order = IsOrderOf (bits_in old) (words_in old) IsAny order.slots.items order.ends
+
+-- so it is unless the cells alone are kept
+abbrev pub HasRanks : Keep → OldWords → List ℕ → Type 0
+HasRanks CellsAlone old ranks = Unit {0}
+HasRanks (Collected shares) old ranks = AreRanksOf old ranks
+HasRanks Everything old ranks = AreRanksOf old ranks
+
+-- what is to be known before this is kept of a root
+pub record IsSurveyed (old : OldWords) (keep : Keep) (root : ℕ) (survey : Survey) : Type 0 where
+  pub same_root : survey.ends.root ≡ root
+  pub ranks : HasRanks keep old survey.ranks.items

@@ -1,23 +1,15 @@
 //! How many pairs and results of each rank there are, which says what a collection keeps.
 
-ghost use Rattle.std.specs.Prelude.{◌≡◌, ◌^◌, length};
+ghost use Rattle.std.specs.Prelude.{◌≡◌, ◌^◌, IfOk, length};
 
+use crate::keep::{Keep, Shares};
 use crate::transfer::{Ends, OldWords};
+use std::alloc::{AllocError, Global};
 use table_core::{Kind, LARGEST_RANK};
-
-// Small squares take at most one pair slot in this many.
-const SMALL_SHARE: u32 = 4;
-
-// Large squares that have results take at most one pair slot in this many.
-const LARGE_SHARE: u32 = 128;
-
-// No small square is kept where pairs of leaves take more than one pair slot in this many: their
-// leaves would leave too few leaf slots for others.
-const LEAVES_SHARE: u32 = 16;
 
 /// How many pairs of each rank there are, and how many of them have results.
 #[derive(Clone, Copy)]
-pub(crate) struct Census {
+struct Census {
     pairs: [u32; 256],
     results: [u32; 256],
 }
@@ -30,11 +22,61 @@ pub struct Finished {
     high: u8,
 }
 
+/// What is to be known of old words before they are copied.
+#[derive(Drop)]
+pub(crate) struct Survey {
+    /// Where the copy begins.
+    pub(crate) ends: Ends,
+    /// The rank of each pair, unless the cells alone are kept.
+    pub(crate) ranks: Vec<u8>,
+    /// What is finished, if that was counted.
+    pub(crate) finished: Option<Finished>,
+}
+
+// One in so many of them; all of them, for 0.
+fn share(slots: u32, one_in: u32) -> u32 {
+    slots / one_in.max(1)
+}
+
 impl OldWords<'_> {
-    ghost use Rattle.node_sweep.specs.OldWords.{bits_in};
+    ghost use Rattle.node_sweep.specs.OldWords.{IsSurveyed, bits_in};
+
+    /// What is to be known before this is kept of a root in so many pair slots.
+    pub(crate) fn survey(
+        &self,
+        alloc: Global,
+        keep: Keep,
+        root: u32,
+        slots: u32,
+    ) -> Result<Survey, AllocError>
+        ensures { IfOk result (IsSurveyed self.now keep root) }
+    {
+        let mut ends = Ends {
+            root,
+            low: 0,
+            high: 0,
+        };
+        let mut ranks = Vec::new(alloc);
+        let mut finished = None;
+        match keep {
+            Keep::CellsAlone => {}
+            Keep::Collected(shares) => {
+                ranks = self.ranks(alloc)?;
+                let census = self.census(ranks.as_slice());
+                ends = census.ends(root, slots, shares);
+                finished = Some(census.into_finished(ends));
+            }
+            Keep::Everything => ranks = self.ranks(alloc)?,
+        }
+        Ok(Survey {
+            ends,
+            ranks,
+            finished,
+        })
+    }
 
     // Counts the pairs of which these are the ranks.
-    pub(crate) fn census(&self, ranks: &[u8]) -> Census
+    fn census(&self, ranks: &[u8]) -> Census
         requires { length ranks.now ≡ 2 ^ bits_in self.now }
     {
         let mut pairs = [0u32; 256];
@@ -53,15 +95,15 @@ impl OldWords<'_> {
 
 impl Census {
     // What a collection of so many pair slots keeps.
-    pub(crate) fn ends(&self, root: u32, slots: u32) -> Ends
+    fn ends(&self, root: u32, slots: u32, shares: Shares) -> Ends
         ensures { result.root ≡ root }
     {
-        let low = if self.pairs[1] > slots / LEAVES_SHARE {
+        let low = if self.pairs[1] > share(slots, shares.leaves) {
             0
         } else {
-            self.low(u64::from(slots / SMALL_SHARE))
+            self.low(u64::from(share(slots, shares.small)))
         };
-        let high = self.high(u64::from(slots / LARGE_SHARE));
+        let high = self.high(u64::from(share(slots, shares.large)));
         Ends { root, low, high }
     }
 
@@ -90,7 +132,7 @@ impl Census {
     }
 
     // What was finished before a collection that keeps these.
-    pub(crate) fn into_finished(self, ends: Ends) -> Finished {
+    fn into_finished(self, ends: Ends) -> Finished {
         let results = self.results;
         Finished {
             results,
@@ -101,10 +143,10 @@ impl Census {
 
 impl Finished {
     /// Whether more large squares are finished than before an earlier collection, of those that it
-    /// kept all of: by one in 32 at least.
-    pub fn is_beyond(&self, earlier: &Finished) -> bool {
+    /// kept all of: by one in so many at least.
+    pub fn is_beyond(&self, earlier: &Finished, one_in: u64) -> bool {
         let before = earlier.results_from(earlier.high);
-        self.results_from(earlier.high) > before.saturating_add(before / 32)
+        self.results_from(earlier.high) > before.saturating_add(before / one_in.max(1))
     }
 
     // How many results there were from this rank on.

@@ -1,12 +1,13 @@
 //! Small squares, and large ones that have results, copied beside what the root reaches.
 
-ghost use Rattle.std.specs.Prelude.{◌≡◌, IfOk, IfErr, OnOk};
+ghost use Rattle.std.specs.Prelude.{IfOk, IfErr, OnOk};
 ghost use Rattle.squares.specs.Book.{LacksMemoryOr};
 ghost use Rattle.table_core.specs.Blocks.{IsBlock};
 ghost use Rattle.node_sweep.specs.OldWords.{AreRanksOf};
+ghost use Rattle.node_sweep.specs.Reaching.{IsCollection};
 
 use crate::order::Order;
-use crate::transfer::{Ends, Fresh, Transfer, Wish};
+use crate::transfer::{Fresh, Transfer};
 use plane::Refusal;
 use std::alloc::{AllocError, Global};
 
@@ -18,26 +19,20 @@ struct Kept {
 }
 
 impl Transfer<'_> {
-    ghost use Rattle.node_sweep.specs.Filled.{AreAllEndsCopied, CollectsInto, IsRootCopied};
+    ghost use Rattle.node_sweep.specs.Filled.{AreAllEndsCopied, AreWantedCopied, IsRootCopied};
     ghost use Rattle.node_sweep.specs.Marks.{KeepsWanted};
-    ghost use Rattle.node_sweep.specs.Transfers.{IsCopyMade, IsUnderway, SaysNoRoom, old_bits, old_words};
+    ghost use Rattle.node_sweep.specs.Transfers.{IsUnderway, SaysNoRoom, old_bits, old_words};
 
     // Marks what is wanted, and orders the pairs of it.
-    fn mark_and_order(
-        &self,
-        alloc: Global,
-        ends: Ends,
-        ranks: Vec<u8>,
-        rank: u8,
-    ) -> Result<Kept, AllocError>
-        requires wish { self.now.wish ≡ Wish.Collected ends }
+    fn mark_and_order(&self, alloc: Global, ranks: Vec<u8>, rank: u8) -> Result<Kept, AllocError>
+        requires keep { IsCollection self.now.keep }
         requires ranks { AreRanksOf self.now.old ranks.items }
-        requires block { IsBlock (old_bits self.now) (old_words self.now) rank ends.root }
-        ensures { IfOk result (KeepsWanted self.now ends) }
+        requires block { IsBlock (old_bits self.now) (old_words self.now) rank self.now.ends.root }
+        ensures { IfOk result (KeepsWanted self.now) }
     {
         let mut ranks = ranks;
         let all = Order::of_ranks(alloc, ranks.as_slice())?;
-        let marks = self.marks(alloc, ends, &all)?;
+        let marks = self.marks(alloc, &all)?;
         drop(all);
         self.keep_marked(ranks.as_mut_slice(), marks.as_slice());
         let order = Order::of_ranks(alloc, ranks.as_slice())?;
@@ -45,12 +40,12 @@ impl Transfer<'_> {
     }
 
     // Copies what is kept. The marks are dropped before the pairs are copied.
-    fn copy_kept(&self, fresh: &mut Fresh, ends: Ends, kept: Kept) -> Result<(), Refusal>
+    fn copy_kept(&self, fresh: &mut Fresh, kept: Kept) -> Result<(), Refusal>
         requires underway { IsUnderway self.now fresh.old }
-        requires kept { KeepsWanted self.now ends kept }
+        requires kept { KeepsWanted self.now kept }
         ensures underway { IsUnderway self.now fresh.new }
-        ensures root { OnOk result (IsRootCopied ends fresh.new) }
-        ensures ends { OnOk result (AreAllEndsCopied self.now ends fresh.new) }
+        ensures root { OnOk result (IsRootCopied self.now fresh.new) }
+        ensures ends { OnOk result (AreAllEndsCopied self.now fresh.new) }
         ensures full { IfErr result (SaysNoRoom self.now) }
     {
         let Kept { marks, order } = kept;
@@ -60,27 +55,23 @@ impl Transfer<'_> {
         Ok(())
     }
 
-    // Fresh words with what is collected, and the number of the copy of the root, which has this
-    // rank.
-    pub(crate) fn collect(
+    // What is collected, copied into fresh words. The root has this rank.
+    pub(crate) fn copy_collected(
         &self,
         alloc: Global,
-        ends: Ends,
         ranks: Vec<u8>,
         rank: u8,
-    ) -> Result<(Vec<u64>, u32), Refusal>
-        requires wish { self.now.wish ≡ Wish.Collected ends }
+    ) -> Result<Fresh, Refusal>
+        requires keep { IsCollection self.now.keep }
         requires ranks { AreRanksOf self.now.old ranks.items }
-        requires block { IsBlock (old_bits self.now) (old_words self.now) rank ends.root }
-        ensures ok { IfOk result (λ made. CollectsInto self.now ends made.0.items) }
-        ensures root { IfOk result (λ made. IsCopyMade self.now made.0.items ends.root made.1) }
+        requires block { IsBlock (old_bits self.now) (old_words self.now) rank self.now.ends.root }
+        ensures underway { IfOk result (IsUnderway self.now) }
+        ensures copied { IfOk result (AreWantedCopied self.now) }
         ensures refusal { IfErr result (LacksMemoryOr (SaysNoRoom self.now)) }
     {
-        let kept = self.mark_and_order(alloc, ends, ranks, rank)?;
+        let kept = self.mark_and_order(alloc, ranks, rank)?;
         let mut fresh = self.begin(alloc)?;
-        self.copy_kept(&mut fresh, ends, kept)?;
-        let number = fresh.copies[ends.root as usize];
-        let Fresh { words, .. } = self.with_results(fresh);
-        Ok((words, number))
+        self.copy_kept(&mut fresh, kept)?;
+        Ok(fresh)
     }
 }

@@ -1,17 +1,20 @@
-//! Fresh words, filled with what one number reaches or with everything.
+//! Fresh words, filled with what is wanted of old ones.
 
 ghost use Rattle.std.specs.Prelude.{◌≡◌, IfOk, IfErr};
 ghost use Rattle.squares.specs.Book.{LacksMemoryOr};
 ghost use Rattle.table_core.specs.Blocks.{IsBlock};
+ghost use Rattle.node_sweep.specs.OldWords.{AreRanksOf, HasRanks};
 
-use crate::transfer::{Fresh, Transfer, Wish};
+use crate::keep::Keep;
+use crate::order::Order;
+use crate::transfer::{Fresh, Transfer};
 use plane::Refusal;
 use std::alloc::{AllocError, Global};
 use table_core::Kind;
 
 impl Transfer<'_> {
-    ghost use Rattle.node_sweep.specs.Filled.{AreCopiesNoted, EnlargesInto, SweepsInto};
-    ghost use Rattle.node_sweep.specs.Transfers.{IsUnderway, SaysNoRoom, number_count, old_bits, old_words};
+    ghost use Rattle.node_sweep.specs.Filled.{AreWantedCopied, CopiesInto};
+    ghost use Rattle.node_sweep.specs.Transfers.{IsCopyMade, IsUnderway, SaysNoRoom, number_count, old_bits, old_words};
 
     // How many numbers the leaves and the pairs of the old words have, with 0.
     pub(crate) fn number_count(&self) -> usize
@@ -31,37 +34,68 @@ impl Transfer<'_> {
         Ok(Fresh { words, copies })
     }
 
-    // Fresh words with what a number of this rank reaches and the results of that, and the number
-    // of its copy.
-    pub(crate) fn sweep(
-        &self,
-        alloc: Global,
-        root: u32,
-        rank: u8,
-    ) -> Result<(Vec<u64>, u32), Refusal>
-        requires root { self.now.wish ≡ Wish.Reached root }
-        requires block { IsBlock (old_bits self.now) (old_words self.now) rank root }
-        ensures ok { IfOk result (λ made. SweepsInto self.now rank root made.0.items made.1) }
+    // What the root reaches, copied into fresh words. The root has this rank.
+    fn copy_reached(&self, alloc: Global, rank: u8) -> Result<Fresh, Refusal>
+        requires keep { self.now.keep ≡ Keep.CellsAlone }
+        requires block { IsBlock (old_bits self.now) (old_words self.now) rank self.now.ends.root }
+        ensures underway { IfOk result (IsUnderway self.now) }
+        ensures copied { IfOk result (AreWantedCopied self.now) }
         ensures refusal { IfErr result (LacksMemoryOr (SaysNoRoom self.now)) }
     {
         let mut fresh = self.begin(alloc)?;
-        let number = self.copy(&mut fresh, root, rank)?;
-        let Fresh { words, .. } = self.with_results(fresh);
-        Ok((words, number))
+        self.copy(&mut fresh, self.ends.root, rank)?;
+        Ok(fresh)
     }
 
-    // Fresh words with all that the old ones show and all results, and the number of each copy.
-    pub(crate) fn enlarge(&self, alloc: Global) -> Result<Fresh, Refusal>
-        requires all { self.now.wish ≡ Wish.Everything }
-        ensures ok { IfOk result (EnlargesInto self.now) }
-        ensures copies { IfOk result (AreCopiesNoted self.now) }
+    // All that the old words show, copied into fresh ones.
+    fn copy_everything(&self, alloc: Global, ranks: Vec<u8>) -> Result<Fresh, Refusal>
+        requires keep { self.now.keep ≡ Keep.Everything }
+        requires ranks { AreRanksOf self.now.old ranks.items }
+        ensures underway { IfOk result (IsUnderway self.now) }
+        ensures copied { IfOk result (AreWantedCopied self.now) }
         ensures refusal { IfErr result (LacksMemoryOr (SaysNoRoom self.now)) }
     {
-        let order = self.old.order(alloc)?;
+        let order = Order::of_ranks(alloc, ranks.as_slice())?;
+        drop(ranks);
         let mut fresh = self.begin(alloc)?;
         self.copy_leaves(&mut fresh)?;
         self.copy_ranks(&mut fresh, &order)?;
-        drop(order);
-        Ok(self.with_results(fresh))
+        Ok(fresh)
+    }
+
+    // All that is wanted, copied into fresh words.
+    fn copy_wanted(&self, alloc: Global, ranks: Vec<u8>, rank: u8) -> Result<Fresh, Refusal>
+        requires ranks { HasRanks self.now.keep self.now.old ranks.items }
+        requires block { IsBlock (old_bits self.now) (old_words self.now) rank self.now.ends.root }
+        ensures underway { IfOk result (IsUnderway self.now) }
+        ensures copied { IfOk result (AreWantedCopied self.now) }
+        ensures refusal { IfErr result (LacksMemoryOr (SaysNoRoom self.now)) }
+    {
+        match self.keep {
+            Keep::CellsAlone => self.copy_reached(alloc, rank),
+            Keep::Collected(_) => self.copy_collected(alloc, ranks, rank),
+            Keep::Everything => self.copy_everything(alloc, ranks),
+        }
+    }
+
+    /// Fresh words with all that is wanted and the results of that, and the number of the copy of
+    /// the root, which has this rank.
+    pub(crate) fn fill(
+        &self,
+        alloc: Global,
+        ranks: Vec<u8>,
+        rank: u8,
+    ) -> Result<(Vec<u64>, u32), Refusal>
+        requires ranks { HasRanks self.now.keep self.now.old ranks.items }
+        requires block { IsBlock (old_bits self.now) (old_words self.now) rank self.now.ends.root }
+        ensures ok { IfOk result (λ made. CopiesInto self.now made.0.items) }
+        ensures root { IfOk result
+            (λ made. IsCopyMade self.now made.0.items self.now.ends.root made.1) }
+        ensures refusal { IfErr result (LacksMemoryOr (SaysNoRoom self.now)) }
+    {
+        let fresh = self.copy_wanted(alloc, ranks, rank)?;
+        let number = fresh.copies[self.ends.root as usize];
+        let Fresh { words, .. } = self.with_results(fresh);
+        Ok((words, number))
     }
 }

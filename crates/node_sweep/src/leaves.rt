@@ -2,7 +2,8 @@
 
 ghost use Rattle.std.specs.Prelude.{◌≡◌, IfErr, OnOk};
 
-use crate::transfer::{Fresh, Transfer, Wish};
+use crate::keep::Keep;
+use crate::transfer::{Fresh, Transfer};
 use plane::Refusal;
 use table_core::Kind;
 
@@ -12,7 +13,7 @@ impl Transfer<'_> {
 
     /// Copies all leaves.
     pub(crate) fn copy_leaves(&self, fresh: &mut Fresh) -> Result<(), Refusal>
-        requires all { self.now.wish ≡ Wish.Everything }
+        requires all { self.now.keep ≡ Keep.Everything }
         requires underway { IsUnderway self.now fresh.old }
         ensures underway { IsUnderway self.now fresh.new }
         ensures all { OnOk result (AreLeavesCopied self.now fresh.new) }

@@ -1,6 +1,5 @@
-//! Squares copied into fresh words: a copying garbage collection. A sweep keeps what one square
-//! reaches, a collection keeps small squares and finished large ones too, and enlarging keeps all
-//! that there is.
+//! Squares copied into fresh words: a copying garbage collection. It keeps what one square reaches,
+//! or small squares and finished large ones too, or all that there is.
 #![tactic(auto)]
 
 mod blocks;
@@ -8,6 +7,7 @@ mod census;
 mod collecting;
 mod copying;
 mod filling;
+mod keep;
 mod leaves;
 mod marks;
 mod order;
@@ -18,4 +18,5 @@ mod stills;
 mod transfer;
 
 pub use census::Finished;
-pub use stills::{Collected, collect, enlarge, enlarge_still, sweep};
+pub use keep::{Keep, Shares};
+pub use stills::{Copied, copy, sweep};

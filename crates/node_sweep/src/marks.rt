@@ -4,9 +4,10 @@ ghost use Rattle.std.specs.Prelude.{◌≡◌, ◌<◌, ◌+◌, ◌^◌, IfOk, 
 ghost use Rattle.node_sweep.specs.Copies.{IsSomeBlock};
 ghost use Rattle.node_sweep.specs.Marks.{IsMarkSet};
 ghost use Rattle.node_sweep.specs.OldWords.{IsOrderOfAll};
+ghost use Rattle.node_sweep.specs.Reaching.{IsCollection};
 
 use crate::order::Order;
-use crate::transfer::{Ends, Transfer, Wish};
+use crate::transfer::Transfer;
 use std::alloc::{AllocError, Global};
 use table_core::{Kind, LARGEST_RANK, parts};
 
@@ -23,12 +24,12 @@ impl Transfer<'_> {
     ghost use Rattle.node_sweep.specs.Transfers.{IsOldPair, number_count, old_bits, old_words};
 
     // The result of a pair of this rank, if it is large and has one.
-    fn large_result(&self, ends: Ends, pair: u32, rank: u8) -> Option<u32>
+    fn large_result(&self, pair: u32, rank: u8) -> Option<u32>
         requires { IsOldPair self.now rank pair }
-        ensures some { IfSome result (IsLargeResult self.now ends rank pair) }
-        ensures none { IfNone result (HasNoLargeResult self.now ends pair) }
+        ensures some { IfSome result (IsLargeResult self.now rank pair) }
+        ensures none { IfNone result (HasNoLargeResult self.now pair) }
     {
-        if rank < ends.high {
+        if rank < self.ends.high {
             return None;
         }
         let result = self.old.result_beside(pair);
@@ -40,30 +41,30 @@ impl Transfer<'_> {
     }
 
     // Marks a pair of this rank if it is small.
-    fn mark_small(&self, marks: &mut [u8], ends: Ends, pair: u32, rank: u8)
-        requires wish { self.now.wish ≡ Wish.Collected ends }
+    fn mark_small(&self, marks: &mut [u8], pair: u32, rank: u8)
+        requires keep { IsCollection self.now.keep }
         requires marks { AreMarks self.now marks.old }
         requires pair { IsOldPair self.now rank pair }
         ensures marks { AreMarks self.now marks.new }
-        ensures small { IsMarkedIfSmall self.now ends marks.new pair }
+        ensures small { IsMarkedIfSmall self.now marks.new pair }
         ensures gets { MarksAtMost self.now rank pair marks.old marks.new }
     {
-        if rank > ends.low {
+        if rank > self.ends.low {
             return;
         }
         mark(marks, pair);
     }
 
     // Marks a pair of this rank and its result, if it is large and has one.
-    fn mark_finished(&self, marks: &mut [u8], ends: Ends, pair: u32, rank: u8)
-        requires wish { self.now.wish ≡ Wish.Collected ends }
+    fn mark_finished(&self, marks: &mut [u8], pair: u32, rank: u8)
+        requires keep { IsCollection self.now.keep }
         requires marks { AreMarks self.now marks.old }
         requires pair { IsOldPair self.now rank pair }
         ensures marks { AreMarks self.now marks.new }
-        ensures finished { IsMarkedIfFinished self.now ends marks.new pair }
+        ensures finished { IsMarkedIfFinished self.now marks.new pair }
         ensures gets { MarksAtMost self.now rank pair marks.old marks.new }
     {
-        let Some(future) = self.large_result(ends, pair, rank) else {
+        let Some(future) = self.large_result(pair, rank) else {
             return;
         };
         mark(marks, pair);
@@ -88,69 +89,64 @@ impl Transfer<'_> {
 
     // Marks a pair of this rank if it is wanted without being reached, and what it brings with it
     // if it is marked.
-    fn visit(&self, marks: &mut [u8], ends: Ends, pair: u32, rank: u8)
-        requires wish { self.now.wish ≡ Wish.Collected ends }
+    fn visit(&self, marks: &mut [u8], pair: u32, rank: u8)
+        requires keep { IsCollection self.now.keep }
         requires marks { AreMarks self.now marks.old }
         requires pair { IsOldPair self.now rank pair }
         ensures marks { AreMarks self.now marks.new }
-        ensures visited { IsPairVisited self.now ends marks.new pair }
+        ensures visited { IsPairVisited self.now marks.new pair }
         ensures gets { MarksAtMost self.now rank pair marks.old marks.new }
     {
-        self.mark_small(marks, ends, pair, rank);
-        self.mark_finished(marks, ends, pair, rank);
+        self.mark_small(marks, pair, rank);
+        self.mark_finished(marks, pair, rank);
         self.mark_parts(marks, pair, rank);
     }
 
     // Marks the pairs of the rank above this one that are kept, and parts and results of them.
-    fn mark_rank(&self, marks: &mut [u8], ends: Ends, order: &Order, below: u8)
-        requires wish { self.now.wish ≡ Wish.Collected ends }
+    fn mark_rank(&self, marks: &mut [u8], order: &Order, below: u8)
+        requires keep { IsCollection self.now.keep }
         requires marks { AreMarks self.now marks.old }
         requires order { IsOrderOfAll self.now.old order.now }
         requires low { below < LARGEST_RANK }
-        requires visited { ArePairsVisited self.now ends marks.old (below + 1) }
+        requires visited { ArePairsVisited self.now marks.old (below + 1) }
         ensures marks { AreMarks self.now marks.new }
-        ensures visited { ArePairsVisited self.now ends marks.new below }
+        ensures visited { ArePairsVisited self.now marks.new below }
         ensures kept { KeepsMarks marks.old marks.new }
     {
         let slots = order.slots.as_slice();
         for place in order.ends[below as usize]..order.ends[below as usize + 1] {
             let pair = self.old.key.shape.index(Kind::Pair, slots[place]);
-            self.visit(marks, ends, pair, below + 1);
+            self.visit(marks, pair, below + 1);
         }
     }
 
     // Marks each number that is wanted.
-    fn mark_wanted(&self, marks: &mut [u8], ends: Ends, order: &Order)
-        requires wish { self.now.wish ≡ Wish.Collected ends }
+    fn mark_wanted(&self, marks: &mut [u8], order: &Order)
+        requires keep { IsCollection self.now.keep }
         requires marks { AreMarks self.now marks.old }
-        requires block { IsSomeBlock (old_bits self.now) (old_words self.now) ends.root }
+        requires block { IsSomeBlock (old_bits self.now) (old_words self.now) self.now.ends.root }
         requires order { IsOrderOfAll self.now.old order.now }
         ensures marks { AreMarks self.now marks.new }
-        ensures root { IsMarked marks.new ends.root }
-        ensures visited { ArePairsVisited self.now ends marks.new 0 }
+        ensures root { IsMarked marks.new self.now.ends.root }
+        ensures visited { ArePairsVisited self.now marks.new 0 }
     {
-        mark(marks, ends.root);
+        mark(marks, self.ends.root);
         for above in 0..LARGEST_RANK {
-            self.mark_rank(marks, ends, order, LARGEST_RANK - 1 - above);
+            self.mark_rank(marks, order, LARGEST_RANK - 1 - above);
         }
     }
 
     /// A mark for each number that is wanted.
-    pub(crate) fn marks(
-        &self,
-        alloc: Global,
-        ends: Ends,
-        order: &Order,
-    ) -> Result<Vec<u8>, AllocError>
-        requires wish { self.now.wish ≡ Wish.Collected ends }
-        requires block { IsSomeBlock (old_bits self.now) (old_words self.now) ends.root }
+    pub(crate) fn marks(&self, alloc: Global, order: &Order) -> Result<Vec<u8>, AllocError>
+        requires keep { IsCollection self.now.keep }
+        requires block { IsSomeBlock (old_bits self.now) (old_words self.now) self.now.ends.root }
         requires order { IsOrderOfAll self.now.old order.now }
         ensures marks { IfOk result (λ marks. AreMarks self.now marks.items) }
-        ensures root { IfOk result (λ marks. IsMarked marks.items ends.root) }
-        ensures visited { IfOk result (λ marks. ArePairsVisited self.now ends marks.items 0) }
+        ensures root { IfOk result (λ marks. IsMarked marks.items self.now.ends.root) }
+        ensures visited { IfOk result (λ marks. ArePairsVisited self.now marks.items 0) }
     {
         let mut marks = vec![in alloc; 0u8; self.number_count()]?;
-        self.mark_wanted(marks.as_mut_slice(), ends, order);
+        self.mark_wanted(marks.as_mut_slice(), order);
         Ok(marks)
     }
 

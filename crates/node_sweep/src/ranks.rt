@@ -1,10 +1,9 @@
-//! The rank of each pair of the old words, and their order.
+//! The rank of each pair of the old words.
 
 ghost use Rattle.std.specs.Prelude.{◌≡◌, ◌≢◌, ◌^◌, length, IfOk, IfSome};
 ghost use Rattle.node_sweep.specs.Copies.{IsLowBlock, IsSomeBlock};
 ghost use Rattle.node_sweep.specs.Ranks.{AreBlockParts, AreLowParts, AreRanks, IsPart, IsRankOf, IsRankOfPart, KeepsRanks, RankOf};
 
-use crate::order::Order;
 use crate::transfer::OldWords;
 use std::alloc::{AllocError, Global};
 use table_core::{Kind, LARGEST_RANK, parts};
@@ -23,7 +22,7 @@ fn some_part(word: u64) -> u32
 }
 
 impl OldWords<'_> {
-    ghost use Rattle.node_sweep.specs.OldWords.{AreRanksOf, IsOrderOfAll, bits_in, words_in};
+    ghost use Rattle.node_sweep.specs.OldWords.{AreRanksOf, bits_in, words_in};
 
     // The rank of a part of a pair, if that isn't 0 and its rank is known.
     fn known_rank(&self, ranks: &[u8], number: u32) -> Option<u8>
@@ -125,13 +124,5 @@ impl OldWords<'_> {
                 self.rank(ranks, pair, LARGEST_RANK);
             }
         }
-    }
-
-    /// All pairs in the order of their ranks.
-    pub(crate) fn order(&self, alloc: Global) -> Result<Order, AllocError>
-        ensures { IfOk result (IsOrderOfAll self.now) }
-    {
-        let ranks = self.ranks(alloc)?;
-        Order::of_ranks(alloc, ranks.as_slice())
     }
 }

@@ -4,29 +4,19 @@ ghost use Rattle.std.specs.Prelude.{◌≡◌};
 ghost use Rattle.table_core.specs.Good.{AreGoodWords};
 ghost use Rattle.node_table.specs.GoodWords.{good_prop};
 
+use crate::keep::Keep;
 use node_table::Held;
 use table_core::Key;
 
-/// Between which ranks a collection keeps only what others reach.
+/// Where a copy begins, and between which ranks a collection keeps only what others reach.
 #[derive(Clone, Copy)]
 pub(crate) struct Ends {
     /// The number of the root.
     pub(crate) root: u32,
-    /// Each pair of at most this rank is kept.
+    /// A collection keeps each pair of at most this rank.
     pub(crate) low: u8,
-    /// Each pair of at least this rank that has a result is kept, and that result.
+    /// It keeps each pair of at least this rank that has a result, and that result.
     pub(crate) high: u8,
-}
-
-/// What a copy into fresh words keeps, with all that it reaches.
-#[derive(Clone, Copy)]
-pub(crate) enum Wish {
-    /// All that the old words show.
-    Everything,
-    /// What this number reaches.
-    Reached(u32),
-    /// What the root reaches, small squares, and large ones that have results.
-    Collected(Ends),
 }
 
 /// Words that are copied from.
@@ -44,8 +34,10 @@ pub(crate) struct OldWords<'a> {
 pub(crate) struct Transfer<'a> {
     /// The words that are copied from.
     pub(crate) old: OldWords<'a>,
-    /// Which numbers are copied.
-    pub(crate) wish: Wish,
+    /// What is copied.
+    pub(crate) keep: Keep,
+    /// Where the copy begins.
+    pub(crate) ends: Ends,
     /// The head of the fresh words.
     pub(crate) to: Key,
     ghost same_rule: { to.rule ≡ old.key.now.rule },

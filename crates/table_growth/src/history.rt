@@ -2,9 +2,9 @@
 
 ghost use Rattle.std.specs.Prelude.{◌≤◌};
 
+use crate::collections::{FINISHED_SHARE, SLOTS_AN_EXPANSION};
 use crate::sizes::{GrowthFactor, LARGE_BITS};
 use node_sweep::Finished;
-use worker_split::MOST_WORKERS;
 
 // A full large table that has taken this many steps is swept before it grows.
 const STEPS_BEFORE_SWEEP: u32 = 4;
@@ -14,9 +14,6 @@ const STEPS_BEFORE_SMALLER_SWEEP: u32 = 256;
 
 // A table that has taken more steps than this has nearly as many slots as a step needs.
 const STEPS_OF_GROWTH: u32 = 4;
-
-// A step that expanded fewer squares than one for this many pair slots had too little room.
-const SLOTS_AN_EXPANSION: u64 = 16;
 
 // A step of at most this many expansions is short: threads would take more time to start than they save.
 const FEW_EXPANSIONS: u64 = 16384;
@@ -106,7 +103,7 @@ impl TableHistory {
     /// Whether more is finished than at the last collection for the next step.
     pub fn has_finished_more(self, finished: &Finished) -> bool {
         match self.collections {
-            Collections::Collected(earlier) => finished.is_beyond(&earlier),
+            Collections::Collected(earlier) => finished.is_beyond(&earlier, FINISHED_SHARE),
             _ => true,
         }
     }
@@ -116,13 +113,14 @@ impl TableHistory {
         self.steps == 0
     }
 
-    /// How many workers the next step may have: one, where the last one was short.
-    pub fn most_workers(self) -> usize
+    /// How many of so many workers take the next step: one, where the last one was short.
+    pub fn workers_of_next_step(self, workers: usize) -> usize
+        requires { 1 ≤ workers }
         ensures { 1 ≤ result }
     {
         match self.expansions {
             Some(expansions) if expansions <= FEW_EXPANSIONS => 1,
-            _ => MOST_WORKERS,
+            _ => workers,
         }
     }
 

@@ -1,11 +1,13 @@
-//! How large the tables of squares are, what a table remembers of its steps, and what is tried next where one
-//! is full. A run is right whatever a `TableHistory` answers: that decides how fast it is.
+//! How large the tables of squares are, what a collection keeps, what a table remembers of its steps, and what is
+//! tried next where one is full. A run is right whatever a `TableHistory` answers: that decides how fast it is.
 #![tactic(auto)]
 
+mod collections;
 mod history;
 mod retries;
 mod sizes;
 
+pub use collections::COLLECTION_SHARES;
 pub use history::TableHistory;
 pub use retries::{Retry, RetryPlan};
 pub use sizes::{GrowthFactor, expected_shape, larger, pair_count, smallest};

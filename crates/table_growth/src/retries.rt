@@ -1,6 +1,6 @@
 //! What is tried next where a table was full for a step.
 
-ghost use Rattle.std.specs.Prelude.{◌≡◌, ◌≤◌, Some, IfNone, IfSome};
+ghost use Rattle.std.specs.Prelude.{◌≡◌, Some, IfNone, IfSome};
 
 use crate::history::TableHistory;
 use crate::sizes::larger;

@@ -9,7 +9,7 @@ use Rattle.plane.proofs.Same.{same_trans}
 use Rattle.table_core.specs.declared.key.Key.{Key}
 use Rattle.universe.specs.Cells.{exponent_of, live_cells, still_cells, root_of, still_of}
 use Rattle.universe.specs.Runs.{IsAtExponent}
-use Rattle.universe.specs.Stills.{IsCopied, IsEnlargedFrom, IsOpenedAt, IsSweptFrom}
+use Rattle.universe.specs.Stills.{IsCopied, IsOpenedAt, IsSweptFrom}
 use Rattle.universe.specs.Tables.{key_at}
 use Rattle.universe.specs.declared.other_tables.OtherTables.{OtherTables}
 use Rattle.universe.specs.declared.rooted_still.RootedStill.{RootedStill}
@@ -22,11 +22,8 @@ no_room NoRoom (Ok value) full why = absurd cc
 no_room NoRoom (Err refusal) full (inl memory) = absurd cc
 no_room NoRoom (Err refusal) full (inr why) = why.1
 
-pub enlarged_is : (old new : RootedStill) (pairs : ℕ) → IsEnlargedFrom old pairs new → IsCopied old pairs new
-enlarged_is old new pairs is = record { cells = shown_cells (book_in (still_of old)) (book_in (still_of new)) (root_of old) (root_of new) is.shown; resized = is.all.resized }
-
 pub swept_is : (old new : RootedStill) (pairs : ℕ) → IsSweptFrom old pairs new → IsCopied old pairs new
-swept_is old new pairs is = record { cells = shown_cells (book_in (still_of old)) (book_in (still_of new)) (root_of old) (root_of new) is.shown; resized = is.resized }
+swept_is old new pairs is = record { cells = shown_cells (book_in (still_of old)) (book_in (still_of new)) (root_of old) (root_of new) is.copied_root.shown; resized = is.all.resized }
 
 -- ---- universes
 

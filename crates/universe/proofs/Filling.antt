@@ -15,7 +15,7 @@ use Rattle.node_table.specs.declared.table.NodeTable.{NodeTable}
 use Rattle.node_table.specs.Desks.{book_at}
 use Rattle.node_table.specs.Openings.{Opens}
 use Rattle.node_table.specs.Stills.{IsVacant, book_in, key_of}
-use Rattle.node_sweep.specs.SweptStills.{IsSwept}
+use Rattle.node_sweep.specs.CopiedStills.{IsSwept}
 use Rattle.squares.specs.Rounds.{square_plane}
 use Rattle.universe.specs.Cells.{exponent_of, limit_of, live_cells, root_of, rule_of, still_of}
 use Rattle.universe.specs.Runs.{IsAttempt, IsFullAtLimit, IsFullFromAlone, IsFullInPlace, IsAtExponent}
@@ -84,7 +84,7 @@ full_from_alone still root start same alone at_exponent stays full =
       alone = alone.alone;
       copy = alone.copy;
       swept = subst (λ (pairs : ℕ). IsSwept still root pairs alone.alone alone.copy) (sym limit) alone.swept;
-      size = ap (λ (t : NodeTable). 2 ^ t.key.shape.bits) stays.same_table ∙ ap (λ (k : Key). 2 ^ k.shape.bits) alone.opened.opens.key ∙ alone.swept.resized.pair_count ∙ sym limit;
+      size = ap (λ (t : NodeTable). 2 ^ t.key.shape.bits) stays.same_table ∙ ap (λ (k : Key). 2 ^ k.shape.bits) alone.opened.opens.key ∙ alone.swept.all.resized.pair_count ∙ sym limit;
       filled = subst (λ (e : ℕ). HasFilledUp alone.alone (rule_of same) e same.here) (sym at_exponent.exponent)
           (subst (λ (r : CountRule). HasFilledUp alone.alone r (exponent_of start) same.here) (sym at_exponent.same.rule)
           (filled_up alone.alone (rule_of start) (exponent_of start) alone.opened stays full));

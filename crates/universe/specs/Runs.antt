@@ -2,7 +2,7 @@
 use Rattle.std.specs.Prelude.{◌≡◌, ℕ, ◌^◌, ◌<◌, ◌≤◌, ◌⊎◌, IsTrue}
 use Rattle.node_table.specs.declared.still.Still.{Still}
 use Rattle.node_table.specs.Stills.{book_in}
-use Rattle.node_sweep.specs.SweptStills.{HasNoRoomFor, IsSwept}
+use Rattle.node_sweep.specs.CopiedStills.{HasNoRoomFor, IsSwept}
 use Rattle.plane.specs.Centred.{Holds}
 use Rattle.plane.specs.Plane.{after}
 use Rattle.plane.specs.Square.{IsSame}

@@ -1,7 +1,6 @@
 -- Cells in words that were copied, or that a table is opened of.
 use Rattle.std.specs.Prelude.{◌≡◌, ℕ, ◌≤◌, ◌^◌}
-use Rattle.node_sweep.specs.EnlargedStills.{HasNoRoomForAll, IsEnlarged}
-use Rattle.node_sweep.specs.SweptStills.{HasNoRoomFor, IsResized, IsSwept}
+use Rattle.node_sweep.specs.CopiedStills.{HasNoRoomFor, IsResized, IsSwept}
 use Rattle.node_table.specs.Stills.{key_of}
 use Rattle.plane.specs.Square.{IsSame}
 use Rattle.universe.specs.Cells.{live_cells, root_of, still_cells, still_of}
@@ -14,13 +13,6 @@ use Rattle.universe.specs.declared.universe.Universe.{Universe}
 pub record IsCopied (old : RootedStill) (pairs : ℕ) (new : RootedStill) : Type 0 where
   pub cells : IsSame (still_cells new) (still_cells old)
   pub resized : IsResized (key_of (still_of old)) (key_of (still_of new)) pairs
-
--- so it is, with all squares and results; or there is no room for these
-abbrev pub IsEnlargedFrom : RootedStill → ℕ → RootedStill → Type 0
-IsEnlargedFrom old pairs new = IsEnlarged (still_of old) (root_of old) pairs (still_of new) (root_of new)
-
-abbrev pub HasNoRoomToEnlarge : RootedStill → ℕ → Type 0
-HasNoRoomToEnlarge old pairs = HasNoRoomForAll (still_of old) pairs
 
 -- so it is, with what the root reaches and nothing else; or there is no room for this
 abbrev pub IsSweptFrom : RootedStill → ℕ → RootedStill → Type 0

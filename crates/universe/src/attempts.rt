@@ -3,13 +3,13 @@
 ghost use Rattle.std.specs.Prelude.{◌≡◌, ◌≤◌, ◌^◌, IfOk};
 
 use crate::refusals::unless_full;
-use crate::rooted_still::Keep;
 use crate::universe::Universe;
+use node_sweep::Keep;
 use std::alloc::AllocError;
 use std::sync::Wait;
 use std::thread::Threads;
 use table_core::Shape;
-use table_growth::{Retry, RetryPlan, pair_count};
+use table_growth::{COLLECTION_SHARES, Retry, RetryPlan, pair_count};
 use worker_split::{Gate, Team};
 
 // The universe after a step, or after its cells came to another table; or, where a table was full, the
@@ -24,7 +24,7 @@ impl Universe {
     ghost use Rattle.universe.specs.Cells.{limit_of};
     ghost use Rattle.table_growth.specs.Retries.{IsWithinLimit};
     ghost use Rattle.universe.specs.Runs.{IsAttempt, IsFullAtLimit, IsFullInPlace, MayStep};
-    ghost use Rattle.universe.specs.declared.rooted_still.Keep.TheVariants.{CellsAlone};
+    ghost use Rattle.node_sweep.specs.declared.keep.Keep.TheVariants.{CellsAlone};
 
     // Takes one step of the cells at their table, or, where that is full, at new ones, as the plan says.
     pub(crate) fn step_with_growth<R: Threads + Wait + Sync, G: Gate>(
@@ -74,7 +74,7 @@ impl Universe {
             Retry::Swept => self.step_in(team, own, Keep::CellsAlone),
             Retry::Enlarged(shape) => self.step_in(team, shape, Keep::Everything),
             Retry::Restarted(shape) => self.step_in(team, shape, Keep::CellsAlone),
-            Retry::Collected(_) => self.step_in(team, limit, Keep::Collected),
+            Retry::Collected(_) => self.step_in(team, limit, Keep::Collected(COLLECTION_SHARES)),
             Retry::CellsAlone => self.step_in(team, limit, Keep::CellsAlone),
         }
     }

@@ -9,7 +9,7 @@ use crate::other_tables::OtherTables;
 use crate::refusals::unless_full;
 use crate::tables::OpenTable;
 use crate::universe::Universe;
-use node_sweep::{collect, enlarge, sweep};
+use node_sweep::{Keep, copy, sweep};
 use node_table::Still;
 use plane::{Bounds, Refusal};
 use squares::Sq;
@@ -17,17 +17,6 @@ use std::alloc::{AllocError, Global};
 use table_core::{Kind, Shape};
 use table_growth::{GrowthFactor, TableHistory, larger, smallest};
 use viewport::bounds;
-
-/// What is kept when words are copied into new ones.
-#[derive(Clone, Copy)]
-pub(crate) enum Keep {
-    /// All squares and results.
-    Everything,
-    /// The square of the cells, small squares, and large ones that have results, with all that these are made of.
-    Collected,
-    /// The square of the cells, with what it is made of.
-    CellsAlone,
-}
 
 /// Live cells in the range, as a square in the words of a closed table. The square's centre is the corner (0,0).
 #[derive(Drop)]
@@ -41,9 +30,9 @@ pub struct RootedStill {
 impl RootedStill {
     ghost use Rattle.universe.specs.Cells.{still_cells, root_of, still_of};
     ghost use Rattle.universe.specs.Outcomes.{IfMade, IfNoRoom};
-    ghost use Rattle.universe.specs.Stills.{HasNoRoomToEnlarge, HasNoRoomToSweep, IsCompacted, IsCopied, IsEnlargedFrom, IsOpenedAt, IsSweptFrom};
+    ghost use Rattle.universe.specs.Stills.{HasNoRoomToSweep, IsCompacted, IsCopied, IsOpenedAt, IsSweptFrom};
     ghost use Rattle.universe.specs.Sums.{pair_sum};
-    ghost use Rattle.universe.specs.declared.rooted_still.Keep.TheVariants.{CellsAlone};
+    ghost use Rattle.node_sweep.specs.declared.keep.Keep.TheVariants.{CellsAlone};
 
     /// The words.
     pub fn still(&self) -> &Still
@@ -102,46 +91,25 @@ impl RootedStill {
         ensures full { keep ≡ CellsAlone
             → IfNoRoom result (HasNoRoomToSweep self.now (2 ^ shape.bits)) }
     {
-        let made = match keep {
-            Keep::Everything => self.enlarge(alloc, shape)?,
-            Keep::Collected => return self.collect(alloc, shape, history),
-            Keep::CellsAlone => self.sweep(alloc, shape)?,
-        };
-        Ok(made.map(|fresh| (fresh, history.for_new_table(shape.bits))))
-    }
-
-    // The cells with all squares and results in new words of this shape, if these have room for them.
-    fn enlarge(&self, alloc: Global, shape: Shape) -> Result<Option<RootedStill>, AllocError>
-        ensures ok { IfMade result (IsEnlargedFrom self.now (2 ^ shape.bits)) }
-        ensures full { IfNoRoom result (HasNoRoomToEnlarge self.now (2 ^ shape.bits)) }
-    {
-        let made = enlarge(alloc, &self.still, self.root, shape.slot_count(Kind::Pair));
-        match unless_full(made)? {
-            Some((still, root)) => Ok(Some(RootedStill { still, root })),
-            None => Ok(None),
+        if let Keep::CellsAlone = keep {
+            let made = self.sweep(alloc, shape)?;
+            return Ok(made.map(|fresh| (fresh, history.for_new_table(shape.bits))));
         }
-    }
-
-    // The cells with what a collection keeps in new words of this shape, if these have room for it and more is
-    // finished than at the last collection.
-    fn collect(
-        &self,
-        alloc: Global,
-        shape: Shape,
-        history: TableHistory,
-    ) -> Result<Option<(RootedStill, TableHistory)>, AllocError>
-        ensures { IfMade result (λ fresh. IsCopied self.now (2 ^ shape.bits) fresh.0) }
-    {
-        let made = collect(alloc, &self.still, self.root, shape.slot_count(Kind::Pair));
-        let Some(collected) = unless_full(made)? else {
+        let pairs = shape.slot_count(Kind::Pair);
+        let made = copy(alloc, &self.still, self.root, keep, pairs);
+        let Some(copied) = unless_full(made)? else {
             return Ok(None);
         };
-        let finished = collected.finished;
-        if !history.has_finished_more(&finished) {
-            return Ok(None);
-        }
-        let history = history.for_collected_table(shape.bits, finished);
-        let (still, root) = (collected.still, collected.root);
+        let history = match copied.finished {
+            None => history.for_new_table(shape.bits),
+            Some(finished) => {
+                if !history.has_finished_more(&finished) {
+                    return Ok(None);
+                }
+                history.for_collected_table(shape.bits, finished)
+            }
+        };
+        let (still, root) = (copied.still, copied.root);
         Ok(Some((RootedStill { still, root }, history)))
     }
 

@@ -11,7 +11,7 @@ ghost use Rattle.worker_split.specs.Jobs.{Refuses};
 
 use crate::refusals::unless_full;
 use crate::rooted_still::RootedStill;
-use node_sweep::enlarge_still;
+use node_sweep::{Keep, copy};
 use node_table::{Desk, NodeTable, Still};
 use plane::Refusal;
 use rule_text::Rule;
@@ -83,13 +83,15 @@ impl OpenTable {
     {
         let Key { rule, exponent, .. } = *self.table.key();
         let still = self.table.close(self.desk);
-        let made = enlarge_still(alloc, &still, shape.slot_count(Kind::Pair));
+        let pairs = shape.slot_count(Kind::Pair);
+        // No square of it is the root, so the empty one stands for that.
+        let made = copy(alloc, &still, Sq::empty(4), Keep::Everything, pairs);
         let Some(larger) = unless_full(made)? else {
             return Ok(None);
         };
         drop(still);
         let history = self.history.for_new_table(shape.bits);
-        let table = OpenTable::of_words(alloc, larger, &rule, exponent, history)?;
+        let table = OpenTable::of_words(alloc, larger.still, &rule, exponent, history)?;
         Ok(Some(table))
     }
 
@@ -134,7 +136,7 @@ impl OpenTable {
     {
         let desk = self.desk;
         let before = desk.expansions();
-        let team = team.at_most(self.history.most_workers());
+        let team = team.at_most(self.history.workers_of_next_step(team.workers));
         let (desk, made) = step(&team, &self.table, desk, root);
         let expansions = desk.expansions().saturating_sub(before);
         self.desk = desk;

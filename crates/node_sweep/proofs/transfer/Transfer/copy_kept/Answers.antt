@@ -18,7 +18,7 @@ copy_ranks-requires-clause-order c = c.requires.kept.order.ranked
 pub copy_ranks-requires-clause-before : goal.copy_ranks-requires-clause-before
 copy_ranks-requires-clause-before c =
     let transfer = c.args.self.now in
-    let ends = c.args.ends in
+    let ends = c.args.self.now.ends in
     let kept = c.args.kept in
     let fresh = c.copy_marked_leaves.new.fresh in
     let leaves = subst (λ (ms : List ℕ). AreCopied (slice_index ms) fresh.copies.items (start (old_bits transfer) Pair)) c.as_slice.ensures.value c.in_ok-copy_marked_leaves.ensures.all in
@@ -36,7 +36,7 @@ copy_ranks-requires-clause-wanted c =
 pub returns-clause-root : goal.returns-clause-root
 returns-clause-root c =
     let transfer = c.args.self.now in
-    let ends = c.args.ends in
+    let ends = c.args.self.now.ends in
     let kept = c.args.kept in
     let first = c.copy_marked_leaves.new.fresh in
     let last = c.copy_ranks.new.fresh in
@@ -47,7 +47,7 @@ returns-clause-root c =
 pub returns-clause-ends : goal.returns-clause-ends
 returns-clause-ends c =
     let transfer = c.args.self.now in
-    let ends = c.args.ends in
+    let ends = c.args.self.now.ends in
     let kept = c.args.kept in
     let first = c.copy_marked_leaves.new.fresh in
     let last = c.copy_ranks.new.fresh in

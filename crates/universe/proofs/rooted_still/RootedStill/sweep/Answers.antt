@@ -3,7 +3,7 @@ use Rattle.std.specs.Prelude.{Err, IfNone, Option}
 use Rattle.plane.specs.declared.refusal.Refusal.TheVariants.{NodesFull}
 use Rattle.squares.specs.declared.sq.Sq.{Sq}
 use Rattle.node_table.specs.declared.still.Still.{Still}
-use Rattle.node_sweep.specs.SweptStills.{HasNoRoomFor}
+use Rattle.node_sweep.specs.CopiedStills.{HasNoRoomFor}
 use Rattle.universe.specs.Cells.{root_of, still_of}
 use Rattle.universe.proofs.Copying.{no_room}
 use Rattle.universe.proofs.rooted_still.RootedStill.sweep.Goals as goal

@@ -30,7 +30,7 @@ IsResultCopiedOrGone from to old new wanted pair copy =
 
 -- the new words are good, and have a copy of each wanted block of the old ones; each of their leaves and pairs is such a
 -- copy; beside the copy of a pair stands a copy of its result where that is the empty square or wanted, and no other result
-pub record Collects (from to : Key) (old : Words) (wanted : ℕ → Type 0) (new : List ℕ) : Type 0 where
+pub record CopiesWanted (from to : Key) (old : Words) (wanted : ℕ → Type 0) (new : List ℕ) : Type 0 where
   pub good : AreGoodWords to new
   pub copies : (rank number : ℕ) → IsBlock from.shape.bits old rank number → wanted number →
       (copy : ℕ) × IsCopy from.shape.bits to.shape.bits old (slice_index new) rank number copy

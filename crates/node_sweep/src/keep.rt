@@ -1,0 +1,24 @@
+//! What a copy into fresh words keeps.
+
+/// What a copy into fresh words keeps, with all that it reaches.
+#[derive(Clone, Copy)]
+pub enum Keep {
+    /// The square of the root.
+    CellsAlone,
+    /// That, small squares and halves, and large ones that have results, with these results.
+    Collected(Shares),
+    /// All squares and results.
+    Everything,
+}
+
+/// How much a collection keeps beside what the root reaches: at most one pair slot in so many.
+#[derive(Clone, Copy)]
+pub struct Shares {
+    /// For small squares and halves.
+    pub small: u32,
+    /// For large squares that have results.
+    pub large: u32,
+    /// No small square is kept where pairs of leaves take more than one pair slot in so many: their
+    /// leaves would leave too few leaf slots for others.
+    pub leaves: u32,
+}
