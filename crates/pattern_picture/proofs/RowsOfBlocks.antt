@@ -7,12 +7,13 @@ use Rattle.plane.specs.declared.cell.Bounds.{Bounds}
 use Rattle.plane.specs.Plane.{Plane}
 use Rattle.png_writer.specs.Picture.{Picture}
 use Rattle.viewport.specs.declared.blocks.Blocks.{Blocks}
-use Rattle.viewport.specs.Blocks.{block_counts, block_count, block_shades, row_shades, shade_of}
+use Rattle.viewport.specs.Blocks.{block_counts, block_count}
 use Rattle.viewport.specs.Picture.{coordinates}
 use Rattle.pattern_picture.specs.declared.scale.Scale.{Scale}
 use Rattle.pattern_picture.specs.Drawn.{IsPictureOf, shade_rows}
 use Rattle.pattern_picture.specs.Pixels.{cut_rows, zoomed}
 use Rattle.pattern_picture.specs.Scale.{IsScale, blocks_of}
+use Rattle.pattern_picture.specs.Shades.{block_shades, row_shades, shade_of}
 
 coordinates-length : (first : ℤ) (count : ℕ) → length (coordinates first count) ≡ count
 unfolding coordinates

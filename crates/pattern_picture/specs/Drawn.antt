@@ -4,11 +4,11 @@ use Rattle.plane.specs.declared.cell.Bounds.{Bounds}
 use Rattle.plane.specs.Plane.{Plane}
 use Rattle.png_writer.specs.Picture.{Picture}
 use Rattle.viewport.specs.declared.blocks.Blocks.{Blocks}
-use Rattle.viewport.specs.Blocks.{row_shades}
 use Rattle.viewport.specs.Picture.{coordinates}
 use Rattle.pattern_picture.specs.declared.scale.Scale.{Scale}
 use Rattle.pattern_picture.specs.Pixels.{zoomed}
 use Rattle.pattern_picture.specs.Scale.{IsScale, block_span, blocks_of}
+use Rattle.pattern_picture.specs.Shades.{row_shades}
 
 -- the shades of each row of blocks
 abbrev pub shade_rows : Plane → Blocks → List (List ℕ)

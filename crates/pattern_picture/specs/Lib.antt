@@ -1,3 +1,4 @@
 pub mod Drawn
 pub mod Pixels
 pub mod Scale
+pub mod Shades

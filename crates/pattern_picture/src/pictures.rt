@@ -8,11 +8,11 @@ ghost use Rattle.pattern_picture.specs.Scale.{IsShown, IsSize};
 
 use crate::pixels::draw_zoomed;
 use crate::scale::Scale;
+use crate::shades::block_shades;
 use plane::{Bounds, Refusal};
 use png_writer::Image;
 use squares::{Look, Sq};
 use std::alloc::Global;
-use viewport::block_shades;
 
 /// Draws a rectangle of the cells of a square of a level from 3 to 63, as large as can be with at most `size` pixels
 /// on each side, 16 to 4096. The rectangle's sides lie from -2^62 to 2^62.

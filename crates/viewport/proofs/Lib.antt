@@ -1,5 +1,4 @@
 pub mod Beside
-pub mod BlockRows
 pub mod BlocksOfPlanes
 pub mod BoxesOfGaps
 pub mod BoxesRound
@@ -15,6 +14,7 @@ pub mod LeafBlocks
 pub mod LeafBoxes
 pub mod LeafRows
 pub mod Leaves
+pub mod NearBlocks
 pub mod Neighbours
 pub mod OneList
 pub mod PictureLines
@@ -26,5 +26,4 @@ pub mod RunsBeside
 pub mod RunsOfLeaves
 pub mod RowsOfBlocks
 pub mod RowsOfHalves
-pub mod Shading
 pub mod StripCounts

@@ -1,20 +1,17 @@
-//! Shades of grey that show how many live cells blocks of cells have.
+//! How many live cells blocks of cells have.
 
-ghost use Rattle.std.specs.Prelude.{◌≡◌, ◌≤◌, ◌++◌, ◌^◌, pos, ◌≤ℤ◌, IfOk, IsOkUnless, OnOk};
+ghost use Rattle.std.specs.Prelude.{◌≡◌, ◌≤◌, ◌++◌, ◌^◌, pos, ◌≤ℤ◌, OnOk};
 ghost use Rattle.plane.specs.Centred.{centred};
 ghost use Rattle.squares.specs.Book.{IsKnown, Keeps};
-ghost use Rattle.viewport.specs.Blocks.{IsBlockRange, block_counts, block_shades};
+ghost use Rattle.viewport.specs.Blocks.{block_counts};
 ghost use Rattle.viewport.specs.Population.{AreCounts};
 ghost use Rattle.viewport.specs.Strips.{AreBeside, IsNearRange};
 
 use crate::populations::Counts;
-use crate::shades::add_shades;
 use crate::sides::{place, signed_half_side};
 use crate::strips::{Strip, add_dead, count_strip};
-use plane::Refusal;
-use squares::{Look, Looked, Reading, Sq};
-use std::alloc::{AllocError, Global};
-use std::collections::HashMap;
+use squares::{Reading, Sq};
+use std::alloc::AllocError;
 
 /// A rectangle of blocks of 2^exponent by 2^exponent cells. Block (i, j) holds the cells (x, y) with
 /// floor(x / 2^exponent) = i and floor(y / 2^exponent) = j.
@@ -32,50 +29,10 @@ pub struct Blocks {
     pub height: u32,
 }
 
-/// The shades of blocks of a square of a level from 3 to 63, row by row from the upper left one: 255
-/// (white) for a block without live cells. Where a block is one cell (exponent 0), 0 (black) for a
-/// live one; else 160 - floor(160 b / (2 exponent)) for one with p live cells, b = floor(log2 p), so
-/// that a single cell is seen and a full block is black. What lies outside the square is dead. Each
-/// number above level 5 is counted once. `NoMemory` where there is no room for the shades or for one
-/// more count.
-pub fn block_shades<L: Look>(
-    alloc: Global,
-    look: &L,
-    sq: Sq,
-    blocks: Blocks,
-) -> Result<Vec<u8>, Refusal>
-    requires known { IsKnown (L.book look.now) sq.level sq }
-    requires level { sq.level ≤ 63 }
-    requires exponent { blocks.exponent ≤ 62 }
-    requires columns { IsBlockRange blocks.exponent blocks.left blocks.width }
-    requires rows { IsBlockRange blocks.exponent blocks.top blocks.height }
-    ensures ok { IfOk result (λ shades. shades.items
-        ≡ block_shades (centred sq.level ((L.book look.now).cells sq)) blocks) }
-    ensures memory { IsOkUnless result Refusal.NoMemory }
-{
-    let mut from = Looked(look);
-    let mut counts = HashMap::new(alloc);
-    let mut row = Vec::new(alloc);
-    let mut shades = Vec::new(alloc);
-    for step in 0..blocks.height {
-        row.clear();
-        count_row(
-            &mut from,
-            sq,
-            &blocks,
-            blocks.top + i64::from(step),
-            &mut counts,
-            &mut row,
-        )?;
-        add_shades(blocks.exponent, &row, &mut shades)?;
-    }
-    Ok(shades)
-}
-
-// Adds how many live cells each block of row j of the rectangle has, by the counts that are known; it
-// adds what it finds to them. A block that is larger than a quarter of the square shows that quarter.
-// The book goes on knowing what it knew.
-fn count_row<R: Reading>(
+/// Adds how many live cells each block of row `j` of the rectangle has, in a square of a level from 3 to
+/// 63, by the counts that are known; it adds what it finds to them, so that each number above level 5 is
+/// counted once. What lies outside the square is dead. The book goes on knowing what it knew.
+pub fn count_blocks<R: Reading>(
     from: &mut R,
     sq: Sq,
     blocks: &Blocks,

@@ -1,6 +1,6 @@
 //! What a square shows, over any book that can be read: how many live cells it has, the smallest
 //! box round them, the runs of a row, the first row with a live cell, the picture of a window, and
-//! the shades of blocks of cells. A square of level k covers -2^(k-1) to 2^(k-1)-1 in both
+//! how many live cells blocks of cells have. A square of level k covers -2^(k-1) to 2^(k-1)-1 in both
 //! directions, so (0,0) lies at its centre. Squares that share their quarters are no slower for it,
 //! however many cells they have.
 #![tactic(auto)]
@@ -15,14 +15,13 @@ mod pictures;
 mod populations;
 mod rows;
 mod runs;
-mod shades;
 mod sides;
 mod strips;
 
-pub use blocks::{Blocks, block_shades};
+pub use blocks::{Blocks, count_blocks};
 pub use boxes::{bounds, bounds_at};
 pub use laws::one_list_of_runs;
 pub use pictures::picture;
-pub use populations::{population, population_at};
+pub use populations::{Counts, population, population_at};
 pub use rows::first_row;
 pub use runs::row_runs;

@@ -11,7 +11,7 @@ use squares::{LEAF_LEVEL, Look, Looked, Reading, Sq, Squares};
 use std::alloc::{AllocError, Global};
 use std::collections::HashMap;
 
-// The numbers of live cells of squares, by level and number.
+/// The numbers of live cells of squares, by level and number.
 pub type Counts = HashMap<(u8, u32), u128>;
 
 // The lowest level of which counts are noted. Counting a lower square again costs no more than its note.

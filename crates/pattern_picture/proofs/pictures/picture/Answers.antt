@@ -1,8 +1,8 @@
 use Rattle.std.proofs.Common.{◌≡◌, ◌∙◌, Err, Ok, Result, ap, length}
 use Rattle.std.specs.Prelude.{IfOk}
 use Rattle.plane.specs.Centred.{centred}
-use Rattle.viewport.specs.Blocks.{block_shades}
 use Rattle.pattern_picture.specs.Drawn.{IsPictureOf}
+use Rattle.pattern_picture.specs.Shades.{block_shades}
 use Rattle.pattern_picture.proofs.Floors.{shown_range}
 use Rattle.pattern_picture.proofs.RowsOfBlocks.{block_shades-length, picture_drawn}
 use Rattle.pattern_picture.proofs.pictures.picture.Goals as goal

@@ -4,7 +4,7 @@ use Rattle.std.proofs.lemmas.Result.{on_ok_weaker}
 use Rattle.viewport.specs.Strips.{strip_counts}
 use Rattle.viewport.proofs.Quarters.{known_square}
 use Rattle.viewport.proofs.RowsOfBlocks.{beside_counts, inside_strip, outside_counts, three_added}
-use Rattle.viewport.proofs.blocks.count_row.Goals as goal
+use Rattle.viewport.proofs.blocks.count_blocks.Goals as goal
 
 pub returns-in_default-clause-ok : goal.returns-in_default-clause-ok
 returns-in_default-clause-ok g c =

@@ -2,10 +2,10 @@ use Rattle.std.proofs.Common.{◌≡◌}
 use Rattle.std.specs.List.{flat_map}
 use Rattle.plane.specs.Centred.{centred}
 use Rattle.squares.specs.Book.{Keeps}
-use Rattle.viewport.specs.Blocks.{row_shades}
+use Rattle.pattern_picture.specs.Shades.{row_shades}
 use Rattle.viewport.specs.Picture.{coordinates}
 use Rattle.viewport.specs.Population.{AreCounts}
-use Rattle.viewport.proofs.blocks.block_shades.Given as goal
+use Rattle.pattern_picture.proofs.shades.block_shades.Given as goal
 
 abbrev pub invariant-loop-step : goal.invariant-loop-step
 invariant-loop-step g l =

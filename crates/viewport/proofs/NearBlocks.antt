@@ -1,26 +1,12 @@
--- The shades of blocks, row by row, and how far away blocks lie.
-use Rattle.std.proofs.Common.{◌≡◌, ℕ, ◌+◌, ◌^◌, ◌≤◌, ℤ, pos, ◌+ℤ◌, ◌-ℤ◌, ◌≤ℤ◌, ◌<ℤ◌, true, false, List, ◌++◌, map, sym, ◌∙◌, ap, arith}
+-- How far away blocks lie.
+use Rattle.std.proofs.Common.{◌≡◌, ℕ, ◌+◌, ◌^◌, ◌≤◌, ℤ, pos, ◌+ℤ◌, ◌-ℤ◌, ◌≤ℤ◌, ◌<ℤ◌, true, false, arith}
 use Rattle.std.specs.Prelude.{◌*ℤ◌, int_lt}
-use Rattle.std.specs.List.{flat_map}
 use Rattle.std.proofs.lemmas.Int.{ints}
 use Rattle.std.proofs.lemmas.Nat.{pow_pos}
-use Rattle.plane.specs.Plane.{Plane}
 use Rattle.squares.proofs.NumberMaps.{by_cases}
-use Rattle.viewport.specs.Blocks.{IsBlockRange, block_counts, row_shades, shade_of}
-use Rattle.viewport.specs.Picture.{coordinates}
+use Rattle.viewport.specs.Blocks.{IsBlockRange}
 use Rattle.viewport.specs.Strips.{IsNearRange}
-use Rattle.viewport.specs.declared.blocks.Blocks.{Blocks}
-use Rattle.viewport.proofs.PictureLines.{drawn-suc}
 use Rattle.viewport.proofs.Products.{above_times, below_times}
-
--- the shades of one row more
-pub row_drawn : (plane : Plane) (blocks : Blocks) (n : ℕ) (shades new row : List ℕ) → shades ≡ flat_map (row_shades plane blocks) (coordinates blocks.top n) →
-    new ≡ shades ++ map (shade_of blocks.exponent) row → row ≡ block_counts plane blocks.exponent (blocks.top +ℤ pos n) blocks.left blocks.width →
-    new ≡ flat_map (row_shades plane blocks) (coordinates blocks.top (n + 1))
-row_drawn plane blocks n shades new row so_far more is =
-    more ∙ ap (λ l. l ++ map (shade_of blocks.exponent) row) so_far
-    ∙ ap (λ l. flat_map (row_shades plane blocks) (coordinates blocks.top n) ++ map (shade_of blocks.exponent) l) is
-    ∙ sym (drawn-suc (row_shades plane blocks) blocks.top n)
 
 is_less : (a b : ℤ) → int_lt a b ≡ true → a <ℤ b
 is_less a b e = grind (arith, ints)

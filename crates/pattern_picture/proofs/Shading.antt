@@ -3,7 +3,7 @@ use Rattle.std.proofs.Common.{◌≡◌, ℕ, zero, suc, ◌*◌, ◌^◌, ◌<�
 use Rattle.std.specs.Prelude.{if◌then◌else◌}
 use Rattle.std.proofs.Math.Nat.{pow-suc}
 use Rattle.std.proofs.lemmas.Bool.Decides.{leb_tells}
-use Rattle.viewport.specs.Blocks.{floor_log2, log2_up_to}
+use Rattle.pattern_picture.specs.Shades.{floor_log2, log2_up_to}
 
 highest : (k b n : ℕ) → b ≤ suc k → n < 2 * 2 ^ b → 2 ^ suc k ≤ n → suc k ≡ b
 highest k b n low more there =

@@ -1,8 +1,8 @@
 use Rattle.std.proofs.Common.{arith}
 use Rattle.std.proofs.lemmas.Grind.{common_steps}
-use Rattle.viewport.specs.Blocks.{shade_of}
-use Rattle.viewport.proofs.Shading.{floor_log2_is}
-use Rattle.viewport.proofs.shades.shade.Goals as goal
+use Rattle.pattern_picture.specs.Shades.{shade_of}
+use Rattle.pattern_picture.proofs.Shading.{floor_log2_is}
+use Rattle.pattern_picture.proofs.shades.shade.Goals as goal
 
 pub returns-then-count-eq0 : goal.returns-then-count-eq0
 unfolding shade_of

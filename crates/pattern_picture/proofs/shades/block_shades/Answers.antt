@@ -4,10 +4,12 @@ use Rattle.plane.specs.Centred.{centred}
 use Rattle.plane.specs.Plane.{Plane}
 use Rattle.plane.proofs.Same.{plane_equal}
 use Rattle.squares.proofs.Kept.{keeps_none, keeps_trans}
-use Rattle.viewport.specs.Blocks.{block_counts, row_shades}
-use Rattle.viewport.proofs.BlockRows.{near_range, row_drawn}
+use Rattle.viewport.specs.Blocks.{block_counts}
+use Rattle.pattern_picture.specs.Shades.{row_shades}
+use Rattle.viewport.proofs.NearBlocks.{near_range}
+use Rattle.pattern_picture.proofs.RowsOfShades.{row_drawn}
 use Rattle.viewport.proofs.PictureLines.{none_drawn}
-use Rattle.viewport.proofs.blocks.block_shades.Goals as goal
+use Rattle.pattern_picture.proofs.shades.block_shades.Goals as goal
 
 pub loop-step-init : goal.loop-step-init
 loop-step-init g c =
@@ -21,8 +23,8 @@ overflow_add-blocks g c =
     let on : SFits w64 c.from.result = search rules in
     simp (to_z-of_z, c.from.ensures) (omega (arith, ints, low, high))
 
-pub count_row-requires-clause-columns : goal.count_row-requires-clause-columns
-count_row-requires-clause-columns g c = near_range _ _ _ c.requires.columns
+pub count_blocks-requires-clause-columns : goal.count_blocks-requires-clause-columns
+count_blocks-requires-clause-columns g c = near_range _ _ _ c.requires.columns
 
 pub loop-step-preserved : goal.loop-step-preserved
 loop-step-preserved g c =
@@ -38,14 +40,14 @@ loop-step-preserved g c =
     ap (centred c.args.sq.level) (plane_equal (now.cells c.args.sq) (book.cells c.args.sq) (keeps.cells c.args.sq c.requires.known.known)) in
     let Row : Plane → ℤ → List ℕ = λ p z. block_counts p c.args.blocks.exponent z c.args.blocks.left c.args.blocks.width in
     let plane : Plane = centred c.args.sq.level (book.cells c.args.sq) in
-    let counted = simp to_z-of_z at c.in_ok-count_row.ensures.ok in
+    let counted = simp to_z-of_z at c.in_ok-count_blocks.ensures.ok in
     let place = ap (λ z. Row plane (c.args.blocks.top +ℤ z)) c.from.ensures in (
       row_drawn (centred c.args.sq.level (book.cells c.args.sq)) c.args.blocks c.loop-step.step c.loop-step.shades.items c.add_shades.new.shades.items c.deref.result.now
           c.loop-step.invariant.0 c.in_ok-add_shades.ensures.ok
           (c.deref.ensures.value ∙ counted ∙ ap (λ l. l ++ Row (centred c.args.sq.level (now.cells c.args.sq)) (c.args.blocks.top +ℤ c.from.result)) c.clear.ensures.items
           ∙ ap (λ (p : Plane). Row p (c.args.blocks.top +ℤ c.from.result)) same ∙ place),
-      keeps_trans keeps c.in_ok-count_row.ensures.keeps,
-      c.in_ok-count_row.ensures.counted,
+      keeps_trans keeps c.in_ok-count_blocks.ensures.keeps,
+      c.in_ok-count_blocks.ensures.counted,
     )
 
 pub returns-clause-ok : goal.returns-clause-ok
