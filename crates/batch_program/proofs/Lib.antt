@@ -1,3 +1,2 @@
-pub mod AskedWords
 mod Endings
 pub mod WindowTexts

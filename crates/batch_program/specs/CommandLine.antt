@@ -5,15 +5,15 @@ use Rattle.std.specs.Option.{option_map}
 use Rattle.clap.specs.Words.{App, Rule, Text, fault_of, new_app, new_rule, with_rule}
 use Rattle.clap.specs.declared.builder.action.ArgAction.TheVariants.{SetTrue}
 use Rattle.plane.specs.Window.{IsWindow, Rectangle}
-use Rattle.program_parts.specs.Asking.{CommandLine, IsFaultOf, IsReasonOf, text_in, value_in}
+use Rattle.program_parts.specs.Asking.{CommandLine, text_in, value_in}
 use Rattle.program_parts.specs.OptionRules.{file_argument, generation_option, node_option, numeric, rule_option, valued_in_short, window_option, worker_option}
-use Rattle.program_parts.specs.Values.{IsAskedRule, IsNumber, IsPairNumber, IsWorkerNumber}
+use Rattle.program_parts.specs.RunWords.{AreFitNumbers, AreUnfitNodes, AskForRun}
+use Rattle.program_parts.specs.Values.{IsNumber}
 use Rattle.program_parts.specs.WindowText.{IsFitWindow, WritesWindow}
 use Rattle.program_parts.specs.declared.misfit.Misfit.{Misfit}
 use Rattle.program_parts.specs.declared.misfit.Misfit.TheVariants.{Ending, Window, Nodes, Other}
-use Rattle.program_parts.specs.declared.reason.WordsReason.{WordsReason}
-use Rattle.program_parts.specs.declared.words.WordsFault.{WordsFault}
 use Rattle.batch_program.specs.declared.request.Asked.{Asked}
+use Rattle.engine.specs.RunOptions.{run_of}
 use Rattle.engine.specs.declared.format.Format.{Format}
 use Rattle.engine.specs.declared.format.Format.TheVariants.{Rle, Macrocell}
 
@@ -70,35 +70,30 @@ IsAskedWindow (Some text) window = (given : Rectangle) × WritesWindow 32 text g
 -- the words are of the form, and ask for this
 pub record AsksFor (words : List Text) (asked : Asked) : Type 0 where
   pub form : fault_of command_form words ≡ []
-  pub gens : IsNumber (value_for (codes "generation") words) asked.options.gens
+  pub run : AskForRun command_form words (run_of asked.options)
   pub step : IsNumber (value_for (codes "stepsize") words) asked.options.step
   pub file : text_for (codes "file") words ≡ Some (string_bytes asked.file)
   pub output : text_for (codes "output") words ≡ option_map string_bytes asked.output
   pub format : IsFormat (text_for (codes "output") words) asked.options.format
-  pub rule : IsAskedRule (text_for (codes "rule") words) asked.options.rule
   pub quiet : IsFlag (value_for (codes "quiet") words) asked.options.quiet
   pub window : IsAskedWindow (text_for (codes "window") words) asked.options.window
-  pub pairs : IsPairNumber (value_for (codes "nodes") words) asked.options.pairs
-  pub workers : IsWorkerNumber (value_for (codes "workers") words) asked.options.workers
 
 -- ---- faults of the words
 
 -- the words have values that are fit: numbers, of which those of nodes and workers are such, a FILE, a NAME that says its
 -- format, if there is one, and a window of four numbers, if there is one
 pub record IsFit (words : List Text) : Type 0 where
-  pub gens : (number : ℕ) × IsNumber (value_for (codes "generation") words) number
+  pub run : AreFitNumbers command_form words
   pub step : (number : ℕ) × IsNumber (value_for (codes "stepsize") words) number
   pub file : (name : Text) × (text_for (codes "file") words ≡ Some name)
   pub format : (format : Option Format) × IsFormat (text_for (codes "output") words) format
   pub window : IsFitWindow 32 (text_for (codes "window") words)
-  pub pairs : (pairs : ℕ) × IsPairNumber (value_for (codes "nodes") words) pairs
-  pub workers : (workers : ℕ) × IsWorkerNumber (value_for (codes "workers") words) workers
 
 -- this value is not fit
 abbrev pub IsMisfit : List Text → Misfit → Type 0
 IsMisfit words (Ending endings) = (format : Option Format) → IsFormat (text_for (codes "output") words) format → ⊥
 IsMisfit words Window = IsFitWindow 32 (text_for (codes "window") words) → ⊥
-IsMisfit words Nodes = (pairs : ℕ) → IsPairNumber (value_for (codes "nodes") words) pairs → ⊥
+IsMisfit words Nodes = AreUnfitNodes command_form words
 IsMisfit words Other = IsFit words → ⊥
 
 -- the text that is given has the numbers of no window
@@ -109,11 +104,3 @@ IsRefusedWindow (Some text) = (given : Rectangle) × WritesWindow 32 text given 
 -- the form of the words, and the values that are fit
 abbrev pub command_line : CommandLine
 command_line = record { form = command_form; IsFit = IsFit; IsMisfit = IsMisfit; IsRefusedWindow = IsRefusedWindow }
-
--- why words ask for no run
-abbrev pub IsWordsFault : List Text → WordsFault → Type 0
-IsWordsFault words fault = IsFaultOf command_line words fault
-
--- the same, with the value that is not fit
-abbrev pub IsWordsReason : List Text → WordsReason → Type 0
-IsWordsReason words reason = IsReasonOf command_line words reason

@@ -1,13 +1,13 @@
 //! What the words of a command line ask for.
 
-ghost use Rattle.std.specs.Prelude.{◌≡◌, ℕ, List, Option, IfOk, IfErr};
+ghost use Rattle.std.specs.Prelude.{◌≡◌, ℕ, List, Option, codes, IfOk, IfErr};
 ghost use Rattle.std.specs.Borrow.{Bor};
 ghost use Rattle.std.specs.Option.{option_copied};
 ghost use Rattle.clap.specs.Words.{Text, found_of, one_text};
 ghost use Rattle.engine.specs.declared.format.Format.{Format};
-ghost use Rattle.program_parts.specs.Asking.{texts_of};
-ghost use Rattle.batch_program.specs.Matched.{AreMatchesOf, AskForOptions, HasFile};
-ghost use Rattle.batch_program.specs.CommandLine.{AsksFor, IsFlag, IsFormat, IsWordsFault, IsWordsReason, format_named};
+ghost use Rattle.program_parts.specs.Asking.{AreMatchesIn, HasText, IsFaultOf, IsReasonOf, texts_of};
+ghost use Rattle.batch_program.specs.Matched.{AskForOptions};
+ghost use Rattle.batch_program.specs.CommandLine.{AsksFor, IsFlag, IsFormat, command_form, command_line, format_named};
 
 use crate::application::Lifebatch;
 use crate::names::ENDINGS;
@@ -15,9 +15,7 @@ use crate::request::Asked;
 use crate::window_option::{narrow_numbers, window_asked};
 use clap::ArgMatches;
 use engine::{Format, Options};
-use program_parts::{
-    Misfit, WordsFault, WordsReason, copied, number_for, pairs_asked, rule_asked, workers_asked,
-};
+use program_parts::{Misfit, WordsFault, WordsReason, copied, number_for, rule_asked, run_numbers};
 use std::alloc::Global;
 
 /// Reads the words of a command line, the program's name first. It answers `Clap` for words that are
@@ -27,17 +25,17 @@ use std::alloc::Global;
 /// `Refused` with `NoMemory`.
 pub fn asked<'a>(alloc: Global, words: &'a [&'a str]) -> Result<Asked, WordsFault>
     ensures asks { IfOk result (AsksFor (texts_of words.entry.now)) }
-    ensures faults { IfErr result (IsWordsFault (texts_of words.entry.now)) }
+    ensures faults { IfErr result (IsFaultOf command_line (texts_of words.entry.now)) }
 {
     program_parts::asked::<Lifebatch>(alloc, words)
 }
 
 // What words ask for, by the matches that clap has found in them.
 pub(crate) fn asked_by(alloc: Global, matches: &ArgMatches<'_>) -> Result<Asked, WordsReason>
-    ensures asks { (words : List Text) → AreMatchesOf words matches.now →
+    ensures asks { (words : List Text) → AreMatchesIn command_form words matches.now →
         IfOk result (AsksFor words) }
-    ensures faults { (words : List Text) → AreMatchesOf words matches.now →
-        IfErr result (IsWordsReason words) }
+    ensures faults { (words : List Text) → AreMatchesIn command_form words matches.now →
+        IfErr result (IsReasonOf command_line words) }
 {
     let Some(file) = matches.get_str("file") else {
         return Err(WordsReason::Unfit(Misfit::Other));
@@ -52,27 +50,25 @@ pub(crate) fn asked_by(alloc: Global, matches: &ArgMatches<'_>) -> Result<Asked,
 
 // What a run is to do by the words, of which one names a file.
 fn options_by(matches: &ArgMatches<'_>) -> Result<Options, WordsReason>
-    ensures asks { (words : List Text) → AreMatchesOf words matches.now →
+    ensures asks { (words : List Text) → AreMatchesIn command_form words matches.now →
         IfOk result (AskForOptions words) }
-    ensures faults { (words : List Text) → AreMatchesOf words matches.now →
-        HasFile words → IfErr result (IsWordsReason words) }
+    ensures faults { (words : List Text) → AreMatchesIn command_form words matches.now →
+        HasText command_form (codes "file") words → IfErr result (IsReasonOf command_line words) }
 {
-    let gens = number_for(matches, "generation")?;
+    let run = run_numbers(matches)?;
     let step = number_for(matches, "stepsize")?;
-    let pairs = pairs_asked(matches)?;
-    let workers = workers_asked(matches)?;
     let format = format_of(matches.get_str("output"))?;
     let numbers = narrow_numbers(matches.get_str("window"))?;
     let rule = rule_asked(matches.get_str("rule"))?;
     let window = window_asked(numbers)?;
     Ok(Options {
-        gens,
+        gens: run.gens,
         step,
         rule,
         window,
         format,
-        pairs,
-        workers,
+        pairs: run.pairs,
+        workers: run.workers,
         quiet: is_set(matches, "quiet"),
     })
 }

@@ -1,4 +1,4 @@
--- Runs that have neither a report nor a file.
+-- What says which run it is, and runs that have neither a report nor a file.
 use Rattle.std.specs.Prelude.{None, true}
 use Rattle.engine.specs.declared.options.Options.{Options}
 use Rattle.engine.specs.declared.options.RunOptions.{RunOptions}
@@ -15,3 +15,7 @@ without_output run = record {
   workers = run.workers;
   quiet = true;
 }
+
+-- which run it is, whatever is said and written of it
+abbrev pub run_of : Options → RunOptions
+run_of options = record { gens = options.gens; rule = options.rule; pairs = options.pairs; workers = options.workers }

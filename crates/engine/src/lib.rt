@@ -23,4 +23,4 @@ pub use pattern::Pattern;
 pub use rule_faults::rule_refusal;
 pub use running::{Summary, run, run_from, run_gated};
 pub use summary_line::write_summary;
-pub use worker_split::{Gate, OpenGate};
+pub use worker_split::{Gate, MOST_WORKERS, OpenGate};

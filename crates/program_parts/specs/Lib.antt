@@ -4,5 +4,6 @@ pub mod Faults
 pub mod Messages
 pub mod OptionRules
 pub mod OutputFile
+pub mod RunWords
 pub mod Values
 pub mod WindowText

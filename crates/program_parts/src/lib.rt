@@ -12,6 +12,7 @@ mod options;
 mod output_file;
 mod ranges;
 mod reason;
+mod run_words;
 mod stops;
 mod system_words;
 mod window_text;
@@ -21,13 +22,14 @@ pub use application::Application;
 pub use entry::{asked, program};
 pub use input::open_input;
 pub use misfit::Misfit;
-pub use numbers::{copied, number_for, pairs_asked, rule_asked, workers_asked};
+pub use numbers::{copied, number_for, rule_asked};
 pub use options::{
     file_argument, generation_option, long_option, node_option, number_option, rule_option,
     short_option, worker_option,
 };
 pub use output_file::OutputFile;
 pub use reason::WordsReason;
+pub use run_words::run_numbers;
 pub use system_words::start;
 pub use window_text::{WindowNumbers, window_numbers};
 pub use words::{WordsFault, tell_no_words};

@@ -27,7 +27,7 @@ pub fn number_for(matches: &ArgMatches<'_>, name: &str) -> Result<u64, WordsReas
 }
 
 /// The most pair slots that the tables may have. `Unfit` with `Nodes` if the number is no power of two from 2^10 to 2^28.
-pub fn pairs_asked(matches: &ArgMatches<'_>) -> Result<u32, WordsReason>
+pub(crate) fn pairs_asked(matches: &ArgMatches<'_>) -> Result<u32, WordsReason>
     ensures ok { IfOk result (IsPairNumber (one_text (found_of matches.now) (codes "nodes"))) }
     ensures err { IfErr result (IsUnfit Misfit.Nodes
         (IsPairNumber (one_text (found_of matches.now) (codes "nodes")))) }
@@ -42,7 +42,7 @@ pub fn pairs_asked(matches: &ArgMatches<'_>) -> Result<u32, WordsReason>
 }
 
 /// How many workers run. `Unfit` with `Other` if it is not from 1 to 64.
-pub fn workers_asked(matches: &ArgMatches<'_>) -> Result<usize, WordsReason>
+pub(crate) fn workers_asked(matches: &ArgMatches<'_>) -> Result<usize, WordsReason>
     ensures ok { IfOk result (IsWorkerNumber (one_text (found_of matches.now) (codes "workers"))) }
     ensures err { IfErr result (IsUnfit Misfit.Other
         (IsWorkerNumber (one_text (found_of matches.now) (codes "workers")))) }

@@ -1,4 +1,3 @@
-mod AskedWords
 mod Endings
 mod PictureLines
 mod ShownBoxes

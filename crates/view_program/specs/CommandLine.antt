@@ -6,14 +6,13 @@ use Rattle.clap.specs.declared.builder.value_parser.ValueParser.TheVariants as p
 use Rattle.plane.specs.Window.{Rectangle}
 use Rattle.plane.specs.declared.cell.Bounds.{Bounds}
 use Rattle.pattern_picture.specs.Scale.{IsShown, IsSize}
-use Rattle.program_parts.specs.Asking.{CommandLine, IsFaultOf, IsReasonOf, text_in, value_in}
+use Rattle.program_parts.specs.Asking.{CommandLine, text_in, value_in}
 use Rattle.program_parts.specs.OptionRules.{file_argument, generation_option, node_option, rule_option, valued, valued_in_short, window_option, worker_option}
-use Rattle.program_parts.specs.Values.{IsAskedRule, IsNumber, IsPairNumber, IsWorkerNumber}
+use Rattle.program_parts.specs.RunWords.{AreFitNumbers, AreUnfitNodes, AskForRun}
+use Rattle.program_parts.specs.Values.{IsNumber}
 use Rattle.program_parts.specs.WindowText.{IsFitWindow, WritesWindow}
 use Rattle.program_parts.specs.declared.misfit.Misfit.{Misfit}
 use Rattle.program_parts.specs.declared.misfit.Misfit.TheVariants.{Ending, Window, Nodes, Other}
-use Rattle.program_parts.specs.declared.reason.WordsReason.{WordsReason}
-use Rattle.program_parts.specs.declared.words.WordsFault.{WordsFault}
 use Rattle.view_program.specs.Shown.{sides_of}
 use Rattle.view_program.specs.declared.request.Asked.{Asked}
 
@@ -59,34 +58,29 @@ IsAskedRectangle (Some text) window =
 -- the words are of the form, and ask for this
 pub record AsksFor (words : List Text) (asked : Asked) : Type 0 where
   pub form : fault_of command_form words ≡ []
-  pub gens : IsNumber (value_for (codes "generation") words) asked.view.run.gens
+  pub run : AskForRun command_form words asked.view.run
   pub file : text_for (codes "file") words ≡ Some (string_bytes asked.file)
   pub output : text_for (codes "output") words ≡ Some (string_bytes asked.output)
   pub name : IsFitName (string_bytes asked.output)
-  pub rule : IsAskedRule (text_for (codes "rule") words) asked.view.run.rule
   pub window : IsAskedRectangle (text_for (codes "window") words) asked.view.window
   pub size : IsSizeNumber (value_for (codes "size") words) asked.view.size
-  pub pairs : IsPairNumber (value_for (codes "nodes") words) asked.view.run.pairs
-  pub workers : IsWorkerNumber (value_for (codes "workers") words) asked.view.run.workers
 
 -- ---- faults of the words
 
 -- the words have values that are fit: numbers, of which those of nodes, workers and size are such, a FILE, a NAME that ends
 -- with .png, and a window of four numbers, if there is one
 pub record IsFit (words : List Text) : Type 0 where
-  pub gens : (number : ℕ) × IsNumber (value_for (codes "generation") words) number
+  pub run : AreFitNumbers command_form words
   pub file : (name : Text) × (text_for (codes "file") words ≡ Some name)
   pub output : (name : Text) × (text_for (codes "output") words ≡ Some name) × IsFitName name
   pub window : IsFitWindow 64 (text_for (codes "window") words)
   pub size : (size : ℕ) × IsSizeNumber (value_for (codes "size") words) size
-  pub pairs : (pairs : ℕ) × IsPairNumber (value_for (codes "nodes") words) pairs
-  pub workers : (workers : ℕ) × IsWorkerNumber (value_for (codes "workers") words) workers
 
 -- this value is not fit
 abbrev pub IsMisfit : List Text → Misfit → Type 0
 IsMisfit words (Ending endings) = (name : Text) → text_for (codes "output") words ≡ Some name → IsFitName name → ⊥
 IsMisfit words Window = IsFitWindow 64 (text_for (codes "window") words) → ⊥
-IsMisfit words Nodes = (pairs : ℕ) → IsPairNumber (value_for (codes "nodes") words) pairs → ⊥
+IsMisfit words Nodes = AreUnfitNodes command_form words
 IsMisfit words Other = IsFit words → ⊥
 
 -- the text that is given has the numbers of no rectangle that can be shown
@@ -97,11 +91,3 @@ IsRefusedWindow (Some text) = (given : Rectangle) × WritesWindow 64 text given 
 -- the form of the words, and the values that are fit
 abbrev pub command_line : CommandLine
 command_line = record { form = command_form; IsFit = IsFit; IsMisfit = IsMisfit; IsRefusedWindow = IsRefusedWindow }
-
--- why words ask for no picture
-abbrev pub IsWordsFault : List Text → WordsFault → Type 0
-IsWordsFault words fault = IsFaultOf command_line words fault
-
--- the same, with the value that is not fit
-abbrev pub IsWordsReason : List Text → WordsReason → Type 0
-IsWordsReason words reason = IsReasonOf command_line words reason

@@ -18,5 +18,5 @@ form_is_free = refl
 pub unfit : (words : List Text) (misfit : Misfit) → IsMisfit words misfit → IsFit words → ⊥
 unfit words (Ending endings) is fit = is fit.output.0 fit.output.1 fit.output.2
 unfit words Window is fit = is fit.window
-unfit words Nodes is fit = is fit.pairs.0 fit.pairs.1
+unfit words Nodes is fit = is fit.run.0.pairs fit.run.1.pairs
 unfit words Other is fit = is fit

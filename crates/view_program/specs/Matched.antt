@@ -1,15 +1,10 @@
 -- What words ask for, as clap has matched them.
 use Rattle.std.specs.Prelude.{◌≡◌, List, codes, string_bytes, Some}
 use Rattle.clap.specs.Words.{Text}
-use Rattle.clap.specs.declared.parser.matches.ArgMatches.{ArgMatches}
-use Rattle.program_parts.specs.Asking.{AreMatchesIn, HasText}
+use Rattle.program_parts.specs.Asking.{HasText}
 use Rattle.view_program.specs.CommandLine.{AsksFor, IsFitName, command_form, text_for}
 use Rattle.view_program.specs.declared.request.Asked.{Asked}
 use Rattle.view_program.specs.declared.request.View.{View}
-
--- the words are of the form, and clap has found this in them
-abbrev pub AreMatchesOf : List Text → ArgMatches → Type 0
-AreMatchesOf words matches = AreMatchesIn command_form words matches
 
 -- the words name a file, and a picture whose name is fit
 pub record HasFiles (words : List Text) : Type 0 where

@@ -2,10 +2,10 @@
 
 ghost use Rattle.std.specs.Prelude.{◌↔◌, List, codes, IfOk, IfErr, IsTrue};
 ghost use Rattle.clap.specs.Words.{Text, found_of, one_text};
-ghost use Rattle.program_parts.specs.Asking.{texts_of};
+ghost use Rattle.program_parts.specs.Asking.{AreMatchesIn, IsFaultOf, IsReasonOf, texts_of};
 ghost use Rattle.program_parts.specs.Values.{IsUnfit};
-ghost use Rattle.view_program.specs.Matched.{AreMatchesOf, AskForView, HasFiles};
-ghost use Rattle.view_program.specs.CommandLine.{AsksFor, IsFitName, IsSizeNumber, IsWordsFault, IsWordsReason};
+ghost use Rattle.view_program.specs.Matched.{AskForView, HasFiles};
+ghost use Rattle.view_program.specs.CommandLine.{AsksFor, IsFitName, IsSizeNumber, command_form, command_line};
 
 use crate::application::Lifeview;
 use crate::names::ENDING;
@@ -14,8 +14,7 @@ use crate::shown::window_asked;
 use clap::ArgMatches;
 use engine::RunOptions;
 use program_parts::{
-    Misfit, WordsFault, WordsReason, number_for, pairs_asked, rule_asked, window_numbers,
-    workers_asked,
+    Misfit, WordsFault, WordsReason, number_for, rule_asked, run_numbers, window_numbers,
 };
 use std::alloc::Global;
 
@@ -26,17 +25,17 @@ use std::alloc::Global;
 /// with `NoMemory`.
 pub fn asked<'a>(alloc: Global, words: &'a [&'a str]) -> Result<Asked, WordsFault>
     ensures asks { IfOk result (AsksFor (texts_of words.entry.now)) }
-    ensures faults { IfErr result (IsWordsFault (texts_of words.entry.now)) }
+    ensures faults { IfErr result (IsFaultOf command_line (texts_of words.entry.now)) }
 {
     program_parts::asked::<Lifeview>(alloc, words)
 }
 
 // What words ask for, by the matches that clap has found in them.
 pub(crate) fn asked_by(alloc: Global, matches: &ArgMatches<'_>) -> Result<Asked, WordsReason>
-    ensures asks { (words : List Text) → AreMatchesOf words matches.now →
+    ensures asks { (words : List Text) → AreMatchesIn command_form words matches.now →
         IfOk result (AsksFor words) }
-    ensures faults { (words : List Text) → AreMatchesOf words matches.now →
-        IfErr result (IsWordsReason words) }
+    ensures faults { (words : List Text) → AreMatchesIn command_form words matches.now →
+        IfErr result (IsReasonOf command_line words) }
 {
     let Some(file) = matches.get_str("file") else {
         return Err(WordsReason::Unfit(Misfit::Other));
@@ -57,25 +56,18 @@ pub(crate) fn asked_by(alloc: Global, matches: &ArgMatches<'_>) -> Result<Asked,
 
 // What is drawn by the words, which name a file, and a picture whose name is fit.
 fn view_by(matches: &ArgMatches<'_>) -> Result<View, WordsReason>
-    ensures asks { (words : List Text) → AreMatchesOf words matches.now →
+    ensures asks { (words : List Text) → AreMatchesIn command_form words matches.now →
         IfOk result (AskForView words) }
-    ensures faults { (words : List Text) → AreMatchesOf words matches.now →
-        HasFiles words → IfErr result (IsWordsReason words) }
+    ensures faults { (words : List Text) → AreMatchesIn command_form words matches.now →
+        HasFiles words → IfErr result (IsReasonOf command_line words) }
 {
-    let gens = number_for(matches, "generation")?;
-    let pairs = pairs_asked(matches)?;
-    let workers = workers_asked(matches)?;
+    let run = run_numbers(matches)?;
     let size = size_asked(matches)?;
     let numbers = window_numbers(matches.get_str("window"))?;
     let rule = rule_asked(matches.get_str("rule"))?;
     let window = window_asked(numbers)?;
     Ok(View {
-        run: RunOptions {
-            gens,
-            rule,
-            pairs,
-            workers,
-        },
+        run: RunOptions { rule, ..run },
         window,
         size,
     })

@@ -1,18 +1,19 @@
 use Rattle.std.proofs.Common.{◌≡◌, ◌∙◌, Err, Some, codes, rules, sym, ap}
-use Rattle.batch_program.proofs.AskedWords.{text_matched}
+use Rattle.program_parts.proofs.AskedWords.{text_by}
+use Rattle.batch_program.specs.CommandLine.{command_form}
 use Rattle.batch_program.proofs.asking.asked_by.Goals as goal
 
 pub returns-in_default-clause-faults : goal.returns-in_default-clause-faults
-returns-in_default-clause-faults c = λ words are. (are.0, λ fit. let none = c.in_default.ensures ∙ text_matched words c.args.matches.now are (codes "file") ∙ fit.file.1 in cc)
+returns-in_default-clause-faults c = λ words are. (are.0, λ fit. let none = c.in_default.ensures ∙ text_by command_form words c.args.matches.now are (codes "file") ∙ fit.file.1 in cc)
 
 pub returns-in_err-options-clause-faults : goal.returns-in_err-options-clause-faults
 returns-in_err-options-clause-faults c = λ words are.
     let is : c.from_residual.result ≡ Err c.in_err-options.field-0.0 = search rules in
-    rw is (c.in_err-options.ensures.faults words are (c.in-Some.file.now, sym (text_matched words c.args.matches.now are (codes "file")) ∙ sym c.in-Some.ensures))
+    rw is (c.in_err-options.ensures.faults words are (c.in-Some.file.now, sym (text_by command_form words c.args.matches.now are (codes "file")) ∙ sym c.in-Some.ensures))
 
 pub returns-clause-asks : goal.returns-clause-asks
 returns-clause-asks c = λ words are.
-    let text = text_matched words c.args.matches.now are in
+    let text = text_by command_form words c.args.matches.now are in
     c.in_ok-options.ensures.asks words are (record { options = c.in_ok-options.options; file = c.in_ok-from_str.field-0; output = c.in_ok-copied.field-0 })
     (sym (text (codes "file")) ∙ sym c.in-Some.ensures ∙ ap Some (sym c.in_ok-from_str.ensures.ok))
     (sym (text (codes "output")) ∙ sym c.get_str-2.ensures ∙ sym c.in_ok-copied.ensures)

@@ -1,82 +1,68 @@
 use Rattle.std.proofs.Common.{◌≡◌, ◌∙◌, Err, codes, rules, subst, sym, inl, inr}
-use Rattle.batch_program.specs.CommandLine.{IsAskedWindow, IsFlag, IsFormat, IsRefusedWindow}
-use Rattle.program_parts.specs.Values.{IsAskedRule, IsNumber, IsPairNumber, IsRefusedRule, IsWorkerNumber}
+use Rattle.batch_program.specs.CommandLine.{IsAskedWindow, IsFlag, IsFormat, IsRefusedWindow, command_form}
+use Rattle.program_parts.specs.Values.{IsAskedRule, IsNumber, IsRefusedRule}
 use Rattle.program_parts.specs.WindowText.{IsFitWindow}
 use Rattle.program_parts.specs.declared.reason.WordsReason.TheVariants.{Refused}
-use Rattle.batch_program.proofs.AskedWords.{text_matched, value_matched}
+use Rattle.program_parts.proofs.AskedWords.{text_by, value_by}
 use Rattle.batch_program.proofs.WindowTexts.{asked_window, fit_window, refused_window}
 use Rattle.batch_program.proofs.asking.options_by.Goals as goal
 
-pub returns-in_err-gens-clause-faults : goal.returns-in_err-gens-clause-faults
-returns-in_err-gens-clause-faults c = λ words are file.
-    let value = value_matched words c.args.matches.now are in
-    let is : c.from_residual.result ≡ Err c.in_err-gens.field-0.0 = search rules in
-    rw (is, c.in_err-gens.ensures.err.0) (are.0, λ fit. c.in_err-gens.ensures.err.1 fit.gens.0 (subst (λ given. IsNumber given fit.gens.0) (sym (value (codes "generation"))) fit.gens.1))
+pub returns-in_err-run-clause-faults : goal.returns-in_err-run-clause-faults
+returns-in_err-run-clause-faults c = λ words are file.
+    let is : c.from_residual.result ≡ Err c.in_err-run.field-0.0 = search rules in
+    elim (c.in_err-run.ensures.err command_form words are) [
+      | inl nodes ↦ rw (is, nodes.0) (are.0, nodes.1)
+      | inr other ↦ rw (is, other.0) (are.0, λ fit. other.1 fit.run)
+    ]
 
 pub returns-in_err-step-clause-faults : goal.returns-in_err-step-clause-faults
 returns-in_err-step-clause-faults c = λ words are file.
-    let value = value_matched words c.args.matches.now are in
+    let value = value_by command_form words c.args.matches.now are in
     let is : c.from_residual-in_err-step.result ≡ Err c.in_err-step.field-0.0 = search rules in
     rw (is, c.in_err-step.ensures.err.0) (are.0, λ fit. c.in_err-step.ensures.err.1 fit.step.0 (subst (λ given. IsNumber given fit.step.0) (sym (value (codes "stepsize"))) fit.step.1))
 
-pub returns-in_err-pairs-clause-faults : goal.returns-in_err-pairs-clause-faults
-returns-in_err-pairs-clause-faults c = λ words are file.
-    let value = value_matched words c.args.matches.now are in
-    let is : c.from_residual-in_err-pairs.result ≡ Err c.in_err-pairs.field-0.0 = search rules in
-    rw (is, c.in_err-pairs.ensures.err.0) (are.0, λ pairs is_pairs. c.in_err-pairs.ensures.err.1 pairs (subst (λ given. IsPairNumber given pairs) (sym (value (codes "nodes"))) is_pairs))
-
-pub returns-in_err-workers-clause-faults : goal.returns-in_err-workers-clause-faults
-returns-in_err-workers-clause-faults c = λ words are file.
-    let value = value_matched words c.args.matches.now are in
-    let is : c.from_residual-in_err-workers.result ≡ Err c.in_err-workers.field-0.0 = search rules in
-    rw (is, c.in_err-workers.ensures.err.0) (are.0, λ fit. c.in_err-workers.ensures.err.1 fit.workers.0 (subst (λ given. IsWorkerNumber given fit.workers.0) (sym (value (codes "workers"))) fit.workers.1))
-
 pub returns-in_err-format-clause-faults : goal.returns-in_err-format-clause-faults
 returns-in_err-format-clause-faults c = λ words are file.
-    let text = text_matched words c.args.matches.now are in
+    let text = text_by command_form words c.args.matches.now are in
     let is : c.from_residual-in_err-format.result ≡ Err c.in_err-format.field-0.0 = search rules in
     rw (is, c.in_err-format.ensures.err.1) (are.0, λ format is_format. c.in_err-format.ensures.err.2 format (subst (λ name. IsFormat name format) (sym (c.get_str.ensures ∙ text (codes "output"))) is_format))
 
 pub returns-in_err-numbers-clause-faults : goal.returns-in_err-numbers-clause-faults
 returns-in_err-numbers-clause-faults c = λ words are file.
-    let text = text_matched words c.args.matches.now are in
+    let text = text_by command_form words c.args.matches.now are in
     let is : c.from_residual-in_err-numbers.result ≡ Err c.in_err-numbers.field-0.0 = search rules in
     rw (is, c.in_err-numbers.ensures.err.0) (are.0, λ fit. c.in_err-numbers.ensures.err.1 (subst (IsFitWindow 32) (sym (c.get_str-2.ensures ∙ text (codes "window"))) fit))
 
 pub returns-in_err-rule-clause-faults : goal.returns-in_err-rule-clause-faults
 returns-in_err-rule-clause-faults c = λ words are file.
-    let text = text_matched words c.args.matches.now are in
-    let value = value_matched words c.args.matches.now are in
+    let text = text_by command_form words c.args.matches.now are in
+    let value = value_by command_form words c.args.matches.now are in
     let is : c.from_residual-in_err-rule.result ≡ Err (Refused c.in_err-rule.field-0.0) = search rules in
     rw is (inr (inl (record {
       form = are.0;
       fit = record {
-        gens = (c.in_ok-gens.gens, subst (λ given. IsNumber given c.in_ok-gens.gens) (value (codes "generation")) c.in_ok-gens.ensures.ok);
+        run = (c.in_ok-run.run', c.in_ok-run.ensures.ok command_form words are);
         step = (c.in_ok-step.step, subst (λ given. IsNumber given c.in_ok-step.step) (value (codes "stepsize")) c.in_ok-step.ensures.ok);
         file = file;
         format = (c.in_ok-format.format, subst (λ name. IsFormat name c.in_ok-format.format) (c.get_str.ensures ∙ text (codes "output")) c.in_ok-format.ensures.ok);
         window = subst (IsFitWindow 32) (c.get_str-2.ensures ∙ text (codes "window")) (fit_window _ c.in_ok-numbers.numbers c.in_ok-numbers.ensures.ok);
-        pairs = (c.in_ok-pairs.pairs, subst (λ given. IsPairNumber given c.in_ok-pairs.pairs) (value (codes "nodes")) c.in_ok-pairs.ensures.ok);
-        workers = (c.in_ok-workers.workers, subst (λ given. IsWorkerNumber given c.in_ok-workers.workers) (value (codes "workers")) c.in_ok-workers.ensures.ok);
       };
       rule = subst (λ given. IsRefusedRule given c.in_err-rule.field-0.0) (c.get_str-3.ensures ∙ text (codes "rule")) c.in_err-rule.ensures.err;
     })))
 
 pub returns-in_err-window-clause-faults : goal.returns-in_err-window-clause-faults
 returns-in_err-window-clause-faults c = λ words are file.
-    let text = text_matched words c.args.matches.now are in
-    let value = value_matched words c.args.matches.now are in
+    let text = text_by command_form words c.args.matches.now are in
+    let value = value_by command_form words c.args.matches.now are in
     let is : c.from_residual-in_err-window.result ≡ Err (Refused c.in_err-window.field-0.0) = search rules in
     rw is (inr (inr (record {
       form = are.0;
       fit = record {
-        gens = (c.in_ok-gens.gens, subst (λ given. IsNumber given c.in_ok-gens.gens) (value (codes "generation")) c.in_ok-gens.ensures.ok);
+        run = (c.in_ok-run.run', c.in_ok-run.ensures.ok command_form words are);
         step = (c.in_ok-step.step, subst (λ given. IsNumber given c.in_ok-step.step) (value (codes "stepsize")) c.in_ok-step.ensures.ok);
         file = file;
         format = (c.in_ok-format.format, subst (λ name. IsFormat name c.in_ok-format.format) (c.get_str.ensures ∙ text (codes "output")) c.in_ok-format.ensures.ok);
         window = subst (IsFitWindow 32) (c.get_str-2.ensures ∙ text (codes "window")) (fit_window _ c.in_ok-numbers.numbers c.in_ok-numbers.ensures.ok);
-        pairs = (c.in_ok-pairs.pairs, subst (λ given. IsPairNumber given c.in_ok-pairs.pairs) (value (codes "nodes")) c.in_ok-pairs.ensures.ok);
-        workers = (c.in_ok-workers.workers, subst (λ given. IsWorkerNumber given c.in_ok-workers.workers) (value (codes "workers")) c.in_ok-workers.ensures.ok);
       };
       rule = (c.in_ok-rule.rule, subst (λ given. IsAskedRule given c.in_ok-rule.rule) (c.get_str-3.ensures ∙ text (codes "rule")) c.in_ok-rule.ensures.ok);
       window = subst IsRefusedWindow (c.get_str-2.ensures ∙ text (codes "window")) (refused_window _ c.in_ok-numbers.numbers c.in_ok-numbers.ensures.ok c.in_err-window.ensures.err.1);
@@ -85,18 +71,19 @@ returns-in_err-window-clause-faults c = λ words are file.
 
 pub returns-clause-asks : goal.returns-clause-asks
 returns-clause-asks c = λ words are asked file output.
-    let text = text_matched words c.args.matches.now are in
-    let value = value_matched words c.args.matches.now are in
+    let text = text_by command_form words c.args.matches.now are in
+    let value = value_by command_form words c.args.matches.now are in
+    let numbers = c.in_ok-run.ensures.ok command_form words are in
     record {
       form = are.0;
-      gens = subst (λ given. IsNumber given c.in_ok-gens.gens) (value (codes "generation")) c.in_ok-gens.ensures.ok;
+      run = record {
+        numbers = record { gens = numbers.gens; pairs = numbers.pairs; workers = numbers.workers };
+        rule = subst (λ given. IsAskedRule given c.in_ok-rule.rule) (c.get_str-3.ensures ∙ text (codes "rule")) c.in_ok-rule.ensures.ok;
+      };
       step = subst (λ given. IsNumber given c.in_ok-step.step) (value (codes "stepsize")) c.in_ok-step.ensures.ok;
       file = file;
       output = output;
       format = subst (λ name. IsFormat name c.in_ok-format.format) (c.get_str.ensures ∙ text (codes "output")) c.in_ok-format.ensures.ok;
-      rule = subst (λ given. IsAskedRule given c.in_ok-rule.rule) (c.get_str-3.ensures ∙ text (codes "rule")) c.in_ok-rule.ensures.ok;
       quiet = subst (λ given. IsFlag given c.is_set.result) (value (codes "quiet")) c.is_set.ensures;
       window = subst (λ given. IsAskedWindow given c.in_ok-window.window) (c.get_str-2.ensures ∙ text (codes "window")) (asked_window _ c.in_ok-numbers.numbers _ c.in_ok-numbers.ensures.ok c.in_ok-window.ensures.ok);
-      pairs = subst (λ given. IsPairNumber given c.in_ok-pairs.pairs) (value (codes "nodes")) c.in_ok-pairs.ensures.ok;
-      workers = subst (λ given. IsWorkerNumber given c.in_ok-workers.workers) (value (codes "workers")) c.in_ok-workers.ensures.ok;
     }

@@ -1,20 +1,20 @@
 use Rattle.std.proofs.Common.{◌≡◌, ◌∙◌, Err, Some, codes, rules, sym, subst, ap}
 use Rattle.std.specs.Prelude.{IsTrue}
-use Rattle.view_program.specs.CommandLine.{IsFitName}
-use Rattle.view_program.proofs.AskedWords.{text_matched}
+use Rattle.program_parts.proofs.AskedWords.{text_by}
+use Rattle.view_program.specs.CommandLine.{IsFitName, command_form}
 use Rattle.view_program.proofs.asking.asked_by.Goals as goal
 
 pub returns-in_default-clause-faults : goal.returns-in_default-clause-faults
-returns-in_default-clause-faults c = λ words are. (are.0, λ fit. let none = c.in_default.ensures ∙ text_matched words c.args.matches.now are (codes "file") ∙ fit.file.1 in cc)
+returns-in_default-clause-faults c = λ words are. (are.0, λ fit. let none = c.in_default.ensures ∙ text_by command_form words c.args.matches.now are (codes "file") ∙ fit.file.1 in cc)
 
 pub returns-in_default-get_str-clause-faults : goal.returns-in_default-get_str-clause-faults
-returns-in_default-get_str-clause-faults c = λ words are. (are.0, λ fit. let none = c.in_default-get_str.ensures ∙ text_matched words c.args.matches.now are (codes "output") ∙ fit.output.1 in cc)
+returns-in_default-get_str-clause-faults c = λ words are. (are.0, λ fit. let none = c.in_default-get_str.ensures ∙ text_by command_form words c.args.matches.now are (codes "output") ∙ fit.output.1 in cc)
 
 pub returns-then-not-is_fit_name-clause-faults : goal.returns-then-not-is_fit_name-clause-faults
 returns-then-not-is_fit_name-clause-faults c = λ words are. (
   are.0,
   λ name named fit.
-      let same = c.in-Some-get_str.ensures ∙ text_matched words c.args.matches.now are (codes "output") ∙ named in
+      let same = c.in-Some-get_str.ensures ∙ text_by command_form words c.args.matches.now are (codes "output") ∙ named in
       let is : name ≡ c.in-Some-get_str.output.now = cc in
       let yes : IsTrue c.is_fit_name.result = c.is_fit_name.ensures.1 (subst IsFitName is fit) in
       cc,
@@ -22,7 +22,7 @@ returns-then-not-is_fit_name-clause-faults c = λ words are. (
 
 pub returns-in_err-view-clause-faults : goal.returns-in_err-view-clause-faults
 returns-in_err-view-clause-faults c = λ words are.
-    let text = text_matched words c.args.matches.now are in
+    let text = text_by command_form words c.args.matches.now are in
     let is : c.from_residual.result ≡ Err c.in_err-view.field-0.0 = search rules in
     let fits : IsTrue c.is_fit_name.result = search rules in
     rw is (c.in_err-view.ensures.faults words are (record {
@@ -32,7 +32,7 @@ returns-in_err-view-clause-faults c = λ words are.
 
 pub returns-clause-asks : goal.returns-clause-asks
 returns-clause-asks c = λ words are.
-    let text = text_matched words c.args.matches.now are in
+    let text = text_by command_form words c.args.matches.now are in
     let fits : IsTrue c.is_fit_name.result = search rules in
     c.in_ok-view.ensures.asks words are (record { view = c.in_ok-view.view; file = c.in_ok-from_str.field-0; output = c.in_ok-from_str-2.field-0 })
     (sym (text (codes "file")) ∙ sym c.in-Some.ensures ∙ ap Some (sym c.in_ok-from_str.ensures.ok))
