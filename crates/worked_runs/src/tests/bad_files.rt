@@ -3,6 +3,7 @@
 use crate::tests::ended::Ended;
 use crate::tests::rows::{PLAIN, RLE, Row, assert_rows, assert_told};
 use plane::{Fault, Refusal};
+use sample_patterns::chain;
 use std::alloc::{AllocError, Global};
 use std::process::Abort;
 use std::sync::Wait;
@@ -136,18 +137,6 @@ fn runs_a_file_of_the_most_cells(rt: HostRuntime) -> Result<(), AllocError> {
     let text = "#CXRLE Pos=0,0 Gen=0\nx = 268435456, y = 1, rule = B3/S23\n268435456o!\n";
     assert_told(&rt, file, &end, (None, "0: 268435456\n", text));
     Ok(())
-}
-
-// A leaf, and above it a node a level, each with the one before it as its first quadrant, up to the last
-// line.
-fn chain(alloc: Global, last: &str) -> Result<String, AllocError> {
-    let mut text = String::from_str(alloc, "[M2]\n*$\n")?;
-    for level in 4..63u64 {
-        let line = format!(in alloc; "{level} {} 0 0 0\n", level - 3)?;
-        text.push_str(line.as_str())?;
-    }
-    text.push_str(last)?;
-    Ok(text)
 }
 
 // The last lines of chains, and how they run: the cell lies at (0,0), or where columns and rows begin.

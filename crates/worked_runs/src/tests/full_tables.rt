@@ -5,7 +5,6 @@ use crate::tests::accepted::{FAR_GLIDERS, LIMITS, LONG_ROWS, PATTERNS, STEPS};
 use crate::tests::ended::Ended;
 use crate::tests::full_squares::full_square;
 use crate::tests::macrocell::{self, WRITTEN};
-use crate::tests::many_leaves::many_leaves;
 use crate::tests::nodes::{FULL, GLIDER, REPORTED, SETTLED};
 use crate::tests::refused::REFUSED;
 use crate::tests::rows::{
@@ -13,6 +12,7 @@ use crate::tests::rows::{
     assert_whole_or_refused,
 };
 use plane::Refusal;
+use sample_patterns::many_leaves;
 use std::alloc::AllocError;
 use std::process::Abort;
 use std::sync::Wait;

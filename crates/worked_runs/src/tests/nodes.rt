@@ -1,12 +1,12 @@
 //! Tables of squares that may have few slots: runs that have room in them, and runs that are refused.
 
 use crate::tests::ended::Ended;
-use crate::tests::many_leaves::many_leaves;
 use crate::tests::rows::{
     FAR_GLIDER, FAR_REPLICATOR, PLAIN, R_PENTOMINO, RLE, Row, assert_rows, assert_told,
 };
 use engine::Options;
 use plane::{Fault, Refusal};
+use sample_patterns::many_leaves;
 use std::alloc::{AllocError, Global};
 use std::process::Abort;
 

@@ -9,6 +9,7 @@ use crate::tests::rows::assert_no_row;
 use hashlife_step::{Tally, future, pad, plan, step, trim};
 use plane::{CellSet, Refusal, reach};
 use rule_text::Rule;
+use sample_patterns::BLINKER_LEAVES;
 use squares::{Look, PlainBook, Sq, Squares, join_leaves};
 use std::alloc::Global;
 
@@ -178,14 +179,12 @@ fn future_twice(alloc: Global, exponent: u8, leaves: [u64; 4]) -> Result<(u64, u
     Ok((again, once, tally.expansions))
 }
 
-const BLINKER: [u64; 4] = [0x8000000000000000, 0x0300000000000000, 0, 0];
-
 // An exponent, a square of level 4, and the cells of its future and the tally after each time.
 const FUTURES: &[(u8, [u64; 4], (u64, u64, u64))] = &[
-    (0, BLINKER, (0x1010100000, 1, 1)),
-    (1, BLINKER, (0x38000000, 1, 1)),
-    (2, BLINKER, (0x38000000, 1, 1)),
-    (40, BLINKER, (0x38000000, 1, 1)),
+    (0, BLINKER_LEAVES, (0x1010100000, 1, 1)),
+    (1, BLINKER_LEAVES, (0x38000000, 1, 1)),
+    (2, BLINKER_LEAVES, (0x38000000, 1, 1)),
+    (40, BLINKER_LEAVES, (0x38000000, 1, 1)),
     (0, [0; 4], (0, 0, 0)),
 ];
 

@@ -5,10 +5,9 @@ use crate::tests::rows::assert_no_row;
 use leaf_kernels::{centre16, result16};
 use plane::Refusal;
 use rule_text::Rule;
+use sample_patterns::BLINKER_LEAVES;
 
 // Three live cells in a row in the middle of a square, and one live cell right of and below the middle.
-const BLINKER: [u64; 4] = [0x8000000000000000, 0x0300000000000000, 0, 0];
-
 const ONE_CELL: [u64; 4] = [0, 0, 0, 1];
 
 // A rule's text, a square, and its centre after one, two and four generations.
@@ -16,7 +15,11 @@ const RESULTS: &[(&str, [u64; 4], [u64; 3])] = &[
     ("B3/S23", [0; 4], [0, 0, 0]),
     ("B2/S34H", [0; 4], [0, 0, 0]),
     ("B13/S024V", [0; 4], [0, 0, 0]),
-    ("B3/S23", BLINKER, [0x1010100000, 0x38000000, 0x38000000]),
+    (
+        "B3/S23",
+        BLINKER_LEAVES,
+        [0x1010100000, 0x38000000, 0x38000000],
+    ),
     (
         "B1/SV",
         ONE_CELL,
@@ -59,7 +62,11 @@ fn results_of_worked_squares(rt: HostRuntime) {
 #[test]
 fn centres_of_worked_squares(rt: HostRuntime) {
     assert_eq!(rt;
-        [centre16(BLINKER), centre16(ONE_CELL), centre16([0; 4])],
+        [
+            centre16(BLINKER_LEAVES),
+            centre16(ONE_CELL),
+            centre16([0; 4])
+        ],
         [0x38000000, 0x1000000000, 0]
     );
 }

@@ -3,6 +3,7 @@
 use crate::tests::books::{book_of, square_round};
 use crate::tests::places::{Place, cells_at};
 use plane::{Cell, Refusal};
+use sample_patterns::BLINKER_LEAVES;
 use squares::{Num, PlainBook, Sq, Squares, centre, copy_square, join_leaves, runs_to_square};
 use std::alloc::Global;
 use std::test::Fail;
@@ -175,14 +176,12 @@ fn the_empty_square_has_a_result(rt: HostRuntime) -> Result<(), Fail> {
 }
 
 // Three live cells in a row in the middle of a square of level 4, and the leaf at its centre.
-const BLINKER: [u64; 4] = [0x8000000000000000, 0x0300000000000000, 0, 0];
-
 const BLINKER_CENTRE: u64 = 0x38000000;
 
 // The blinker's centre, and the square that it has to be.
 fn centre_and_wanted(alloc: Global) -> Result<(Sq, Sq), Refusal> {
     let mut book = life_book(alloc)?;
-    let blinker = join_leaves(&mut book, BLINKER)?;
+    let blinker = join_leaves(&mut book, BLINKER_LEAVES)?;
     let middle = centre(&mut book, blinker)?;
     Ok((middle, book.leaf(BLINKER_CENTRE)?))
 }

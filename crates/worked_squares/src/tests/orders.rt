@@ -6,11 +6,9 @@ ghost use Rattle.squares.specs.Book.{IsKnown};
 use crate::tests::books::book_of;
 use hashlife_step::{Tally, future_in_order, pad};
 use plane::Refusal;
+use sample_patterns::R_PENTOMINO_LEAVES;
 use squares::{PlainBook, Sq, Squares, copy_square, join_leaves};
 use std::alloc::Global;
-
-// The leaves of a square with the R-pentomino in its columns and rows 8 to 10.
-const R_PENTOMINO: [u64; 4] = [0, 0, 0, 0x20306];
 
 // The future of the padded R-pentomino.
 fn future_of_pentomino<S: Squares>(
@@ -20,7 +18,7 @@ fn future_of_pentomino<S: Squares>(
 ) -> Result<Sq, Refusal>
     ensures { IfOk result (λ sq. IsKnown (S.book book.new) sq.level sq) }
 {
-    let root = join_leaves(book, R_PENTOMINO)?;
+    let root = join_leaves(book, R_PENTOMINO_LEAVES)?;
     let padded = pad(book, root, 6)?;
     future_in_order(book, padded, order, tally)
 }

@@ -7,10 +7,11 @@ ghost use Rattle.viewport.specs.Blocks.{IsBlockRange};
 use crate::tests::books::{book_of, square_round};
 use crate::tests::places::{Place, cells_at};
 use crate::tests::views::shared;
+use pattern_picture::block_shades;
 use plane::Refusal;
 use squares::{Sq, Squares};
 use std::alloc::Global;
-use viewport::{Blocks, block_shades};
+use viewport::Blocks;
 
 const WHITE: u8 = 255;
 

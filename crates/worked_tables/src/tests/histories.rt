@@ -10,15 +10,15 @@ use table_growth::TableHistory;
 fn short_steps_have_one_worker(rt: HostRuntime) -> Result<(), Fail> {
     for (is_taken, expansions, bits, workers) in [
         (true, 16384, 10, 1),
-        (true, 16385, 10, 64),
-        (false, 1, 10, 64),
+        (true, 16385, 10, 4),
+        (false, 1, 10, 4),
         (true, 1, 17, 1),
-        (true, 1, 18, 64),
+        (true, 1, 18, 4),
     ] {
         let history = TableHistory::new().after_try(is_taken, expansions);
         let kept = history.for_new_table(bits);
         assert_eq!(rt;
-            (expansions, bits, kept.most_workers()),
+            (expansions, bits, kept.workers_of_next_step(4)),
             (expansions, bits, workers)
         );
     }

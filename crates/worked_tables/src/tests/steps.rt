@@ -9,6 +9,7 @@ use hashlife_step::{Tally, step};
 use node_table::Still;
 use plane::Refusal;
 use rule_text::Rule;
+use sample_patterns::R_PENTOMINO_LEAVES;
 use squares::{PlainBook, Sq, Squares, copy_square, join_leaves};
 use std::process::Abort;
 use std::test::Fail;
@@ -16,16 +17,13 @@ use std::test::Fail;
 // Room for a thousand generations of the R-pentomino.
 const PAIRS: u32 = 262144;
 
-// The leaves of a square with the R-pentomino in its columns and rows 8 to 10.
-pub(crate) const R_PENTOMINO: [u64; 4] = [0, 0, 0, 0x20306];
-
 // 2^10 generations of the R-pentomino.
 fn stepped<S: Squares>(book: &mut S, tally: &mut Tally) -> Result<Sq, Refusal>
     requires { (S.book book.old).exponent ≤ 62 }
     ensures known { IfOk result (λ sq. IsKnown (S.book book.new) sq.level sq) }
     ensures keeps { Keeps (S.book book.old) (S.book book.new) }
 {
-    let root = join_leaves(book, R_PENTOMINO)?;
+    let root = join_leaves(book, R_PENTOMINO_LEAVES)?;
     step(book, root, tally)
 }
 

@@ -5,18 +5,19 @@ ghost use Rattle.squares.specs.Book.{IsKnown, Keeps};
 ghost use Rattle.node_table.specs.Stills.{book_in};
 
 use crate::tests::leaves::make_leaves;
-use crate::tests::steps::R_PENTOMINO;
 use crate::tests::tables::{PAIRS, empty_table, open_table};
 use hashlife_step::{Tally, future, step};
-use node_sweep::{Finished, collect, enlarge, sweep};
+use node_sweep::{Finished, Keep, copy, sweep};
 use node_table::Still;
 use plane::Refusal;
 use rule_text::Rule;
+use sample_patterns::R_PENTOMINO_LEAVES;
 use squares::{PlainBook, Sq, Squares, copy_square, join_leaves};
 use std::alloc::Global;
 use std::process::Abort;
 use std::test::Fail;
 use table_core::Shape;
+use table_growth::COLLECTION_SHARES;
 use viewport::population;
 
 // What is made at a table, and which square of it is the root.
@@ -91,12 +92,12 @@ fn make<S: Squares>(book: &mut S, made: Made) -> Result<Sq, Refusal>
         Made::LargerLeaves => different_leaves(book, 8, 1),
         Made::Result { is_reached } => beside_result(book, is_reached),
         Made::Step => {
-            let root = join_leaves(book, R_PENTOMINO)?;
+            let root = join_leaves(book, R_PENTOMINO_LEAVES)?;
             step(book, root, &mut Tally { expansions: 0 })?;
             Ok(root)
         }
         Made::Stepped => {
-            let root = join_leaves(book, R_PENTOMINO)?;
+            let root = join_leaves(book, R_PENTOMINO_LEAVES)?;
             step(book, root, &mut Tally { expansions: 0 })
         }
     }
@@ -150,9 +151,9 @@ fn all_leaves_of_256_stay(rt: HostRuntime) -> Result<(), Fail> {
     let (words, root) = words_of(&rt, Made::OneLeafOfMany, PAIRS, 5)?;
     for (pairs, more) in [(PAIRS, 0), (2 * PAIRS, 1)] {
         assert!(rt; Shape::is_pair_count(pairs));
-        let (larger, copy) = enlarge(rt.alloc(), &words, root, pairs)?;
-        assert!(rt; are_same(rt.alloc(), (&words, root), (&larger, copy))?);
-        let (table, desk) = open_table(rt.alloc(), larger, Rule::read(b"B3/S23")?, 5)?;
+        let made = copy(rt.alloc(), &words, root, Keep::Everything, pairs)?;
+        assert!(rt; are_same(rt.alloc(), (&words, root), (&made.still, made.root))?);
+        let (table, desk) = open_table(rt.alloc(), made.still, Rule::read(b"B3/S23")?, 5)?;
         let mut at = table.at(desk);
         assert_eq!(rt; make_leaves(&mut at, 1, 256), 256);
         assert_eq!(rt; make_leaves(&mut at, 1000, 1000), more);
@@ -178,10 +179,10 @@ fn many_words_have_no_room(rt: HostRuntime) -> Result<(), Fail> {
     assert!(rt; Shape::is_pair_count(PAIRS));
     let refused = sweep(rt.alloc(), &words, root, PAIRS).map(|swept| swept.1);
     assert_eq!(rt; refused, Err(Refusal::NodesFull));
-    let refused = enlarge(rt.alloc(), &words, root, PAIRS).map(|made| made.1);
-    assert_eq!(rt; refused, Err(Refusal::NodesFull));
-    let refused = collect(rt.alloc(), &words, root, PAIRS).map(|made| made.root);
-    assert_eq!(rt; refused, Err(Refusal::NodesFull));
+    for keep in [Keep::Everything, Keep::Collected(COLLECTION_SHARES)] {
+        let refused = copy(rt.alloc(), &words, root, keep, PAIRS).map(|made| made.root);
+        assert_eq!(rt; refused, Err(Refusal::NodesFull));
+    }
     let (fresh, same) = words_of(&rt, Made::LargerLeaves, 16 * PAIRS, 5)?;
     assert!(rt; are_same(rt.alloc(), (&words, root), (&fresh, same))?);
     Ok(())
@@ -243,10 +244,11 @@ fn a_step_is_recalled_after_a_collection(rt: HostRuntime) -> Result<(), Fail> {
     let (words, root) = words_of(&rt, Made::Step, 262144, 10)?;
     for pairs in [131072, 262144] {
         assert!(rt; Shape::is_pair_count(pairs));
-        let collected = collect(rt.alloc(), &words, root, pairs)?;
+        let keep = Keep::Collected(COLLECTION_SHARES);
+        let collected = copy(rt.alloc(), &words, root, keep, pairs)?;
         assert_eq!(rt; expanded_at(&rt, collected.still, collected.root)?, (0, 5));
-        let (swept, copy) = sweep(rt.alloc(), &words, root, pairs)?;
-        let (expansions, count) = expanded_at(&rt, swept, copy)?;
+        let (swept, swept_root) = sweep(rt.alloc(), &words, root, pairs)?;
+        let (expansions, count) = expanded_at(&rt, swept, swept_root)?;
         assert!(rt; expansions > 0);
         assert_eq!(rt; count, 5);
     }
@@ -257,14 +259,16 @@ fn a_step_is_recalled_after_a_collection(rt: HostRuntime) -> Result<(), Fail> {
 pub(crate) fn finished_after_step(rt: &(impl Abort + AllocGlobal)) -> Result<Finished, Fail> {
     let (words, root) = words_of(rt, Made::Step, 262144, 10)?;
     assert!(rt; Shape::is_pair_count(262144));
-    Ok(collect(rt.alloc(), &words, root, 262144)?.finished)
+    let keep = Keep::Collected(COLLECTION_SHARES);
+    let collected = copy(rt.alloc(), &words, root, keep, 262144)?;
+    Ok(collected.finished.ok_or(Refusal::NodesFull)?)
 }
 
 fn step_again<S: Squares>(book: &mut S) -> Result<u64, Refusal>
     requires { (S.book book.old).exponent ≤ 62 }
 {
     let mut tally = Tally { expansions: 0 };
-    let root = join_leaves(book, R_PENTOMINO)?;
+    let root = join_leaves(book, R_PENTOMINO_LEAVES)?;
     step(book, root, &mut tally)?;
     Ok(tally.expansions)
 }
@@ -274,7 +278,7 @@ fn step_again<S: Squares>(book: &mut S) -> Result<u64, Refusal>
 fn a_step_is_recalled_in_a_larger_table(rt: HostRuntime) -> Result<(), Fail> {
     let (words, root) = words_of(&rt, Made::Step, 262144, 10)?;
     assert!(rt; Shape::is_pair_count(524288));
-    let (larger, _) = enlarge(rt.alloc(), &words, root, 524288)?;
+    let larger = copy(rt.alloc(), &words, root, Keep::Everything, 524288)?.still;
     let (table, desk) = open_table(rt.alloc(), larger, Rule::read(b"B3/S23")?, 10)?;
     let mut at = table.at(desk);
     assert!(rt; at.exponent() <= 62);

@@ -12,7 +12,7 @@ ghost use Rattle.squares.specs.Book.{IsKnown};
 
 use crate::tests::glider::{glider_and_future, glider_and_result};
 use crate::tests::tables::{PAIRS, open_table};
-use node_sweep::{enlarge, sweep};
+use node_sweep::{Keep, copy, sweep};
 use node_table::{Desk, NodeTable, Still};
 use plane::Refusal;
 use rule_text::Rule;
@@ -20,6 +20,7 @@ use squares::Sq;
 use std::process::Abort;
 use std::test::Fail;
 use table_core::Shape;
+use table_growth::COLLECTION_SHARES;
 
 // A running table of these words. Where memory was wanting, it is opened at the second try, with the
 // words that came back from the first.
@@ -85,12 +86,9 @@ fn words_come_back_for_want_of_memory(rt: HostRuntime) -> Result<(), Fail> {
 }
 
 // The fresh words, where there was memory for them.
-fn copied<R: Abort + Print>(
-    rt: &R,
-    first: Result<(Still, Sq), Refusal>,
-) -> Result<Option<Still>, Fail> {
+fn copied<R: Abort + Print>(rt: &R, first: Result<Still, Refusal>) -> Result<Option<Still>, Fail> {
     match first {
-        Ok((copy, _)) => Ok(Some(copy)),
+        Ok(copy) => Ok(Some(copy)),
         Err(refusal) => {
             assert_eq!(rt; refusal, Refusal::NoMemory);
             println!(rt; "not copied")?;
@@ -106,9 +104,15 @@ fn words_stay_for_want_of_memory(rt: HostRuntime) -> Result<(), Fail> {
     };
     let (words, sq, later) = words_with_future(&rt, still)?;
     assert!(rt; Shape::is_pair_count(PAIRS));
-    let swept = copied(&rt, sweep(rt.alloc(), &words, sq, PAIRS))?;
-    let enlarged = copied(&rt, enlarge(rt.alloc(), &words, sq, PAIRS))?;
-    assert!(rt; swept.is_some() || enlarged.is_some());
+    let swept = sweep(rt.alloc(), &words, sq, PAIRS).map(|made| made.0);
+    let swept = copied(&rt, swept)?;
+    let keep = Keep::Everything;
+    let enlarged = copy(rt.alloc(), &words, sq, keep, PAIRS).map(|made| made.still);
+    let enlarged = copied(&rt, enlarged)?;
+    let keep = Keep::Collected(COLLECTION_SHARES);
+    let collected = copy(rt.alloc(), &words, sq, keep, PAIRS).map(|made| made.still);
+    let collected = copied(&rt, collected)?;
+    assert!(rt; swept.is_some() || enlarged.is_some() || collected.is_some());
     let (table, desk) = opened(&rt, words, 2)?;
     assert_eq!(rt; glider_and_result(&mut table.at(desk))?, (sq, Some(later)));
     Ok(())

@@ -4,6 +4,7 @@ use super::assert_none;
 use super::macrocell_texts::refused;
 use macrocell_reader::{McFile, Node, NodeLine, NodeLines};
 use plane::Refusal;
+use sample_patterns::chain;
 use std::alloc::{AllocError, Global};
 
 /// The node lines of a text, which stay when the file is gone, if it is accepted.
@@ -126,18 +127,6 @@ fn outcome(alloc: Global, text: &str) -> (Option<(Refusal, u64)>, u64) {
         }
     }
     (refused(alloc, text), count)
-}
-
-/// A leaf, and above it one node a level, each with the one before it as its first quadrant, up to the
-/// last line.
-fn chain(alloc: Global, last: &str) -> Result<String, AllocError> {
-    let mut text = String::from_str(alloc, "[M2]\n*$\n")?;
-    for level in 4..63u64 {
-        let line = format!(in alloc; "{level} {} 0 0 0\n", level - 3)?;
-        text.push_str(line.as_str())?;
-    }
-    text.push_str(last)?;
-    Ok(text)
 }
 
 /// The last lines of chains, and what comes out: the refusal and how many node lines there are.

@@ -6,12 +6,12 @@ ghost use Rattle.node_table.specs.Desks.{IsDeskOf, book_at};
 ghost use Rattle.node_table.specs.Stills.{book_in};
 ghost use Rattle.worker_split.specs.Jobs.{IsJob};
 
-use crate::tests::steps::R_PENTOMINO;
 use crate::tests::tables::empty_table;
 use hashlife_step::{Tally, future, pad};
 use node_table::{Desk, NodeTable, Still};
 use plane::Refusal;
 use rule_text::Rule;
+use sample_patterns::R_PENTOMINO_LEAVES;
 use squares::{PlainBook, Sq, Squares, copy_square, join_leaves};
 use std::process::Abort;
 use std::sync::Wait;
@@ -24,7 +24,7 @@ fn padded<S: Squares>(book: &mut S) -> Result<Sq, Refusal>
     ensures known { IfOk result (IsJob (S.book book.new)) }
     ensures keeps { Keeps (S.book book.old) (S.book book.new) }
 {
-    let sq = join_leaves(book, R_PENTOMINO)?;
+    let sq = join_leaves(book, R_PENTOMINO_LEAVES)?;
     pad(book, sq, 9)
 }
 

@@ -2,12 +2,10 @@
 
 use crate::tests::rounds::jobs_of_leaves::{jobs_at, leaves_of};
 use crate::tests::tables::{PAIRS, empty_table};
+use sample_patterns::BLINKER_LEAVES;
 use std::sync::atomic::{AtomicU64, Ordering};
 use std::test::Fail;
 use worker_split::{Gate, OpenGate, round};
-
-// The leaves of a square with a blinker on its columns 7 to 9, in row 7.
-pub(crate) const BLINKER: [u64; 4] = [0x8000000000000000, 0x0300000000000000, 0, 0];
 
 #[test]
 fn no_jobs_give_no_futures(rt: HostRuntime) -> Result<(), Fail> {
@@ -21,7 +19,7 @@ fn no_jobs_give_no_futures(rt: HostRuntime) -> Result<(), Fail> {
 #[test]
 fn a_blinker_takes_one_expansion(rt: HostRuntime) -> Result<(), Fail> {
     let (table, desk) = empty_table(rt.alloc(), PAIRS, 0)?;
-    let (desk, jobs) = jobs_at(rt.alloc(), &table, desk, &[BLINKER]);
+    let (desk, jobs) = jobs_at(rt.alloc(), &table, desk, &[BLINKER_LEAVES]);
     let jobs = jobs?;
     let (desk, futures) = round(&rt, rt.alloc(), &table, desk, jobs.as_slice(), 1, &OpenGate);
     assert_eq!(rt; futures?.len(), 1);
