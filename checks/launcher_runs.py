@@ -142,6 +142,14 @@ def unknown_program(it: Repository) -> bool:
     return ran.returncode == 2 and "lifebatch, lifeview" in ran.stderr and it.logged() == []
 
 
+def without_the_kit(it: Repository) -> bool:
+    rt = it.folder / "bin" / "rt"
+    rt.write_text("#!/bin/sh\nexit 1\n")
+    status, out, err = it.run()
+    rt.write_text(f"#!/bin/sh\necho {it.folder}/START-HERE.md\n")
+    return (status, out) == (2, "") and err.count("the build failed: rt, ") == 1 and "Traceback" not in err and it.logged() == []
+
+
 def failed(it: Repository) -> bool:
     status, _, err = it.run(BAD="plane")
     return status == 2 and "error: plane is bad" in err and ": proved" not in err and bool(it.logged())
@@ -217,6 +225,7 @@ GROUPS: list[list[tuple[str, Callable[[Repository], bool]]]] = [
         ("on a terminal there is one line that moves", terminal),
     ],
     [
+        ("where rt fails one line says so, and the status is 2", without_the_kit),
         ("a crate that fails is named, and ends the call with status 2", failed),
         ("the next call resumes from the crates that are proved", goes_on),
         ("a newer file has its crate and those above it proved anew", newer),

@@ -28,13 +28,6 @@ from typing import Optional, Union
 
 ROOT = pathlib.Path(__file__).resolve().parent.parent
 PROGRAMS = ["lifebatch", "lifeview"]
-if sys.argv[1:] not in [[it] for it in PROGRAMS]:
-    print(f"build.py takes the name of a program, one of {', '.join(PROGRAMS)}", file=sys.stderr)
-    sys.exit(2)
-PROGRAM = sys.argv[1]
-# The program, and a file with the time at which the last successful build began.
-BUILT = ROOT / "crates" / PROGRAM / "out" / PROGRAM
-BEGAN = BUILT.with_suffix(".built")
 GIGABYTE = 10**9
 # The memory that a check takes with one job, and that each further job adds.
 MEMORY = 4 * GIGABYTE
@@ -55,10 +48,17 @@ Crates = dict[str, list[str]]
 Words = list[Union[str, pathlib.Path]]
 
 
+class Failed(Exception):
+    """Why nothing can be built, in one line."""
+
+
 @functools.cache
 def kit() -> pathlib.Path:
     """The folder of the kit."""
-    page = subprocess.run(["rt", "doc"], stdin=subprocess.DEVNULL, capture_output=True, text=True, check=True).stdout
+    try:
+        page = subprocess.run(["rt", "doc"], stdin=subprocess.DEVNULL, capture_output=True, text=True, check=True).stdout
+    except (OSError, subprocess.CalledProcessError) as error:
+        raise Failed(f"rt, the command of the Rattle kit, does not run: {error}") from error
     return pathlib.Path(page.strip()).parent
 
 
@@ -83,9 +83,12 @@ def crates_below(program: str) -> Crates:
     return {name: [it for it in below if it in listed] for name, below in listed.items() if name in needed}
 
 
-def all_below(name: str, crates: Crates) -> set[str]:
-    """The crates that this one uses, directly or through others."""
-    return {name for it in crates[name] for name in (it, *all_below(it, crates))}
+def all_below(crates: Crates) -> dict[str, set[str]]:
+    """For each crate those that it uses, directly or through others."""
+    found = {}
+    for name, below in crates.items():
+        found[name] = set(below).union(*(found[it] for it in below))
+    return found
 
 
 def chains(crates: Crates) -> dict[str, int]:
@@ -127,34 +130,58 @@ def sum_of(name: str) -> str:
     return hashlib.sha256("\n".join(said).encode()).hexdigest()
 
 
-def is_proved(name: str) -> bool:
-    made = BUILT if name == PROGRAM else library(name)
-    return made.exists() and sum_file(name).is_file() and sum_file(name).read_text() == sum_of(name)
+@dataclass(frozen=True)
+class Program:
+    name: str
+
+    @property
+    def built(self) -> pathlib.Path:
+        return folder(self.name) / "out" / self.name
+
+    @property
+    def new(self) -> pathlib.Path:
+        """The program until its help was tried."""
+        return self.built.with_suffix(".new")
+
+    @property
+    def began(self) -> pathlib.Path:
+        """A file with the time at which the last successful build began."""
+        return self.built.with_suffix(".built")
+
+    def is_proved(self, crate: str) -> bool:
+        made = self.built if crate == self.name else library(crate)
+        return made.exists() and sum_file(crate).is_file() and sum_file(crate).read_text() == sum_of(crate)
+
+    def tell(self, text: str, before: str = "") -> None:
+        print(f"{before}{self.name}: {text}", file=sys.stderr, flush=True)
 
 
-def words_of_check(name: str, crates: Crates, jobs: int) -> Words:
-    """The arguments for `rattle` that check a crate over the libraries below it."""
-    words = ["--crate-name", name, f"src/{'main' if name == PROGRAM else 'lib'}.rt", "--jobs", str(jobs)]
+def words_of_check(name: str, main: str, below: set[str], jobs: int) -> Words:
+    """The arguments for `rattle` that check a crate over the libraries of these crates below it."""
+    words = ["--crate-name", name, f"src/{main}.rt", "--jobs", str(jobs)]
     words += ["--antt-project", kit() / "rattle/logic/antt-project.json", "--logic-built", kit() / "logic_built"]
     words += ["-L", f"dependency={kit() / 'rlibs'}"]
     for it in ("std", *used_by()[name]):
-        words += ["--extern", f"{it}={library(it) if it in crates else kit() / 'rlibs' / f'{it}.rlib'}"]
-    for it in all_below(name, crates):
+        words += ["--extern", f"{it}={library(it) if it in below else kit() / 'rlibs' / f'{it}.rlib'}"]
+    for it in below:
         words += ["-L", f"dependency={library(it).parent}"]
     return words
 
 
-def commands_for(name: str, crates: Crates, jobs: int) -> list[Words]:
-    """The commands that prove a crate and write its library, or build the program and try its help."""
-    check = [kit() / "bin/rattle", "build", *words_of_check(name, crates, jobs)]
-    if name != PROGRAM:
-        return [[*check, "--statements", "-o", library(name)]]
-    compiled, linked, toolchain = BUILT.with_suffix(".o"), BUILT.with_suffix(".new"), ["--toolchain", kit() / "toolchain"]
+def commands_for_library(name: str, below: set[str], jobs: int) -> list[Words]:
+    """The command that proves a crate and writes its library."""
+    return [[kit() / "bin/rattle", "build", *words_of_check(name, "lib", below, jobs), "--statements", "-o", library(name)]]
+
+
+def commands_for_program(program: Program, below: set[str], jobs: int) -> list[Words]:
+    """The commands that prove and build a program and try its help."""
+    compiled, toolchain = program.built.with_suffix(".o"), ["--toolchain", kit() / "toolchain"]
     c_code = [kit() / "c/libos_c.a", kit() / "c/liblibc_c.a"]
+    check = [kit() / "bin/rattle", "build", *words_of_check(program.name, "main", below, jobs)]
     return [
         [*check, *toolchain, "--backend", "llvm", *processor(), "-o", compiled],
-        [kit() / "bin/rattle-link", "--target", TARGET, *toolchain, "-o", linked, compiled, *c_code],
-        [linked, "--help"],
+        [kit() / "bin/rattle-link", "--target", TARGET, *toolchain, "-o", program.new, compiled, *c_code],
+        [program.new, "--help"],
     ]
 
 
@@ -181,9 +208,7 @@ class Run:
         return status
 
     def keep(self) -> None:
-        """Keeps the result, for later builds too if no file has changed since this one began."""
-        if self.name == PROGRAM:
-            BUILT.with_suffix(".new").rename(BUILT)
+        """Keeps the result for later builds if no file has changed since this one began."""
         sum_of.cache_clear()
         if sum_of(self.name) == self.sum:
             sum_file(self.name).write_text(self.sum)
@@ -205,8 +230,8 @@ class Run:
 class Progress:
     """Shows what is being proved: on one line of a terminal, else on a line for each change."""
 
-    def __init__(self, crates: int):
-        self.of, self.began, self.shown = crates, time.monotonic(), None
+    def __init__(self, program: Program, crates: int):
+        self.program, self.of, self.began, self.shown = program, crates, time.monotonic(), None
         self.moves = sys.stderr.isatty()
         self.clear = "\r\x1b[K" if self.moves else ""
 
@@ -219,21 +244,24 @@ class Progress:
         if state == self.shown:
             return
         self.shown = state
-        text = f"{PROGRAM}: {done} of {self.of} crates proved after {self.clock()}, proving {', '.join(running)}"
+        text = f"{self.program.name}: {done} of {self.of} crates proved after {self.clock()}, proving {', '.join(running)}"
         if self.moves:
             text = text[: (os.get_terminal_size(2).columns or 80) - 1]
         print(f"{self.clear}{text}", end="" if self.moves else "\n", file=sys.stderr, flush=True)
 
     def tell(self, text: str) -> None:
-        print(f"{self.clear}{PROGRAM}: {text}", file=sys.stderr, flush=True)
+        self.program.tell(text, self.clear)
 
 
 @dataclass
 class Build:
+    program: Program
     crates: Crates
     cores: int
     memory: int
     progress: Progress
+    # For each crate those below it.
+    below: dict[str, set[str]]
     # For each crate the number of lines in the longest chain of crates from it to the program.
     chain: dict[str, int]
     running: dict[str, Run] = field(default_factory=dict)
@@ -246,8 +274,10 @@ class Build:
     def start(self, name: str, jobs: int, behind: list[str]) -> None:
         shutil.rmtree(library(name).parent, ignore_errors=True)
         library(name).parent.mkdir(parents=True)
-        commands = [[*behind, *command] for command in commands_for(name, self.crates, jobs)]
-        self.running[name] = Run(name, commands, jobs, self.sums[name])
+        below = self.below[name]
+        is_program = name == self.program.name
+        commands = commands_for_program(self.program, below, jobs) if is_program else commands_for_library(name, below, jobs)
+        self.running[name] = Run(name, [[*behind, *it] for it in commands], jobs, self.sums[name])
 
     def start_all(self, ready: list[str]) -> None:
         """Starts the crates that there is room for. The one with the longest chain of crates above it gets as many jobs as cores and memory
@@ -264,6 +294,8 @@ class Build:
         """Records a proved crate, or prints why it isn't proved and returns False."""
         run = self.running.pop(name)
         if status == 0:
+            if name == self.program.name:
+                self.program.new.rename(self.program.built)
             run.keep()
             self.done.add(name)
             return True
@@ -276,7 +308,7 @@ class Build:
     def run(self) -> bool:
         """Proves the crates that are not yet proved. Returns whether all are."""
         self.sums = {name: sum_of(name) for name in self.crates}
-        self.done.update(name for name in self.crates if is_proved(name))
+        self.done.update(name for name in self.crates if self.program.is_proved(name))
         left = sorted(self.crates.keys() - self.done, key=lambda name: -self.chain[name])
         while left or self.running:
             self.start_all([name for name in left if self.done.issuperset(self.crates[name])])
@@ -297,14 +329,14 @@ class Build:
             run.end()
 
 
-def locked(folders: Iterable[pathlib.Path]) -> list[int]:
+def locked(program: Program, folders: Iterable[pathlib.Path]) -> list[int]:
     """Locks these folders, as `rt` does, so that other builds and `rt` wait until this program ends."""
     held = [os.open(it, os.O_RDONLY) for it in sorted(folders)]
     for it in held:
         try:
             fcntl.flock(it, fcntl.LOCK_EX | fcntl.LOCK_NB)
         except BlockingIOError:
-            print(f"{PROGRAM}: waiting for another build to end", file=sys.stderr, flush=True)
+            program.tell("waiting for another build to end")
             fcntl.flock(it, fcntl.LOCK_EX)
     return held
 
@@ -320,21 +352,18 @@ def free_memory() -> int:
     return min(found)
 
 
-def main() -> int:
-    # Until a check runs, Ctrl-C just ends this program.
-    signal.signal(signal.SIGINT, signal.SIG_DFL)
+def build_program(program: Program) -> int:
+    """Proves and builds a program. Returns the exit status."""
     began = time.time()
-    crates = crates_below(PROGRAM)
+    crates = crates_below(program.name)
     cores, memory, disk = len(os.sched_getaffinity(0)), free_memory(), shutil.disk_usage(ROOT).free
-    print(
-        f"{PROGRAM}: proving and building the program first; this takes some minutes\n"
-        f"{PROGRAM}: it needs rt ({shutil.which('rt')}), {MEMORY // GIGABYTE} GB of memory ({memory // GIGABYTE} GB free)"
-        f" and {DISK // GIGABYTE} GB of disk ({disk // GIGABYTE} GB free), and uses all cores ({cores})",
-        file=sys.stderr,
-        flush=True,
+    program.tell("proving and building the program first; this takes some minutes")
+    program.tell(
+        f"it needs rt ({shutil.which('rt')}), {MEMORY // GIGABYTE} GB of memory ({memory // GIGABYTE} GB free)"
+        f" and {DISK // GIGABYTE} GB of disk ({disk // GIGABYTE} GB free), and uses all cores ({cores})"
     )
-    _held = locked([ROOT / "launcher", *map(folder, crates)])
-    build = Build(crates, cores, memory, Progress(len(crates)), chains(crates))
+    _held = locked(program, [ROOT / "launcher", *map(folder, crates)])
+    build = Build(program, crates, cores, memory, Progress(program, len(crates)), all_below(crates), chains(crates))
     for it in (signal.SIGINT, signal.SIGTERM, signal.SIGHUP):
         signal.signal(it, lambda number, _: setattr(build, "signal", number))
     try:
@@ -342,11 +371,25 @@ def main() -> int:
     finally:
         build.close()
     if is_built:
-        BEGAN.touch()
-        os.utime(BEGAN, (began, began))
+        program.began.touch()
+        os.utime(program.began, (began, began))
     what = "build interrupted; the next run resumes it" if build.signal else "the build failed"
     build.progress.tell(f"proved and built in {build.progress.clock()}" if is_built else what)
     return 0 if is_built else 128 + build.signal if build.signal else 2
+
+
+def main() -> int:
+    # Until a check runs, Ctrl-C just ends this program.
+    signal.signal(signal.SIGINT, signal.SIG_DFL)
+    if sys.argv[1:] not in [[it] for it in PROGRAMS]:
+        print(f"build.py takes the name of a program, one of {', '.join(PROGRAMS)}", file=sys.stderr)
+        return 2
+    program = Program(sys.argv[1])
+    try:
+        return build_program(program)
+    except (Failed, OSError) as error:
+        program.tell(f"the build failed: {error}")
+        return 2
 
 
 if __name__ == "__main__":
