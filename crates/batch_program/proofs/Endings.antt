@@ -1,12 +1,12 @@
 -- How a run ends, as the program tells it.
 use Rattle.std.proofs.Common.{◌≡◌, ◌∙◌, ◌⊎◌, ℕ, List, Option, None, Result, Ok, Err, arith, ap, ⊎_elim, inl, inr}
+use Rattle.plane.specs.Fault.{placeless}
+use Rattle.plane.specs.SinkChange.{SinkChange, Fails, IsUnfailed}
 use Rattle.plane.specs.declared.fault.Fault.{Fault}
 use Rattle.plane.specs.declared.refusal.Refusal.{Refusal}
 use Rattle.plane.specs.declared.refusal.Refusal.TheVariants.{WriteFailed}
-use Rattle.patterns.specs.Meaning.{placeless}
 use Rattle.engine.specs.Devices.{IsDoneWithAll, IsUnread, SourceChange}
 use Rattle.engine.specs.Run.{IsRun, HasEndedEarly}
-use Rattle.engine.specs.SinkChange.{SinkChange, Fails, IsUnfailed}
 use Rattle.engine.specs.declared.options.Options.{Options}
 use Rattle.engine.specs.declared.running.Summary.{Summary}
 use Rattle.batch_program.specs.Status.{HasRun, HasStoppedRun}

@@ -1,13 +1,13 @@
 -- What a run that words ask for ends with.
 use Rattle.std.specs.Prelude.{◌≡◌, ◌⊎◌, ℕ, List, Option, None, Ok, Err}
 use Rattle.std.specs.Io.KnownBytes.{Appends}
+use Rattle.plane.specs.Fault.{placeless}
 use Rattle.plane.specs.declared.fault.Fault.{Fault}
 use Rattle.plane.specs.declared.refusal.Refusal.TheVariants.{BoxTooLarge, NoMemory, ReadFailed, WriteFailed}
 use Rattle.engine.specs.Judgement.{Start, Judges}
 use Rattle.engine.specs.Run.{CanBeWritten, Finishes, IsAcceptedRun, IsStopped, IsTooLarge}
 use Rattle.engine.specs.declared.options.Options.{Options}
 use Rattle.engine.specs.declared.running.Summary.{Summary}
-use Rattle.patterns.specs.Meaning.{placeless}
 use Rattle.program_parts.specs.Behaviour.{Behaviour}
 use Rattle.batch_program.specs.CommandLine.{AsksFor, command_line}
 use Rattle.batch_program.specs.declared.request.Asked.{Asked}

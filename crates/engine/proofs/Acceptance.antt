@@ -4,8 +4,11 @@ use Rattle.std.specs.Io.KnownBytes.{Appends}
 use Rattle.std.proofs.KnownBytes.{Appends-nil}
 use Rattle.rule_text.specs.CountRule.{CountRule, IsRule}
 use Rattle.rule_text.specs.declared.fault.RuleFault.{RuleFault}
+use Rattle.plane.specs.Fault.{placeless}
 use Rattle.plane.specs.Plane.{Plane}
 use Rattle.plane.specs.Range.{StaysWithin}
+use Rattle.plane.specs.Refusal.{rule_refusal}
+use Rattle.plane.specs.SinkChange.{SinkChange}
 use Rattle.plane.specs.Square.{IsSame}
 use Rattle.plane.specs.declared.cell.Bounds.{Bounds}
 use Rattle.plane.specs.declared.fault.Fault.{Fault}
@@ -14,10 +17,9 @@ use Rattle.plane.specs.declared.refusal.Refusal.TheVariants.{NodesFull, NoMemory
 use Rattle.universe.specs.Tables.{HasFullTable}
 use Rattle.viewport.specs.BoundingBox.{HasBounds}
 use Rattle.engine.specs.Accepted.{KeepsToRange, IsAccepted, IsRefused, LeavesRange}
-use Rattle.engine.specs.Judgement.{ReadsRule, rule_refusal}
-use Rattle.patterns.specs.Meaning.{placeless, Meaning, is_macrocell, judged}
+use Rattle.engine.specs.Judgement.{ReadsRule}
+use Rattle.patterns.specs.Meaning.{Meaning, is_macrocell, judged}
 use Rattle.engine.specs.Run.{IsOutOfRoom, IsRun}
-use Rattle.engine.specs.SinkChange.{SinkChange}
 use Rattle.engine.specs.declared.options.Options.{Options}
 use Rattle.engine.proofs.Endings.{begun_none, listing_as, stays_as, stopped_early, unfailed_same}
 

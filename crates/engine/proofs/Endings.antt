@@ -6,9 +6,11 @@ use Rattle.std.specs.Option.{option_copied, unwrap_or}
 use Rattle.std.proofs.lemmas.List.{take_all}
 use Rattle.rule_text.specs.CountRule.{CountRule}
 use Rattle.plane.specs.Bounds.{bounds_of}
+use Rattle.plane.specs.Fault.{placeless}
 use Rattle.plane.specs.Listing.{IsListing}
 use Rattle.plane.specs.Centred.{IsSmallestLevel}
 use Rattle.plane.specs.Plane.{Plane, after}
+use Rattle.plane.specs.SinkChange.{SinkChange, IsUnfailed, Takes}
 use Rattle.plane.specs.Square.{IsSame}
 use Rattle.plane.specs.Range.{StaysWithin}
 use Rattle.plane.specs.declared.cell.Bounds.{Bounds}
@@ -16,7 +18,7 @@ use Rattle.plane.specs.declared.cell.Cell.{Cell}
 use Rattle.plane.specs.declared.fault.Fault.{Fault}
 use Rattle.plane.specs.declared.refusal.Refusal.{Refusal}
 use Rattle.plane.specs.declared.refusal.Refusal.TheVariants.{BoxTooLarge, NodesFull, NoMemory, WriteFailed}
-use Rattle.patterns.specs.Meaning.{Meaning, judged, placeless}
+use Rattle.patterns.specs.Meaning.{Meaning, judged}
 use Rattle.plane.specs.Device.{IsWriteRefusal}
 use Rattle.plane.proofs.Uniqueness.{one_listing_lem}
 use Rattle.engine.specs.FileText.{HasText, IsFileText, Exceeds, Fits, Writes}
@@ -26,7 +28,6 @@ use Rattle.engine.specs.Report.{AreLinesAfter, shown}
 use Rattle.engine.specs.Room.{IsStuckWithin}
 use Rattle.engine.specs.Drawing.{picture_of}
 use Rattle.engine.specs.Run.{CanBeWritten, IsBeginning, IsLast, IsReport, Finishes, HasBegun, HasFailedToWrite, HasFinished, HasEndedEarly, IsBegun, IsRun, IsStopped, IsOutOfRoom, last_generation}
-use Rattle.engine.specs.SinkChange.{SinkChange, IsUnfailed, Takes}
 use Rattle.engine.specs.declared.running.Summary.{Summary}
 use Rattle.engine.specs.declared.format.Format.{Format}
 use Rattle.engine.specs.declared.format.Format.TheVariants.{Rle, Macrocell}

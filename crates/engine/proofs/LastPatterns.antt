@@ -1,11 +1,12 @@
 -- How a run without a report ends.
 use Rattle.std.proofs.Common.{◌≡◌, ℕ, ◌+◌, List, [], subst, inr}
 use Rattle.rule_text.specs.CountRule.{CountRule}
+use Rattle.plane.specs.Fault.{placeless}
 use Rattle.plane.specs.Plane.{Plane, after}
 use Rattle.plane.specs.Square.{IsSame}
 use Rattle.plane.specs.declared.refusal.Refusal.{Refusal}
 use Rattle.plane.specs.declared.refusal.Refusal.TheVariants.{NodesFull}
-use Rattle.patterns.specs.Meaning.{Meaning, placeless}
+use Rattle.patterns.specs.Meaning.{Meaning}
 use Rattle.engine.specs.Accepted.{IsAccepted, IsRefused, SumsUp}
 use Rattle.engine.specs.Last.{EndsWith}
 use Rattle.engine.specs.Room.{IsStuckWithin}

@@ -1,8 +1,8 @@
 -- What reading a whole source leaves.
 use Rattle.std.specs.Prelude.{◌≡◌, ℕ, ◌⊎◌, List, Option, Result, Err, IfSome}
 use Rattle.std.specs.Io.KnownBytes.{Appends}
-use Rattle.patterns.specs.Meaning.{placeless}
 use Rattle.plane.specs.Device.{HasFailed}
+use Rattle.plane.specs.Fault.{placeless}
 use Rattle.plane.specs.declared.fault.Fault.{Fault}
 use Rattle.plane.specs.declared.refusal.Refusal.{Refusal}
 use Rattle.plane.specs.declared.refusal.Refusal.TheVariants.{NoMemory, ReadFailed}

@@ -4,25 +4,20 @@ use Rattle.std.specs.Option.{unwrap_or}
 use Rattle.rule_text.specs.CountRule.{CountRule}
 use Rattle.rule_text.specs.RuleText.{Reads}
 use Rattle.rule_text.specs.declared.fault.RuleFault.{RuleFault}
-use Rattle.rule_text.specs.declared.fault.RuleFault.TheVariants as fault
 use Rattle.plane.specs.Bounds.{bounds_of}
+use Rattle.plane.specs.Fault.{placeless}
 use Rattle.plane.specs.Listing.{IsListing}
 use Rattle.plane.specs.Range.{StaysWithin}
+use Rattle.plane.specs.Refusal.{rule_refusal}
 use Rattle.plane.specs.declared.cell.Cell.{Cell}
 use Rattle.plane.specs.declared.fault.Fault.{Fault}
-use Rattle.plane.specs.declared.refusal.Refusal.{Refusal}
-use Rattle.plane.specs.declared.refusal.Refusal.TheVariants.{BadRule, BirthOnZero, TooFar}
-use Rattle.patterns.specs.Meaning.{Meaning, judged, placeless}
+use Rattle.plane.specs.declared.refusal.Refusal.TheVariants.{TooFar}
+use Rattle.patterns.specs.Meaning.{Meaning, judged}
 use Rattle.engine.specs.declared.options.Options.{Options}
 
 -- the text of the file's rule: that of Life where it names none
 abbrev pub rule_text_of : Meaning → List ℕ
 rule_text_of meaning = unwrap_or meaning.rule (codes "B3/S23")
-
--- the refusal of a rule's fault
-abbrev pub rule_refusal : RuleFault → Refusal
-rule_refusal fault.BadRule = BadRule
-rule_refusal fault.BirthOnZero = BirthOnZero
 
 -- the rule of a run: the one that is given, or else that of the file, as its text is read
 abbrev pub ReadsRule : Option CountRule → Meaning → Result CountRule RuleFault → Type 0

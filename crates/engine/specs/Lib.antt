@@ -10,6 +10,5 @@ pub mod Report
 pub mod Room
 pub mod Run
 pub mod RunOptions
-pub mod SinkChange
 pub mod SummaryLine
 pub mod Workers

@@ -2,18 +2,19 @@
 use Rattle.std.specs.Prelude.{◌≡◌, ◌⊎◌, ℕ, ◌+◌, true, List, [], ◌++◌, length, take, None, Result, Ok, Err, IfOk, IfErr}
 use Rattle.rule_text.specs.CountRule.{CountRule}
 use Rattle.plane.specs.Bounds.{bounds_of}
+use Rattle.plane.specs.Fault.{placeless}
 use Rattle.plane.specs.Listing.{IsListing}
 use Rattle.plane.specs.Plane.{after}
+use Rattle.plane.specs.SinkChange.{SinkChange, Fails, IsUnfailed, Takes}
 use Rattle.plane.specs.declared.cell.Cell.{Cell}
 use Rattle.plane.specs.declared.fault.Fault.{Fault}
 use Rattle.plane.specs.declared.refusal.Refusal.{Refusal}
 use Rattle.plane.specs.declared.refusal.Refusal.TheVariants.{BoxTooLarge, NodesFull, NoMemory, WriteFailed}
-use Rattle.patterns.specs.Meaning.{Meaning, is_macrocell, judged, placeless}
+use Rattle.patterns.specs.Meaning.{Meaning, is_macrocell, judged}
 use Rattle.engine.specs.FileText.{HasText, IsFileText}
 use Rattle.engine.specs.Judgement.{Start, Judges, ReadsRule}
 use Rattle.engine.specs.Report.{AreLinesAfter, shown}
 use Rattle.engine.specs.Room.{IsStuckWithin}
-use Rattle.engine.specs.SinkChange.{SinkChange, Fails, IsUnfailed, Takes}
 use Rattle.engine.specs.Drawing.{picture_of}
 use Rattle.universe.specs.Tables.{HasFullTable}
 use Rattle.engine.specs.declared.running.Summary.{Summary}

@@ -1,7 +1,7 @@
 -- What says which run it is, and runs that have neither a report nor a file.
 use Rattle.std.specs.Prelude.{None, true}
+use Rattle.run_options.specs.declared.options.RunOptions.{RunOptions}
 use Rattle.engine.specs.declared.options.Options.{Options}
-use Rattle.engine.specs.declared.options.RunOptions.{RunOptions}
 
 -- the same run: it is quiet, and draws and writes nothing
 abbrev pub without_output : RunOptions → Options

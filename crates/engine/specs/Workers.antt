@@ -1,10 +1,6 @@
--- How many workers may run.
-use Rattle.std.specs.Prelude.{ℕ, ◌≤◌}
+-- The same run by another number of workers.
+use Rattle.std.specs.Prelude.{ℕ}
 use Rattle.engine.specs.declared.options.Options.{Options}
-
--- from 1 to 64
-abbrev pub IsWorkerCount : ℕ → Type 0
-IsWorkerCount workers = (1 ≤ workers) × (workers ≤ 64)
 
 -- the same options with so many workers, and tables of so many pair slots
 abbrev pub with_workers : (workers pairs : ℕ) → Options → Options

@@ -4,7 +4,8 @@ ghost use Rattle.std.specs.Prelude.{◌≡◌, ◌⊎◌, Some, Ok, Err, IfOk, I
 ghost use Rattle.rule_text.specs.CountRule.{IsRule};
 ghost use Rattle.rule_text.specs.declared.fault.RuleFault.{RuleFault};
 ghost use Rattle.engine.specs.Accepted.{KeepsToRange, IsAccepted, IsRefused, LeavesRange};
-ghost use Rattle.engine.specs.Judgement.{ReadsRule, rule_refusal};
+ghost use Rattle.plane.specs.Refusal.{rule_refusal};
+ghost use Rattle.engine.specs.Judgement.{ReadsRule};
 ghost use Rattle.engine.specs.Run.{IsOutOfRoom};
 ghost use Rattle.patterns.specs.PatternFile.{meaning_of};
 ghost use Rattle.table_core.specs.Sizes.{IsPairCount};
@@ -12,9 +13,8 @@ ghost use Rattle.universe.specs.Cells.{limit_of, live_cells, rule_of};
 ghost use Rattle.universe.specs.Tables.{HasFullTable};
 
 use crate::options::Options;
-use crate::rule_faults::rule_refusal;
 use patterns::PatternFile;
-use plane::{Fault, Refusal, reach};
+use plane::{Fault, Refusal, reach, rule_refusal};
 use rule_text::Rule;
 use std::alloc::Global;
 use universe::Universe;

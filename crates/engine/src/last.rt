@@ -1,18 +1,19 @@
 //! The last pattern of a run, for programs that look at it.
 
 ghost use Rattle.std.specs.Prelude.{IfErr, IfOk};
+ghost use Rattle.run_options.specs.Workers.{IsWorkerCount};
 ghost use Rattle.table_core.specs.Sizes.{IsPairCount};
 ghost use Rattle.engine.specs.Accepted.{IsRefused};
 ghost use Rattle.engine.specs.Last.{EndsWith};
 ghost use Rattle.engine.specs.Pattern.{plane_of};
 ghost use Rattle.engine.specs.RunOptions.{without_output};
-ghost use Rattle.engine.specs.Workers.{IsWorkerCount};
 
 use crate::accepted::judge;
-use crate::options::RunOptions;
+use crate::options::without_output;
 use crate::pattern::Pattern;
 use crate::running::{Summary, finish, team_of};
 use plane::Fault;
+use run_options::RunOptions;
 use std::alloc::Global;
 use std::sync::Wait;
 use std::thread::Threads;
@@ -37,7 +38,7 @@ pub fn last_pattern<R: Threads + Wait + Sync>(
     // It refuses what is not accepted, by its name and at its place, and else only where memory ran out or the tables are full.
     ensures refused { IfErr result (IsRefused bytes.now (without_output run.now)) }
 {
-    let options = run.without_output();
+    let options = without_output(run);
     let begun = judge(alloc, bytes, &options)?;
     let start = begun.text.generation();
     let team = team_of(rt, alloc, &options, &OpenGate);

@@ -6,6 +6,10 @@ ghost use Rattle.engine.specs.RunOptions.{without_output};
 use crate::format::Format;
 use plane::Window;
 use rule_text::Rule;
+use run_options::{MOST_WORKERS, RunOptions};
+
+// A team has as many workers at most as a run may have.
+const _: () = prove!(MOST_WORKERS == worker_split::MOST_WORKERS);
 
 /// What a run is asked to do.
 #[derive(Clone, Copy, Debug, PartialEq, Eq)]
@@ -28,33 +32,18 @@ pub struct Options {
     pub quiet: bool,
 }
 
-/// What a run is asked to do that has neither a report nor a file.
-#[derive(Clone, Copy, Debug, PartialEq, Eq)]
-pub struct RunOptions {
-    /// The number of generations to run on from the file's own.
-    pub gens: u64,
-    /// The rule to run by in place of the file's, if one is given.
-    pub rule: Option<Rule>,
-    /// The most pair slots that all tables of squares may have together: a power of two, from 2^10 to 2^28.
-    pub pairs: u32,
-    /// How many workers take the steps, from 1 to 64. One starts no thread.
-    pub workers: usize,
-}
-
-impl RunOptions {
-    // The same for a quiet run that draws and writes nothing.
-    pub(crate) fn without_output(&self) -> Options
-        ensures { result ≡ without_output self.now }
-    {
-        Options {
-            gens: self.gens,
-            step: 0,
-            rule: self.rule,
-            window: None,
-            format: None,
-            pairs: self.pairs,
-            workers: self.workers,
-            quiet: true,
-        }
+// The same run: it is quiet, and draws and writes nothing.
+pub(crate) fn without_output(run: &RunOptions) -> Options
+    ensures { result ≡ without_output run.now }
+{
+    Options {
+        gens: run.gens,
+        step: 0,
+        rule: run.rule,
+        window: None,
+        format: None,
+        pairs: run.pairs,
+        workers: run.workers,
+        quiet: true,
     }
 }

@@ -1,15 +1,15 @@
 //! A run from end to end.
 
 ghost use Rattle.std.specs.Prelude.{◌≡◌, IfOk, IsOkUnless};
+ghost use Rattle.run_options.specs.Workers.{IsWorkerCount};
 ghost use Rattle.table_core.specs.Sizes.{IsPairCount};
+ghost use Rattle.plane.specs.SinkChange.{change_of};
 ghost use Rattle.plane.specs.Square.{IsSame};
 ghost use Rattle.universe.specs.Cells.{live_cells};
 ghost use Rattle.engine.specs.Accepted.{SumsUp};
 ghost use Rattle.engine.specs.Devices.{IsDoneWithAll, reading_of};
 ghost use Rattle.engine.specs.Pattern.{plane_of};
 ghost use Rattle.engine.specs.Run.{IsRun};
-ghost use Rattle.engine.specs.SinkChange.{change_of};
-ghost use Rattle.engine.specs.Workers.{IsWorkerCount};
 
 use crate::accepted::judge;
 use crate::input::load;

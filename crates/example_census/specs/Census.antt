@@ -1,10 +1,10 @@
 -- The census of a pattern.
 use Rattle.std.specs.Prelude.{◌≡◌, ℕ, zero, suc, ◌^◌, None, List, [], ◌++◌}
 use Rattle.plane.specs.Plane.{Plane}
+use Rattle.run_options.specs.declared.options.RunOptions.{RunOptions}
 use Rattle.engine.specs.Last.{EndsWith}
 use Rattle.engine.specs.RunOptions.{without_output}
 use Rattle.engine.specs.SummaryLine.{summary_line}
-use Rattle.engine.specs.declared.options.RunOptions.{RunOptions}
 use Rattle.engine.specs.declared.running.Summary.{Summary}
 
 -- a run of so many generations, by two workers

@@ -1,16 +1,11 @@
 -- What the text of a pattern file means, in either format, or its first fault.
-use Rattle.std.specs.Prelude.{ℕ, Bool, if◌then◌else◌, List, codes, Option, None, Result, Ok, Err}
+use Rattle.std.specs.Prelude.{ℕ, Bool, if◌then◌else◌, List, codes, Option, Result, Ok, Err}
 use Rattle.macrocell_reader.specs.Meaning as macrocell
 use Rattle.macrocell_reader.specs.Planes as planes
 use Rattle.plane.specs.Plane.{Plane}
 use Rattle.plane.specs.declared.fault.Fault.{Fault}
-use Rattle.plane.specs.declared.refusal.Refusal.{Refusal}
 use Rattle.rle_reader.specs.Meaning as rle
 use Rattle.text_lines.specs.Bytes.{begins_with}
-
--- a refusal that no line or item of a file is to blame for
-abbrev pub placeless : Refusal → Fault
-placeless refusal = record { refusal = refusal; place = None }
 
 -- the generation, the rule's text and the place to which its faults belong, the kept comments and the live cells
 pub record Meaning : Type 0 where

@@ -2,7 +2,8 @@
 
 ghost use Rattle.std.specs.Prelude.{◌≡◌, ◌⊎◌, true, Ok, Err, IfOk, IfErr, ⊤};
 ghost use Rattle.std.specs.Option.{option_copied};
-ghost use Rattle.patterns.specs.Meaning.{is_macrocell, judged, placeless};
+ghost use Rattle.plane.specs.Fault.{placeless};
+ghost use Rattle.patterns.specs.Meaning.{is_macrocell, judged};
 ghost use Rattle.patterns.specs.PatternFile.{meaning_of};
 
 use crate::live_runs::live_runs_to_square;

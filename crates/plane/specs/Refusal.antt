@@ -1,4 +1,6 @@
 use Rattle.std.specs.Prelude.{ℕ, List, codes}
+use Rattle.rule_text.specs.declared.fault.RuleFault.{RuleFault}
+use Rattle.rule_text.specs.declared.fault.RuleFault.TheVariants as fault
 use Rattle.plane.specs.declared.refusal.Refusal.{Refusal}
 use Rattle.plane.specs.declared.refusal.Refusal.TheVariants.{NotAPattern, BadHeader, BadRule, BirthOnZero, BadTag, MoreStates, BadCount, OutOfRange, TooManyCells, BadNodeLine, BadChild, FramesNotRead, BadGen, TooFar, BoxTooLarge, WindowTooLarge, NodesFull, NoMemory, ReadFailed, WriteFailed}
 
@@ -47,3 +49,8 @@ name_of NodesFull = codes "NodesFull"
 name_of NoMemory = codes "NoMemory"
 name_of ReadFailed = codes "ReadFailed"
 name_of WriteFailed = codes "WriteFailed"
+
+-- the refusal of a rule's fault
+abbrev pub rule_refusal : RuleFault → Refusal
+rule_refusal fault.BadRule = BadRule
+rule_refusal fault.BirthOnZero = BirthOnZero

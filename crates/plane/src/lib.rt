@@ -10,6 +10,7 @@ mod generation;
 mod laws;
 mod range;
 mod refusal;
+mod rule_faults;
 mod window;
 
 pub use cell::{Bounds, Cell};
@@ -21,4 +22,5 @@ pub use laws::{
 };
 pub use range::{COORDINATE_LIMIT, GENERATION_LIMIT, LIVE_CELL_LIMIT, is_coordinate, reach};
 pub use refusal::Refusal;
+pub use rule_faults::rule_refusal;
 pub use window::{WINDOW_CORNER_LIMIT, WINDOW_SIDE_LIMIT, Window};

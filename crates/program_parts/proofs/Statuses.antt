@@ -1,7 +1,7 @@
 -- What an exit status says of how a program ended.
 use Rattle.std.proofs.Common.{◌≡◌, ◌≤◌, ◌⊎◌, ℕ, List, Result, Ok, Err, IfErr, OnOk, refl, ap, ⊎_elim, inl, inr, arith}
-use Rattle.engine.specs.SinkChange.{SinkChange, Fails}
-use Rattle.patterns.specs.Meaning.{placeless}
+use Rattle.plane.specs.Fault.{placeless}
+use Rattle.plane.specs.SinkChange.{SinkChange, Fails}
 use Rattle.plane.specs.declared.fault.Fault.{Fault}
 use Rattle.plane.specs.declared.refusal.Refusal.{Refusal}
 use Rattle.plane.specs.declared.refusal.Refusal.TheVariants.{ReadFailed, WriteFailed}

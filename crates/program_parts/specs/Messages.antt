@@ -2,9 +2,9 @@
 use Rattle.std.specs.Prelude.{◌≡◌, ◌≢◌, ◌⊎◌, ℕ, Option, None, Some, Result, Ok, Err, List, [], ◌++◌, codes, decimal}
 use Rattle.std.specs.Io.KnownBytes.{Appends}
 use Rattle.std.specs.List.{All}
-use Rattle.engine.specs.SinkChange.{SinkChange, Fails}
-use Rattle.patterns.specs.Meaning.{placeless}
+use Rattle.plane.specs.Fault.{placeless}
 use Rattle.plane.specs.Refusal.{name_of, number_of}
+use Rattle.plane.specs.SinkChange.{SinkChange, Fails}
 use Rattle.plane.specs.declared.fault.Fault.{Fault}
 use Rattle.plane.specs.declared.refusal.Refusal.{Refusal}
 use Rattle.plane.specs.declared.refusal.Refusal.TheVariants.{NoMemory, ReadFailed, WriteFailed}

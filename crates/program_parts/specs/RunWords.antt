@@ -1,7 +1,7 @@
 -- What words ask for by the options that every program has: the generations, the rule, the slots and the workers.
 use Rattle.std.specs.Prelude.{◌≡◌, ◌⊎◌, ℕ, List, codes}
 use Rattle.clap.specs.Words.{App, Text}
-use Rattle.engine.specs.declared.options.RunOptions.{RunOptions}
+use Rattle.run_options.specs.declared.options.RunOptions.{RunOptions}
 use Rattle.program_parts.specs.Asking.{text_in, value_in}
 use Rattle.program_parts.specs.Values.{IsAskedRule, IsNumber, IsPairNumber, IsWorkerNumber}
 use Rattle.program_parts.specs.declared.misfit.Misfit.TheVariants.{Nodes, Other}

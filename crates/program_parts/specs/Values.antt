@@ -4,9 +4,9 @@ use Rattle.clap.specs.Words.{Text}
 use Rattle.rule_text.specs.CountRule.{CountRule}
 use Rattle.rule_text.specs.RuleText.{Reads}
 use Rattle.rule_text.specs.declared.fault.RuleFault.{RuleFault}
+use Rattle.plane.specs.Refusal.{rule_refusal}
 use Rattle.plane.specs.declared.refusal.Refusal.{Refusal}
-use Rattle.engine.specs.Judgement.{rule_refusal}
-use Rattle.engine.specs.Workers.{IsWorkerCount}
+use Rattle.run_options.specs.Workers.{IsWorkerCount}
 use Rattle.table_core.specs.Sizes.{IsPairCount}
 use Rattle.program_parts.specs.WindowText.{IsUnsigned}
 use Rattle.program_parts.specs.declared.misfit.Misfit.{Misfit}

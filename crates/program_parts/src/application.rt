@@ -3,8 +3,8 @@
 ghost use Rattle.std.specs.Prelude.{◌≡◌, ◌≤◌, ◌⊎◌, ℕ, List, length, true, Err, IfErr, IfOk, OnOk};
 ghost use Rattle.std.specs.Thread.{IsSync};
 ghost use Rattle.clap.specs.Words.{Text, app_of, is_simple, is_simple_and_free};
-ghost use Rattle.patterns.specs.Meaning.{placeless};
 ghost use Rattle.plane.specs.Device.{HasFailed};
+ghost use Rattle.plane.specs.Fault.{placeless};
 ghost use Rattle.program_parts.specs.Asking.{AreMatchesIn, IsReasonOf};
 ghost use Rattle.program_parts.specs.Behaviour.{Behaviour};
 ghost use Rattle.program_parts.specs.declared.misfit.Misfit.{Misfit};
@@ -17,7 +17,7 @@ use std::rt::Files;
 use std::sync::Wait;
 use std::thread::Threads;
 
-/// A program on [`engine`]: its command line, and what it does where words ask for something.
+/// A program that runs patterns: its command line, and what it does where words ask for something.
 pub trait Application {
     /// What words can ask for.
     type Asked: Drop;

@@ -2,8 +2,8 @@
 
 ghost use Rattle.std.specs.Prelude.{◌≡◌, ◌⊎◌, Err, IfOk, OnOk, IfErr};
 ghost use Rattle.plane.specs.Device.{HasFailed};
-ghost use Rattle.patterns.specs.Meaning.{placeless};
-ghost use Rattle.engine.specs.SinkChange.{change_of};
+ghost use Rattle.plane.specs.Fault.{placeless};
+ghost use Rattle.plane.specs.SinkChange.{change_of};
 ghost use Rattle.program_parts.specs.Asking.{IsFaultOf, IsReasonOf, texts_of};
 ghost use Rattle.program_parts.specs.Behaviour.{EndsProgram, IsDone, IsStop};
 ghost use Rattle.program_parts.specs.declared.stops.Stop.TheVariants.{Refused};

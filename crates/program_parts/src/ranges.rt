@@ -9,4 +9,4 @@ pub(crate) const FEWEST_SLOTS: u64 = SMALLEST_PAIR_COUNT as u64;
 pub(crate) const MOST_SLOTS: u64 = LARGEST_PAIR_COUNT as u64;
 
 /// The most workers.
-pub(crate) const MOST_WORKERS: u64 = engine::MOST_WORKERS as u64;
+pub(crate) const MOST_WORKERS: u64 = run_options::MOST_WORKERS as u64;

@@ -8,7 +8,7 @@ ghost use Rattle.program_parts.specs.RunWords.{GiveNumbers, IsUnfitNumber};
 use crate::numbers::{number_for, pairs_asked, workers_asked};
 use crate::reason::WordsReason;
 use clap::ArgMatches;
-use engine::RunOptions;
+use run_options::RunOptions;
 
 /// The generations, the slots and the workers of the run that words ask for; it has no rule yet. `Unfit` with `Nodes` or
 /// `Other` if one of the numbers is not fit.

@@ -2,8 +2,8 @@
 
 ghost use Rattle.std.specs.Prelude.{◌≡◌, ◌≤◌, ◌⊎◌, ℕ, List, length, Err, IfErr, OnOk};
 ghost use Rattle.std.specs.Io.KnownBytes.{Appends};
-ghost use Rattle.patterns.specs.Meaning.{placeless};
 ghost use Rattle.plane.specs.Device.{HasFailed};
+ghost use Rattle.plane.specs.Fault.{placeless};
 ghost use Rattle.program_parts.specs.Faults.{IsHelp, IsStopOf};
 ghost use Rattle.program_parts.specs.Messages.{HasTold, status_of};
 ghost use Rattle.program_parts.specs.declared.stops.Stop.TheVariants.{Refused};

@@ -2,7 +2,7 @@
 
 ghost use Rattle.std.specs.Prelude.{◌≡◌, List, IfOk, IsErr};
 ghost use Rattle.clap.specs.Words.{Text};
-ghost use Rattle.engine.specs.SinkChange.{change_of};
+ghost use Rattle.plane.specs.SinkChange.{change_of};
 ghost use Rattle.program_parts.specs.Behaviour.{EndsProgram, StartsProgram};
 
 use crate::application::Application;

@@ -3,9 +3,9 @@
 ghost use Rattle.std.specs.Prelude.{◌≡◌, ◌≤◌, ◌⊎◌, length};
 ghost use Rattle.std.specs.IoError.{error_kind};
 ghost use Rattle.plane.specs.Device.{HasFailed};
+ghost use Rattle.plane.specs.Fault.{placeless};
+ghost use Rattle.plane.specs.SinkChange.{change_of};
 ghost use Rattle.plane.specs.declared.refusal.Refusal.TheVariants.{NoMemory};
-ghost use Rattle.patterns.specs.Meaning.{placeless};
-ghost use Rattle.engine.specs.SinkChange.{change_of};
 ghost use Rattle.program_parts.specs.Messages.{HasNoWords, HasToldBadWords, HasToldFault};
 
 use crate::messages::{refused_status, tell_fault, tell_reason};

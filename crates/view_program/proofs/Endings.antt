@@ -1,12 +1,12 @@
 -- How a view ends, as the program tells it.
 use Rattle.std.proofs.Common.{◌≡◌, ◌⊎◌, ℕ, List, Option, Result, Ok, Err, ap, inl, inr, ⊎_elim}
 use Rattle.std.specs.Prelude.{IfErr, OnOk}
+use Rattle.plane.specs.Fault.{placeless}
+use Rattle.plane.specs.SinkChange.{SinkChange, Fails, IsUnfailed}
 use Rattle.plane.specs.declared.fault.Fault.{Fault}
 use Rattle.plane.specs.declared.refusal.Refusal.{Refusal}
 use Rattle.plane.specs.declared.refusal.Refusal.TheVariants.{WriteFailed}
-use Rattle.patterns.specs.Meaning.{placeless}
 use Rattle.engine.specs.Devices.{IsDoneWithAll, IsUnread, SourceChange}
-use Rattle.engine.specs.SinkChange.{SinkChange, Fails, IsUnfailed}
 use Rattle.view_program.specs.Status.{HasStoppedView, HasViewed}
 use Rattle.view_program.specs.View.{HasNotDrawn, IsView}
 use Rattle.view_program.specs.declared.request.View.{View}

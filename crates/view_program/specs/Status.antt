@@ -1,9 +1,9 @@
 -- What a view that words ask for ends with.
 use Rattle.std.specs.Prelude.{◌≡◌, ◌⊎◌, ℕ, List, Option, string_bytes}
 use Rattle.std.specs.Io.KnownBytes.{Appends}
+use Rattle.plane.specs.Fault.{placeless}
 use Rattle.plane.specs.declared.fault.Fault.{Fault}
 use Rattle.plane.specs.declared.refusal.Refusal.TheVariants.{NoMemory, ReadFailed, WriteFailed}
-use Rattle.patterns.specs.Meaning.{placeless}
 use Rattle.engine.specs.Accepted.{IsRefused as IsRefusedRun}
 use Rattle.engine.specs.Run.{IsAcceptedRun}
 use Rattle.engine.specs.RunOptions.{without_output}

@@ -1,14 +1,14 @@
 -- What a view writes and answers.
 use Rattle.std.specs.Prelude.{◌≡◌, ◌⊎◌, ℕ, List, ◌++◌, Result, Err, IfErr, OnOk}
+use Rattle.plane.specs.Fault.{placeless}
 use Rattle.plane.specs.Plane.{Plane}
+use Rattle.plane.specs.SinkChange.{SinkChange, Fails, IsUnfailed, Takes}
 use Rattle.plane.specs.declared.fault.Fault.{Fault}
 use Rattle.plane.specs.declared.refusal.Refusal.TheVariants.{WriteFailed}
-use Rattle.patterns.specs.Meaning.{placeless}
 use Rattle.engine.specs.Accepted.{IsRefused}
 use Rattle.engine.specs.Last.{EndsWith}
 use Rattle.engine.specs.Run.{IsAcceptedRun}
 use Rattle.engine.specs.RunOptions.{without_output}
-use Rattle.engine.specs.SinkChange.{SinkChange, Fails, IsUnfailed, Takes}
 use Rattle.engine.specs.SummaryLine.{summary_line}
 use Rattle.engine.specs.declared.running.Summary.{Summary}
 use Rattle.png_writer.specs.Picture.{IsPngFile, Picture}

@@ -1,7 +1,7 @@
 //! The whole program, over any standard output and standard error.
 
 ghost use Rattle.std.specs.Prelude.{codes};
-ghost use Rattle.engine.specs.SinkChange.{change_of};
+ghost use Rattle.plane.specs.SinkChange.{change_of};
 ghost use Rattle.program_parts.specs.Asking.{texts_of};
 ghost use Rattle.program_parts.specs.Behaviour.{EndsProgram, StartsProgram};
 ghost use Rattle.view_program.specs.Status.{behaviour};

@@ -1,5 +1,5 @@
 use Rattle.std.proofs.Common.{◌≡◌, Err, rules, subst, sym}
-use Rattle.patterns.specs.Meaning.{placeless}
+use Rattle.plane.specs.Fault.{placeless}
 use Rattle.universe.specs.Cells.{live_cells}
 use Rattle.patterns.specs.PatternFile.{meaning_of}
 use Rattle.rule_text.specs.CountRule.{CountRule}

@@ -1,7 +1,7 @@
 use Rattle.std.proofs.Common.{◌≡◌, Err, rules, refl, subst, arith, inl}
+use Rattle.plane.specs.Fault.{placeless}
 use Rattle.plane.specs.declared.refusal.Refusal.TheVariants.{NoMemory}
 use Rattle.plane.proofs.Same.{same_refl, same_trans}
-use Rattle.patterns.specs.Meaning.{placeless}
 use Rattle.engine.specs.Pattern.{plane_of}
 use Rattle.patterns.specs.PatternFile.{meaning_of}
 use Rattle.universe.proofs.Held.{held, short_run}

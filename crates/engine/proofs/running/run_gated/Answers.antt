@@ -1,11 +1,11 @@
 use Rattle.std.proofs.Common.{◌≡◌, ◌+◌, ◌≤◌, Err, rules, refl, sym, ◌∙◌, subst, inl}
+use Rattle.plane.specs.Fault.{placeless}
 use Rattle.plane.specs.declared.range.TheConstants.{GENERATION_LIMIT}
 use Rattle.plane.specs.declared.refusal.Refusal.TheVariants.{NoMemory}
 use Rattle.plane.specs.Device.{HasFailed}
 use Rattle.rule_text.specs.CountRule.{CountRule}
 use Rattle.plane.proofs.Same.{same_trans}
 use Rattle.engine.specs.FileText.{Writes}
-use Rattle.patterns.specs.Meaning.{placeless}
 use Rattle.engine.specs.Pattern.{plane_of}
 use Rattle.patterns.specs.PatternFile.{meaning_of}
 use Rattle.engine.proofs.Acceptance.{refused_at_once}

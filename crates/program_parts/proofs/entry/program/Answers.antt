@@ -1,5 +1,5 @@
 use Rattle.std.proofs.Common.{◌≡◌, ◌≤◌, ◌⊎◌, ℕ, List, sym, ◌∙◌, subst, arith}
-use Rattle.engine.specs.SinkChange.{change_of}
+use Rattle.plane.specs.SinkChange.{change_of}
 use Rattle.program_parts.specs.Messages.{HasToldEnd}
 use Rattle.program_parts.proofs.Statuses.{bad_words_at_2, done_at_0, refused_at_1_or_3, status_most, told_end, unfailed_below_3}
 use Rattle.program_parts.proofs.entry.program.Goals as goal

@@ -1,9 +1,9 @@
 use Rattle.std.proofs.Common.{◌≡◌, Err, rules, refl, sym, ◌∙◌, subst}
 use Rattle.std.specs.Io.KnownBytes.{Appends}
 use Rattle.plane.specs.Device.{HasFailed}
+use Rattle.plane.specs.Fault.{placeless}
 use Rattle.plane.specs.declared.cell.Bounds.{Bounds}
 use Rattle.plane.specs.declared.refusal.Refusal.TheVariants.{NoMemory}
-use Rattle.patterns.specs.Meaning.{placeless}
 use Rattle.engine.specs.Pattern.{plane_of}
 use Rattle.engine.specs.RunOptions.{without_output}
 use Rattle.pattern_picture.specs.Drawn.{IsPictureOf}

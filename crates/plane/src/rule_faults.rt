@@ -1,9 +1,9 @@
 //! How the fault of a rule is refused.
 
 ghost use Rattle.std.specs.Prelude.{◌≡◌};
-ghost use Rattle.engine.specs.Judgement.{rule_refusal};
+ghost use Rattle.plane.specs.Refusal.{rule_refusal};
 
-use plane::Refusal;
+use crate::refusal::Refusal;
 use rule_text::RuleFault;
 
 /// The refusal of a rule's fault: `BadRule` or `BirthOnZero`.
