@@ -2,14 +2,14 @@
 
 ghost use Rattle.std.specs.Prelude.{◌≡◌, IfOk};
 ghost use Rattle.clap.specs.Words.{app_of};
-ghost use Rattle.program_parts.specs.OptionRules.{HasRule, HaveRules, window_option};
+ghost use Rattle.program_parts.specs.OptionRules.{HasRule, HaveRules};
 ghost use Rattle.batch_program.specs.CommandLine.{command_form, command_rules, output_option, quiet_option, step_option};
 
 use crate::names::NAME;
 use clap::{Arg, ArgAction, Command};
 use program_parts::{
-    file_argument, generation_option, long_option, node_option, number_option, rule_option,
-    short_option, worker_option,
+    command_with, file_argument, generation_option, node_option, number_option, rule_option,
+    short_option, window_option, worker_option,
 };
 use std::alloc::{AllocError, Global};
 
@@ -17,6 +17,9 @@ const ABOUT: &str = "A command-line HashLife for Golly pattern files.
 
 It reads an RLE or macrocell file and runs it for N generations. It reports the population of the first and the \
 last generation, and of those between if asked. It can draw part of the last generation and write its pattern.";
+
+const WINDOW: &str =
+    "Draw W by H cells from (X,Y) after the report (* live, . dead), as --window=-20,-15,40,30";
 
 const EXAMPLES: &str = "Examples:
   lifebatch -m 1103 r-pentomino.rle
@@ -40,11 +43,7 @@ const EXAMPLES: &str = "Examples:
 pub(crate) fn command<'a>(alloc: Global) -> Result<Command<'a>, AllocError>
     ensures { IfOk result (λ command. app_of command ≡ command_form) }
 {
-    let options = options(alloc)?;
-    Command::new(alloc, NAME)
-        .about(ABOUT)
-        .after_help(EXAMPLES)
-        .args(options)
+    command_with(alloc, NAME, ABOUT, options(alloc)?, EXAMPLES)
 }
 
 // The options, and FILE.
@@ -57,7 +56,7 @@ fn options<'a>(alloc: Global) -> Result<Vec<Arg<'a>>, AllocError>
         output_option(alloc),
         rule_option(alloc),
         quiet_option(alloc),
-        window_option(alloc),
+        window_option(alloc, WINDOW),
         node_option(alloc),
         worker_option(alloc),
         file_argument(alloc),
@@ -84,17 +83,6 @@ fn output_option<'a>(alloc: Global) -> Arg<'a>
         'o',
         "NAME",
         "Write the pattern to NAME, which ends with .rle or .mc",
-    )
-}
-
-fn window_option<'a>(alloc: Global) -> Arg<'a>
-    ensures { HasRule result window_option }
-{
-    long_option(
-        alloc,
-        "window",
-        "X,Y,W,H",
-        "Draw W by H cells from (X,Y) after the report (* live, . dead), as --window=-20,-15,40,30",
     )
 }
 

@@ -1,3 +1,4 @@
+pub mod AskedRuns
 pub mod AskedWords
 mod OneLine
 pub mod Statuses

@@ -3,6 +3,7 @@
 #![tactic(auto)]
 
 mod application;
+mod command;
 mod entry;
 mod input;
 mod messages;
@@ -19,13 +20,14 @@ mod window_text;
 mod words;
 
 pub use application::Application;
+pub use command::command_with;
 pub use entry::{asked, program};
 pub use input::open_input;
 pub use misfit::Misfit;
 pub use numbers::{copied, number_for, rule_asked};
 pub use options::{
     file_argument, generation_option, long_option, node_option, number_option, rule_option,
-    short_option, worker_option,
+    short_option, window_option, worker_option,
 };
 pub use output_file::OutputFile;
 pub use reason::WordsReason;

@@ -1,6 +1,6 @@
 //! Options that several programs have, and what options are made of.
 
-ghost use Rattle.program_parts.specs.OptionRules.{HasRule, file_argument, generation_option, node_option, numeric, rule_option, valued, valued_in_short, worker_option};
+ghost use Rattle.program_parts.specs.OptionRules.{HasRule, file_argument, generation_option, node_option, numeric, rule_option, valued, valued_in_short, window_option, worker_option};
 
 use crate::ranges::{FEWEST_SLOTS, MOST_SLOTS, MOST_WORKERS};
 use clap::builder::ValueParser;
@@ -30,6 +30,13 @@ pub fn rule_option<'a>(alloc: Global) -> Arg<'a>
         "R",
         "Use rule R; the file's rule is ignored",
     )
+}
+
+/// `--window=X,Y,W,H`, with this line in the help.
+pub fn window_option<'a>(alloc: Global, help: &'a str) -> Arg<'a>
+    ensures { HasRule result window_option }
+{
+    long_option(alloc, "window", "X,Y,W,H", help)
 }
 
 /// `--nodes N`: a number from 1024 to 268435456, 4194304 if it is left out.

@@ -2,7 +2,7 @@
 
 ghost use Rattle.std.specs.Prelude.{◌≡◌, IfOk};
 ghost use Rattle.clap.specs.Words.{app_of};
-ghost use Rattle.program_parts.specs.OptionRules.{HasRule, HaveRules, window_option};
+ghost use Rattle.program_parts.specs.OptionRules.{HasRule, HaveRules};
 ghost use Rattle.view_program.specs.CommandLine.{command_form, command_rules, output_option, size_option};
 
 use crate::names::NAME;
@@ -10,8 +10,8 @@ use crate::request::{LARGEST_SIZE, SMALLEST_SIZE};
 use clap::builder::ValueParser;
 use clap::{Arg, Command};
 use program_parts::{
-    file_argument, generation_option, long_option, node_option, rule_option, short_option,
-    worker_option,
+    command_with, file_argument, generation_option, long_option, node_option, rule_option,
+    short_option, window_option, worker_option,
 };
 use std::alloc::{AllocError, Global};
 
@@ -20,6 +20,9 @@ const ABOUT: &str = "Draws a Golly pattern file after N generations, as a PNG pi
 It reads an RLE or macrocell file, runs it for N generations by HashLife, and draws the last generation: all live cells, \
 or the window that is asked for. Where there is no pixel for each cell, the shade of a pixel says how many cells of a \
 block live.";
+
+const WINDOW: &str =
+    "Show W by H cells from (X,Y), as --window=-20,-15,40,30, and not the bounding box of the live cells";
 
 const EXAMPLES: &str = "Examples:
   lifeview -o glider.png glider.rle
@@ -35,11 +38,7 @@ const EXAMPLES: &str = "Examples:
 pub(crate) fn command<'a>(alloc: Global) -> Result<Command<'a>, AllocError>
     ensures { IfOk result (λ command. app_of command ≡ command_form) }
 {
-    let options = options(alloc)?;
-    Command::new(alloc, NAME)
-        .about(ABOUT)
-        .after_help(EXAMPLES)
-        .args(options)
+    command_with(alloc, NAME, ABOUT, options(alloc)?, EXAMPLES)
 }
 
 // The options, and FILE.
@@ -49,7 +48,7 @@ fn options<'a>(alloc: Global) -> Result<Vec<Arg<'a>>, AllocError>
     Ok(vec![in alloc;
         generation_option(alloc),
         output_option(alloc),
-        window_option(alloc),
+        window_option(alloc, WINDOW),
         size_option(alloc),
         rule_option(alloc),
         node_option(alloc),
@@ -69,17 +68,6 @@ fn output_option<'a>(alloc: Global) -> Arg<'a>
         "Write the picture to NAME, which ends with .png",
     )
     .required(true)
-}
-
-fn window_option<'a>(alloc: Global) -> Arg<'a>
-    ensures { HasRule result window_option }
-{
-    long_option(
-        alloc,
-        "window",
-        "X,Y,W,H",
-        "Show W by H cells from (X,Y), as --window=-20,-15,40,30, and not the bounding box of the live cells",
-    )
 }
 
 fn size_option<'a>(alloc: Global) -> Arg<'a>

@@ -1,8 +1,9 @@
-use Rattle.std.proofs.Common.{◌≡◌, ◌∙◌, Err, codes, rules, subst, sym, inl, inr}
-use Rattle.batch_program.specs.CommandLine.{IsAskedWindow, IsFlag, IsFormat, IsRefusedWindow, command_form}
-use Rattle.program_parts.specs.Values.{IsAskedRule, IsNumber, IsRefusedRule}
+use Rattle.std.proofs.Common.{◌≡◌, ◌∙◌, Err, codes, rules, subst, sym}
+use Rattle.batch_program.specs.CommandLine.{IsAskedWindow, IsFlag, IsFormat, command_form, command_line}
+use Rattle.program_parts.specs.Values.{IsNumber}
 use Rattle.program_parts.specs.WindowText.{IsFitWindow}
 use Rattle.program_parts.specs.declared.reason.WordsReason.TheVariants.{Refused}
+use Rattle.program_parts.proofs.AskedRuns.{asked_run, refused_by_rule, refused_by_window, unfit_number}
 use Rattle.program_parts.proofs.AskedWords.{text_by, value_by}
 use Rattle.batch_program.proofs.WindowTexts.{asked_window, fit_window, refused_window}
 use Rattle.batch_program.proofs.asking.options_by.Goals as goal
@@ -10,10 +11,7 @@ use Rattle.batch_program.proofs.asking.options_by.Goals as goal
 pub returns-in_err-run-clause-faults : goal.returns-in_err-run-clause-faults
 returns-in_err-run-clause-faults c = λ words are file.
     let is : c.from_residual.result ≡ Err c.in_err-run.field-0.0 = search rules in
-    elim (c.in_err-run.ensures.err command_form words are) [
-      | inl nodes ↦ rw (is, nodes.0) (are.0, nodes.1)
-      | inr other ↦ rw (is, other.0) (are.0, λ fit. other.1 fit.run)
-    ]
+    rw is (unfit_number command_line words _ are.0 (λ nodes. nodes) (λ other. other) (λ fit. fit.run) (c.in_err-run.ensures.err command_form words are))
 
 pub returns-in_err-step-clause-faults : goal.returns-in_err-step-clause-faults
 returns-in_err-step-clause-faults c = λ words are file.
@@ -38,48 +36,35 @@ returns-in_err-rule-clause-faults c = λ words are file.
     let text = text_by command_form words c.args.matches.now are in
     let value = value_by command_form words c.args.matches.now are in
     let is : c.from_residual-in_err-rule.result ≡ Err (Refused c.in_err-rule.field-0.0) = search rules in
-    rw is (inr (inl (record {
-      form = are.0;
-      fit = record {
-        run = (c.in_ok-run.run', c.in_ok-run.ensures.ok command_form words are);
-        step = (c.in_ok-step.step, subst (λ given. IsNumber given c.in_ok-step.step) (value (codes "stepsize")) c.in_ok-step.ensures.ok);
-        file = file;
-        format = (c.in_ok-format.format, subst (λ name. IsFormat name c.in_ok-format.format) (c.get_str.ensures ∙ text (codes "output")) c.in_ok-format.ensures.ok);
-        window = subst (IsFitWindow 32) (c.get_str-2.ensures ∙ text (codes "window")) (fit_window _ c.in_ok-numbers.numbers c.in_ok-numbers.ensures.ok);
-      };
-      rule = subst (λ given. IsRefusedRule given c.in_err-rule.field-0.0) (c.get_str-3.ensures ∙ text (codes "rule")) c.in_err-rule.ensures.err;
-    })))
+    rw is (refused_by_rule command_line words c.args.matches.now are _ c.get_str-3.ensures c.in_err-rule.field-0.0 c.in_err-rule.ensures.err (record {
+      run = (c.in_ok-run.run', c.in_ok-run.ensures.ok command_form words are);
+      step = (c.in_ok-step.step, subst (λ given. IsNumber given c.in_ok-step.step) (value (codes "stepsize")) c.in_ok-step.ensures.ok);
+      file = file;
+      format = (c.in_ok-format.format, subst (λ name. IsFormat name c.in_ok-format.format) (c.get_str.ensures ∙ text (codes "output")) c.in_ok-format.ensures.ok);
+      window = subst (IsFitWindow 32) (c.get_str-2.ensures ∙ text (codes "window")) (fit_window _ c.in_ok-numbers.numbers c.in_ok-numbers.ensures.ok);
+    }))
 
 pub returns-in_err-window-clause-faults : goal.returns-in_err-window-clause-faults
 returns-in_err-window-clause-faults c = λ words are file.
     let text = text_by command_form words c.args.matches.now are in
     let value = value_by command_form words c.args.matches.now are in
     let is : c.from_residual-in_err-window.result ≡ Err (Refused c.in_err-window.field-0.0) = search rules in
-    rw is (inr (inr (record {
-      form = are.0;
-      fit = record {
-        run = (c.in_ok-run.run', c.in_ok-run.ensures.ok command_form words are);
-        step = (c.in_ok-step.step, subst (λ given. IsNumber given c.in_ok-step.step) (value (codes "stepsize")) c.in_ok-step.ensures.ok);
-        file = file;
-        format = (c.in_ok-format.format, subst (λ name. IsFormat name c.in_ok-format.format) (c.get_str.ensures ∙ text (codes "output")) c.in_ok-format.ensures.ok);
-        window = subst (IsFitWindow 32) (c.get_str-2.ensures ∙ text (codes "window")) (fit_window _ c.in_ok-numbers.numbers c.in_ok-numbers.ensures.ok);
-      };
-      rule = (c.in_ok-rule.rule, subst (λ given. IsAskedRule given c.in_ok-rule.rule) (c.get_str-3.ensures ∙ text (codes "rule")) c.in_ok-rule.ensures.ok);
-      window = subst IsRefusedWindow (c.get_str-2.ensures ∙ text (codes "window")) (refused_window _ c.in_ok-numbers.numbers c.in_ok-numbers.ensures.ok c.in_err-window.ensures.err.1);
-      is = c.in_err-window.ensures.err.0;
-    })))
+    let refused = refused_window _ c.in_ok-numbers.numbers c.in_ok-numbers.ensures.ok c.in_err-window.ensures.err.1 in
+    rw is (refused_by_window command_line words c.args.matches.now are _ c.get_str-3.ensures c.in_ok-rule.rule _ c.in_err-window.field-0.0 c.in_ok-rule.ensures.ok c.get_str-2.ensures refused c.in_err-window.ensures.err.0 (record {
+      run = (c.in_ok-run.run', c.in_ok-run.ensures.ok command_form words are);
+      step = (c.in_ok-step.step, subst (λ given. IsNumber given c.in_ok-step.step) (value (codes "stepsize")) c.in_ok-step.ensures.ok);
+      file = file;
+      format = (c.in_ok-format.format, subst (λ name. IsFormat name c.in_ok-format.format) (c.get_str.ensures ∙ text (codes "output")) c.in_ok-format.ensures.ok);
+      window = subst (IsFitWindow 32) (c.get_str-2.ensures ∙ text (codes "window")) (fit_window _ c.in_ok-numbers.numbers c.in_ok-numbers.ensures.ok);
+    }))
 
 pub returns-clause-asks : goal.returns-clause-asks
 returns-clause-asks c = λ words are asked file output.
     let text = text_by command_form words c.args.matches.now are in
     let value = value_by command_form words c.args.matches.now are in
-    let numbers = c.in_ok-run.ensures.ok command_form words are in
     record {
       form = are.0;
-      run = record {
-        numbers = record { gens = numbers.gens; pairs = numbers.pairs; workers = numbers.workers };
-        rule = subst (λ given. IsAskedRule given c.in_ok-rule.rule) (c.get_str-3.ensures ∙ text (codes "rule")) c.in_ok-rule.ensures.ok;
-      };
+      run = asked_run command_line words c.args.matches.now are _ c.get_str-3.ensures c.in_ok-run.run' c.in_ok-rule.rule (c.in_ok-run.ensures.ok command_form words are) c.in_ok-rule.ensures.ok;
       step = subst (λ given. IsNumber given c.in_ok-step.step) (value (codes "stepsize")) c.in_ok-step.ensures.ok;
       file = file;
       output = output;
