@@ -1,4 +1,4 @@
--- What desks of one table know, from one call to the next.
+-- What desks know of the words of their table.
 use Rattle.std.proofs.Common.{◌≡◌, ◌≢◌, ℕ, zero, suc, ◌-◌, ◌^◌, ◌<◌, sym, subst, arith, ⊎_elim}
 use Rattle.std.specs.Prelude.{IsTrue}
 use Rattle.std.proofs.Math.Logic.{∥∥₁_elim}
@@ -6,7 +6,6 @@ use Rattle.std.proofs.Props.{props}
 use Rattle.plane.specs.Plane.{Plane}
 use Rattle.plane.specs.Square.{IsSame, bits_plane}
 use Rattle.squares.specs.declared.sq.Sq.{Sq}
-use Rattle.squares.specs.Book.{Keeps}
 use Rattle.table_core.specs.declared.key.Key.{Key}
 use Rattle.table_core.specs.declared.knowledge.Knowledge.{Knowledge}
 use Rattle.table_core.specs.declared.shape.Kind.{Kind}
@@ -22,20 +21,21 @@ use Rattle.table_core.proofs.Comparisons.{same_or_other}
 use Rattle.table_core.proofs.FullShards.{full_shard, full_shard_is_seen}
 use Rattle.table_core.proofs.Knowing.{knows_grown}
 use Rattle.table_core.proofs.Ways.{slot_below, size_fits}
+use Rattle.node_table.specs.declared.at.At.{At}
 use Rattle.node_table.specs.declared.desk.Desk.{Desk}
 use Rattle.node_table.specs.declared.table.NodeTable.{NodeTable}
 use Rattle.node_table.specs.Books.{knows_in, known_cells, IsCoherent}
-use Rattle.node_table.specs.Desks.{IsDeskOf, store_of, book_at}
+use Rattle.node_table.specs.Desks.{IsDeskOf}
+use Rattle.node_table.specs.Refusals.{known_by}
 use Rattle.table_core.specs.FullWays.{KnowsFullWay}
-use Rattle.node_table.proofs.Books.{alike, grows_keeps}
+use Rattle.node_table.proofs.Books.{alike}
 use Rattle.node_table.proofs.Entries.{block_of, halved}
 
 pub coherent_at : (table : NodeTable) (desk : Desk) → IsDeskOf table desk → ∥ IsCoherent table.key.shape.bits desk.seat.me.0.known ∥₁
 coherent_at table desk d = (desk.sound table.key d.same_key).coherent
 
--- a desk that learns keeps its book
-pub keeps_at : (table : NodeTable) (old new : Desk) → IsDeskOf table new → Grows old.seat.me.0.known new.seat.me.0.known → Keeps (book_at table old) (book_at table new)
-keeps_at table old new d grows = grows_keeps (store_of table) table.key old.seat.me.0.known new.seat.me.0.known (coherent_at table new d) grows
+pub coherent_here : (at : At) → ∥ IsCoherent at.table.now.key.shape.bits (known_by at.desk) ∥₁
+coherent_here at = coherent_at at.table.now at.desk at.of_table
 
 slot_prop : (bits : ℕ) (kind : Kind) (n : ℕ) → IsProp (IsSlot bits kind n)
 slot_prop bits kind n = hlevel props
@@ -51,12 +51,11 @@ below_size bits known zero n plane h some knows = slot_below bits Leaf n (leaf_s
 below_size bits known (suc rank) n plane h some knows = slot_below bits Pair n (pair_slot bits known rank n plane h some knows)
 
 -- the number of a known block is the index of a word
-pub in_table : (table : NodeTable) (desk : Desk) (rank n : ℕ) (plane : Plane) → IsDeskOf table desk → n ≢ 0 → KnowsBlock desk.seat.me.0.known rank n plane →
-    n < table.table.shared.table_id.words
-in_table table desk rank n plane d some knows =
-    let less : n < size table.key.shape.bits = below_size table.key.shape.bits desk.seat.me.0.known rank n plane (coherent_at table desk d) some knows in
-    let long = table.long in
-    subst (λ m. n < m) (sym long) less
+pub in_table : (at : At) (rank n : ℕ) (plane : Plane) → n ≢ 0 → KnowsBlock (known_by at.desk) rank n plane → n < at.table.now.table.shared.table_id.words
+in_table at rank n plane some knows =
+    let table = at.table.now in
+    let less : n < size table.key.shape.bits = below_size table.key.shape.bits (known_by at.desk) rank n plane (coherent_here at) some knows in
+    subst (λ m. n < m) (sym table.long) less
 
 pub below_limit : (key : Key) (known : Knowledge) (rank n : ℕ) (plane : Plane) → ∥ IsCoherent key.shape.bits known ∥₁ → KnowsBlock known rank n plane → n < 2 ^ 32
 below_limit key known rank n plane h knows = ⊎_elim
@@ -106,8 +105,7 @@ pub known_block : (known : Knowledge) (level : ℕ) (sq : Sq) → sq.level ≡ l
 known_block known level sq e h = subst (λ l. KnowsBlock known (square_rank l) sq.num.0 (known_cells known sq)) e (block_of known sq h)
 
 -- a known square above level 3 stands in a pair slot
-pub square_slot : (table : NodeTable) (desk : Desk) (sq : Sq) → IsDeskOf table desk → 3 < sq.level → sq.num.0 ≢ 0 → IsTrue (knows_in desk.seat.me.0.known sq) →
-    IsSlot table.key.shape.bits Pair sq.num.0
-square_slot table desk sq d above some h =
-    let known = desk.seat.me.0.known in
-    pair_slot table.key.shape.bits known (suc (square_rank (sq.level - 1))) sq.num.0 (known_cells known sq) (coherent_at table desk d) some (halved known sq above h)
+pub square_slot : (at : At) (sq : Sq) → 3 < sq.level → sq.num.0 ≢ 0 → IsTrue (knows_in (known_by at.desk) sq) → IsSlot at.table.now.key.shape.bits Pair sq.num.0
+square_slot at sq above some h =
+    let known = known_by at.desk in
+    pair_slot at.table.now.key.shape.bits known (suc (square_rank (sq.level - 1))) sq.num.0 (known_cells known sq) (coherent_here at) some (halved known sq above h)

@@ -3,9 +3,7 @@ use Rattle.std.proofs.Common.{ℕ, List}
 use Rattle.std.specs.Prelude.{Result, Ok, Err, OnErr}
 use Rattle.squares.specs.declared.sq.Sq.{Sq}
 use Rattle.squares.specs.Book.{nth}
-use Rattle.table_core.specs.declared.shape.Kind.{Kind}
 use Rattle.table_core.specs.declared.shape.Kind.TheVariants.{Pair}
-use Rattle.table_core.specs.Knowledge.{Grows}
 use Rattle.table_core.specs.Layout.{pair_of}
 use Rattle.node_table.specs.declared.desk.Desk.{Desk}
 use Rattle.node_table.specs.declared.table.NodeTable.{NodeTable}
@@ -36,10 +34,3 @@ module _ (table : NodeTable) (old new : Desk) (quarters : List Sq) where
       one_of word Needs.upper_half room = above room
       one_of word Needs.lower_half room = below room
       one_of word (Needs.both_halves upper lower top bottom) room = both upper lower top bottom room
-
--- a word that has no room has none later
-pub room_stays : {table : NodeTable} {old new : Desk} {kind : Kind} {word : ℕ} → Grows (known_by old) (known_by new) → HasNoRoom table old kind word → HasNoRoom table new kind word
-room_stays grows lack = record {
-  some = lack.some;
-  way = record { full = λ place short. let other = lack.way.full place short in (other.0, grows.words _ other.1, other.2, other.3) };
-}

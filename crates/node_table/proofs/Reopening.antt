@@ -45,23 +45,6 @@ module _ (was : Still) (key : Key) where
   bits : ℕ
   bits = was.key.shape.bits
 
-  pub through_start : (copy new : List ℕ) → copy ≡ was.words → new ≡ slice_set copy 0 (head key) → length new ≡ size was.key.shape.bits → head key < 2 ^ 64 → IsThrough was key new 0
-  through_start copy new same set_head size_is fits =
-      let items = was.words in
-      let is : new ≡ slice_set was.words 0 (head key) = set_head ∙ ap (λ xs. slice_set xs 0 (head key)) same in
-      let long : length was.words ≡ size was.key.shape.bits = was.good.long in
-      let other = λ (i : ℕ) (n : i ≢ 0). ap (λ xs. slice_index xs i) is ∙ get_or-set_other was.words 0 i (head key) 0 n in
-      let first : slice_index new 0 ≡ head key = ap (λ xs. slice_index xs 0) is ∙ get_or-set_same was.words 0 (head key) 0 (omega arith) in
-      record {
-        long = size_is;
-        names = first;
-        fits = λ i. ⊎_elim (λ e. subst (λ w. w < 2 ^ 64) (sym (ap (slice_index new) e ∙ first)) fits) (λ n. subst (λ w. w < 2 ^ 64) (sym (other i n)) (was.good.good.fits i)) (same_or_other i 0);
-        slots = λ kind i slot. other i (not_head was.key.shape.bits kind i slot);
-        results = λ i level slot below above block. let from = slot.from in absurd (omega arith);
-        vacant = λ i slot z. other (result_of was.key.shape.bits i) (result_some was.key.shape.bits i slot) ∙ z;
-        rest = λ i slot far. other (result_of was.key.shape.bits i) (result_some was.key.shape.bits i slot);
-      }
-
   low_level : (i level : ℕ) → IsSlot was.key.shape.bits Pair i → 3 < level → IsBlock was.key.shape.bits (words_of was) (square_rank level) i → words_of was i ≢ 0 → level ≤ 65
   low_level i level slot above block some =
       let t = was.good.good.blocks i slot some in

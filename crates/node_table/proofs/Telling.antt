@@ -19,20 +19,21 @@ use Rattle.table_core.specs.declared.knowledge.KnownResult.{KnownResult}
 use Rattle.table_core.specs.declared.knowledge.Knowledge.{Knowledge}
 use Rattle.table_core.specs.Layout.{result_of, second_part}
 use Rattle.table_core.specs.Blocks.{square_rank}
-use Rattle.table_core.specs.Knowledge.{KnowsBlock, KnowsSquareOf, Grows, has_result}
+use Rattle.table_core.specs.Knowledge.{KnowsBlock, KnowsSquareOf, has_result}
 use Rattle.table_core.specs.Lawful.{MayAsk, MayTell}
 use Rattle.table_core.specs.Learning.{LearnsFuture, MeetsResult, with_future}
 use Rattle.table_core.proofs.Knowing.{knows_grown}
 use Rattle.table_core.proofs.Lists.{all_contains, contains_here}
 use Rattle.table_core.proofs.Results.{one_level}
-use Rattle.node_table.specs.declared.desk.Desk.{Desk}
-use Rattle.node_table.specs.declared.table.NodeTable.{NodeTable}
+use Rattle.node_table.specs.declared.at.At.{At}
 use Rattle.node_table.specs.Books.{book_of, square_of, knows_in, known_cells, IsCoherent}
-use Rattle.node_table.specs.Desks.{IsDeskOf, store_of, book_at}
+use Rattle.node_table.specs.Desks.{work_at, work_store}
+use Rattle.node_table.specs.DesksAtWork.{KnowsAllOf, StaysAt, book_here}
 use Rattle.node_table.specs.Refusals.{known_by}
 use Rattle.node_table.proofs.Books.{shows_of, result_there, there_result, zero_is_empty}
-use Rattle.node_table.proofs.Desks.{coherent_at, keeps_at, square_slot, below_limit}
+use Rattle.node_table.proofs.Desks.{below_limit, coherent_at, coherent_here, square_slot}
 use Rattle.node_table.proofs.Entries.{block_of}
+use Rattle.node_table.proofs.Working.{desk_of, keeps_here, still_so}
 
 found_step : (x : KnownResult) (xs : List KnownResult) (square : ℕ) (b : Bool) → (x.square == square) ≡ b →
     (has_result xs square ≡ true → (r : KnownResult) × Contains xs r × (r.square ≡ square)) →
@@ -84,37 +85,37 @@ told_with old result live count had e = record {
 }
 
 -- the index of the result beside a known square
-module _ (table : NodeTable) (desk : Desk) (sq : Sq) {index : ℕ} (of_table : IsDeskOf table desk) (above : 3 < sq.level) (some : sq.num.0 ≢ 0) (known : IsTrue (knows_in (known_by desk) sq)) (beside : index ≡ result_of table.key.shape.bits sq.num.0) where
+module _ (at : At) (sq : Sq) {index : ℕ} (above : 3 < sq.level) (some : sq.num.0 ≢ 0) (known : IsTrue (knows_in (known_by at.desk) sq)) (beside : index ≡ result_of at.table.now.key.shape.bits sq.num.0) where
   abbrev key : Key
-  key = table.key
+  key = at.table.now.key
 
   abbrev old : Knowledge
-  old = known_by desk
+  old = known_by at.desk
 
   abbrev plane : Plane
   plane = known_cells old sq
 
   abbrev pub may_ask : MayAsk key.shape.bits old index
-  may_ask = record { square = sq.num.0; slot = square_slot table desk sq of_table above some known; beside = beside; level = sq.level; above = above; plane = plane; shown = block_of old sq known }
+  may_ask = record { square = sq.num.0; slot = square_slot at sq above some known; beside = beside; level = sq.level; above = above; plane = plane; shown = block_of old sq known }
 
   -- and that of a known square that is its future
   pub may_tell : (future_sq : Sq) → KnowsBlock old (square_rank (sq.level - 1)) future_sq.num.0 (future key.rule key.exponent sq.level plane) → MayTell key old index future_sq.num.0
-  may_tell future_sq shown = record { of = may_ask; low = below_limit key old (square_rank (sq.level - 1)) future_sq.num.0 (future key.rule key.exponent sq.level plane) (coherent_at table desk of_table) shown; shown = shown }
+  may_tell future_sq shown = record { of = may_ask; low = below_limit key old (square_rank (sq.level - 1)) future_sq.num.0 (future key.rule key.exponent sq.level plane) (coherent_here at) shown; shown = shown }
 
   -- no result stands there: the desk knew none
-  pub no_result : {word count : ℕ} {new : Knowledge} → word ≡ 0 → MeetsResult key old count index word new → ¬ HasResult (book_at table desk) sq
+  pub no_result : {word count : ℕ} {new : Knowledge} → word ≡ 0 → MeetsResult key old count index word new → ¬ HasResult (book_here at) sq
   no_result {word} none met has = ⊎_elim some (λ t.
       let r = result_there old.results sq t in
       let there : word ≡ 2 ^ 32 + r.0.future = met.agrees r.0 r.1 (beside ∙ ap (λ (q : Sq). result_of key.shape.bits q.num.0) (sym r.2)) in
       let no : 2 ^ 32 + r.0.future ≡ 0 = sym there ∙ none in omega arith) has
 
   -- what the desk knows when it has learned what stands there
-  module _ (last : Desk) {word count : ℕ} (at_table : IsDeskOf table last) (grows : Grows old (known_by last)) (l : LearnsFuture key old count index word (known_by last)) where
+  module _ {last : At} {word count : ℕ} (here : StaysAt at last) (grows : KnowsAllOf at.desk last.desk) (l : LearnsFuture key old count index word (known_by last.desk)) where
     abbrev new : Knowledge
-    new = known_by last
+    new = known_by last.desk
 
     abbrev coherent : ∥ IsCoherent key.shape.bits new ∥₁
-    coherent = coherent_at table last at_table
+    coherent = coherent_at at.table.now last.desk (desk_of here)
 
     later : KnowsBlock new (square_rank sq.level) sq.num.0 plane
     later = knows_grown old new (square_rank sq.level) sq.num.0 plane grows (block_of old sq known)
@@ -156,7 +157,7 @@ module _ (table : NodeTable) (desk : Desk) (sq : Sq) {index : ℕ} (of_table : I
         subst (λ rs. Gains (map square_of old.results) (map square_of rs) sq) (sym t.results)
         (subst (λ q. Gains (map square_of old.results) (square_of l.result ∷ map square_of old.results) q) is_sq (gains_one (square_of l.result) (map square_of old.results)))
 
-    learns_case : count ≡ 1 → (had : Bool) → has_result old.results l.result.square ≡ had → Learns (book_at table desk) (book_at table last) sq
+    learns_case : count ≡ 1 → (had : Bool) → has_result old.results l.result.square ≡ had → Learns (book_here at) (book_here last) sq
     learns_case one true e = let t = told true e in record {
       known = inr (has_now true e);
       told = inl (record { results = ap (map square_of) t.results; learned = let k = t.learned in omega arith });
@@ -167,10 +168,10 @@ module _ (table : NodeTable) (desk : Desk) (sq : Sq) {index : ℕ} (of_table : I
     }
 
     -- a result that was asked for is learned
-    pub book_learns : count ≡ 1 → Learns (book_at table desk) (book_at table last) sq
+    pub book_learns : count ≡ 1 → Learns (book_here at) (book_here last) sq
     book_learns one = learns_case one (has_result old.results l.result.square) refl
 
-    adds_case : count ≡ 0 → (had : Bool) → has_result old.results l.result.square ≡ had → AddsResult (book_at table desk) (book_at table last) sq
+    adds_case : count ≡ 0 → (had : Bool) → has_result old.results l.result.square ≡ had → AddsResult (book_here at) (book_here last) sq
     adds_case none true e = let t = told true e in record {
       known = inr (has_now true e);
       learned = let k = t.learned in omega arith;
@@ -183,18 +184,19 @@ module _ (table : NodeTable) (desk : Desk) (sq : Sq) {index : ℕ} (of_table : I
     }
 
     -- one that was told is added
-    pub book_adds : count ≡ 0 → AddsResult (book_at table desk) (book_at table last) sq
+    pub book_adds : count ≡ 0 → AddsResult (book_here at) (book_here last) sq
     book_adds none = adds_case none (has_result old.results l.result.square) refl
 
     -- the number in the word shows the future
-    pub is_future : sq.level ≤ 65 → (number : ℕ) → number ≡ second_part word → IsFuture (book_at table last) sq (numbered (sq.level - 1) number)
+    pub is_future : sq.level ≤ 65 → (number : ℕ) → number ≡ second_part word → IsFuture (book_here last) sq (numbered (sq.level - 1) number)
     is_future high number e =
         let fits = below_limit key new (square_rank (sq.level - 1)) l.result.future (future key.rule key.exponent sq.level plane) coherent future_known in
-        let same = (keeps_at table desk last at_table grows).cells sq known in
+        let same = (keeps_here here grows).cells sq known in
         let is : number ≡ l.result.future = let t = l.told in omega arith in
-        subst (λ n. IsFuture (book_at table last) sq (numbered (sq.level - 1) n)) (sym is)
-        (subst (λ p. Shows (book_at table last) (sq.level - 1) (future key.rule key.exponent sq.level p) (numbered (sq.level - 1) l.result.future)) (sym (plane_equal _ _ same))
-        (shows_of (store_of table) key new (numbered (sq.level - 1) l.result.future) (future key.rule key.exponent sq.level plane) coherent (omega arith) (omega arith) future_known))
+        still_so (λ n t. IsFuture (work_at n t last.desk) sq (numbered (sq.level - 1) number)) here
+        (subst (λ n. IsFuture (work_at at.expansions at.table.now last.desk) sq (numbered (sq.level - 1) n)) (sym is)
+        (subst (λ p. Shows (work_at at.expansions at.table.now last.desk) (sq.level - 1) (future key.rule key.exponent sq.level p) (numbered (sq.level - 1) l.result.future)) (sym (plane_equal _ _ same))
+        (shows_of (work_store at.expansions at.table.now) key new (numbered (sq.level - 1) l.result.future) (future key.rule key.exponent sq.level plane) coherent (omega arith) (omega arith) future_known)))
 
 -- the future of the empty square
 pub empty_future : (store : List ℕ) (key : Key) (known : Knowledge) (sq : Sq) → IsRule key.rule → ∥ IsCoherent key.shape.bits known ∥₁ → 3 < sq.level → sq.level ≤ 65 → sq.num.0 ≡ 0 →

@@ -1,68 +1,75 @@
--- What a desk at work knows is what the desk knows.
-use Rattle.std.proofs.Common.{ℕ, ◌+◌, ◌-◌, ◌*◌, All, List, [], ◌∷◌, map, ap, ⊎_elim, inl, inr}
-use Rattle.std.specs.List.{AllByRecursion}
-use Rattle.plane.specs.Plane.{Plane}
-use Rattle.squares.specs.declared.sq.Sq.{Sq}
-use Rattle.squares.specs.Book.{Keeps, AddsSquares, Shows, IsKnown, Learns, AddsResult, AreSubsquares, AreQuarters, nth}
-use Rattle.squares.specs.Overlaps.{AreOverlaps}
-use Rattle.table_core.specs.Knowledge.{Grows}
-use Rattle.node_table.specs.declared.desk.Desk.{Desk}
+-- What a desk at work knows, from one call to the next.
+use Rattle.std.proofs.Common.{ℕ, ◌<◌, ◌∙◌, map, sym, ap, subst, refl}
+use Rattle.squares.specs.Book.{AddsSquares, IsBook, Keeps}
+use Rattle.table_core.specs.declared.shape.Kind.{Kind}
+use Rattle.table_core.specs.declared.knowledge.Knowledge.{Knowledge}
+use Rattle.table_core.specs.Layout.{size}
+use Rattle.table_core.proofs.Knowing.{grows_refl, grows_trans}
+use Rattle.node_table.specs.declared.at.At.{At}
 use Rattle.node_table.specs.declared.table.NodeTable.{NodeTable}
 use Rattle.node_table.specs.Books.{square_of}
-use Rattle.node_table.specs.Desks.{IsDeskOf, book_at, work_store, work_at}
-use Rattle.node_table.specs.Halves.{LearnsBlocks}
+use Rattle.node_table.specs.Desks.{IsDeskOf, work_at, work_store}
+use Rattle.node_table.specs.DesksAtWork.{GoesOn, KnowsAllOf, LearnsBlocks, StaysAt, book_here}
+use Rattle.node_table.specs.Numbers.{KeepsTold}
+use Rattle.node_table.specs.Refusals.{HasNoRoom, known_by}
 use Rattle.node_table.proofs.Books.{grows_keeps}
 use Rattle.node_table.proofs.Desks.{coherent_at}
 
--- a desk that learns at work keeps its book
-pub keeps_working : (expansions : ℕ) (table : NodeTable) (old new : Desk) → IsDeskOf table new → Grows old.seat.me.0.known new.seat.me.0.known → Keeps (work_at expansions table old) (work_at expansions table new)
-keeps_working expansions table old new d grows = grows_keeps (work_store expansions table) table.key old.seat.me.0.known new.seat.me.0.known (coherent_at table new d) grows
+pub stays_trans : {a b c : At} → StaysAt a b → StaysAt b c → StaysAt a c
+stays_trans h k = record { table = k.table ∙ h.table; expansions = k.expansions ∙ h.expansions }
 
--- a desk that learns blocks at work adds squares to its book
-pub squares_working : (expansions : ℕ) (table : NodeTable) (old new : Desk) → LearnsBlocks table old new → AddsSquares (work_at expansions table old) (work_at expansions table new)
-squares_working expansions table old new learns = record {
-  keeps = keeps_working expansions table old new learns.of_table learns.grows;
+-- what is so of a desk at the table where it was is so where it is
+pub still_so : {old new : At} (P : ℕ → NodeTable → Type 0) → StaysAt old new → P old.expansions old.table.now → P new.expansions new.table.now
+still_so P here = subst (λ (t : ℕ × NodeTable). P t.0 t.1) (λ i. (sym here.expansions i, sym here.table i))
+
+pub book_is : (at : At) → IsBook (book_here at)
+book_is at = (at.desk.sound at.table.now.key at.of_table.same_key).book (work_store at.expansions at.table.now)
+
+-- it is a desk of the table where it was
+pub desk_of : {old new : At} → StaysAt old new → IsDeskOf old.table.now new.desk
+desk_of {new = new} here = subst (λ (t : NodeTable). IsDeskOf t new.desk) here.table new.of_table
+
+-- a desk that learns keeps its book
+pub keeps_here : {old new : At} → StaysAt old new → KnowsAllOf old.desk new.desk → Keeps (book_here old) (book_here new)
+keeps_here {old} {new} here grows =
+    still_so (λ n t. Keeps (book_here old) (work_at n t new.desk)) here
+    (grows_keeps (work_store old.expansions old.table.now) old.table.now.key (known_by old.desk) (known_by new.desk) (coherent_at old.table.now new.desk (desk_of here)) grows)
+
+pub told_refl : (a : Knowledge) → KeepsTold a a
+told_refl a = record { results = refl; learned = refl }
+
+told_trans : (a b c : Knowledge) → KeepsTold a b → KeepsTold b c → KeepsTold a c
+told_trans a b c h k = record { results = k.results ∙ h.results; learned = k.learned ∙ h.learned }
+
+pub book_kept : {old new : At} → LearnsBlocks old new → Keeps (book_here old) (book_here new)
+book_kept learns = keeps_here learns.here learns.grows
+
+-- one that learns blocks adds squares to its book
+pub squares_added : {old new : At} → LearnsBlocks old new → AddsSquares (book_here old) (book_here new)
+squares_added learns = record {
+  keeps = book_kept learns;
   results = record { results = ap (map square_of) learns.told.results; learned = learns.told.learned };
 }
 
-pub known_at : (expansions : ℕ) (table : NodeTable) (desk : Desk) {level : ℕ} {sq : Sq} → IsKnown (work_at expansions table desk) level sq → IsKnown (book_at table desk) level sq
-known_at expansions table desk h = record { known = h.known; at_level = h.at_level; low = h.low; high = h.high }
+pub goes_on_here : {old new : At} → LearnsBlocks old new → GoesOn old new
+goes_on_here learns = record { table = learns.here.table; grows = learns.grows }
 
-pub all_known_at : (expansions : ℕ) (table : NodeTable) (desk : Desk) (level : ℕ) (squares : List Sq) → AllByRecursion (IsKnown (work_at expansions table desk) level) squares → AllByRecursion (IsKnown (book_at table desk) level) squares
-all_known_at expansions table desk level [] h = h
-all_known_at expansions table desk level (sq ∷ squares) h =
-    (known_at expansions table desk h.0, all_known_at expansions table desk level squares h.1)
+pub learns_none : (at : At) → LearnsBlocks at at
+learns_none at = record { here = record { table = refl; expansions = refl }; grows = grows_refl (known_by at.desk); told = told_refl (known_by at.desk) }
 
-pub each_known_at : (expansions : ℕ) (table : NodeTable) (desk : Desk) {level : ℕ} (squares : List Sq) → All (IsKnown (work_at expansions table desk) level) squares → All (IsKnown (book_at table desk) level) squares
-each_known_at expansions table desk squares known k d less = known_at expansions table desk (known k d less)
+pub learns_trans : {a b c : At} → LearnsBlocks a b → LearnsBlocks b c → LearnsBlocks a c
+learns_trans h k = record { here = stays_trans h.here k.here; grows = grows_trans _ _ _ h.grows k.grows; told = told_trans _ _ _ h.told k.told }
 
-pub shows_working : (expansions : ℕ) (table : NodeTable) (desk : Desk) (level : ℕ) (plane : Plane) (sq : Sq) → Shows (book_at table desk) level plane sq → Shows (work_at expansions table desk) level plane sq
-shows_working expansions table desk level plane sq s =
-    record { known = record { known = s.known.known; at_level = s.known.at_level; low = s.known.low; high = s.known.high }; cells = s.cells }
+-- a word that has no room has none later
+pub no_room_later : {old new : At} {kind : Kind} {word : ℕ} → LearnsBlocks old new → HasNoRoom old.table.now old.desk kind word → HasNoRoom new.table.now new.desk kind word
+no_room_later {old} {new} {kind} {word} learns lack =
+    let later : HasNoRoom old.table.now new.desk kind word = record {
+      some = lack.some;
+      way = record { full = λ place short. let other = lack.way.full place short in (other.0, learns.grows.words _ other.1, other.2, other.3) };
+    } in
+    still_so (λ _ t. HasNoRoom t new.desk kind word) learns.here later
 
-pub quarters_working : (expansions : ℕ) (table : NodeTable) (desk : Desk) (level : ℕ) (plane : Plane) (quarters : List Sq) → AreQuarters (book_at table desk) level plane quarters → AreQuarters (work_at expansions table desk) level plane quarters
-quarters_working expansions table desk level plane quarters h = record {
-  nw = shows_working expansions table desk (level - 1) _ (nth quarters 0) h.nw;
-  ne = shows_working expansions table desk (level - 1) _ (nth quarters 1) h.ne;
-  sw = shows_working expansions table desk (level - 1) _ (nth quarters 2) h.sw;
-  se = shows_working expansions table desk (level - 1) _ (nth quarters 3) h.se;
-}
-
-pub subsquares_working : (expansions : ℕ) (table : NodeTable) (desk : Desk) (level : ℕ) (plane : Plane) (squares : List Sq) → AreSubsquares (book_at table desk) level plane squares → AreSubsquares (work_at expansions table desk) level plane squares
-subsquares_working expansions table desk level plane squares h =
-    record { shown = λ row column above left. shows_working expansions table desk (level - 1) _ (nth squares (3 * row + column)) (h.shown row column above left) }
-
-pub overlaps_working : (expansions : ℕ) (table : NodeTable) (desk : Desk) (level : ℕ) (nine four : List Sq) → AreOverlaps (book_at table desk) level nine four → AreOverlaps (work_at expansions table desk) level nine four
-overlaps_working expansions table desk level nine four h = record {
-  nw = shows_working expansions table desk (level + 1) _ (nth four 0) h.nw;
-  ne = shows_working expansions table desk (level + 1) _ (nth four 1) h.ne;
-  sw = shows_working expansions table desk (level + 1) _ (nth four 2) h.sw;
-  se = shows_working expansions table desk (level + 1) _ (nth four 3) h.se;
-}
-
-pub learns_working : (expansions : ℕ) (table : NodeTable) (old new : Desk) (sq : Sq) → Learns (book_at table old) (book_at table new) sq → Learns (work_at expansions table old) (work_at expansions table new) sq
-learns_working expansions table old new sq l =
-    record { known = l.known; told = ⊎_elim (λ k. inl (record { results = k.results; learned = k.learned })) (λ g. inr g) l.told }
-
-pub adds_working : (expansions : ℕ) (table : NodeTable) (old new : Desk) (sq : Sq) → AddsResult (book_at table old) (book_at table new) sq → AddsResult (work_at expansions table old) (work_at expansions table new) sq
-adds_working expansions table old new sq l = record { known = l.known; learned = l.learned; results = l.results }
+-- an index that the shape gives is that of a word
+pub in_words : {old new : At} {index : ℕ} → StaysAt old new → index < size old.table.now.key.shape.bits → index < new.table.now.table.shared.table_id.words
+in_words {old} {index = index} here less =
+    still_so (λ _ t. index < t.table.shared.table_id.words) here (subst (λ n. index < n) (sym old.table.now.long) less)

@@ -81,7 +81,7 @@ impl Squares for At<'_> {
         if sq.is_empty() {
             return 0;
         }
-        self.desk.look(self.table, sq.num.0)
+        self.look(sq.num.0)
     }
 
     fn read_parts(&mut self, sq: Sq) -> [Sq; 4]
@@ -92,7 +92,7 @@ impl Squares for At<'_> {
         ensures grows { GoesOn self.old self.new }
         ensures adds { AddsSquares (book_here self.old) (book_here self.new) }
     {
-        let (upper, lower) = self.desk.read_halves(self.table, sq);
+        let (upper, lower) = self.read_halves(sq);
         [upper.left, upper.right, lower.left, lower.right]
     }
 
@@ -108,7 +108,7 @@ impl Squares for At<'_> {
         if word == 0 {
             return Ok(Sq::empty(LEAF_LEVEL));
         }
-        let Some(number) = self.desk.number(self.table, Kind::Leaf, word) else {
+        let Some(number) = self.number(Kind::Leaf, word) else {
             return Err(Refusal::NodesFull);
         };
         Ok(square(LEAF_LEVEL, number))
@@ -130,11 +130,11 @@ impl Squares for At<'_> {
         ensures adds { AddsSquares (book_here self.old) (book_here self.new) }
     {
         let [nw, ne, sw, se] = quarters;
-        self.table.prefetch_half(nw, ne);
-        self.table.prefetch_half(sw, se);
-        let upper = self.desk.half(self.table, nw, ne)?;
-        let lower = self.desk.half(self.table, sw, se)?;
-        self.desk.whole(self.table, upper, lower)
+        self.prefetch_half(nw, ne);
+        self.prefetch_half(sw, se);
+        let upper = self.half(nw, ne)?;
+        let lower = self.half(sw, se)?;
+        self.whole(upper, lower)
     }
 
     fn nine(&mut self, sq: Sq) -> Result<[Sq; 9], Refusal>
@@ -148,7 +148,7 @@ impl Squares for At<'_> {
         ensures grows { GoesOn self.old self.new }
         ensures adds { AddsSquares (book_here self.old) (book_here self.new) }
     {
-        self.desk.nine(self.table, sq)
+        self.nine_by_halves(sq)
     }
 
     fn overlaps(&mut self, level: u8, nine: [Sq; 9]) -> Result<[Sq; 4], Refusal>
@@ -160,7 +160,7 @@ impl Squares for At<'_> {
         ensures grows { GoesOn self.old self.new }
         ensures adds { AddsSquares (book_here self.old) (book_here self.new) }
     {
-        self.desk.overlaps(self.table, level, nine)
+        self.overlaps_by_halves(level, nine)
     }
 
     fn recall(&mut self, sq: Sq) -> Option<Sq>
@@ -180,7 +180,7 @@ impl Squares for At<'_> {
             return Some(Sq::empty(level));
         }
         let index = self.table.key.shape.result_index(sq.num.0);
-        let word = self.desk.ask(self.table, index);
+        let word = self.ask(index);
         if word == 0 {
             return None;
         }
@@ -201,7 +201,7 @@ impl Squares for At<'_> {
     {
         if !sq.is_empty() {
             let index = self.table.key.shape.result_index(sq.num.0);
-            self.desk.tell(self.table, index, future.num.0);
+            self.tell(index, future.num.0);
         }
         Ok(())
     }

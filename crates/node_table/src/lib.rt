@@ -26,6 +26,7 @@ mod subsquares;
 mod table;
 mod teams;
 mod view;
+mod word_steps;
 
 pub use at::At;
 pub use desk::Desk;

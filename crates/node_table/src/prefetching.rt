@@ -3,15 +3,14 @@
 
 ghost use Rattle.std.specs.Prelude.{◌<◌};
 ghost use Rattle.squares.specs.Book.{IsKnown};
-ghost use Rattle.node_table.specs.Desks.{IsDeskOf, book_at};
+ghost use Rattle.node_table.specs.DesksAtWork.{book_here};
 
-use crate::desk::Desk;
+use crate::at::At;
 use crate::halves::Half;
-use crate::table::NodeTable;
 use squares::Sq;
 use table_core::{Kind, pair_word};
 
-impl NodeTable {
+impl At<'_> {
     // The slot where the search for the half of two squares begins.
     pub(crate) fn prefetch_half(&self, left: Sq, right: Sq) {
         self.prefetch(left.num.0, right.num.0);
@@ -21,27 +20,27 @@ impl NodeTable {
     pub(crate) fn prefetch_whole(&self, upper: Half, lower: Half) {
         self.prefetch(upper.number, lower.number);
         let word = pair_word(upper.number, lower.number);
-        let index = self.key.shape.way_index(Kind::Pair, word, 0);
+        let index = self.table.key.shape.way_index(Kind::Pair, word, 0);
         self.table
+            .table
             .shared
-            .peek(self.key.shape.result_index(index) as usize);
+            .peek(self.table.key.shape.result_index(index) as usize);
     }
 
-    // The result beside a square that the desk knows.
-    pub(crate) fn prefetch_result(&self, desk: &Desk, sq: Sq)
-        requires table { IsDeskOf self.now desk.now }
-        requires known { IsKnown (book_at self.now desk.now) sq.level sq }
+    // The result beside a known square.
+    pub(crate) fn prefetch_result(&self, sq: Sq)
+        requires known { IsKnown (book_here self.now) sq.level sq }
         requires level { 3 < sq.level }
     {
         if !sq.is_empty() {
-            let index = self.key.shape.result_index(sq.num.0);
-            self.table.shared.peek(index as usize);
+            let index = self.table.key.shape.result_index(sq.num.0);
+            self.table.table.shared.peek(index as usize);
         }
     }
 
     fn prefetch(&self, first: u32, second: u32) {
         let word = pair_word(first, second);
-        let index = self.key.shape.way_index(Kind::Pair, word, 0);
-        self.table.shared.peek(index as usize);
+        let index = self.table.key.shape.way_index(Kind::Pair, word, 0);
+        self.table.table.shared.peek(index as usize);
     }
 }

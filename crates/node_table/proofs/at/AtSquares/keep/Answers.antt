@@ -6,13 +6,13 @@ use Rattle.node_table.specs.Books.{known_cells}
 use Rattle.node_table.proofs.Entries.{has_number}
 use Rattle.node_table.proofs.Desks.{known_block, square_slot}
 use Rattle.node_table.proofs.Telling.{may_tell, book_adds, told_some}
-use Rattle.node_table.proofs.Working.{keeps_working, adds_working}
+use Rattle.node_table.proofs.Working.{keeps_here}
 use Rattle.node_table.proofs.at.AtSquares.keep.Goals as goal
 
 pub result_index-index-requires : goal.result_index-index-requires
 result_index-index-requires c =
     let at = c.args.self.now in
-    square_slot at.table.now at.desk c.args.sq at.of_table c.requires.level (has_number c.is_empty.ensures c.if-not-is_empty.true) c.requires.known.known
+    square_slot at c.args.sq c.requires.level (has_number c.is_empty.ensures c.if-not-is_empty.true) c.requires.known.known
 
 pub tell-requires-clause-lawful : goal.tell-requires-clause-lawful
 tell-requires-clause-lawful c =
@@ -21,16 +21,17 @@ tell-requires-clause-lawful c =
     let known = at.desk.seat.me.0.known in
     let sq = c.args.sq in
     let fut = c.args.future in
-    may_tell at.table.now at.desk sq at.of_table c.requires.level (has_number c.is_empty.ensures c.if-not-is_empty.true) c.requires.known.known c.result_index-index.ensures.index fut
+    may_tell at sq c.requires.level (has_number c.is_empty.ensures c.if-not-is_empty.true) c.requires.known.known c.result_index-index.ensures.index fut
     (knows_same known (square_rank (sq.level - 1)) fut.num.0 (known_cells known fut) (future key.rule key.exponent sq.level (known_cells known sq)) c.requires.future.cells
     (known_block known (sq.level - 1) fut c.requires.future.known.at_level c.requires.future.known.known))
 
 pub returns-then-not-is_empty-clause-ok : goal.returns-then-not-is_empty-clause-ok
 returns-then-not-is_empty-clause-ok c =
-    let at = c.args.self.now in
-    adds_working at.expansions at.table.now at.desk c.tell.new.self c.args.sq
-    (book_adds at.table.now at.desk c.args.sq at.of_table c.requires.level (has_number c.is_empty.ensures c.if-not-is_empty.true) c.requires.known.known c.result_index-index.ensures.index
-    c.tell.new.self c.tell.ensures.table c.tell.ensures.met.grows (c.tell.ensures.met.learns.some (told_some c.tell.result c.args.future.num.0)) refl)
+    book_adds c.args.self.now c.args.sq c.requires.level (has_number c.is_empty.ensures c.if-not-is_empty.true) c.requires.known.known c.result_index-index.ensures.index
+    c.tell.ensures.here c.tell.ensures.met.grows (c.tell.ensures.met.learns.some (told_some c.tell.result c.args.future.num.0)) refl
+
+pub returns-then-not-is_empty-clause-grows : goal.returns-then-not-is_empty-clause-grows
+returns-then-not-is_empty-clause-grows c = record { table = c.tell.ensures.here.table; grows = c.tell.ensures.met.grows }
 
 pub returns-then-not-is_empty-clause-keeps : goal.returns-then-not-is_empty-clause-keeps
-returns-then-not-is_empty-clause-keeps c = keeps_working c.args.self.now.expansions c.args.self.now.table.now c.args.self.now.desk c.tell.new.self c.tell.ensures.table c.tell.ensures.met.grows
+returns-then-not-is_empty-clause-keeps c = keeps_here c.tell.ensures.here c.tell.ensures.met.grows

@@ -3,15 +3,15 @@ use Rattle.table_core.specs.Blocks.{square_rank}
 use Rattle.table_core.specs.Knowledge.{KnowsBlock}
 use Rattle.node_table.specs.Books.{known_cells}
 use Rattle.node_table.proofs.Entries.{block_of, has_number}
-use Rattle.node_table.proofs.Desks.{coherent_at, in_table, leaf_slot, leaf_read}
-use Rattle.node_table.proofs.Searching.{meets_told}
-use Rattle.node_table.proofs.Working.{squares_working}
+use Rattle.node_table.proofs.Desks.{coherent_at, coherent_here, in_table, leaf_read, leaf_slot}
+use Rattle.node_table.proofs.Searching.{learns_met}
+use Rattle.node_table.proofs.Working.{desk_of, squares_added}
 use Rattle.node_table.proofs.at.AtSquares.read_bits.Goals as goal
 
-pub look-requires-clause-range : goal.look-requires-clause-range
-look-requires-clause-range c =
+pub look-requires : goal.look-requires
+look-requires c =
     let at = c.args.self.now in
-    in_table at.table.now at.desk (square_rank c.args.sq.level) c.args.sq.num.0 (known_cells at.desk.seat.me.0.known c.args.sq) at.of_table (has_number c.is_empty.ensures c.if-is_empty.false) (block_of at.desk.seat.me.0.known c.args.sq c.requires.known)
+    in_table at (square_rank c.args.sq.level) c.args.sq.num.0 (known_cells at.desk.seat.me.0.known c.args.sq) (has_number c.is_empty.ensures c.if-is_empty.false) (block_of at.desk.seat.me.0.known c.args.sq c.requires.known)
 
 pub returns-clause-value : goal.returns-clause-value
 returns-clause-value c =
@@ -23,13 +23,12 @@ returns-clause-value c =
     let met = c.look.ensures.met in
     record {
       known = c.requires;
-      cells = leaf_read at.table.now.key known c.look.new.self.seat.me.0.known n c.look.result plane (coherent_at at.table.now c.look.new.self c.look.ensures.table)
-          (has_number c.is_empty.ensures c.if-is_empty.false) (leaf_slot at.table.now.key.shape.bits known n plane (coherent_at at.table.now at.desk at.of_table) (has_number c.is_empty.ensures c.if-is_empty.false) knows) knows (met.stands 0 plane (has_number c.is_empty.ensures c.if-is_empty.false) knows) met.grows met.learns;
+      cells = leaf_read at.table.now.key known c.look.new.self.desk.seat.me.0.known n c.look.result plane (coherent_at at.table.now c.look.new.self.desk (desk_of c.look.ensures.here))
+          (has_number c.is_empty.ensures c.if-is_empty.false) (leaf_slot at.table.now.key.shape.bits known n plane (coherent_here at) (has_number c.is_empty.ensures c.if-is_empty.false) knows) knows (met.stands 0 plane (has_number c.is_empty.ensures c.if-is_empty.false) knows) met.grows met.learns;
     }
 
+pub returns-clause-grows : goal.returns-clause-grows
+returns-clause-grows c = record { table = c.look.ensures.here.table; grows = c.look.ensures.met.grows }
+
 pub returns-clause-adds : goal.returns-clause-adds
-returns-clause-adds c =
-    let at = c.args.self.now in
-    let met = c.look.ensures.met in
-    let told = meets_told at.table.now.key at.desk.seat.me.0.known c.look.new.self.seat.me.0.known c.args.sq.num.0 c.look.result met.learns in
-    squares_working at.expansions at.table.now at.desk c.look.new.self (record { of_table = c.look.ensures.table; grows = met.grows; told = told })
+returns-clause-adds c = squares_added (learns_met c.look.ensures.here c.look.ensures.met.grows c.look.ensures.met.learns)
