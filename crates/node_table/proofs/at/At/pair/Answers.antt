@@ -5,7 +5,6 @@ use Rattle.table_core.specs.Lawful.{KnowsParts}
 use Rattle.node_table.specs.Refusals.{HasNoRoom, known_by}
 use Rattle.node_table.proofs.Desks.{coherent_here, shard_full, way_full}
 use Rattle.node_table.proofs.TwoBlocks.{empty_pair}
-use Rattle.node_table.proofs.Working.{learns_none}
 use Rattle.node_table.proofs.at.At.pair.Goals as goal
 
 pub returns-then-second-eq0-clause-ok : goal.returns-then-second-eq0-clause-ok
@@ -35,6 +34,3 @@ returns-in-None-clause-full c = subst (HasNoRoom c.number.new.self.table.now c.n
 
 pub returns-then-second-eq0-clause-refused : goal.returns-then-second-eq0-clause-refused
 returns-then-second-eq0-clause-refused c = λ room. let e = c.if-first-eq0.true in let f = c.if-second-eq0.true in absurd (room.some (omega arith))
-
-pub returns-then-second-eq0-clause-learns : goal.returns-then-second-eq0-clause-learns
-returns-then-second-eq0-clause-learns c = learns_none c.args.self.now

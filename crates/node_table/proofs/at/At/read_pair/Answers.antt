@@ -3,9 +3,7 @@ use Rattle.table_core.specs.Layout.{first_part}
 use Rattle.node_table.specs.Numbers.{KnowsPairOf}
 use Rattle.node_table.specs.Refusals.{known_by}
 use Rattle.node_table.proofs.Desks.{coherent_here, in_table}
-use Rattle.node_table.proofs.Searching.{learns_met}
 use Rattle.node_table.proofs.TwoBlocks.{empty_parts, pair_read}
-use Rattle.node_table.proofs.Working.{learns_none}
 use Rattle.node_table.proofs.at.At.read_pair.Goals as goal
 
 pub returns-then-number-eq0-clause-parts : goal.returns-then-number-eq0-clause-parts
@@ -25,9 +23,3 @@ returns-clause-parts c =
     subst (λ (first : ℕ). KnowsPairOf old new number first c.parts.result.1) (sym c.parts.ensures.first)
     (subst (λ (second : ℕ). KnowsPairOf old new number (first_part word) second) (sym c.parts.ensures.second)
     (pair_read c.args.self.now.table.now.key old new number word c.if-number-eq0.false (λ rank plane knows. met.stands rank plane c.if-number-eq0.false knows) met.learns))
-
-pub returns-then-number-eq0-clause-learns : goal.returns-then-number-eq0-clause-learns
-returns-then-number-eq0-clause-learns c = learns_none c.args.self.now
-
-pub returns-clause-learns : goal.returns-clause-learns
-returns-clause-learns c = learns_met c.look.ensures.here c.look.ensures.met.grows c.look.ensures.met.learns

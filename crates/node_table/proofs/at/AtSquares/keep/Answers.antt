@@ -30,8 +30,5 @@ returns-then-not-is_empty-clause-ok c =
     book_adds c.args.self.now c.args.sq c.requires.level (has_number c.is_empty.ensures c.if-not-is_empty.true) c.requires.known.known c.result_index-index.ensures.index
     c.tell.ensures.here c.tell.ensures.met.grows (c.tell.ensures.met.learns.some (told_some c.tell.result c.args.future.num.0)) refl
 
-pub returns-then-not-is_empty-clause-grows : goal.returns-then-not-is_empty-clause-grows
-returns-then-not-is_empty-clause-grows c = record { table = c.tell.ensures.here.table; grows = c.tell.ensures.met.grows }
-
 pub returns-then-not-is_empty-clause-keeps : goal.returns-then-not-is_empty-clause-keeps
 returns-then-not-is_empty-clause-keeps c = keeps_here c.tell.ensures.here c.tell.ensures.met.grows

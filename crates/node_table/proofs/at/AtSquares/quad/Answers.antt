@@ -81,9 +81,6 @@ returns-clause-refused c =
     let f = same_half _ _ both bottom (half_before new both (grows_refl (known_by new.desk)) four.sw four.se lower.left lower.right (half_of four.sw.at_level lower)) in
     c.whole.ensures.refused (subst (λ (n : ℕ × ℕ). HasNoRoom new.table.now new.desk Pair (pair_of n.0 n.1)) (λ i. (e i, f i)) (no_room_later both room)))
 
-pub returns-in_err-upper-clause-grows : goal.returns-in_err-upper-clause-grows
-returns-in_err-upper-clause-grows c = goes_on_here c.half.ensures.learns
-
 pub returns-in_err-lower-clause-grows : goal.returns-in_err-lower-clause-grows
 returns-in_err-lower-clause-grows c = goes_on_here (learns_trans c.half.ensures.learns c.half-2.ensures.learns)
 

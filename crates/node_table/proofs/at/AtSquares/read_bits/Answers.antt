@@ -27,8 +27,5 @@ returns-clause-value c =
           (has_number c.is_empty.ensures c.if-is_empty.false) (leaf_slot at.table.now.key.shape.bits known n plane (coherent_here at) (has_number c.is_empty.ensures c.if-is_empty.false) knows) knows (met.stands 0 plane (has_number c.is_empty.ensures c.if-is_empty.false) knows) met.grows met.learns;
     }
 
-pub returns-clause-grows : goal.returns-clause-grows
-returns-clause-grows c = record { table = c.look.ensures.here.table; grows = c.look.ensures.met.grows }
-
 pub returns-clause-adds : goal.returns-clause-adds
 returns-clause-adds c = squares_added (learns_met c.look.ensures.here c.look.ensures.met.grows c.look.ensures.met.learns)

@@ -45,11 +45,5 @@ returns-clause-results c =
     book_learns at c.args.sq c.requires.level (has_number c.is_empty.ensures c.if-is_empty.false) c.requires.known.known c.result_index-index.ensures.index
     c.ask-word.ensures.here c.ask-word.ensures.met.grows (c.ask-word.ensures.met.learns.some c.if-word-eq0.false) refl
 
-pub returns-then-word-eq0-clause-grows : goal.returns-then-word-eq0-clause-grows
-returns-then-word-eq0-clause-grows c = record { table = c.ask-word.ensures.here.table; grows = c.ask-word.ensures.met.grows }
-
-pub returns-clause-grows : goal.returns-clause-grows
-returns-clause-grows c = record { table = c.ask-word.ensures.here.table; grows = c.ask-word.ensures.met.grows }
-
 pub returns-clause-keeps : goal.returns-clause-keeps
 returns-clause-keeps c = keeps_here c.ask-word.ensures.here c.ask-word.ensures.met.grows
