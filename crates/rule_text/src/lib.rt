@@ -1,4 +1,5 @@
-//! Rules of two-state cellular automata that count live neighbours, and their texts.
+//! Rules of two-state cellular automata that count live neighbours, and their texts. How a rule is written stands in
+//! `written.rt`, `parts.rt` and `blanks.rt`, and what it means in `rule.rt` and `neighbourhood.rt`.
 #![tactic(auto)]
 
 mod blanks;
@@ -8,6 +9,7 @@ mod laws;
 mod neighbourhood;
 mod parts;
 mod rule;
+mod written;
 
 pub use blanks::{is_blank, trim_start};
 pub use fault::RuleFault;

@@ -1,15 +1,11 @@
-//! Rules that count live neighbours, and their texts.
+//! Rules that count live neighbours.
 
-ghost use Rattle.std.specs.Prelude.{◌≡◌, ◌^◌, ◌<◌, IfOk};
+ghost use Rattle.std.specs.Prelude.{◌≡◌, ◌^◌, ◌<◌};
 ghost use Rattle.rule_text.specs.CountRule.{IsRule, dead, lives};
 ghost use Rattle.rule_text.specs.RuleCode.{code_of};
-ghost use Rattle.rule_text.specs.RuleText.{Reads, canonical_text};
 
 use crate::digits::Digits;
-use crate::fault::RuleFault;
 use crate::neighbourhood::Neighbourhood;
-use crate::parts::find_parts;
-use arrayvec::ArrayString;
 use std::marker::Model;
 
 /// A rule that counts live neighbours: a dead cell becomes live if their number is a digit of
@@ -17,9 +13,9 @@ use std::marker::Model;
 /// neighbours, and 0 is no digit of birth.
 #[derive(Clone, Copy, Debug, PartialEq, Eq)]
 pub struct Rule {
-    neighbourhood: Neighbourhood,
-    birth: Digits,
-    survival: Digits,
+    pub(crate) neighbourhood: Neighbourhood,
+    pub(crate) birth: Digits,
+    pub(crate) survival: Digits,
 }
 
 impl Model for Rule {
@@ -51,37 +47,6 @@ impl Rule {
         }
     }
 
-    /// Reads a rule's text: the digits of birth and of survival as `B3/S23`, `S23/B3`, `B3S23`,
-    /// `S23B3` or, survival first, `23/3`, and then the letter `V` or `H` of a neighbourhood other
-    /// than Moore's, or `M`. Letters stand in either case, digits in any order, also repeated, and
-    /// spaces and tabs at the ends are left out.
-    ///
-    /// A text in no such form, or with a digit above the number of neighbours, is a `BadRule`. Any
-    /// other text with 0 among the digits of birth is `BirthOnZero`.
-    pub fn read(text: &[u8]) -> Result<Rule, RuleFault>
-        ensures reads { Reads text.now result }
-        ensures rule { IfOk result IsRule }
-    {
-        let Some(parts) = find_parts(text) else {
-            return Err(RuleFault::BadRule);
-        };
-        let neighbourhood = parts.neighbourhood;
-        let Some(birth) = Digits::read(parts.birth, neighbourhood) else {
-            return Err(RuleFault::BadRule);
-        };
-        let Some(survival) = Digits::read(parts.survival, neighbourhood) else {
-            return Err(RuleFault::BadRule);
-        };
-        if birth.contains(0) {
-            return Err(RuleFault::BirthOnZero);
-        }
-        Ok(Rule {
-            neighbourhood,
-            birth,
-            survival,
-        })
-    }
-
     /// Which cells it counts as neighbours.
     pub fn neighbourhood(&self) -> Neighbourhood
         ensures neighbourhood { result ≡ self.now.neighbourhood }
@@ -98,23 +63,6 @@ impl Rule {
     {
         let digits = if alive { self.survival } else { self.birth };
         digits.contains(count)
-    }
-
-    /// The canonical text, as `B3/S23` or `B2/S34H`: `B`, the digits of birth, `/S`, the digits of
-    /// survival, both rising, and then `V` or `H` for a neighbourhood other than Moore's.
-    pub fn text(&self) -> ArrayString<24>
-        ensures text { result.bytes ≡ canonical_text self.now }
-        ensures rule { IsRule self.now }
-    {
-        let mut text = ArrayString::new();
-        text.push('B');
-        self.birth.write(&mut text);
-        text.push_str("/S");
-        self.survival.write(&mut text);
-        if let Some(letter) = self.neighbourhood.suffix() {
-            text.push(letter);
-        }
-        text
     }
 
     /// The rule as a number below 2^20: bit `d` for a digit `d` of birth, bit `9 + d` for a digit
