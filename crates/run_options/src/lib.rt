@@ -2,7 +2,5 @@
 #![tactic(auto)]
 
 mod options;
-mod workers;
 
-pub use options::RunOptions;
-pub use workers::MOST_WORKERS;
+pub use options::{MOST_WORKERS, RunOptions};

@@ -2,6 +2,9 @@
 
 use rule_text::Rule;
 
+/// The largest number of workers of a run.
+pub const MOST_WORKERS: usize = 64;
+
 /// What a run is asked to do that has neither a report nor a file.
 #[derive(Clone, Copy, Debug, PartialEq, Eq)]
 pub struct RunOptions {
