@@ -6,10 +6,7 @@ ghost use Rattle.macrocell_reader.specs.NodeFaults.{node_fault, fault_among, is_
 ghost use Rattle.macrocell_reader.specs.Nodes.{level_of, node_of};
 
 use crate::node::{Node, node_of};
-use plane::Refusal;
-
-/// The level of a leaf, whose side is 2^3.
-const LEAF_LEVEL: u8 = 3;
+use plane::{LEAF_LEVEL, Refusal};
 
 /// The lowest level of an inner node.
 pub(crate) const LEAST_INNER_LEVEL: u8 = 4;

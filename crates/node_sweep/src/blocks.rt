@@ -9,8 +9,8 @@ use crate::transfer::{Fresh, Transfer};
 use plane::Refusal;
 use table_core::{Kind, LARGEST_RANK, pair_word, parts};
 
-// How many pairs are copied side by side, so that they wait for memory together.
-const BLOCK_LEN: usize = 64;
+// How many pairs are copied side by side, or results read and then told, so that they wait for memory together.
+pub(crate) const BLOCK_LEN: u32 = 64;
 
 // How many places of a word's way need no second look, where this was found at the first.
 fn places_tried(found: u64, word: u64) -> u32
@@ -88,8 +88,8 @@ impl Transfer<'_> {
         ensures copied { OnOk result (HaveCopies self.now slots.now fresh.new) }
         ensures full { IfErr result (SaysNoRoom self.now) }
     {
-        let mut words = [0u64; BLOCK_LEN];
-        let mut found = [0u64; BLOCK_LEN];
+        let mut words = [0u64; BLOCK_LEN as usize];
+        let mut found = [0u64; BLOCK_LEN as usize];
         self.paired_copies(fresh.copies.as_slice(), slots, below, &mut words);
         self.look_ahead(fresh.words.as_slice(), &words, &mut found);
         self.place_words(fresh, slots, &words, &found)
@@ -112,7 +112,7 @@ impl Transfer<'_> {
         let end = order.ends[below as usize + 1];
         let mut from = order.ends[below as usize];
         while from < end {
-            let to = usize::min(end, from + BLOCK_LEN);
+            let to = usize::min(end, from + BLOCK_LEN as usize);
             self.copy_block(fresh, &slots[from..to], below)?;
             from = to;
         }

@@ -5,11 +5,9 @@ ghost use Rattle.table_core.specs.declared.shape.Kind.TheVariants.{Pair};
 ghost use Rattle.table_core.specs.Layout.{IsSlot, result_of, start};
 ghost use Rattle.node_sweep.specs.Keeping.{IsResultWord};
 
+use crate::blocks::BLOCK_LEN;
 use crate::transfer::{Fresh, OldWords, Transfer};
 use table_core::{Kind, parts, result_word};
-
-// How many results are read, and then told, side by side, so that they wait for memory together.
-const BLOCK_LEN: u32 = 64;
 
 impl OldWords<'_> {
     ghost use Rattle.node_sweep.specs.OldWords.{bits_in, words_in};

@@ -13,7 +13,7 @@ mod refusal;
 mod rule_faults;
 mod window;
 
-pub use cell::{Bounds, Cell};
+pub use cell::{Bounds, Cell, LEAF_LEVEL};
 pub use cell_set::CellSet;
 pub use device::{Counted, FailAt, Failed, Memory, Sink, Source, write_all};
 pub use fault::Fault;

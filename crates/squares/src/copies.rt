@@ -6,8 +6,8 @@ ghost use Rattle.squares.specs.Copies.{AreKnownCopies};
 
 use crate::book::{Look, Squares};
 use crate::reading::{Looked, Reading};
-use crate::sq::{LEAF_LEVEL, Num, Sq};
-use plane::Refusal;
+use crate::sq::{Num, Sq};
+use plane::{LEAF_LEVEL, Refusal};
 use std::alloc::Global;
 use std::collections::HashMap;
 

@@ -9,8 +9,8 @@ ghost use Rattle.std.specs.Ordering.{nat_cmp};
 
 use crate::book::{Look, Squares};
 use crate::node::{Node, Quarters, Record};
-use crate::sq::{LEAF_LEVEL, Num, Sq};
-use plane::Refusal;
+use crate::sq::{Num, Sq};
+use plane::{LEAF_LEVEL, Refusal};
 use rule_text::Rule;
 use std::alloc::{AllocError, Global};
 use std::collections::BTreeMap;

@@ -3,9 +3,6 @@
 ghost use Rattle.std.specs.Prelude.{◌≡◌, ◌↔◌, ◌-◌, ◌^◌, ◌≤◌, IsTrue};
 ghost use Rattle.squares.specs.Book.{IsEmpty, numbered};
 
-/// The level of a leaf, which has 8 by 8 cells.
-pub const LEAF_LEVEL: u8 = 3;
-
 /// The lowest level of a square round (0,0).
 pub const LOWEST_ROOT_LEVEL: u8 = 4;
 

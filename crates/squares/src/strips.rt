@@ -1,6 +1,6 @@
 //! The square of runs that come in the order of reading, made of rows of squares.
 
-ghost use Rattle.std.specs.Prelude.{◌≡◌, ◌↔◌, ◌≤◌, ◌<◌, ◌+◌, ◌*◌, ◌-◌, ◌^◌, ℕ, List, [], ◌∷◌, false, map, IfErr, IfOk, IfSome, IsTrue, MatchOption, OnOk, ⊤};
+ghost use Rattle.std.specs.Prelude.{◌≡◌, ◌↔◌, ◌≤◌, ◌+◌, ◌*◌, ◌-◌, ◌^◌, ℕ, List, [], ◌∷◌, map, IfErr, IfOk, IsTrue, MatchOption, OnOk, ⊤};
 ghost use Rattle.std.specs.List.{AllByRecursion};
 ghost use Rattle.plane.specs.Runs.{runs_plane};
 ghost use Rattle.plane.specs.Square.{IsSame};
@@ -14,9 +14,9 @@ ghost use Rattle.squares.specs.Strips.{AreInReadingOrder, AreLeft, AreTaken, IsT
 use crate::book::Squares;
 use crate::leaf_rows::leaf_row;
 use crate::spans::Span;
-use crate::sq::{LEAF_LEVEL, Sq, half_side, side};
+use crate::sq::{Sq, half_side, side};
 use crate::square_rows::{Segment, empty_row, join_rows, square_at};
-use plane::{Cell, Refusal};
+use plane::{Cell, LEAF_LEVEL, Refusal};
 use std::alloc::{AllocError, Global};
 
 /// Runs of live cells, one after the other.

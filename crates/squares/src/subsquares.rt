@@ -7,8 +7,8 @@ ghost use Rattle.squares.specs.Parts.{ArePartsOfParts};
 
 use crate::book::Squares;
 use crate::leaves::leaf_centre;
-use crate::sq::{LEAF_LEVEL, Sq};
-use plane::Refusal;
+use crate::sq::Sq;
+use plane::{LEAF_LEVEL, Refusal};
 
 /// The square at the centre of a square above level 3, with half its side.
 pub fn centre<S: Squares>(book: &mut S, sq: Sq) -> Result<Sq, Refusal>

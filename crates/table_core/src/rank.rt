@@ -3,11 +3,10 @@
 ghost use Rattle.std.specs.Prelude.{◌≡◌, ◌≤◌};
 ghost use Rattle.table_core.specs.Blocks.{largest_rank, square_rank};
 
+use plane::LEAF_LEVEL;
+
 /// The rank of the largest squares, those of level 65.
 pub const LARGEST_RANK: u8 = 124;
-
-/// The level of a leaf, whose side is 2^3.
-const LEAF_LEVEL: u8 = 3;
 
 /// The rank of a square of this level: two for each level above 3, since a half has a rank of its own.
 pub fn square_rank(level: u8) -> u8
