@@ -12,6 +12,7 @@ mod steps;
 mod tally;
 mod trimming;
 
+pub use orders::Order;
 pub use padding::pad;
 pub use plans::plan;
 pub use recursion::{future, future_in_order, replace_by_futures};

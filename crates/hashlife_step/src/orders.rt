@@ -25,19 +25,41 @@ const ORDERS_OF_FOUR: [[u8; 4]; 8] = [
     [2, 3, 0, 1],
 ];
 
-/// Which of `count` squares comes at place k in this order.
-///
-/// Workers share their work best where their orders begin at different squares. No result hangs on
-/// an order, so nothing says that each square comes at some place.
-pub(crate) fn place_in_order(order: u8, k: usize, count: usize) -> usize
-    requires { 0 < count }
-    ensures { result < count }
-{
-    let row = order as usize % 8;
-    let place = if count == 4 {
-        ORDERS_OF_FOUR[row][k % 4]
-    } else {
-        ORDERS_OF_NINE[row][k % 9]
-    };
-    (place as usize + order as usize / 8) % count
+/// An order in which the futures of several squares are asked for. No result hangs on an order, so
+/// nothing says that each square comes at some place.
+#[derive(Clone, Copy, Debug, PartialEq, Eq)]
+pub struct Order {
+    // Which of the eight lists of places it goes by.
+    list: u8,
+    // How many places after that of the list a square stands.
+    turn: u8,
+    ghost listed: { list < 8 },
+}
+
+impl Order {
+    /// The order of a worker: the first one has none, and 255 others have each their own. Workers
+    /// share their work best where their orders begin at different squares.
+    pub fn of_worker(worker: u8) -> Option<Order> {
+        if worker == 0 {
+            return None;
+        }
+        Some(Order {
+            list: worker % 8,
+            turn: worker / 8,
+        })
+    }
+
+    /// Which of `count` squares comes at place k.
+    pub(crate) fn place(self, k: usize, count: usize) -> usize
+        requires { 0 < count }
+        ensures { result < count }
+    {
+        let list = self.list as usize;
+        let place = if count == 4 {
+            ORDERS_OF_FOUR[list][k % 4]
+        } else {
+            ORDERS_OF_NINE[list][k % 9]
+        };
+        (place as usize + self.turn as usize) % count
+    }
 }

@@ -8,7 +8,7 @@ ghost use Rattle.hashlife_step.specs.Tallies.{MakesResults};
 
 use crate::centres::four_centres;
 use crate::leaf_squares::{BASE_LEVEL, base_future, leaf_future};
-use crate::orders::place_in_order;
+use crate::orders::Order;
 use crate::tally::Tally;
 use plane::Refusal;
 use squares::{LEAF_LEVEL, Sq, Squares};
@@ -22,17 +22,17 @@ pub fn future<S: Squares>(book: &mut S, sq: Sq, tally: &mut Tally) -> Result<Sq,
     ensures { FindsFuture (S.book book.old) (S.book book.new) sq
         tally.old.expansions tally.new.expansions result }
 {
-    future_in_order(book, sq, 0, tally)
+    future_in_order(book, sq, None, tally)
 }
 
-/// The same future. Where the order isn't 0, the futures of several smaller squares are first asked
-/// for in an order of this number: of workers at one table, each with an order of its own, each
-/// finds most of what the others make.
+/// The same future. With an order, the futures of several smaller squares are first asked for in
+/// this order: of workers at one table, each with an order of its own, each finds most of what the
+/// others make.
 #[cycle(future)]
 pub fn future_in_order<S: Squares>(
     book: &mut S,
     sq: Sq,
-    order: u8,
+    order: Option<Order>,
     tally: &mut Tally,
 ) -> Result<Sq, Refusal>
     requires known { IsKnown (S.book book.old) sq.level sq }
@@ -51,7 +51,12 @@ pub fn future_in_order<S: Squares>(
 
 // The future of a square whose result is not known.
 #[cycle(future)]
-fn make<S: Squares>(book: &mut S, sq: Sq, order: u8, tally: &mut Tally) -> Result<Sq, Refusal>
+fn make<S: Squares>(
+    book: &mut S,
+    sq: Sq,
+    order: Option<Order>,
+    tally: &mut Tally,
+) -> Result<Sq, Refusal>
     requires known { IsKnown (S.book book.old) sq.level sq }
     requires low { 3 < sq.level }
     ensures ok { IfOk result (IsFuture (S.book book.new) sq) }
@@ -79,7 +84,7 @@ fn finish<S: Squares>(
     book: &mut S,
     level: u8,
     nine: [Sq; 9],
-    order: u8,
+    order: Option<Order>,
     tally: &mut Tally,
 ) -> Result<[Sq; 4], Refusal>
     requires known { All (IsKnown (S.book book.old) level) nine }
@@ -98,14 +103,14 @@ fn finish<S: Squares>(
     Ok(four)
 }
 
-/// Puts its future in the place of each square of a level. Where the order isn't 0, they are first
-/// asked for in an order of this number, as in [`future_in_order`].
+/// Puts its future in the place of each square of a level. With an order, they are first asked for
+/// in this order, as in [`future_in_order`].
 #[cycle(future)]
 pub fn replace_by_futures<S: Squares>(
     book: &mut S,
     level: u8,
     squares: &mut [Sq],
-    order: u8,
+    order: Option<Order>,
     tally: &mut Tally,
 ) -> Result<(), Refusal>
     requires known { All (IsKnown (S.book book.old) level) squares.old }
@@ -122,13 +127,13 @@ pub fn replace_by_futures<S: Squares>(
     Ok(())
 }
 
-// Asks for the futures of the squares in this order; in order 0 for none.
+// Asks for the futures of the squares in this order, if there is one.
 #[cycle(future)]
 fn ask_ahead<S: Squares>(
     book: &mut S,
     level: u8,
     squares: &[Sq],
-    order: u8,
+    order: Option<Order>,
     tally: &mut Tally,
 ) -> Result<(), Refusal>
     requires known { All (IsKnown (S.book book.old) level) squares.now }
@@ -137,16 +142,12 @@ fn ask_ahead<S: Squares>(
     ensures makes { MakesResults (S.book book.old) (S.book book.new) level
         tally.old.expansions tally.new.expansions }
 {
-    if order == 0 {
+    let Some(order) = order else {
         return Ok(());
-    }
+    };
     for k in 0..squares.len() {
-        future_in_order(
-            book,
-            squares[place_in_order(order, k, squares.len())],
-            order,
-            tally,
-        )?;
+        let next = squares[order.place(k, squares.len())];
+        future_in_order(book, next, Some(order), tally)?;
     }
     Ok(())
 }

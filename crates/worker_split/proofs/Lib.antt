@@ -3,7 +3,6 @@ mod Books
 mod Counting
 mod Cutting
 mod Linking
-mod Pieces
 mod Places
 mod Slots
 mod Stepped

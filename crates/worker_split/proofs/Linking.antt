@@ -6,10 +6,10 @@ use Rattle.std.proofs.Math.Seq.{map-set_same}
 use Rattle.std.specs.Prelude.{Vec}
 use Rattle.std.specs.declared.alloc.Global.{Global}
 use Rattle.worker_split.specs.declared.members.Member.{Member}
-use Rattle.worker_split.specs.declared.queues.JobQueue.{JobQueue}
-use Rattle.worker_split.specs.declared.queues.JobStealer.{JobStealer}
+use Rattle.job_queues.specs.declared.queues.JobQueue.{JobQueue}
+use Rattle.job_queues.specs.declared.queues.JobStealer.{JobStealer}
 use Rattle.worker_split.specs.Rounds.{IsIdle, StayIdle}
-use Rattle.worker_split.specs.Shares.{share_in}
+use Rattle.job_queues.specs.Shares.{share_in}
 use Rattle.worker_split.proofs.Places.{pushed}
 
 pub stay_same : (members : List Member) → StayIdle members members

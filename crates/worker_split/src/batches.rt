@@ -83,7 +83,7 @@ fn overlaps_of_futures(
     ensures continues { Continues 1 at.old at.new tally.old tally.new }
 {
     let mut futures = nine;
-    replace_by_futures(at, level, &mut futures, 0, tally)?;
+    replace_by_futures(at, level, &mut futures, None, tally)?;
     at.overlaps(level - 1, futures)
 }
 
@@ -143,7 +143,7 @@ pub(crate) fn team_future<R: Threads + Wait + Sync, G: Gate>(
     ensures continues { Continues team.now.workers at.old at.new tally.old tally.new }
 {
     prepare(team, at, sq, tally)?;
-    future_of(at, sq, 0, tally)
+    future_of(at, sq, None, tally)
 }
 
 /// The future of a square, by so many workers, 1 to 64, and the desk that comes back with all that

@@ -29,7 +29,7 @@ fn fill_one<R, G: Gate>(
 {
     match place {
         Some(future) => future,
-        None => settle(shared, at, k, 0, tally),
+        None => settle(shared, at, k, None, tally),
     }
 }
 

@@ -7,7 +7,7 @@ ghost use Rattle.worker_split.specs.Work.{Continues};
 
 use crate::gate::Gate;
 use crate::members::{Answer, Solver};
-use hashlife_step::{Tally, future_in_order};
+use hashlife_step::{Order, Tally, future_in_order};
 use node_table::At;
 use plane::Refusal;
 use squares::Sq;
@@ -20,11 +20,11 @@ pub(crate) struct Shared<'a, R, G> {
     pub(crate) gate: &'a G,
 }
 
-/// The future of a square, by a desk that asks for those of smaller squares in this order.
+/// The future of a square, by a desk that asks for those of smaller squares in this order, if there is one.
 pub(crate) fn future_of(
     at: &mut At<'_>,
     sq: Sq,
-    order: u8,
+    order: Option<Order>,
     tally: &mut Tally,
 ) -> Result<Sq, Refusal>
     requires { IsJob (book_here at.old) sq }
@@ -40,7 +40,7 @@ pub(crate) fn settle<R, G: Gate>(
     shared: &Shared<'_, R, G>,
     at: &mut At<'_>,
     job: usize,
-    order: u8,
+    order: Option<Order>,
     tally: &mut Tally,
 ) -> Result<Sq, Refusal>
     requires job { job < length shared.now.jobs.now }

@@ -11,7 +11,6 @@ mod jobs;
 mod laws;
 mod leaving;
 mod members;
-mod queues;
 mod recruiting;
 mod rounds;
 mod serving;

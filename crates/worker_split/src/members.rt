@@ -1,7 +1,7 @@
 //! A worker of a round, as a state.
 
-use crate::queues::{JobQueue, JobStealer};
-use hashlife_step::Tally;
+use hashlife_step::{Order, Tally};
+use job_queues::{JobQueue, JobStealer};
 use node_table::At;
 use plane::Refusal;
 use squares::Sq;
@@ -17,7 +17,7 @@ pub(crate) struct Answer {
 /// expansions that it counted, and the answers that it found.
 #[derive(Drop)]
 pub(crate) struct Solver {
-    pub(crate) order: u8,
+    pub(crate) order: Option<Order>,
     pub(crate) tally: Tally,
     pub(crate) answers: Vec<Answer>,
 }

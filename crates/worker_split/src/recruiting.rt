@@ -1,11 +1,12 @@
 //! What a round takes memory for: its workers, the places of their answers, and the list of futures.
 ghost use Rattle.std.specs.Prelude.{◌≡◌, ◌<◌, ◌≤◌, All, IfOk, length};
 ghost use Rattle.worker_split.specs.Rounds.{HasRoom, IsIdle, StayIdle};
-ghost use Rattle.worker_split.specs.Shares.{AreShares, jobs_between, share_in, shares_of};
+ghost use Rattle.job_queues.specs.Shares.{jobs_between, share_in};
+ghost use Rattle.worker_split.specs.Shares.{AreShares, shares_of};
 
 use crate::members::{Member, Solver};
-use crate::queues::JobQueue;
-use hashlife_step::Tally;
+use hashlife_step::{Order, Tally};
+use job_queues::JobQueue;
 use plane::Refusal;
 use squares::Sq;
 use std::alloc::{AllocError, Global};
@@ -24,7 +25,7 @@ fn member<'t>(
     low: usize,
     high: usize,
     count: usize,
-    order: u8,
+    order: Option<Order>,
 ) -> Result<Member<'t>, AllocError>
     requires { (low ≤ high) × (high ≤ count) }
     ensures idle { IfOk result (IsIdle count) }
@@ -56,7 +57,7 @@ fn members<'t>(alloc: Global, count: usize, workers: usize) -> Result<Vec<Member
     let mut low = 0;
     for k in 0..workers {
         let high = low + (count - low) / (workers - k);
-        all.push(member(alloc, low, high, count, k as u8)?)?;
+        all.push(member(alloc, low, high, count, Order::of_worker(k as u8))?)?;
         low = high;
     }
     Ok(all)

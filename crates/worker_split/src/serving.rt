@@ -6,7 +6,7 @@ ghost use Rattle.worker_split.specs.Work.{Continues};
 use crate::gate::Gate;
 use crate::jobs::Shared;
 use crate::members::Solver;
-use crate::queues::{JobQueue, JobStealer};
+use job_queues::{JobQueue, JobStealer};
 use node_table::At;
 use std::sync::Wait;
 

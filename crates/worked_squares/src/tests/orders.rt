@@ -4,7 +4,7 @@ ghost use Rattle.std.specs.Prelude.{IfOk};
 ghost use Rattle.squares.specs.Book.{IsKnown};
 
 use crate::tests::books::book_of;
-use hashlife_step::{Tally, future_in_order, pad};
+use hashlife_step::{Order, Tally, future_in_order, pad};
 use plane::Refusal;
 use sample_patterns::R_PENTOMINO_LEAVES;
 use squares::{PlainBook, Sq, Squares, copy_square, join_leaves};
@@ -13,7 +13,7 @@ use std::alloc::Global;
 // The future of the padded R-pentomino.
 fn future_of_pentomino<S: Squares>(
     book: &mut S,
-    order: u8,
+    order: Option<Order>,
     tally: &mut Tally,
 ) -> Result<Sq, Refusal>
     ensures { IfOk result (λ sq. IsKnown (S.book book.new) sq.level sq) }
@@ -25,7 +25,11 @@ fn future_of_pentomino<S: Squares>(
 
 // The future that a book of its own gives in this order, as a square of the first book, and the
 // expansions that it took.
-fn asked_in_order(alloc: Global, first: &mut PlainBook, order: u8) -> Result<(Sq, u64), Refusal> {
+fn asked_in_order(
+    alloc: Global,
+    first: &mut PlainBook,
+    order: Option<Order>,
+) -> Result<(Sq, u64), Refusal> {
     let mut book = book_of(alloc, "B3/S23", 6)?;
     let mut tally = Tally { expansions: 0 };
     let sq = future_of_pentomino(&mut book, order, &mut tally)?;
@@ -35,9 +39,10 @@ fn asked_in_order(alloc: Global, first: &mut PlainBook, order: u8) -> Result<(Sq
 #[test]
 fn all_orders_give_one_future(rt: HostRuntime) -> Result<(), Refusal> {
     let mut first = book_of(rt.alloc(), "B3/S23", 6)?;
-    let in_turn = asked_in_order(rt.alloc(), &mut first, 0)?;
+    let in_turn = asked_in_order(rt.alloc(), &mut first, None)?;
     assert!(rt; in_turn.1 > 0);
-    for order in 1..=64 {
+    for worker in 1..=64 {
+        let order = Order::of_worker(worker);
         assert_eq!(rt; asked_in_order(rt.alloc(), &mut first, order)?, in_turn);
     }
     Ok(())

@@ -2,7 +2,8 @@ use Rattle.std.proofs.Common.{◌∙◌, ◌++◌, ◌∷◌, [], ◌+◌, ◌/�
 use Rattle.std.proofs.lemmas.List.{map-append}
 use Rattle.worker_split.specs.declared.members.Member.{Member}
 use Rattle.worker_split.specs.Rounds.{IsIdle}
-use Rattle.worker_split.specs.Shares.{share_in, shares_of}
+use Rattle.job_queues.specs.Shares.{share_in}
+use Rattle.worker_split.specs.Shares.{shares_of}
 use Rattle.worker_split.proofs.Cutting.{AreCut, all_cut, next_cut, none_cut}
 use Rattle.worker_split.proofs.Places.{pushed}
 use Rattle.worker_split.proofs.recruiting.members.Goals as goal

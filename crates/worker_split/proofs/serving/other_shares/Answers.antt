@@ -2,7 +2,7 @@ use Rattle.std.proofs.Common.{◌≡◌, ◌∙◌, length, refl}
 use Rattle.std.proofs.lemmas.List.{length-set}
 use Rattle.std.proofs.lemmas.List.Elements.{All-set}
 use Rattle.squares.proofs.Kept.{keeps_none}
-use Rattle.worker_split.specs.declared.queues.JobStealer.{JobStealer}
+use Rattle.job_queues.specs.declared.queues.JobStealer.{JobStealer}
 use Rattle.worker_split.proofs.Books.{here_book, works_kept, works_then}
 use Rattle.worker_split.proofs.serving.other_shares.Goals as goal
 

@@ -7,10 +7,10 @@ use Rattle.std.proofs.lemmas.List.{length-set}
 use Rattle.std.proofs.lemmas.List.Elements.{All-take, All-drop}
 use Rattle.crossbeam_deque.specs.Tasks.{Pushes, Takes, Forks}
 use Rattle.crossbeam_deque.proofs.Lists.{at_set, at_snoc}
-use Rattle.worker_split.specs.declared.queues.Seen.{Seen}
-use Rattle.worker_split.specs.Queues.{seen, IsPiece, Knows, HoldsEnd}
-use Rattle.worker_split.specs.Shares.{jobs_between}
-use Rattle.worker_split.proofs.Cutting.{one_more_job}
+use Rattle.job_queues.specs.declared.queues.Seen.{Seen}
+use Rattle.job_queues.specs.Queues.{seen, IsPiece, Knows, HoldsEnd}
+use Rattle.job_queues.specs.Shares.{jobs_between}
+use Rattle.job_queues.proofs.Ranges.{one_more_job}
 
 only_one : (views : List Seen) (i j : ℕ) (a b : Seen) → length views ≡ 1 → get_elem? views i ≡ some a → get_elem? views j ≡ some b → i ≡ j
 only_one [] i j a b one at other = absurd (some-ne-none a (sym at))

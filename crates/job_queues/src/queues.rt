@@ -1,5 +1,4 @@
-//! A worker's queue of jobs, from which the others steal. What it holds is a piece of the worker's own
-//! share, in order.
+//! A worker's queue of jobs, and the ends of it from which the others steal.
 ghost use Rattle.std.specs.Prelude.{◌≡◌, ◌++◌, ◌<◌, ◌≤◌, All, IfOk, IfSome, true, false, []};
 ghost use Rattle.crossbeam_deque.specs.Handles.{IsPassOf, view, stealer_deque, worker_flavor, worker_view};
 
@@ -11,17 +10,17 @@ use std::sync::Wait;
 
 /// What a pass knows of a deque: whether no other pass was made, and all that was ever pushed, in
 /// order. No value of it is ever made: contracts alone speak of it.
-pub(crate) struct Seen {
-    pub(crate) alone: bool,
-    pub(crate) pushed: LinkedList<usize>,
+pub struct Seen {
+    pub alone: bool,
+    pub pushed: LinkedList<usize>,
 }
 
 /// The rule: what a deque holds is an end of what was pushed.
-pub(crate) struct InOrder;
+pub struct InOrder;
 
 impl Protocol<usize, Seen> for InOrder {
     ghost use Rattle.std.specs.Prelude.{true, false, []};
-    ghost use Rattle.worker_split.specs.Queues.{seen, HoldsEnd};
+    ghost use Rattle.job_queues.specs.Queues.{seen, HoldsEnd};
 
     ghost holds = { HoldsEnd };
 
@@ -34,7 +33,7 @@ impl Protocol<usize, Seen> for InOrder {
 pub(crate) struct Pushes;
 
 impl Outcome<usize, Seen> for Pushes {
-    ghost use Rattle.worker_split.specs.Queues.{seen};
+    ghost use Rattle.job_queues.specs.Queues.{seen};
 
     ghost then = { λ v xs w. w ≡ seen true (v.pushed ++ xs) };
 }
@@ -43,7 +42,7 @@ impl Outcome<usize, Seen> for Pushes {
 pub(crate) struct Takes;
 
 impl Outcome<usize, Seen> for Takes {
-    ghost use Rattle.worker_split.specs.Queues.{IsPiece};
+    ghost use Rattle.job_queues.specs.Queues.{IsPiece};
 
     ghost then = { λ v xs w. (w ≡ v) × IsPiece xs v.pushed };
 }
@@ -53,7 +52,7 @@ pub(crate) struct SplitPass;
 
 impl Split<Seen> for SplitPass {
     ghost use Rattle.std.specs.Prelude.{false};
-    ghost use Rattle.worker_split.specs.Queues.{seen};
+    ghost use Rattle.job_queues.specs.Queues.{seen};
 
     ghost left = { λ v. seen false v.pushed };
 
@@ -62,28 +61,28 @@ impl Split<Seen> for SplitPass {
 
 /// The owner's end of a queue of jobs, whose numbers are below `count`.
 #[derive(Drop)]
-pub(crate) struct JobQueue {
+pub struct JobQueue {
     deque: Worker<usize, Global, Seen, InOrder>,
-    pub(crate) count: usize,
+    pub count: usize,
     ghost first_in_first_out: { worker_flavor deque ≡ 0 },
     ghost below: { All (λ x. x < count) (worker_view deque).pushed },
 }
 
 /// A thief's end of such a queue.
 #[derive(Drop)]
-pub(crate) struct JobStealer {
+pub struct JobStealer {
     thief: Stealer<usize, Global, Seen, InOrder>,
     pass: Pass<usize, Seen>,
-    pub(crate) count: usize,
+    pub count: usize,
     ghost fits: { IsPassOf (stealer_deque thief) pass },
     ghost below: { All (λ x. x < count) (view pass).pushed },
 }
 
 impl JobQueue {
-    ghost use Rattle.worker_split.specs.Shares.{jobs_between, share_in};
+    ghost use Rattle.job_queues.specs.Shares.{jobs_between, share_in};
 
     /// A queue of the jobs from `low` to before `high` in order, first in, first out.
-    pub(crate) fn with_share(
+    pub fn with_share(
         alloc: Global,
         low: usize,
         high: usize,
@@ -104,7 +103,7 @@ impl JobQueue {
     }
 
     /// The first job that is left.
-    pub(crate) fn take(&mut self) -> Option<usize>
+    pub fn take(&mut self) -> Option<usize>
         ensures same { self.new.count ≡ self.old.count }
         ensures job { IfSome result (λ job. job < self.old.count) }
     {
@@ -112,7 +111,7 @@ impl JobQueue {
     }
 
     /// Another worker's end of this queue.
-    pub(crate) fn stealer(&mut self) -> Result<JobStealer, AllocError>
+    pub fn stealer(&mut self) -> Result<JobStealer, AllocError>
         ensures same { self.new.count ≡ self.old.count }
         ensures share { share_in self.new ≡ share_in self.old }
         ensures stealer { IfOk result (λ stealer. stealer.count ≡ self.old.count) }
@@ -126,7 +125,7 @@ impl JobQueue {
 
 impl JobStealer {
     /// The first job that another's queue still holds. A steal that lost is tried again.
-    pub(crate) fn steal<R: Wait>(&mut self, runtime: &R) -> Option<usize>
+    pub fn steal<R: Wait>(&mut self, runtime: &R) -> Option<usize>
         ensures same { self.new.count ≡ self.old.count }
         ensures job { IfSome result (λ job. job < self.old.count) }
     {

@@ -1,7 +1,7 @@
 use Rattle.std.proofs.Common.{◌≡◌, ◌-◌, ◌≤◌, true}
 use Rattle.crossbeam_deque.specs.Handles.{worker_capacity, worker_flavor, worker_index, worker_view}
-use Rattle.worker_split.specs.Shares.{jobs_between}
-use Rattle.worker_split.proofs.queues.JobQueue.with_share.Given as goal
+use Rattle.job_queues.specs.Shares.{jobs_between}
+use Rattle.job_queues.proofs.queues.JobQueue.with_share.Given as goal
 
 abbrev pub invariant-loop-job : goal.invariant-loop-job
 invariant-loop-job l =

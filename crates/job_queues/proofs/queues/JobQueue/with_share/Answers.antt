@@ -1,8 +1,8 @@
 use Rattle.std.proofs.Common.{◌<◌, ◌≤◌, ◌∙◌, All, sym, subst, rules, arith}
 use Rattle.crossbeam_deque.specs.Handles.{worker_view}
-use Rattle.worker_split.proofs.Cutting.{jobs_below}
-use Rattle.worker_split.proofs.Pieces.{begins, next_push, pushes}
-use Rattle.worker_split.proofs.queues.JobQueue.with_share.Goals as goal
+use Rattle.job_queues.proofs.Ranges.{jobs_below}
+use Rattle.job_queues.proofs.Pieces.{begins, next_push, pushes}
+use Rattle.job_queues.proofs.queues.JobQueue.with_share.Goals as goal
 
 pub fifo_as-requires : goal.fifo_as-requires
 fifo_as-requires c = begins

@@ -1,5 +1,5 @@
-use Rattle.worker_split.proofs.Pieces.{takes}
-use Rattle.worker_split.proofs.queues.JobStealer.steal.Goals as goal
+use Rattle.job_queues.proofs.Pieces.{takes}
+use Rattle.job_queues.proofs.queues.JobStealer.steal.Goals as goal
 
 pub steal_as-requires-clause-takes : goal.steal_as-requires-clause-takes
 steal_as-requires-clause-takes g c = takes _ _

@@ -1,5 +1,5 @@
-use Rattle.worker_split.proofs.Pieces.{takes, taken_below}
-use Rattle.worker_split.proofs.queues.JobQueue.take.Goals as goal
+use Rattle.job_queues.proofs.Pieces.{takes, taken_below}
+use Rattle.job_queues.proofs.queues.JobQueue.take.Goals as goal
 
 pub pop_as-requires-clause-fifo : goal.pop_as-requires-clause-fifo
 pop_as-requires-clause-fifo c = λ _. takes _ _

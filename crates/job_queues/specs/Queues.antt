@@ -2,7 +2,7 @@
 use Rattle.std.specs.Prelude.{◌≡◌, ℕ, Bool, true, List, ◌++◌, length}
 use mathlib.Core.Option.{some}
 use lib.ListN.{get_elem?}
-use Rattle.worker_split.specs.declared.queues.Seen.{Seen}
+use Rattle.job_queues.specs.declared.queues.Seen.{Seen}
 
 abbrev pub seen : Bool → List ℕ → Seen
 seen alone pushed = record { alone = alone; pushed = pushed }
