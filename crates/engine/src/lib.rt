@@ -18,7 +18,7 @@ pub use input::load;
 pub use last::last_pattern;
 pub use laws::{every_number_of_workers, one_ending, one_judgement};
 pub use options::Options;
-pub use pattern::Pattern;
+pub use pattern::{Heading, Pattern};
 pub use plane::rule_refusal;
 pub use run_options::{MOST_WORKERS, RunOptions};
 pub use running::{Summary, run, run_from, run_gated};

@@ -23,6 +23,14 @@ pub struct Pattern {
     cells: RootedStill,
 }
 
+/// What stands in a pattern file before its cells.
+#[derive(Drop)]
+pub struct Heading<'a> {
+    pub comments: Comments<'a>,
+    pub rule: Rule,
+    pub generation: u64,
+}
+
 impl Pattern {
     ghost use Rattle.plane.specs.Device.{TellsFailure};
     ghost use Rattle.pattern_writers.specs.WriterRefusal.{IsWriterRefusal};
@@ -75,7 +83,7 @@ impl Pattern {
         }
     }
 
-    /// Writes the pattern in the format that is asked for, if one is, with the comments, the rule and the generation. It
+    /// Writes the pattern in the format that is asked for, if one is, behind its heading. It
     /// refuses `BoxTooLarge` where RLE is asked for and a side of its box is 2^31 or more, and `NoMemory`, both before
     /// the first byte, and `WriteFailed`, where the sink failed and the box fits. The runs of RLE's rows are found in threads.
     /// What was written is read as the same cells, rule and generation, within the limits of the format's reader.
@@ -84,16 +92,14 @@ impl Pattern {
         rt: &R,
         alloc: Global,
         format: Option<Format>,
-        comments: Comments<'_>,
-        rule: &Rule,
-        generation: u64,
+        heading: Heading<'_>,
         file: &mut V,
     ) -> Result<(), Refusal>
         ensures written { OnOk result (Writes format (plane_of self.now)
-            comments.entry rule.now generation
+            heading.entry.comments heading.entry.rule heading.entry.generation
             (V.taken file.old) (V.taken file.new)) }
         ensures read_back { OnOk result (IsReadBack format (plane_of self.now)
-            comments.entry rule.now generation
+            heading.entry.comments heading.entry.rule heading.entry.generation
             (V.taken file.old) (V.taken file.new)) }
         ensures no_format { format ≡ None → file.new ≡ file.old }
         ensures unfailed { OnOk result (V.failure_count file.new ≡ V.failure_count file.old) }
@@ -101,13 +107,18 @@ impl Pattern {
             (Exceeds format (plane_of self.now)) (Fits format (plane_of self.now))) }
     {
         let (book, root) = (self.cells.still(), self.cells.root());
+        let Heading {
+            comments,
+            rule,
+            generation,
+        } = heading;
         match format {
             Some(Format::Rle) => {
                 let shared = book.shared(alloc)?;
-                write_rle(rt, alloc, &shared, root, comments, rule, generation, file)
+                write_rle(rt, alloc, &shared, root, comments, &rule, generation, file)
             }
             Some(Format::Macrocell) => write_mc(
-                rt, alloc, book, root, comments, rule, generation, file,
+                rt, alloc, book, root, comments, &rule, generation, file,
             ),
             None => Ok(()),
         }

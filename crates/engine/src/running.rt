@@ -14,7 +14,7 @@ ghost use Rattle.engine.specs.Run.{IsRun};
 use crate::accepted::judge;
 use crate::input::load;
 use crate::options::Options;
-use crate::pattern::Pattern;
+use crate::pattern::{Heading, Pattern};
 use crate::reported::run_reported;
 use plane::{Bounds, Fault, Refusal, Sink, Source};
 use std::alloc::Global;
@@ -107,15 +107,12 @@ pub fn run_gated<R: Threads + Wait + Sync, G: Gate, W: Sink, V: Sink>(
     let universe = run_reported(&team, begun.universe, start, options, report)?;
     let (last, summary) = finish(alloc, universe, start + options.gens)?;
     last.draw(options.window, report)?;
-    last.write(
-        rt,
-        alloc,
-        options.format,
-        begun.text.comments(),
-        &begun.rule,
-        summary.generation,
-        file,
-    )?;
+    let heading = Heading {
+        comments: begun.text.comments(),
+        rule: begun.rule,
+        generation: summary.generation,
+    };
+    last.write(rt, alloc, options.format, heading, file)?;
     Ok(summary)
 }
 

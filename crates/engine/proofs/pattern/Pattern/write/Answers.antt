@@ -14,13 +14,13 @@ pub returns-in_ok-shared-in-Some-Rle-clause-written : goal.returns-in_ok-shared-
 returns-in_ok-shared-in-Some-Rle-clause-written g c =
     let asked : c.args.format ≡ Some Rle = search rules in
     let same = shared_cells c.args.self.now.cells c.still-book.result.now c.in_ok-shared-in-Some-Rle.shared c.root-root.result c.in_ok-shared-in-Some-Rle.ensures.ok c.still-book.ensures c.root-root.ensures.root in
-    rw asked (subst (λ (p : Plane). OnOk c.write_rle.result (WritesRle p c.args.comments c.args.rule.now c.args.generation (g.V.Sink.taken c.args.file.now) (g.V.Sink.taken c.write_rle.new.file))) same c.write_rle.ensures.written)
+    rw asked (subst (λ (p : Plane). OnOk c.write_rle.result (WritesRle p c.args.heading.comments c.args.heading.rule c.args.heading.generation (g.V.Sink.taken c.args.file.now) (g.V.Sink.taken c.write_rle.new.file))) same c.write_rle.ensures.written)
 
 pub returns-in_ok-shared-in-Some-Rle-clause-read_back : goal.returns-in_ok-shared-in-Some-Rle-clause-read_back
 returns-in_ok-shared-in-Some-Rle-clause-read_back g c =
     let asked : c.args.format ≡ Some Rle = search rules in
     let same = shared_cells c.args.self.now.cells c.still-book.result.now c.in_ok-shared-in-Some-Rle.shared c.root-root.result c.in_ok-shared-in-Some-Rle.ensures.ok c.still-book.ensures c.root-root.ensures.root in
-    rw asked (subst (λ (p : Plane). OnOk c.write_rle.result (IfTaken (g.V.Sink.taken c.args.file.now) (g.V.Sink.taken c.write_rle.new.file) (IsReadBackFromRle p c.args.comments c.args.rule.now c.args.generation))) same c.write_rle.ensures.read_back)
+    rw asked (subst (λ (p : Plane). OnOk c.write_rle.result (IfTaken (g.V.Sink.taken c.args.file.now) (g.V.Sink.taken c.write_rle.new.file) (IsReadBackFromRle p c.args.heading.comments c.args.heading.rule c.args.heading.generation))) same c.write_rle.ensures.read_back)
 
 pub returns-in_ok-shared-in-Some-Rle-clause-unfailed : goal.returns-in_ok-shared-in-Some-Rle-clause-unfailed
 returns-in_ok-shared-in-Some-Rle-clause-unfailed g c = c.write_rle.ensures.unfailed
