@@ -7,7 +7,7 @@ ghost use Rattle.squares.specs.Book.{AddsSquares, IsKnown};
 ghost use Rattle.viewport.specs.Population.{AreCounts, HasPopulation, IsCount, cell_count};
 
 use plane::Refusal;
-use squares::{LEAF_LEVEL, Look, Looked, Reading, Sq, Squares};
+use squares::{LEAF_LEVEL, Look, Looked, Reading, Sq};
 use std::alloc::{AllocError, Global};
 use std::collections::HashMap;
 
@@ -29,14 +29,14 @@ pub fn population<L: Look>(alloc: Global, look: &L, sq: Sq) -> Result<u128, Refu
     Ok(count(&mut Looked(look), sq, &mut counts)?)
 }
 
-/// How many live cells a square of a level up to 63 has, counted at a book that makes squares. The book
+/// How many live cells a square of a level up to 63 has, counted at a book that is read. The book
 /// goes on knowing what it knew. `NoMemory` where there is no room for one more count.
-pub fn population_at<S: Squares>(alloc: Global, book: &mut S, sq: Sq) -> Result<u128, Refusal>
-    requires known { IsKnown (S.book book.old) sq.level sq }
+pub fn population_at<R: Reading>(alloc: Global, book: &mut R, sq: Sq) -> Result<u128, Refusal>
+    requires known { IsKnown (R.book book.old) sq.level sq }
     requires level { sq.level ≤ 63 }
-    ensures ok { IfOk result (HasPopulation (centred sq.level ((S.book book.old).cells sq))) }
+    ensures ok { IfOk result (HasPopulation (centred sq.level ((R.book book.old).cells sq))) }
     ensures memory { IsOkUnless result Refusal.NoMemory }
-    ensures adds { AddsSquares (S.book book.old) (S.book book.new) }
+    ensures adds { AddsSquares (R.book book.old) (R.book book.new) }
 {
     let mut counts = HashMap::new(alloc);
     Ok(count(book, sq, &mut counts)?)
