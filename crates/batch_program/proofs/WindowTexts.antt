@@ -1,5 +1,5 @@
 -- The window that is asked for.
-use Rattle.std.proofs.Common.{◌≡◌, ℕ, ◌<◌, ◌^◌, List, Option, None, Some, refl, subst, arith}
+use Rattle.std.proofs.Common.{◌≡◌, ℕ, ◌<◌, ◌^◌, List, Option, None, Some, refl, subst}
 use Rattle.plane.specs.Window.{Rectangle}
 use Rattle.program_parts.specs.WindowText.{AreNumbersOf, IsFitWindow, WritesWindow, rectangle_of}
 use Rattle.program_parts.proofs.WindowTexts.{same_window}
@@ -39,10 +39,6 @@ not_narrow (Some text) numbers (given, writes, is) wide (window, fit) =
     let given_is : given ≡ numbers = cc in
     let same : window ≡ rectangle_of numbers = same_window text window (rectangle_of numbers) fit (subst (λ n. WritesWindow 64 text (rectangle_of n)) given_is writes) in
     wide (subst (λ (w : Rectangle). (w.width < 2 ^ 32) × (w.height < 2 ^ 32)) same (fit.columns.2, fit.rows.2))
-
-pub no_numbers : (text : Option (List ℕ)) → (IsFitWindow 64 text → ⊥) → IsFitWindow 32 text → ⊥
-no_numbers None none fit = none tt
-no_numbers (Some text) none (window, fit) = none (window, in_bits 64 text window fit (omega (arith, fit.columns.2)) (omega (arith, fit.rows.2)))
 
 -- ---- windows
 

@@ -2,12 +2,11 @@
 use Rattle.std.proofs.Common.{◌≡◌, ℕ, zero, suc, ◌+◌, ◌-◌, ◌*◌, ◌/◌, ◌^◌, ◌<◌, ◌≤◌, ℤ, pos, negsuc, ◌+ℤ◌, ◌-ℤ◌, ◌*ℤ◌, ◌≤ℤ◌, ap, arith, subst, sym, ◌∙◌}
 use Rattle.std.specs.Prelude.{unsigned_abs}
 use Rattle.std.proofs.Math.Logic.{⊎_elim}
-use Rattle.std.proofs.Math.Nat.{div-le_self, div-mul-le_self, eq-or-lt_of_le, lt-div-mul-add, mul-le-mul_left, mul-le-mul_right}
+use Rattle.std.proofs.Math.Nat.{div-le_self, div-mul-le_self, eq-or-lt_of_le, lt-div-mul-add, mul-le-mul_right}
 use Rattle.std.proofs.lemmas.Int.{ints}
-use Rattle.std.proofs.lemmas.Nat.{div_below, mul-le, pow-add, pow_pos}
+use Rattle.std.proofs.lemmas.Nat.{div_below, pow-add, pow_pos}
 use Rattle.std.specs.Int.{int_div_euclid}
 use Rattle.plane.specs.declared.cell.Bounds.{Bounds}
-use Rattle.png_writer.specs.Picture.{IsSide}
 use Rattle.viewport.specs.Blocks.{IsBlockRange}
 use Rattle.pattern_picture.specs.Scale.{IsShown, IsShownSide, block_at, block_span, longer_side}
 
@@ -112,8 +111,3 @@ shown_range exponent first last side limit =
       high = last_block (2 ^ exponent) (block_at exponent first) (block_at exponent last) (pos (2 ^ 62)) (block_at-rising exponent first last side.order)
           (no_more _ _ _ (block_at-low exponent last) side.high);
     }
-
--- a side of a picture has some pixels, and no more than may be
-pub pixels_fit : (zoom span longer size : ℕ) → 1 ≤ zoom → 1 ≤ span → span ≤ longer → zoom * longer ≤ size → size ≤ 4096 → IsSide (zoom * span)
-pixels_fit zoom span longer size some one most fits limit =
-    (omega (arith, mul-le 1 1 zoom span some one), omega (arith, mul-le-mul_left zoom most))

@@ -60,7 +60,7 @@ pub fn block_shades<L: Look>(
 }
 
 // Adds the shades of blocks with so many live cells.
-pub fn add_shades(exponent: u8, counts: &[u128], shades: &mut Vec<u8>) -> Result<(), AllocError>
+fn add_shades(exponent: u8, counts: &[u128], shades: &mut Vec<u8>) -> Result<(), AllocError>
     ensures ok { OnOk result (shades.new.items
         ≡ shades.old.items ++ map (shade_of exponent) counts.now) }
 {

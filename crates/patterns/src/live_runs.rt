@@ -1,6 +1,6 @@
 //! Squares made of the live items of an RLE file.
 
-ghost use Rattle.std.specs.Prelude.{◌≡◌, ◌≤◌, ◌-◌, ◌^◌, IfErr, IfOk};
+ghost use Rattle.std.specs.Prelude.{◌≤◌, ◌-◌, ◌^◌, IfErr, IfOk};
 ghost use Rattle.rle_reader.specs.Meaning.{live_plane};
 ghost use Rattle.squares.specs.Book.{AddsSquares, LacksMemoryOr, MayRefuse};
 ghost use Rattle.squares.specs.Rounds.{IsRound};

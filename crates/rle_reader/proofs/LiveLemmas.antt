@@ -6,7 +6,7 @@ use Rattle.std.proofs.lemmas.Bool.Decides.{nat_tests}
 use Rattle.std.proofs.lemmas.Int.{ints}
 use Rattle.plane.specs.declared.cell.Cell.{Cell}
 use Rattle.plane.specs.declared.refusal.Refusal.{Refusal}
-use Rattle.text_lines.specs.Numbers.{decimal_value, capped}
+use Rattle.text_lines.specs.Numbers.{capped}
 use Rattle.text_lines.specs.Numbers as numbers
 use Rattle.text_lines.proofs.NumberLemmas.{capped-fold}
 use Rattle.rle_reader.specs.Items.{Item, Items, ItemSlice, is_digit, is_end, items_of, with_digit, count_of, tag_of, run_of, place_of}

@@ -19,9 +19,6 @@ use Rattle.squares.specs.declared.square_rows.Segment.{Segment}
 use Rattle.squares.proofs.Kept.{shows_kept}
 use Rattle.squares.proofs.SpanCells.{cut_marked, left_of, marked_moved}
 
-sq_of : Segment → Sq
-sq_of s = s.sq
-
 found_first : {X Y : Type 0} (f : X → Y) (a b : Option X) (y : Y) → option_map f a ≡ Some y → option_map f (option_or a b) ≡ Some y
 found_first f (Some x) b y e = e
 found_first f None b y e = absurd (none_some e)

@@ -1,12 +1,12 @@
 -- The cells of spans.
-use Rattle.std.proofs.Common.{◌≡◌, ℕ, zero, suc, ◌+◌, ◌-◌, ◌*◌, ◌%◌, ◌^◌, ◌<◌, ◌≤◌, ◌≢◌, ℤ, pos, negsuc, ◌+ℤ◌, Bool, true, false, List, [], ◌∷◌, ◌++◌, take, get_or, length, sym, ◌∙◌, ap, arith, refl, ⊎_elim}
+use Rattle.std.proofs.Common.{◌≡◌, ℕ, zero, suc, ◌+◌, ◌-◌, ◌*◌, ◌%◌, ◌^◌, ◌<◌, ◌≤◌, ◌≢◌, ℤ, pos, negsuc, ◌+ℤ◌, Bool, true, false, List, [], ◌∷◌, take, get_or, length, sym, ◌∙◌, ap, arith, refl, ⊎_elim}
 use Rattle.std.specs.Prelude.{◌&&◌, ◌||◌, ◌==◌, nat_le, nat_lt, int_le, bit_or, min, max}
 use Rattle.std.specs.Int.{bit_at}
 use Rattle.std.specs.List.{list_any}
 use Rattle.std.proofs.lemmas.Bool.{cases_lt}
 use Rattle.std.proofs.lemmas.Bool.Decides.{nat_tests}
 use Rattle.std.proofs.lemmas.Int.{ints}
-use Rattle.std.proofs.lemmas.List.Folds.{list_any-append, list_any_more}
+use Rattle.std.proofs.lemmas.List.Folds.{list_any_more}
 use Rattle.std.proofs.lemmas.Nat.{one_shl, shl_whole}
 use Rattle.std.proofs.lemmas.Nat.Bits.{bit_at_or, bit_at-lt, bit_at-zero, bit_at_cat_low, bit_at_cat_high, bit_at_ones, bit_at_ones_above}
 use Rattle.std.proofs.Math.Pow.{pow_mono}
@@ -31,10 +31,6 @@ or_none false = refl
 pub more_in : (xs : List Span) (i : ℕ) (s d : Span) (x y : ℕ) → i < length xs → s ≡ get_or xs i d → in_spans (take (i + 1) xs) x y ≡ (in_spans (take i xs) x y || in_span x y s)
 unfolding in_spans
 more_in xs i s d x y h e = list_any_more (in_span x y) xs i d h ∙ ap (λ (t : Span). list_any (in_span x y) (take i xs) || in_span x y t) (sym e)
-
-pub pushed_in : (xs : List Span) (s : Span) (x y : ℕ) → in_spans (xs ++ s ∷ []) x y ≡ (in_spans xs x y || in_span x y s)
-unfolding in_spans
-pushed_in xs s x y = list_any-append (in_span x y) xs (s ∷ []) ∙ ap (λ b. list_any (in_span x y) xs || b) (or_none (in_span x y s))
 
 -- a bit of two words
 one_or : (m n : ℕ) → m < 2 → n < 2 → (max m n == 1) ≡ ((m == 1) || (n == 1))

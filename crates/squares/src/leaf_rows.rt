@@ -1,6 +1,6 @@
 //! The row of leaves that the spans of eight rows of cells make.
 
-ghost use Rattle.std.specs.Prelude.{◌≡◌, ◌+◌, ◌*◌, ◌^◌, ◌<◌, ◌≤◌, ◌==◌, ◌&&◌, ℕ, IfErr, IfOk, IfSome, length, slice_get, slice_index};
+ghost use Rattle.std.specs.Prelude.{◌≡◌, ◌+◌, ◌*◌, ◌^◌, ◌<◌, ◌≤◌, ◌==◌, ◌&&◌, ℕ, IfErr, IfOk, IfSome, length, slice_get};
 ghost use Rattle.std.specs.List.{AllByRecursion};
 ghost use Rattle.plane.specs.Square.{bit};
 ghost use Rattle.squares.specs.Book.{AddsSquares, LacksMemoryOr, MayRefuse};

@@ -1,5 +1,5 @@
 -- Each result has a pair slot of its own, so there are no more results than pair slots.
-use Rattle.std.proofs.Common.{◌≡◌, ◌≢◌, ℕ, zero, suc, ◌-◌, ◌^◌, ◌<◌, ◌≤◌, false, eqb, List, [], ◌∷◌, length, subst, arith}
+use Rattle.std.proofs.Common.{◌≡◌, ◌≢◌, ℕ, suc, ◌-◌, ◌^◌, ◌<◌, ◌≤◌, false, eqb, List, [], ◌∷◌, length, subst, arith}
 use Rattle.std.specs.Prelude.{map}
 use Rattle.std.specs.List.{AllByRecursion, IsDistinct}
 use Rattle.std.proofs.lemmas.Bool.{eqb-false, ne_eqb}
@@ -8,7 +8,7 @@ use Rattle.table_core.specs.declared.knowledge.KnownResult.{KnownResult}
 use Rattle.table_core.specs.declared.knowledge.Knowledge.{Knowledge}
 use Rattle.table_core.specs.declared.shape.Kind.TheVariants.{Pair}
 use Rattle.table_core.specs.Layout.{IsSlot, start}
-use Rattle.table_core.specs.Blocks.{Words, square_rank}
+use Rattle.table_core.specs.Blocks.{square_rank}
 use Rattle.table_core.specs.Knowledge.{HasEachOnce, IsConsistent, IsTrueResult, KnowsBlock, KnowsSquareOf, has_result}
 use Rattle.table_core.specs.Laws.{EveryResultHasItsSlot}
 use Rattle.table_core.proofs.Booleans.{or_none}

@@ -84,7 +84,7 @@ impl OpenTable {
         let Key { rule, exponent, .. } = *self.table.key();
         let still = self.table.close(self.desk);
         let pairs = shape.slot_count(Kind::Pair);
-        // No square of it is the root, so the empty one stands for that.
+        // All squares are copied, whichever is given as the root.
         let made = copy(alloc, &still, Sq::empty(4), Keep::Everything, pairs);
         let Some(larger) = unless_full(made)? else {
             return Ok(None);

@@ -121,12 +121,6 @@ blocks_of_half level e n low side =
     let twice = twice_half (level - e) (omega arith) in omega (arith, twice, side)
 
 module _ (n there : ℕ) (strip left right : Strip) (in_blocks : IsInBlocks (n + n) strip) (inside : there < n) (are : AreParts n there strip left right) where
-  pub left_in_blocks : IsInBlocks n left
-  left_in_blocks =
-      let order = in_blocks.order in
-      let row = are.left_row in let from = are.left_from in let end = are.left_end in
-      record { row = omega (arith, row); order = omega (arith, order, from, end); end = omega (arith, end) }
-
   pub right_in_blocks : IsInBlocks n right
   right_in_blocks =
       let order = in_blocks.order in let most = in_blocks.end in
