@@ -79,7 +79,8 @@ fn universe_of(
     ensures full { IfErr result
         (λ refusal. refusal ≡ Refusal.NodesFull → HasFullTable rule.now limit) }
 {
-    let (universe, bounds) = Universe::of(alloc, rule, text, expected, limit)?.bounds(alloc)?;
+    let mut universe = Universe::of(alloc, rule, text, expected, limit)?;
+    let bounds = universe.bounds(alloc)?;
     reach(bounds, text.generation(), generations)?;
     Ok(universe)
 }

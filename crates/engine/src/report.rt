@@ -23,11 +23,11 @@ pub(crate) fn report_generation<W: Sink>(
     report: &mut W,
     quiet: bool,
     generation: u64,
-    universe: Universe,
-) -> Result<Universe, Refusal>
-    ensures same { IfOk result (IsSameRun universe) }
+    universe: &mut Universe,
+) -> Result<(), Refusal>
+    ensures same { IsSameRun universe.old universe.new }
     ensures written { OnOk result
-        ((said : List ℕ) × IsSaid quiet generation (live_cells universe) said
+        ((said : List ℕ) × IsSaid quiet generation (live_cells universe.old) said
         × Appends (W.taken report.old) (W.taken report.new) said) }
     ensures unfailed { OnOk result (W.failure_count report.new ≡ W.failure_count report.old) }
     ensures refused { IfErr result (λ refusal.
@@ -35,11 +35,10 @@ pub(crate) fn report_generation<W: Sink>(
         ⊎ IsWriteRefusal (W.failure_count report.old) (W.failure_count report.new) refusal) }
 {
     if quiet {
-        return Ok(universe);
+        return Ok(());
     }
-    let (universe, population) = universe.population(alloc)?;
-    write_report_line(report, generation, population)?;
-    Ok(universe)
+    let population = universe.population(alloc)?;
+    write_report_line(report, generation, population)
 }
 
 // Writes the line of one generation: its number and how many cells are live.

@@ -50,14 +50,15 @@ pub(crate) fn run_reported<R: Threads + Wait + Sync, G: Gate, W: Sink>(
     ensures full { IfErr result (λ refusal. refusal ≡ Refusal.NodesFull
         → IsStuckWithin (rule_of start) (live_cells start) (limit_of start) options.now.gens) }
 {
-    let alloc = team.alloc;
-    let mut universe = report_generation(alloc, report, options.quiet, generation, start)?;
+    let (alloc, quiet) = (team.alloc, options.quiet);
+    let mut universe = start;
+    report_generation(alloc, report, quiet, generation, &mut universe)?;
     let mut done = 0;
     while done < options.gens {
         let next = next_shown(options, done);
         universe = universe.after(team, next - done)?;
         done = next;
-        universe = report_generation(alloc, report, options.quiet, generation + done, universe)?;
+        report_generation(alloc, report, quiet, generation + done, &mut universe)?;
     }
     Ok(universe)
 }

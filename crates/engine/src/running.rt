@@ -137,14 +137,14 @@ pub(crate) fn team_of<'a, R, G>(
 // The pattern of the last generation, and what the run ends with.
 pub(crate) fn finish(
     alloc: Global,
-    universe: Universe,
+    mut universe: Universe,
     generation: u64,
 ) -> Result<(Pattern, Summary), Refusal>
     ensures same { IfOk result (λ ended. IsSame (plane_of ended.0) (live_cells universe)) }
     ensures ok { IfOk result (λ ended. SumsUp generation (plane_of ended.0) ended.1) }
     ensures memory { IsOkUnless result Refusal.NoMemory }
 {
-    let (universe, population) = universe.population(alloc)?;
+    let population = universe.population(alloc)?;
     let last = Pattern::of(universe);
     let bounds = last.bounds(alloc)?;
     let summary = Summary {

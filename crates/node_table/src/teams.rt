@@ -12,7 +12,7 @@ use crate::table::NodeTable;
 
 impl Desk {
     /// A desk that knows what this one knows. It begins with no expansion.
-    pub(crate) fn split_off(&mut self, table: &NodeTable) -> Desk
+    pub fn split_off(&mut self, table: &NodeTable) -> Desk
         requires { IsDeskOf table.now self.old }
         ensures own { IsDeskOf table.now self.new }
         ensures same { book_at table.now self.new ≡ book_at table.now self.old }

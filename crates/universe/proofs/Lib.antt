@@ -7,4 +7,5 @@ pub mod Evicting
 pub mod Onward
 pub mod Copying
 pub mod Rounds
+pub mod SecondDesks
 pub mod Staying

@@ -88,8 +88,12 @@ impl Universe {
         ensures ok { IfOk result (IsAttempt self) }
         ensures full { IfOk result (IsFullInPlace self) }
     {
-        let Universe { here, root, others } = self;
-        let (here, made) = here.step(team, root);
+        let Universe {
+            mut here,
+            root,
+            others,
+        } = self;
+        let made = here.step(team, root);
         match unless_full(made)? {
             Some(root) => Ok(Attempt::Done(Universe { here, root, others })),
             None => Ok(Attempt::Full(Universe { here, root, others })),

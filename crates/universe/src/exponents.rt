@@ -77,20 +77,26 @@ impl Universe {
     // Copies the cells into another table, which grows while it is full and the limit leaves room. Their own
     // stays open, as the one that was used last.
     #[cycle(move_to)]
-    fn move_to(mut self, alloc: Global, other: OpenTable) -> Result<Attempt, AllocError>
+    fn move_to(self, alloc: Global, mut other: OpenTable) -> Result<Attempt, AllocError>
         requires rule { (key_at other).rule ≡ rule_of self }
         requires room { pairs_in other + pairs_of self ≤ limit_of self }
         ensures { IfOk result (ReachesExponent (key_at other).exponent self) }
     {
-        let (left, reached, copied) = self.here.copy_across(alloc, self.root, other);
+        let Universe {
+            mut here,
+            root,
+            mut others,
+        } = self;
+        let copied = here.copy_across(alloc, root, &mut other);
         let Some(root) = unless_full(copied)? else {
-            self.here = left;
-            return self.enlarge_and_move(alloc, reached);
+            return Universe { here, root, others }.enlarge_and_move(alloc, other);
         };
-        self.others.push(left)?;
-        self.here = reached;
-        self.root = root;
-        Ok(Attempt::Done(self))
+        others.push(here)?;
+        Ok(Attempt::Done(Universe {
+            here: other,
+            root,
+            others,
+        }))
     }
 
     // Enlarges another table that is full, if the limit leaves room, and copies the cells there.

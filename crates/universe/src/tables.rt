@@ -121,49 +121,47 @@ impl OpenTable {
         RootedStill { still, root }
     }
 
-    /// One step of 2^exponent generations from a square, by a team. The table comes back after a refusal too.
+    /// One step of 2^exponent generations from a square, by a team.
     pub(crate) fn step<R: Threads + Wait + Sync, G: Gate>(
-        mut self,
+        &mut self,
         team: &Team<'_, R, G>,
         root: Sq,
-    ) -> (OpenTable, Result<Sq, Refusal>)
-        requires known { IsKnown (known_at self) root.level root }
+    ) -> Result<Sq, Refusal>
+        requires known { IsKnown (known_at self.old) root.level root }
         requires level { root.level ≤ 63 }
-        requires exponent { (key_at self).exponent ≤ 62 }
-        ensures stays { StaysOpen self result.0 }
-        ensures ok { IfOk result.1 (IsRound (known_at result.0) (next_cells self root)) }
-        ensures refusal { IfErr result.1 (Refuses (known_at result.0)) }
+        requires exponent { (key_at self.old).exponent ≤ 62 }
+        ensures stays { StaysOpen self.old self.new }
+        ensures ok { IfOk result (IsRound (known_at self.new) (next_cells self.old root)) }
+        ensures refusal { IfErr result (Refuses (known_at self.new)) }
     {
-        let desk = self.desk;
-        let before = desk.expansions();
         let team = team.at_most(self.history.workers_of_next_step(team.workers));
-        let (desk, made) = step(&team, &self.table, desk, root);
-        let expansions = desk.expansions().saturating_sub(before);
+        // The second desk begins with no expansion, so it comes back with those of this step alone.
+        let second = self.desk.split_off(&self.table);
+        let (desk, made) = step(&team, &self.table, second, root);
+        self.history = self.history.after_try(made.is_ok(), desk.expansions());
         self.desk = desk;
-        self.history = self.history.after_try(made.is_ok(), expansions);
-        (self, made)
+        made
     }
 
-    /// The square copied into another table. Both tables come back after a refusal too.
+    /// The square copied into another table.
     pub(crate) fn copy_across(
-        mut self,
+        &mut self,
         alloc: Global,
         root: Sq,
-        mut other: OpenTable,
-    ) -> (OpenTable, OpenTable, Result<Sq, Refusal>)
-        requires known { IsKnown (known_at self) root.level root }
-        ensures from { StaysOpen self result.0 }
-        ensures to { StaysOpen other result.1 }
-        ensures ok { IfOk result.2
-            (Shows (known_at result.1) root.level ((known_at self).cells root)) }
-        ensures refusal { IfErr result.2 LacksMemoryOrRoom }
+        other: &mut OpenTable,
+    ) -> Result<Sq, Refusal>
+        requires known { IsKnown (known_at self.old) root.level root }
+        ensures from { StaysOpen self.old self.new }
+        ensures to { StaysOpen other.old other.new }
+        ensures ok { IfOk result
+            (Shows (known_at other.new) root.level ((known_at self.old).cells root)) }
+        ensures refusal { IfErr result LacksMemoryOrRoom }
     {
-        let (desk, other_desk) = (self.desk, other.desk);
-        let mut at = self.table.at(desk);
+        let desk = self.desk.split_off(&self.table);
+        let other_desk = other.desk.split_off(&other.table);
         let mut other_at = other.table.at(other_desk);
-        let copied = copy_between(alloc, &mut at, root, &mut other_at);
-        self.desk = at.leave();
+        let copied = copy_between(alloc, &mut self.table.at(desk), root, &mut other_at);
         other.desk = other_at.leave();
-        (self, other, copied)
+        copied
     }
 }

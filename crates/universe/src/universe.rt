@@ -39,39 +39,32 @@ impl Universe {
         self.root.is_empty()
     }
 
-    /// The universe again, and how many cells are live. `NoMemory` where there is no room to count them.
-    pub fn population(mut self, alloc: Global) -> Result<(Universe, u128), Refusal>
-        ensures ok { IfOk result (λ found. HasPopulation (live_cells self) found.1) }
-        ensures same { IfOk result (λ found. IsSame (live_cells found.0) (live_cells self)) }
-        ensures rule { IfOk result (λ found. rule_of found.0 ≡ rule_of self) }
-        ensures limit { IfOk result (λ found. limit_of found.0 ≡ limit_of self) }
+    /// How many cells are live. `NoMemory` where there is no room to count them.
+    pub fn population(&mut self, alloc: Global) -> Result<u128, Refusal>
+        ensures ok { IfOk result (HasPopulation (live_cells self.old)) }
+        ensures same { IsSame (live_cells self.new) (live_cells self.old) }
+        ensures rule { rule_of self.new ≡ rule_of self.old }
+        ensures limit { limit_of self.new ≡ limit_of self.old }
         ensures memory { IsOkUnless result Refusal.NoMemory }
     {
-        let (root, mut here) = (self.root, self.here);
-        let desk = here.desk;
-        let mut at = here.table.at(desk);
-        let count = population_at(alloc, &mut at, root)?;
-        here.desk = at.leave();
-        self.here = here;
-        Ok((self, count))
+        // A second desk reads the cells, and is let go.
+        let here = &mut self.here;
+        let desk = here.desk.split_off(&here.table);
+        population_at(alloc, &mut here.table.at(desk), self.root)
     }
 
-    /// The universe again, and the smallest box that holds the live cells. `NoMemory` where there is no
-    /// room to find it.
-    pub fn bounds(mut self, alloc: Global) -> Result<(Universe, Option<Bounds>), Refusal>
-        ensures ok { IfOk result (λ found. HasBounds (live_cells self) found.1) }
-        ensures same { IfOk result (λ found. IsSame (live_cells found.0) (live_cells self)) }
-        ensures rule { IfOk result (λ found. rule_of found.0 ≡ rule_of self) }
-        ensures limit { IfOk result (λ found. limit_of found.0 ≡ limit_of self) }
+    /// The smallest box that holds the live cells. `NoMemory` where there is no room to find it.
+    pub fn bounds(&mut self, alloc: Global) -> Result<Option<Bounds>, Refusal>
+        ensures ok { IfOk result (HasBounds (live_cells self.old)) }
+        ensures same { IsSame (live_cells self.new) (live_cells self.old) }
+        ensures rule { rule_of self.new ≡ rule_of self.old }
+        ensures limit { limit_of self.new ≡ limit_of self.old }
         ensures memory { IsOkUnless result Refusal.NoMemory }
     {
-        let (root, mut here) = (self.root, self.here);
-        let desk = here.desk;
-        let mut at = here.table.at(desk);
-        let bounds = bounds_at(alloc, &mut at, root)?;
-        here.desk = at.leave();
-        self.here = here;
-        Ok((self, bounds))
+        // A second desk reads the cells, and is let go.
+        let here = &mut self.here;
+        let desk = here.desk.split_off(&here.table);
+        bounds_at(alloc, &mut here.table.at(desk), self.root)
     }
 
     /// How many pair slots its tables have together: at most the limit.

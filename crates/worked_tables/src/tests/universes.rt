@@ -47,7 +47,7 @@ const ONE_CELL: [(Cell, u64); 1] = [(Cell { x: 0, y: 0 }, 1)];
 // The universe so many generations later, if these stay in the range.
 fn later<R: Threads + Wait + Sync + AllocGlobal>(
     rt: &R,
-    universe: Universe,
+    mut universe: Universe,
     generations: u64,
 ) -> Result<Universe, Refusal> {
     let team = Team {
@@ -56,7 +56,7 @@ fn later<R: Threads + Wait + Sync + AllocGlobal>(
         workers: 1,
         gate: &OpenGate,
     };
-    let (universe, bounds) = universe.bounds(rt.alloc())?;
+    let bounds = universe.bounds(rt.alloc())?;
     reach(bounds, 0, generations)?;
     universe.after(&team, generations)
 }
@@ -70,8 +70,7 @@ pub(crate) fn assert_comes_to<R: Threads + Wait + Sync + Abort + AllocGlobal>(
     let mut universe = start;
     for (generations, population) in reports {
         universe = later(rt, universe, *generations)?;
-        let (same, count) = universe.population(rt.alloc())?;
-        universe = same;
+        let count = universe.population(rt.alloc())?;
         assert_eq!(rt; count, *population);
     }
     Ok(())
@@ -128,8 +127,8 @@ fn r_pentomino_at_each_generation(rt: HostRuntime) -> Result<(), Fail> {
 #[test]
 fn glider_far_away(rt: HostRuntime) -> Result<(), Fail> {
     let universe = of_runs(&rt, b"B3/S23", &GLIDER, 4096)?;
-    let universe = later(&rt, universe, 1 << 40)?;
-    let (universe, bounds) = universe.bounds(rt.alloc())?;
+    let mut universe = later(&rt, universe, 1 << 40)?;
+    let bounds = universe.bounds(rt.alloc())?;
     let far = 1 << 38;
     let there = Bounds {
         left: far,
@@ -161,7 +160,8 @@ fn tables_are_let_go(rt: HostRuntime) -> Result<(), Fail> {
 #[test]
 fn words_at_rest(rt: HostRuntime) -> Result<(), Fail> {
     let universe = of_runs(&rt, b"B3/S23", &R_PENTOMINO, 4096)?;
-    let (universe, bounds) = later(&rt, universe, 1103)?.bounds(rt.alloc())?;
+    let mut universe = later(&rt, universe, 1103)?;
+    let bounds = universe.bounds(rt.alloc())?;
     assert_eq!(rt; universe.into_still().bounds(rt.alloc())?, bounds);
     Ok(())
 }

@@ -11,24 +11,24 @@ use Rattle.engine.proofs.Onward.{held_on, later_on, none_later, stuck_on, then_s
 use Rattle.engine.proofs.Reports.{first_lines, shown_next, shows_next, shows_none, start_shown, stopped}
 use Rattle.engine.proofs.reported.run_reported.Goals as goal
 
-pub returns-in_err-universe-clause-refused : goal.returns-in_err-universe-clause-refused
-returns-in_err-universe-clause-refused g c =
+pub returns-in_err-report_generation-clause-refused : goal.returns-in_err-report_generation-clause-refused
+returns-in_err-report_generation-clause-refused g c =
     let rule = rule_of c.args.start in
     let plane = live_cells c.args.start in
-    let is : c.from_residual.result ≡ Err c.in_err-universe.field-0.0 = search rules in
+    let is : c.from_residual.result ≡ Err c.in_err-report_generation.field-0.0 = search rules in
     rw is (stopped g.W.Sink.taken g.W.Sink.failure_count c.args.report.now c.args.report.now c.report_generation.new.report rule plane c.args.generation c.args.options.now
-    c.in_err-universe.field-0.0 0 [] refl (shows_none rule plane c.args.generation) (Appends-nil _) c.in_err-universe.ensures.refused)
+    c.in_err-report_generation.field-0.0 0 [] refl (shows_none rule plane c.args.generation) (Appends-nil _) c.in_err-report_generation.ensures.refused)
 
 pub loop-done-init : goal.loop-done-init
 loop-done-init g c =
     let options = c.args.options.now in
     let rule = rule_of c.args.start in
     let plane = live_cells c.args.start in
-    let said = c.in_ok-universe.ensures.written in
+    let said = c.in_ok-report_generation.ensures.written in
     let start : c.args.generation ≡ c.args.generation + 0 = omega arith in
     record {
       within = omega arith;
-      later = none_later c.in_ok-universe.ensures.same;
+      later = none_later c.in_ok-report_generation.ensures.same;
       unfailed = search rules;
       said = (
         said.0,
@@ -48,13 +48,13 @@ after-requires-clause-short g c κs within = λ some.
     let short = c.requires.short (λ none. some (empty_later (rule_of c.args.start) c.requires.rule.no_birth_on_zero (live_cells c.args.start) (live_cells c.loop-done.universe) c.loop-done.done none c.loop-done.invariant.later.cells)) in
     omega (arith, short, c.next_shown-next.ensures.within)
 
-pub returns-in_err-universe-2-clause-refused : goal.returns-in_err-universe-2-clause-refused
-returns-in_err-universe-2-clause-refused g c =
+pub returns-in_err-universe-clause-refused : goal.returns-in_err-universe-clause-refused
+returns-in_err-universe-clause-refused g c =
     let options = c.args.options.now in
     let said = c.loop-done.invariant.said in
-    let is : c.from_residual-in_err-universe-2.result ≡ Err c.in_err-universe-2.field-0.0 = search rules in
+    let is : c.from_residual-in_err-universe.result ≡ Err c.in_err-universe.field-0.0 = search rules in
     rw is (inl (
-      c.in_err-universe-2.ensures.refusal,
+      c.in_err-universe.ensures.refusal,
       c.loop-done.invariant.unfailed,
       (
         length (shown_until options c.loop-done.done),
@@ -64,22 +64,22 @@ returns-in_err-universe-2-clause-refused g c =
       ),
     ))
 
-pub returns-in_err-universe-2-clause-full : goal.returns-in_err-universe-2-clause-full
-returns-in_err-universe-2-clause-full g c =
-    let is : c.from_residual-in_err-universe-2.result ≡ Err c.in_err-universe-2.field-0.0 = search rules in
+pub returns-in_err-universe-clause-full : goal.returns-in_err-universe-clause-full
+returns-in_err-universe-clause-full g c =
+    let is : c.from_residual-in_err-universe.result ≡ Err c.in_err-universe.field-0.0 = search rules in
     rw is (λ full. stuck_on c.args.options.now.gens c.loop-done.done (c.next_shown-next.result - c.loop-done.done) c.loop-done.invariant.later
-    (omega (arith, c.next_shown-next.ensures.later, c.next_shown-next.ensures.within)) (c.in_err-universe-2.ensures.full full))
+    (omega (arith, c.next_shown-next.ensures.later, c.next_shown-next.ensures.within)) (c.in_err-universe.ensures.full full))
 
-pub returns-in_err-universe-3-clause-refused : goal.returns-in_err-universe-3-clause-refused
-returns-in_err-universe-3-clause-refused g c =
+pub returns-in_err-report_generation-2-clause-refused : goal.returns-in_err-report_generation-2-clause-refused
+returns-in_err-report_generation-2-clause-refused g c =
     let options = c.args.options.now in
     let rule = rule_of c.args.start in
     let plane = live_cells c.args.start in
     let said = c.loop-done.invariant.said in
-    let is : c.from_residual-in_err-universe-3.result ≡ Err c.in_err-universe-3.field-0.0 = search rules in
+    let is : c.from_residual-in_err-report_generation-2.result ≡ Err c.in_err-report_generation-2.field-0.0 = search rules in
     rw is (stopped g.W.Sink.taken g.W.Sink.failure_count c.args.report.now c.loop-done.report c.report_generation-in-loop-done.new.report rule plane c.args.generation options
-    c.in_err-universe-3.field-0.0 (length (shown_until options c.loop-done.done)) said.0 c.loop-done.invariant.unfailed
-    (first_lines rule plane c.args.generation options c.loop-done.done said.0 c.loop-done.invariant.within said.1) said.2 c.in_err-universe-3.ensures.refused)
+    c.in_err-report_generation-2.field-0.0 (length (shown_until options c.loop-done.done)) said.0 c.loop-done.invariant.unfailed
+    (first_lines rule plane c.args.generation options c.loop-done.done said.0 c.loop-done.invariant.within said.1) said.2 c.in_err-report_generation-2.ensures.refused)
 
 pub loop-done-preserved : goal.loop-done-preserved
 loop-done-preserved g c =
@@ -89,16 +89,16 @@ loop-done-preserved g c =
     let done = c.loop-done.done in
     let next = c.next_shown-next.result in
     let said = c.loop-done.invariant.said in
-    let line = c.in_ok-universe-3.ensures.written in
-    let more = c.in_ok-universe-2.ensures in
+    let line = c.in_ok-report_generation-2.ensures.written in
+    let more = c.in_ok-universe.ensures in
     let sum : done + (next - done) ≡ next = omega (arith, c.next_shown-next.ensures.later) in
-    let step : IsRunOn c.loop-done.universe (next - done) c.in_ok-universe-2.universe = record { cells = more.ok; rule = more.rule; limit = more.limit } in
-    let later = subst (λ n. IsRunOn c.args.start n c.in_ok-universe-2.universe) sum (later_on done (next - done) c.loop-done.invariant.later step) in
-    let shows = shows_next rule plane c.args.generation options (shown_until options done) next (live_cells c.in_ok-universe-2.universe) said.0 line.0 said.1 later.cells line.1 c.next_shown-next.ensures.shown in
+    let step : IsRunOn c.loop-done.universe (next - done) c.in_ok-universe.universe = record { cells = more.ok; rule = more.rule; limit = more.limit } in
+    let later = subst (λ n. IsRunOn c.args.start n c.in_ok-universe.universe) sum (later_on done (next - done) c.loop-done.invariant.later step) in
+    let shows = shows_next rule plane c.args.generation options (shown_until options done) next (live_cells c.in_ok-universe.universe) said.0 line.0 said.1 later.cells line.1 c.next_shown-next.ensures.shown in
     let numbers = shown_next options done next c.next_shown-next.ensures.later c.next_shown-next.ensures.between in
     record {
       within = c.next_shown-next.ensures.within;
-      later = then_same next later c.in_ok-universe-3.ensures.same;
+      later = then_same next later c.in_ok-report_generation-2.ensures.same;
       unfailed = search rules;
       said = (
         said.0 ++ line.0,

@@ -19,8 +19,8 @@ more_pairs bits more less =
 
 pub move_to-returns-in_default : goal.move_to-returns-in_default
 move_to-returns-in_default t c =
-    let from = c.copy_across-left.ensures.from in
-    let to = c.copy_across-left.ensures.to in
+    let from = c.copy_across-copied.ensures.from in
+    let to = c.copy_across-copied.ensures.to in
     result_again {first = c.args.self} _ c.args.other.table.key.exponent c.enlarge_and_move.result c.enlarge_and_move.ensures
     (record { cells = cells_stay c.args.self.root from c.args.self.known; rule = ap (λ (k : Key). k.rule) (key_stays from); limit = refl }) (ap (λ (k : Key). k.exponent) (key_stays to))
 

@@ -1,30 +1,32 @@
 use Rattle.std.proofs.Common.{subst}
-use Rattle.node_table.proofs.AtWork.{centred_same, is_back, known_at_work}
+use Rattle.std.specs.Prelude.{IfOk}
+use Rattle.node_table.proofs.AtWork.{centred_same}
 use Rattle.plane.specs.Centred.{centred}
-use Rattle.squares.specs.Book.{Book}
+use Rattle.plane.specs.Plane.{Plane}
+use Rattle.squares.specs.declared.sq.Sq.{Sq}
 use Rattle.squares.proofs.Kept.{known_kept}
 use Rattle.viewport.specs.BoundingBox.{HasBounds}
+use Rattle.universe.proofs.SecondDesks.{keeps_same, second_cells, second_known}
 use Rattle.universe.proofs.universe.Universe.bounds.Goals as goal
 
 pub bounds_at-requires-clause-known : goal.bounds_at-requires-clause-known
 bounds_at-requires-clause-known c =
-    let here = c.args.self.here in
-    known_at_work here.table here.desk _ c.args.self.root.level c.args.self.root c.at-at.ensures.book c.args.self.known
+    let here = c.args.self.now.here in
+    second_known here.table here.desk c.split_off-desk.result _ c.args.self.now.root c.split_off-desk.ensures.same_other c.at.ensures.book c.args.self.now.known
 
 pub invariant_of-self : goal.invariant_of-self
 invariant_of-self c =
-    let here = c.args.self.here in
-    let back = is_back here.table here.desk c.leave.result _ _ c.at-at.ensures.book c.in_ok-bounds.ensures.adds.keeps c.leave.ensures.desk in
-    record { known = known_kept back.keeps c.args.self.known; level = c.args.self.level; within = c.args.self.within }
+    let universe = c.args.self.now in
+    record { known = known_kept (keeps_same c.split_off-desk.ensures.same) universe.known; level = universe.level; within = universe.within }
 
 pub returns-clause-ok : goal.returns-clause-ok
 returns-clause-ok c =
-    let root = c.args.self.root in
-    subst (λ (b : Book). HasBounds (centred root.level (b.cells root)) c.in_ok-bounds.bounds) c.at-at.ensures.book c.in_ok-bounds.ensures.ok
+    let here = c.args.self.now.here in
+    let root = c.args.self.now.root in
+    subst (λ (cells : Sq → Plane). IfOk c.bounds_at.result (HasBounds (centred root.level (cells root))))
+    (second_cells here.table here.desk c.split_off-desk.result _ c.split_off-desk.ensures.same_other c.at.ensures.book) c.bounds_at.ensures.ok
 
 pub returns-clause-same : goal.returns-clause-same
 returns-clause-same c =
-    let here = c.args.self.here in
-    let root = c.args.self.root in
-    let back = is_back here.table here.desk c.leave.result _ _ c.at-at.ensures.book c.in_ok-bounds.ensures.adds.keeps c.leave.ensures.desk in
-    centred_same root.level _ _ (back.keeps.cells root c.args.self.known.known)
+    let root = c.args.self.now.root in
+    centred_same root.level _ _ ((keeps_same c.split_off-desk.ensures.same).cells root c.args.self.now.known.known)

@@ -6,11 +6,11 @@ use Rattle.worked_tables.proofs.tests.universes.later.Goals as goal
 
 pub after-requires-clause-held : goal.after-requires-clause-held
 after-requires-clause-held g c κs within =
-    let here = c.in_ok-universe.universe in
+    let here = c.bounds.new.self in
     let rule : IsRule (rule_of here) = search rules in
-    stays_held (rule_of here) rule (live_cells c.args.universe) (live_cells here) c.in_ok-universe.bounds 0 c.args.generations c.in_ok-universe.ensures.ok c.in_ok-universe.ensures.same c.in_ok-reach.ensures.ok.0
+    stays_held (rule_of here) rule (live_cells c.args.universe) (live_cells here) c.in_ok-bounds.bounds 0 c.args.generations c.in_ok-bounds.ensures.ok c.in_ok-bounds.ensures.same c.in_ok-reach.ensures.ok.0
 
 pub after-requires-clause-short : goal.after-requires-clause-short
 after-requires-clause-short g c κs within =
-    let here = c.in_ok-universe.universe in
-    stays_short (live_cells c.args.universe) (live_cells here) c.in_ok-universe.bounds 0 c.args.generations c.in_ok-universe.ensures.ok c.in_ok-universe.ensures.same c.in_ok-reach.ensures.ok.0
+    let here = c.bounds.new.self in
+    stays_short (live_cells c.args.universe) (live_cells here) c.in_ok-bounds.bounds 0 c.args.generations c.in_ok-bounds.ensures.ok c.in_ok-bounds.ensures.same c.in_ok-reach.ensures.ok.0
