@@ -2,7 +2,7 @@
 use Rattle.std.proofs.Common.{◌≡◌, ℕ, ◌+◌, ◌*◌, Bool, true, false, [], ◌∷◌, sym, ap, subst, arith, refl}
 use Rattle.std.specs.Prelude.{◌==◌, ◌&&◌, unsigned_abs}
 use Rattle.std.proofs.lemmas.Nat.Bits.{bit_at-zero}
-use Rattle.leaf_kernels.specs.Rows.{leaves_plane}
+use Rattle.plane.specs.Leaves.{leaves_plane}
 use Rattle.plane.specs.Centred.{centred}
 use Rattle.plane.specs.Plane.{Plane}
 use Rattle.plane.specs.Square.{IsSame, IsSquare, bit, bits_plane, centre_of, cut, empty, joined, spans}

@@ -9,13 +9,12 @@ mod padding;
 mod plans;
 mod recursion;
 mod steps;
-mod tally;
 mod trimming;
 
 pub use orders::Order;
 pub use padding::pad;
 pub use plans::plan;
 pub use recursion::{future, future_in_order, replace_by_futures};
+pub use squares::Tally;
 pub use steps::step;
-pub use tally::Tally;
 pub use trimming::trim;

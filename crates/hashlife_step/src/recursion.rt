@@ -9,9 +9,8 @@ ghost use Rattle.hashlife_step.specs.Tallies.{MakesResults};
 use crate::centres::four_centres;
 use crate::leaf_squares::{BASE_LEVEL, base_future, leaf_future};
 use crate::orders::Order;
-use crate::tally::Tally;
 use plane::Refusal;
-use squares::{LEAF_LEVEL, Sq, Squares};
+use squares::{LEAF_LEVEL, Sq, Squares, Tally};
 
 /// The future of a square: its centre, which has half its side, after 2^exponent generations of the
 /// book's exponent, or after 2^(level - 2) if that is less. A result that the book knows is

@@ -6,10 +6,9 @@ ghost use Rattle.hashlife_step.specs.Tallies.{MakesResults};
 
 use crate::padding::pad;
 use crate::recursion::future;
-use crate::tally::Tally;
 use crate::trimming::trim;
 use plane::Refusal;
-use squares::{Sq, Squares};
+use squares::{Sq, Squares, Tally};
 
 /// One step of 2^exponent generations, by the book's exponent: the root is padded, its future taken
 /// and trimmed. The answer has the cells that those of the root become, at the smallest level of at

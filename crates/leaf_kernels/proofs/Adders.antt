@@ -6,7 +6,7 @@ use Rattle.std.specs.Prelude.{bit_xor, ◌&&◌, ◌||◌}
 use lib.Lanes.{zip2}
 use Rattle.leaf_kernels.specs.Rows.{cells_of_rows}
 use Rattle.leaf_kernels.specs.Sums.{number}
-use Rattle.leaf_kernels.proofs.Bits.{differ}
+use Rattle.plane.proofs.WordBits.{differ}
 use Rattle.leaf_kernels.proofs.Lanes.{zip_length, cells-and, cells-or, cells-xor}
 
 add_two : (p q : Bool) → number (differ p q) + 2 * number (p && q) ≡ number p + number q

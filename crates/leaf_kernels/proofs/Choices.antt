@@ -9,7 +9,7 @@ use Rattle.plane.specs.Square.{spans, bit}
 use Rattle.leaf_kernels.specs.Masks.{mask_of, changes}
 use Rattle.leaf_kernels.specs.Rows.{cells_of_rows, four_rows_plane}
 use Rattle.leaf_kernels.specs.Sums.{number}
-use Rattle.leaf_kernels.proofs.Bits.{differ}
+use Rattle.plane.proofs.WordBits.{differ}
 use Rattle.leaf_kernels.proofs.Lanes.{zip_length, cells-and, cells-xor, cells-all, cells-none}
 
 chosen : (b dead live : Bool) → differ dead (differ dead live && b) ≡ cond b live dead

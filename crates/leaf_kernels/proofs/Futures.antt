@@ -10,7 +10,7 @@ use Rattle.plane.specs.Square.{IsSame, spans, cut}
 use Rattle.plane.proofs.Cones.{light_cone_lem}
 use Rattle.plane.proofs.Cuts.{and_case, and_left, and_right}
 use Rattle.leaf_kernels.specs.Inside.{AgreeInside, IsInner}
-use Rattle.leaf_kernels.proofs.Cells.{and_true}
+use Rattle.plane.proofs.SquareCells.{and_true}
 
 inner_spans : (side n : ℕ) (z : ℤ) → IsInner side n z → spans side z ≡ true
 inner_spans side n z inner = grind (arith, ints, inner.low, inner.high)

@@ -10,8 +10,8 @@ use lib.Lanes.{zip2, Each1}
 use Rattle.plane.specs.Plane.{Plane}
 use Rattle.plane.specs.Square.{spans, bit}
 use Rattle.leaf_kernels.specs.Rows.{cells_of_rows}
-use Rattle.leaf_kernels.proofs.Bits.{differ, bit-and, bit-or, bit-xor, bit-not, bit-ones, bit-none}
-use Rattle.leaf_kernels.proofs.Cells.{and_true, less_spans, same_cells}
+use Rattle.plane.proofs.WordBits.{differ, bit-and, bit-or, bit-xor, bit-not, bit-ones, bit-none}
+use Rattle.plane.proofs.SquareCells.{and_true, less_spans, same_cells}
 
 guard_and : (s t p q : Bool) → ((s && t) && (((s && t) && p) && ((s && t) && q))) ≡ (((s && t) && p) && ((s && t) && q))
 guard_and true true p q = refl

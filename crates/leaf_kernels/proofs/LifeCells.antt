@@ -8,7 +8,7 @@ use Rattle.plane.specs.Square.{spans}
 use Rattle.leaf_kernels.specs.Life.{life}
 use Rattle.leaf_kernels.specs.Rows.{four_rows_plane}
 use Rattle.leaf_kernels.specs.Sums.{number}
-use Rattle.leaf_kernels.proofs.Bits.{differ}
+use Rattle.plane.proofs.WordBits.{differ}
 use Rattle.leaf_kernels.proofs.Lanes.{zip_length, cells-and, cells-or, cells-xor}
 
 pub is_rule : IsRule life

@@ -12,7 +12,7 @@ use Rattle.std.proofs.lemmas.Simd.{get_or-zip2, get_or-replicate, Each1-get_or, 
 use lib.Lanes.{zip2, Each1, pick_l}
 use Rattle.plane.specs.Square.{spans, bit}
 use Rattle.leaf_kernels.specs.Rows.{cells_of_rows}
-use Rattle.leaf_kernels.proofs.Bits.{bit-shr, bit-shl, bit-shl_below, bit-above, bit-none}
+use Rattle.plane.proofs.WordBits.{bit-shr, bit-shl, bit-shl_below, bit-above, bit-none}
 use Rattle.leaf_kernels.proofs.Lanes.{cell_in, rows_show}
 
 one_on : (i : ℕ) → pos (suc i) -ℤ pos 1 ≡ pos i

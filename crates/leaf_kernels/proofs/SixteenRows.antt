@@ -11,14 +11,16 @@ use Rattle.plane.specs.Square.{IsSame, IsSquare, bit, bits_plane, cut, spans}
 use Rattle.plane.proofs.Cones.{next_same, translation_lem}
 use Rattle.plane.proofs.Cuts.{and_case, and_left, and_right}
 use Rattle.leaf_kernels.specs.Inside.{AgreeInside, IsInner}
-use Rattle.leaf_kernels.specs.Rows.{leaves_plane, row_at, rows_plane, sixteen_rows_plane}
+use Rattle.plane.specs.Leaves.{leaves_plane}
+use Rattle.leaf_kernels.specs.Rows.{row_at, rows_plane, sixteen_rows_plane}
 use Rattle.leaf_kernels.specs.Words.{AreTransposed}
-use Rattle.leaf_kernels.proofs.Bits.{bit-and, bit-none, bit-ones, bit-shl, bit-shl_below, bit-shr}
-use Rattle.leaf_kernels.proofs.Bytes.{each_of_eight}
-use Rattle.leaf_kernels.proofs.Cells.{same_cells}
+use Rattle.plane.proofs.WordBits.{bit-and, bit-none, bit-ones, bit-shl, bit-shl_below, bit-shr}
+use Rattle.plane.proofs.WordBytes.{each_of_eight}
+use Rattle.plane.proofs.SquareCells.{same_cells}
 use Rattle.leaf_kernels.proofs.Lanes.{cell_in}
 use Rattle.leaf_kernels.proofs.Moves.{cell_in_row, with_each}
-use Rattle.leaf_kernels.proofs.Squares.{AreLeaves, four_cells, in_square, leaves_square, row_cell, row_in}
+use Rattle.plane.proofs.LeafCells.{in_square}
+use Rattle.leaf_kernels.proofs.Squares.{AreLeaves, four_cells, leaves_square, row_cell, row_in}
 
 -- the first sixteen bits of a word
 pub first_bits : (word column : ℕ) → column < 16 → bit (bit_and word 65535) column ≡ bit word column

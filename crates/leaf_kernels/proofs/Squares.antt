@@ -1,30 +1,18 @@
 -- Four squares of sixteen leaves as rows, and the middle of rows as four squares of four leaves.
-use Rattle.std.proofs.Common.{◌≡◌, ℕ, zero, suc, ◌+◌, ◌*◌, ◌/◌, ◌%◌, ◌<◌, ℤ, pos, ◌+ℤ◌, Bool, true, false, List, [], ◌∷◌, get_or, refl, sym, ◌∙◌, ap, arith}
-use Rattle.std.specs.Prelude.{◌&&◌, unsigned_abs}
+use Rattle.std.proofs.Common.{◌≡◌, ℕ, zero, suc, ◌+◌, ◌*◌, ◌/◌, ◌%◌, ◌<◌, ℤ, pos, ◌+ℤ◌, Bool, List, [], ◌∷◌, get_or, refl, sym, ◌∙◌, ap, arith}
+use Rattle.std.specs.Prelude.{unsigned_abs}
 use Rattle.std.proofs.lemmas.Int.{ints}
-use Rattle.plane.specs.Plane.{Plane}
 use Rattle.plane.specs.Square.{IsSame, IsSquare, spans, bit, bits_plane, cut}
 use Rattle.plane.proofs.Cuts.{joined_within}
-use Rattle.leaf_kernels.specs.Rows.{leaves_plane, quarter_plane, sixteen_plane, four_sixteens_plane, four_fours_plane, row_at, rows_plane}
-use Rattle.leaf_kernels.proofs.Bytes.{each_of_eight, each_of_four}
-use Rattle.leaf_kernels.proofs.Cells.{and_true, less_spans, same_cells}
-use Rattle.leaf_kernels.proofs.Joined.{four_squares}
-
-pub leaf_cell : (word i j : ℕ) → i < 8 → j < 8 → bits_plane word (pos i) (pos j) ≡ bit word (8 * j + i)
-leaf_cell word i j h k = and_true (spans 8 (pos i)) (spans 8 (pos j)) (bit word (8 * j + i)) (less_spans 8 i h) (less_spans 8 j k)
-
-pub leaf_square : (word : ℕ) → IsSquare 8 (bits_plane word)
-leaf_square word = record { dead = λ x y e. ap (λ g. g && bit word (8 * unsigned_abs y + unsigned_abs x)) e }
+use Rattle.plane.specs.Leaves.{leaves_plane}
+use Rattle.leaf_kernels.specs.Rows.{quarter_plane, sixteen_plane, four_sixteens_plane, four_fours_plane, row_at, rows_plane}
+use Rattle.plane.proofs.WordBytes.{each_of_eight, each_of_four}
+use Rattle.plane.proofs.LeafCells.{in_square, leaf_cell, leaf_square}
+use Rattle.plane.proofs.SquareCells.{and_true, less_spans, same_cells}
+use Rattle.plane.proofs.JoinedCells.{four_squares}
 
 pub leaves_square : (leaves : List ℕ) → IsSquare 16 (leaves_plane leaves)
 leaves_square leaves = joined_within 8 _ _ _ _ (leaf_square (get_or leaves 0 0)) (leaf_square (get_or leaves 1 0)) (leaf_square (get_or leaves 2 0)) (leaf_square (get_or leaves 3 0))
-
-pub in_square : (n : ℕ) (p : Plane) → IsSquare n p → (x y : ℤ) → ((spans n x && spans n y) && p x y) ≡ p x y
-in_square n p square x y = inside (spans n x && spans n y) (p x y) (square.dead x y)
-  where
-    inside : (g b : Bool) → (g ≡ false → b ≡ false) → (g && b) ≡ b
-    inside true b h = refl
-    inside false b h = sym (h refl)
 
 from_none : (f : ℕ → Bool) (n : ℕ) → f n ≡ f (0 + n)
 from_none f n = ap f (zero_on n)

@@ -10,7 +10,7 @@ use Rattle.plane.specs.Plane.{Plane, live_neighbours, next}
 use Rattle.plane.specs.Square.{IsSame, spans, bit, cut}
 use Rattle.leaf_kernels.specs.Rows.{four_rows_plane, lane_plane, row_at, rows_plane}
 use Rattle.leaf_kernels.specs.Sums.{number}
-use Rattle.leaf_kernels.proofs.Cells.{guarded, less_spans}
+use Rattle.plane.proofs.SquareCells.{guarded, less_spans}
 use Rattle.leaf_kernels.proofs.Neighbours.{eight_neighbours, four_neighbours, six_neighbours}
 
 -- the neighbours of a cell, where three rows of one plane are three rows of another

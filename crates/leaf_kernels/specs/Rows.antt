@@ -1,5 +1,6 @@
 -- Squares of 16 by 16 and of 64 by 64 cells: as rows, and as leaves.
 use Rattle.std.specs.Prelude.{◌≡◌, ℕ, ℤ, pos, ◌+◌, ◌/◌, ◌%◌, Bool, List, [], unsigned_abs, slice_index, slice_index_or, ◌&&◌, if◌then◌else◌, int_lt}
+use Rattle.plane.specs.Leaves.{leaves_plane}
 use Rattle.plane.specs.Plane.{Plane}
 use Rattle.plane.specs.Square.{spans, bit, bits_plane, joined}
 
@@ -35,10 +36,6 @@ rows_plane vectors x y = (spans 64 x && spans 64 y) && bit (row_at vectors (unsi
 abbrev pub lane_plane : List ℕ → List ℕ → List ℕ → ℤ → Plane
 lane_plane above here below lane x y =
     if int_lt y (pos 0) then four_rows_plane above x lane else if int_lt (pos 0) y then four_rows_plane below x lane else four_rows_plane here x lane
-
--- the cells of the square that four leaves make: upper left, upper right, lower left and lower right
-abbrev pub leaves_plane : List ℕ → Plane
-leaves_plane leaves = joined 8 (bits_plane (slice_index leaves 0)) (bits_plane (slice_index leaves 1)) (bits_plane (slice_index leaves 2)) (bits_plane (slice_index leaves 3))
 
 -- the cells of four neighbours among sixteen leaves in four rows, of which the upper left one is given
 abbrev pub quarter_plane : List ℕ → ℕ → Plane

@@ -1,10 +1,6 @@
 -- Words of eight bytes, and vectors of words.
-use Rattle.std.specs.Prelude.{◌≡◌, ℕ, ◌+◌, ◌*◌, ◌<◌, Bool, List, [], slice_index, slice_index_or}
-use Rattle.plane.specs.Square.{bit}
-
--- the cell at a place of one of a word's bytes: a byte is a row of a leaf
-abbrev pub cell_at : ℕ → ℕ → ℕ → Bool
-cell_at word byte place = bit word (8 * byte + place)
+use Rattle.std.specs.Prelude.{◌≡◌, ℕ, ◌<◌, List, [], slice_index, slice_index_or}
+use Rattle.plane.specs.Leaves.{cell_at}
 
 -- a lane of one of some vectors
 abbrev pub lane_at : List (List ℕ) → ℕ → ℕ → ℕ

@@ -2,7 +2,8 @@
 ghost use Rattle.std.specs.Prelude.{◌≡◌, ℕ, ◌+◌, ◌*◌, ◌/◌, ◌%◌, ◌^◌, ◌<◌, slice_index};
 ghost use Rattle.plane.specs.Square.{IsSame, bit, centre_of};
 ghost use Rattle.leaf_kernels.specs.Rows.{four_fours_plane, four_sixteens_plane, rows_plane};
-ghost use Rattle.leaf_kernels.specs.Words.{AreTransposed, cell_at, lane_at};
+ghost use Rattle.plane.specs.Leaves.{cell_at};
+ghost use Rattle.leaf_kernels.specs.Words.{AreTransposed, lane_at};
 
 use std::simd::prelude::*;
 

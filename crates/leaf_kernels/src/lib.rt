@@ -5,7 +5,6 @@
 
 mod count;
 mod digit;
-mod four_leaves;
 mod generation;
 mod leaves;
 mod life;
@@ -15,6 +14,6 @@ mod rows;
 mod sixteen_rows;
 mod sum;
 
-pub use four_leaves::centre16;
+pub use plane::centre16;
 pub use result::{result16, result64};
 pub use sixteen_rows::next_rows;

@@ -1,7 +1,8 @@
 //! The middle of a square, some generations on.
 ghost use Rattle.std.specs.Prelude.{◌<◌};
 ghost use Rattle.plane.specs.Square.{IsSame, bits_plane, future};
-ghost use Rattle.leaf_kernels.specs.Rows.{four_fours_plane, four_sixteens_plane, leaves_plane};
+ghost use Rattle.plane.specs.Leaves.{leaves_plane};
+ghost use Rattle.leaf_kernels.specs.Rows.{four_fours_plane, four_sixteens_plane};
 
 use crate::generation::{NextCells, rows_after};
 use crate::leaves;

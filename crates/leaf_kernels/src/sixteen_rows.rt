@@ -4,7 +4,8 @@ ghost use Rattle.plane.specs.Laws.{moved};
 ghost use Rattle.plane.specs.Plane.{after, next};
 ghost use Rattle.plane.specs.Square.{IsSame, bit, bits_plane, centre_of, cut};
 ghost use Rattle.leaf_kernels.specs.Inside.{AgreeInside};
-ghost use Rattle.leaf_kernels.specs.Rows.{leaves_plane, rows_plane, sixteen_rows_plane};
+ghost use Rattle.plane.specs.Leaves.{leaves_plane};
+ghost use Rattle.leaf_kernels.specs.Rows.{rows_plane, sixteen_rows_plane};
 
 use crate::generation::rows_after;
 use crate::leaves::{middle_lanes, transpose};

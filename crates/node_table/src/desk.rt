@@ -4,7 +4,7 @@ ghost use Rattle.node_table.specs.Books.{IsSound};
 
 use crate::view::View;
 use atomic_table::Seat;
-use hashlife_step::Tally;
+use squares::Tally;
 
 /// What a thread has seen of a table.
 #[derive(Drop)]

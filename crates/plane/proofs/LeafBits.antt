@@ -1,11 +1,11 @@
 -- The bits of a leaf and its cells.
-use Rattle.std.proofs.Common.{◌≡◌, ℕ, zero, suc, ◌+◌, ◌*◌, ◌/◌, ◌%◌, ◌^◌, ◌<◌, pos, Bool, true, sym, ◌∙◌, ap, arith, refl}
-use Rattle.std.specs.Prelude.{◌&&◌, ◌==◌}
+use Rattle.std.proofs.Common.{◌≡◌, ℕ, zero, suc, ◌+◌, ◌*◌, ◌/◌, ◌%◌, ◌^◌, ◌<◌, pos, true, sym, ◌∙◌, ap, arith, refl}
+use Rattle.std.specs.Prelude.{◌==◌}
 use Rattle.std.specs.Int.{bit_at}
-use Rattle.std.proofs.lemmas.Int.{ints}
 use Rattle.std.proofs.lemmas.Bool.{false≢true}
 use Rattle.std.proofs.lemmas.Nat.Bits.{same_from_bits_below, bit_at-lt, bit_at-zero}
-use Rattle.plane.specs.Square.{IsSame, spans, empty, bits_plane}
+use Rattle.plane.specs.Square.{IsSame, empty, bits_plane}
+use Rattle.plane.proofs.LeafCells.{leaf_cell}
 
 bit_same : (a b : ℕ) → a < 2 → b < 2 → (a == 1) ≡ (b == 1) → a ≡ b
 bit_same zero zero h k e = refl
@@ -16,16 +16,10 @@ bit_same (suc zero) (suc zero) h k e = refl
 bit_same (suc zero) (suc (suc b)) h k e = absurd (omega arith)
 bit_same (suc (suc a)) b h k e = absurd (omega arith)
 
-in_leaf : (n : ℕ) → n < 8 → spans 8 (pos n) ≡ true
-in_leaf n h = grind (arith, ints)
-
-and_true : (a b c : Bool) → a ≡ true → b ≡ true → ((a && b) && c) ≡ c
-and_true a b c h k = ap (λ t. (t && b) && c) h ∙ ap (λ t. t && c) k
-
 shows_bit : (w i : ℕ) → i < 64 → bits_plane w (pos (i % 8)) (pos (i / 8)) ≡ (bit_at w i == 1)
 shows_bit w i h =
     let place : 8 * (i / 8) + i % 8 ≡ i = omega arith in
-    and_true (spans 8 (pos (i % 8))) (spans 8 (pos (i / 8))) _ (in_leaf (i % 8) (omega arith)) (in_leaf (i / 8) (omega arith)) ∙ ap (λ k. bit_at w k == 1) place
+    leaf_cell w (i % 8) (i / 8) (omega arith) (omega arith) ∙ ap (λ k. bit_at w k == 1) place
 
 pub bits_same : (w v : ℕ) → w < 2 ^ 64 → v < 2 ^ 64 → IsSame (bits_plane w) (bits_plane v) → w ≡ v
 bits_same w v h k same = same_from_bits_below 64 w v h k (λ i below.

@@ -1,11 +1,13 @@
 //! A plane of cells: the cells that are alive, their generations, the range of coordinates, windows
-//! of cells, the refusals of the whole project and the devices that bytes are read from and written to.
+//! of cells, the middle of four leaves, the refusals of the whole project and the devices that bytes
+//! are read from and written to.
 #![tactic(auto)]
 
 mod cell;
 mod cell_set;
 mod device;
 mod fault;
+mod four_leaves;
 mod generation;
 mod laws;
 mod range;
@@ -17,6 +19,7 @@ pub use cell::{Bounds, Cell, LEAF_LEVEL};
 pub use cell_set::CellSet;
 pub use device::{Counted, FailAt, Failed, Memory, Sink, Source, write_all};
 pub use fault::Fault;
+pub use four_leaves::centre16;
 pub use laws::{
     bounded_listing, light_cone, limits, nine_parts, one_listing, smallest_box, translation,
 };

@@ -1,14 +1,13 @@
 //! Four leaves together: those of a square of level 4, read and made, and the leaf at their centre.
 
 ghost use Rattle.std.specs.Prelude.{◌≡◌, All, IfOk, IfErr};
-ghost use Rattle.leaf_kernels.specs.Rows.{leaves_plane};
+ghost use Rattle.plane.specs.Leaves.{leaves_plane};
 ghost use Rattle.plane.specs.Square.{IsSame, centre_of};
 ghost use Rattle.squares.specs.Book.{AddsSquares, IsKnown, MayRefuse, Shows, joined_squares};
 
 use crate::book::Squares;
 use crate::sq::Sq;
-use leaf_kernels::centre16;
-use plane::Refusal;
+use plane::{Refusal, centre16};
 
 // The cells of four squares of level 3.
 fn read_four<S: Squares>(book: &mut S, four: [Sq; 4]) -> [u64; 4]

@@ -2,7 +2,7 @@
 //!
 //! - A square is a node of a quadtree, and its parts are the children.
 //! - A book is a hash-consing store of nodes.
-//! - `keep` and `recall` of [`Squares`] are the memo of results.
+//! - `keep` and `recall` of [`Squares`] are the memo of results, and a [`Tally`] counts those that are made.
 #![tactic(auto)]
 
 mod book;
@@ -20,6 +20,7 @@ mod sq;
 mod square_rows;
 mod strips;
 mod subsquares;
+mod tally;
 
 pub use book::{Look, Squares};
 pub use borders::has_empty_border;
@@ -33,3 +34,4 @@ pub use runs::{cells_to_square, runs_to_square};
 pub use sq::{HIGHEST_ROOT_LEVEL, LOWEST_ROOT_LEVEL, Num, Sq, half_side};
 pub use strips::{LiveRuns, ordered_runs_to_square};
 pub use subsquares::{centre, nine};
+pub use tally::Tally;

@@ -1,7 +1,7 @@
 -- What desks at work find out and count.
 use Rattle.std.specs.Prelude.{◌≡◌, ℕ, ◌+◌, ◌*◌, ◌-◌, ◌^◌, ◌≤◌, min, length}
 use Rattle.squares.specs.Book.{Book, Keeps}
-use Rattle.hashlife_step.specs.declared.tally.Tally.{Tally}
+use Rattle.squares.specs.declared.tally.Tally.{Tally}
 use Rattle.node_table.specs.declared.at.At.{At}
 use Rattle.node_table.specs.declared.desk.Desk.{Desk}
 use Rattle.node_table.specs.Desks.{IsSameDesk, Returns, expansions_of}

@@ -1,6 +1,6 @@
 use Rattle.std.proofs.lemmas.Result.{IfOk-weaker}
 use Rattle.std.proofs.Common.{[], get_or}
-use Rattle.leaf_kernels.specs.Rows.{leaves_plane}
+use Rattle.plane.specs.Leaves.{leaves_plane}
 use Rattle.squares.proofs.Kept.{keeps_trans, known_kept}
 use Rattle.squares.proofs.FourKnown.{four_known, numbered_joined}
 use Rattle.hashlife_step.proofs.leaf_squares.join_quarters.Goals as goal

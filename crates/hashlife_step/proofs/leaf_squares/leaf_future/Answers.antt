@@ -1,6 +1,6 @@
 use Rattle.std.proofs.lemmas.Result.{IfOk-weaker}
 use Rattle.std.proofs.Common.{◌≡◌, ◌∙◌, arith, min, subst}
-use Rattle.leaf_kernels.specs.Rows.{leaves_plane}
+use Rattle.plane.specs.Leaves.{leaves_plane}
 use Rattle.plane.specs.Square.{IsSame, bits_plane, future}
 use Rattle.squares.proofs.Kept.{keeps_trans}
 use Rattle.hashlife_step.proofs.LeafSquares.{future_later, kernel_future}

@@ -1,5 +1,5 @@
 use Rattle.std.proofs.Common.{refl}
-use Rattle.leaf_kernels.specs.Rows.{leaves_plane}
+use Rattle.plane.specs.Leaves.{leaves_plane}
 use Rattle.hashlife_step.proofs.LeafSquares.{quarters_shown}
 use Rattle.hashlife_step.proofs.leaf_squares.read_sixteen.Goals as goal
 

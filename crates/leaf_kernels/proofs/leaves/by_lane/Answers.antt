@@ -1,5 +1,5 @@
 use Rattle.std.proofs.Common.{ℕ, List, [], ◌∷◌, get_or, refl}
-use Rattle.leaf_kernels.proofs.Bytes.{each_of_eight, each_of_four}
+use Rattle.plane.proofs.WordBytes.{each_of_eight, each_of_four}
 use Rattle.leaf_kernels.proofs.leaves.by_lane.Goals as goal
 
 -- one lane of each of four vectors

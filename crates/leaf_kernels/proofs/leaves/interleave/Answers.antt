@@ -1,7 +1,7 @@
 use Rattle.std.proofs.Common.{ℕ, ◌≡◌, ◌+◌, ◌*◌, List, [], ◌∷◌, ◌++◌, length, get_or, refl, ap, ◌∙◌}
 use Rattle.std.proofs.lemmas.Simd.{pick_l_left}
 use lib.Lanes.{pick_l}
-use Rattle.leaf_kernels.proofs.Bytes.{each_of_eight}
+use Rattle.plane.proofs.WordBytes.{each_of_eight}
 use Rattle.leaf_kernels.proofs.leaves.interleave.Goals as goal
 
 abbrev order : List ℕ

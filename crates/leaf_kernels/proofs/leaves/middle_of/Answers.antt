@@ -1,5 +1,5 @@
 use Rattle.std.proofs.Common.{ℕ, ◌+◌, List, [], ◌∷◌, get_or, refl, arith}
-use Rattle.leaf_kernels.proofs.Bytes.{each_of_eight}
+use Rattle.plane.proofs.WordBytes.{each_of_eight}
 use Rattle.leaf_kernels.proofs.Squares.{band_of, four_of, middle_of_rows, quarter_leaves}
 use Rattle.leaf_kernels.proofs.leaves.middle_of.Goals as goal
 

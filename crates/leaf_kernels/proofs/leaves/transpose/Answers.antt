@@ -1,6 +1,6 @@
 use Rattle.std.proofs.Common.{◌∙◌, ap, get_or}
 use Rattle.plane.specs.Square.{bit}
-use Rattle.leaf_kernels.proofs.Bytes.{bit-byte}
+use Rattle.plane.proofs.WordBytes.{bit-byte}
 use Rattle.leaf_kernels.proofs.leaves.transpose.Goals as goal
 
 pub returns : goal.returns

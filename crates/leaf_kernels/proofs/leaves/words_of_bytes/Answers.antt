@@ -2,7 +2,7 @@ use Rattle.std.proofs.Common.{◌+◌, ◌*◌, ◌<◌, refl, ap, ◌∙◌, ar
 use Rattle.std.proofs.lemmas.Simd.{get_or_wider, below_from_Fits, Each1-chunk, length-chunk, get_or-chunk}
 use lib.Lanes.{chunk}
 use Rattle.plane.specs.Square.{bit}
-use Rattle.leaf_kernels.proofs.Bytes.{bit-number}
+use Rattle.plane.proofs.WordBytes.{bit-number}
 use Rattle.leaf_kernels.proofs.leaves.words_of_bytes.Goals as goal
 
 pub returns : goal.returns

@@ -1,7 +1,8 @@
 use Rattle.std.proofs.Common.{◌≡◌, ◌^◌, min, sym, add-one, refl, subst, arith}
 use Rattle.plane.specs.Plane.{after}
 use Rattle.plane.specs.Square.{bits_plane}
-use Rattle.leaf_kernels.specs.Rows.{leaves_plane, sixteen_rows_plane}
+use Rattle.plane.specs.Leaves.{leaves_plane}
+use Rattle.leaf_kernels.specs.Rows.{sixteen_rows_plane}
 use Rattle.leaf_kernels.specs.Inside.{AgreeInside}
 use Rattle.leaf_kernels.proofs.Futures.{agree_at_first, agree_next, centre_agrees, generations_of, few_generations}
 use Rattle.leaf_kernels.proofs.result.result16.Goals as goal

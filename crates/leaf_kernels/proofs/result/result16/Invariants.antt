@@ -1,5 +1,6 @@
 use Rattle.plane.specs.Plane.{after}
-use Rattle.leaf_kernels.specs.Rows.{leaves_plane, sixteen_rows_plane}
+use Rattle.plane.specs.Leaves.{leaves_plane}
+use Rattle.leaf_kernels.specs.Rows.{sixteen_rows_plane}
 use Rattle.leaf_kernels.specs.Inside.{AgreeInside}
 use Rattle.leaf_kernels.proofs.result.result16.Given as goal
 

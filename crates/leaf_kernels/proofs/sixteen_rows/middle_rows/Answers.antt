@@ -1,5 +1,5 @@
 use Rattle.std.proofs.Common.{ℕ, ◌+◌, ◌∙◌, List, [], ◌∷◌, get_or, refl, arith}
-use Rattle.leaf_kernels.proofs.Bytes.{each_of_eight}
+use Rattle.plane.proofs.WordBytes.{each_of_eight}
 use Rattle.leaf_kernels.proofs.SixteenRows.{middle_of_sixty_four}
 use Rattle.leaf_kernels.proofs.sixteen_rows.middle_rows.Goals as goal
 

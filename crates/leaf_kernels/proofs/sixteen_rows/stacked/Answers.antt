@@ -1,5 +1,5 @@
 use Rattle.std.proofs.Common.{ℕ, ◌+◌, List, [], ◌∷◌, get_or, refl}
-use Rattle.leaf_kernels.proofs.Bytes.{each_of_eight}
+use Rattle.plane.proofs.WordBytes.{each_of_eight}
 use Rattle.leaf_kernels.proofs.sixteen_rows.stacked.Goals as goal
 
 pub returns-clause-lower : goal.returns-clause-lower

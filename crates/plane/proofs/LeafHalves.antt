@@ -4,8 +4,8 @@ use Rattle.std.specs.Prelude.{◌==◌, ◌&&◌, ◌||◌}
 use Rattle.std.proofs.lemmas.Nat.Bits.{bit_at_mask_above, bit_at_mask_below, bit_at_mask_inside}
 use lib.Lanes.{number_l}
 use Rattle.plane.specs.Square.{bit}
-use Rattle.leaf_kernels.proofs.Bits.{bit-above, bit-and, bit-or, bit-shl, bit-shl_below, bit-shr}
-use Rattle.leaf_kernels.proofs.Bytes.{bit-number, each_of_eight}
+use Rattle.plane.proofs.WordBits.{bit-above, bit-and, bit-or, bit-shl, bit-shl_below, bit-shr}
+use Rattle.plane.proofs.WordBytes.{bit-number, each_of_eight}
 
 or_none : (b : Bool) → (b || false) ≡ b
 or_none true = refl

@@ -8,7 +8,7 @@ use Rattle.std.proofs.lemmas.Nat.{pow-add}
 use Rattle.std.proofs.lemmas.Nat.Bits.{bit_at_cat_low, bit_at_cat_high}
 use lib.Lanes.{Each1, number_l}
 use Rattle.plane.specs.Square.{bit}
-use Rattle.leaf_kernels.proofs.Bits.{bit-shr, bit-low}
+use Rattle.plane.proofs.WordBits.{bit-shr, bit-low}
 
 swapped : (u v : ℕ) → u + 256 * v ≡ v * 2 ^ 8 + u
 swapped u v = omega arith

@@ -1,6 +1,6 @@
 use Rattle.std.proofs.Common.{arith}
-use Rattle.leaf_kernels.proofs.Halves.{rows_of_above, rows_of_below}
-use Rattle.leaf_kernels.proofs.four_leaves.middle_rows.Goals as goal
+use Rattle.plane.proofs.LeafHalves.{rows_of_above, rows_of_below}
+use Rattle.plane.proofs.four_leaves.middle_rows.Goals as goal
 
 pub returns-clause-upper : goal.returns-clause-upper
 returns-clause-upper c = rows_of_above c.args.above c.args.below

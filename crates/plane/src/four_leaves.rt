@@ -1,8 +1,7 @@
 //! Squares of four leaves: their centres.
 ghost use Rattle.std.specs.Prelude.{◌≡◌, ℕ, ◌+◌, ◌<◌};
 ghost use Rattle.plane.specs.Square.{IsSame, bit, bits_plane, centre_of};
-ghost use Rattle.leaf_kernels.specs.Rows.{leaves_plane};
-ghost use Rattle.leaf_kernels.specs.Words.{cell_at};
+ghost use Rattle.plane.specs.Leaves.{cell_at, leaves_plane};
 
 // The cells in the columns 0 to 3 of a leaf.
 const LEFT_COLUMNS: u64 = 0x0f0f0f0f0f0f0f0f;

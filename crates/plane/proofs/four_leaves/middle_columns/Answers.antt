@@ -1,5 +1,5 @@
-use Rattle.leaf_kernels.proofs.Halves.{columns_of_left, columns_of_right}
-use Rattle.leaf_kernels.proofs.four_leaves.middle_columns.Goals as goal
+use Rattle.plane.proofs.LeafHalves.{columns_of_left, columns_of_right}
+use Rattle.plane.proofs.four_leaves.middle_columns.Goals as goal
 
 pub returns-clause-left : goal.returns-clause-left
 returns-clause-left c = columns_of_left c.args.left c.args.right

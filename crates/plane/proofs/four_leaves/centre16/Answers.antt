@@ -1,5 +1,5 @@
-use Rattle.leaf_kernels.proofs.FourLeaves.{centre_of_leaves}
-use Rattle.leaf_kernels.proofs.four_leaves.centre16.Goals as goal
+use Rattle.plane.proofs.FourLeaves.{centre_of_leaves}
+use Rattle.plane.proofs.four_leaves.centre16.Goals as goal
 
 pub returns : goal.returns
 returns c =

@@ -7,10 +7,10 @@ use Rattle.plane.specs.Square.{IsSame, IsSquare, bit, bits_plane, cut, joined, s
 use Rattle.plane.proofs.Borders.{cut_within}
 use Rattle.plane.proofs.Cuts.{centre_joined, joined_within, joined_nw, joined_ne, joined_sw, joined_se}
 use Rattle.plane.proofs.Same.{same_trans, same_refl}
-use Rattle.leaf_kernels.specs.Rows.{leaves_plane}
-use Rattle.leaf_kernels.proofs.Cells.{and_true, less_spans, same_cells}
-use Rattle.leaf_kernels.proofs.Joined.{four_squares}
-use Rattle.leaf_kernels.proofs.Squares.{in_square, leaf_cell, leaf_square}
+use Rattle.plane.specs.Leaves.{leaves_plane}
+use Rattle.plane.proofs.SquareCells.{and_true, less_spans, same_cells}
+use Rattle.plane.proofs.JoinedCells.{four_squares}
+use Rattle.plane.proofs.LeafCells.{in_square, leaf_cell, leaf_square}
 
 -- the inner quarters of four joined squares, joined, are the centre
 inner_quarters : (q : ℕ) (nw ne sw se a b c d : Plane) → IsSquare (q + q) nw → IsSquare (q + q) ne → IsSquare (q + q) sw → IsSquare (q + q) se →

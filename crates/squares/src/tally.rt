@@ -9,7 +9,7 @@ pub struct Tally {
 
 impl Tally {
     /// One more expansion.
-    pub(crate) fn add(&mut self)
+    pub fn add(&mut self)
         ensures { self.new.expansions ≡ min u64.MAX (self.old.expansions + 1) }
     {
         self.expansions = self.expansions.saturating_add(1);
