@@ -1,8 +1,9 @@
-//! Worked examples of the texts of rules and patterns, and what their tests share.
+//! Worked examples of the texts of rules and patterns and of pictures, and what the tests of texts share.
 
 mod banded_rows;
 mod macrocell_nodes;
 mod macrocell_texts;
+mod pictures;
 mod rle_items;
 mod rle_texts;
 mod rules;

@@ -3,7 +3,7 @@
 ghost use Rattle.std.specs.Prelude.{◌≡◌};
 ghost use Rattle.pattern_picture.specs.Scale.{IsShown, IsSize};
 
-use crate::tests::files::length_and_checksum;
+use crate::tests::pictures::files::length_and_checksum;
 use pattern_picture::picture;
 use plane::Bounds;
 use rule_text::Rule;

@@ -3,7 +3,7 @@
 ghost use Rattle.std.specs.Prelude.{◌≡◌, length, IfOk};
 ghost use Rattle.png_writer.specs.Picture.{IsSide};
 
-use crate::tests::files::length_and_checksum;
+use crate::tests::pictures::files::length_and_checksum;
 use plane::{FailAt, Memory, Refusal, Sink};
 use png_writer::{Image, SIDE_LIMIT};
 use std::alloc::{AllocError, Global};
