@@ -27,12 +27,20 @@ output_option = valued_in_short (codes "output") 111
 
 -- `-q`, `--quiet`, which takes no value
 abbrev pub quiet_option : Rule
-quiet_option = record (new_rule (codes "quiet")) { short = Some 113; long = Some (codes "quiet"); action = Some SetTrue }
+quiet_option =
+    record
+    (new_rule (codes "quiet")) {
+      short = Some 113;
+      long = Some
+          (codes "quiet");
+      action = Some SetTrue;
+    }
 
 -- the options in this order, and FILE
 abbrev pub command_rules : List Rule
 command_rules =
-    generation_option ∷ step_option ∷ output_option ∷ rule_option ∷ quiet_option ∷ window_option ∷ node_option ∷ worker_option ∷ file_argument ∷ []
+    generation_option ∷ step_option ∷ output_option ∷ rule_option ∷ quiet_option ∷ window_option
+    ∷ node_option ∷ worker_option ∷ file_argument ∷ []
 
 -- the form of the words
 abbrev pub command_form : App
@@ -65,7 +73,8 @@ IsFormat (Some name) format = (format_named name ≡ format) × IsSome format
 -- the window that is asked for, if one is
 abbrev pub IsAskedWindow : Option Text → Option Rectangle → Type 0
 IsAskedWindow None window = window ≡ None
-IsAskedWindow (Some text) window = (given : Rectangle) × WritesWindow 32 text given × IsWindow given × (window ≡ Some given)
+IsAskedWindow (Some text) window =
+    (given : Rectangle) × WritesWindow 32 text given × IsWindow given × (window ≡ Some given)
 
 -- the words are of the form, and ask for this
 pub record AsksFor (words : List Text) (asked : Asked) : Type 0 where
@@ -80,8 +89,8 @@ pub record AsksFor (words : List Text) (asked : Asked) : Type 0 where
 
 -- ---- faults of the words
 
--- the words have values that are fit: numbers, of which those of nodes and workers are such, a FILE, a NAME that says its
--- format, if there is one, and a window of four numbers, if there is one
+-- the words have values that are fit: numbers, of which those of nodes and workers are such, a
+-- FILE, a NAME that says its format, if there is one, and a window of four numbers, if there is one
 pub record IsFit (words : List Text) : Type 0 where
   pub run : AreFitNumbers command_form words
   pub step : (number : ℕ) × IsNumber (value_for (codes "stepsize") words) number
@@ -91,7 +100,8 @@ pub record IsFit (words : List Text) : Type 0 where
 
 -- this value is not fit
 abbrev pub IsMisfit : List Text → Misfit → Type 0
-IsMisfit words (Ending endings) = (format : Option Format) → IsFormat (text_for (codes "output") words) format → ⊥
+IsMisfit words (Ending endings) =
+    (format : Option Format) → IsFormat (text_for (codes "output") words) format → ⊥
 IsMisfit words Window = IsFitWindow 32 (text_for (codes "window") words) → ⊥
 IsMisfit words Nodes = AreUnfitNodes command_form words
 IsMisfit words Other = IsFit words → ⊥
@@ -99,8 +109,14 @@ IsMisfit words Other = IsFit words → ⊥
 -- the text that is given has the numbers of no window
 abbrev pub IsRefusedWindow : Option Text → Type 0
 IsRefusedWindow None = ⊥
-IsRefusedWindow (Some text) = (given : Rectangle) × WritesWindow 32 text given × (IsWindow given → ⊥)
+IsRefusedWindow (Some text) =
+    (given : Rectangle) × WritesWindow 32 text given × (IsWindow given → ⊥)
 
 -- the form of the words, and the values that are fit
 abbrev pub command_line : CommandLine
-command_line = record { form = command_form; IsFit = IsFit; IsMisfit = IsMisfit; IsRefusedWindow = IsRefusedWindow }
+command_line = record {
+  form = command_form;
+  IsFit = IsFit;
+  IsMisfit = IsMisfit;
+  IsRefusedWindow = IsRefusedWindow;
+}

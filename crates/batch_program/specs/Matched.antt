@@ -8,5 +8,7 @@ use Rattle.batch_program.specs.declared.request.Asked.{Asked}
 
 -- the words ask for a run by these options, of the file and into the output that they name
 abbrev pub AskForOptions : List Text → Options → Type 0
-AskForOptions words options = (asked : Asked) → text_for (codes "file") words ≡ Some (string_bytes asked.file) →
-    text_for (codes "output") words ≡ option_map string_bytes asked.output → AsksFor words (record asked { options = options })
+AskForOptions words options =
+    (asked : Asked) → text_for (codes "file") words ≡ Some (string_bytes asked.file) →
+    text_for (codes "output") words ≡ option_map string_bytes asked.output →
+    AsksFor words (record asked { options = options })

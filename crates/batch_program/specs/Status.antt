@@ -16,27 +16,36 @@ use Rattle.batch_program.specs.declared.request.Asked.{Asked}
 abbrev pub HasRun : Options → Option (List ℕ) → Option (List ℕ) → Type 0
 HasRun options before after =
     (bytes : List ℕ) × (start : Start) × (answer : Summary) × (said : List ℕ) × (written : List ℕ)
-    × Judges bytes options (Ok start) × Finishes start options answer said written × Appends before after said
+    × Judges bytes options (Ok start) × Finishes start options answer said written
+    × Appends before after said
 
 -- standard output failed in a run of some accepted bytes, and may have taken a part of a line
 abbrev pub HasFailedToReport : Options → Type 0 → Type 0
 HasFailedToReport options failed = ((bytes : List ℕ) × IsAcceptedRun bytes options) × failed
 
--- the file failed, which is asked for, in a run of some accepted bytes, and between the two the whole report went out
+-- the file failed, which is asked for, in a run of some accepted bytes, and between the two the
+-- whole report went out
 abbrev pub HasFailedToSave : Options → Option (List ℕ) → Option (List ℕ) → Type 0
 HasFailedToSave options before after =
-    ((bytes : List ℕ) × (said : List ℕ) × CanBeWritten bytes options said × Appends before after said) × (options.format ≡ None → ⊥)
+    ((bytes : List ℕ) × (said : List ℕ) × CanBeWritten bytes options said
+    × Appends before after said)
+    × (options.format ≡ None → ⊥)
 
--- some bytes could not be read or were refused. Between the two what is said of them went out: nothing, or a report, or the
--- first lines of one. Or a device failed once the bytes were accepted
-abbrev pub HasStoppedRun : Options → Fault → Option (List ℕ) → Option (List ℕ) → Type 0 → Type 0 → Type 0
+-- some bytes could not be read or were refused. Between the two what is said of them went out:
+-- nothing, or a report, or the first lines of one. Or a device failed once the bytes were accepted
+abbrev pub HasStoppedRun : Options → Fault → Option (List ℕ) → Option (List ℕ) → Type 0 → Type 0 →
+    Type 0
 HasStoppedRun options fault before after unchanged failed =
     ((fault ≡ placeless ReadFailed) × unchanged)
     ⊎ ((bytes : List ℕ) × Judges bytes options (Err fault) × unchanged)
-    ⊎ ((fault ≡ placeless BoxTooLarge) × ((bytes : List ℕ) × (said : List ℕ) × IsTooLarge bytes options said × Appends before after said))
+    ⊎ ((fault ≡ placeless BoxTooLarge)
+    × ((bytes : List ℕ) × (said : List ℕ) × IsTooLarge bytes options said
+    × Appends before after said))
     ⊎ ((fault ≡ placeless NoMemory) × unchanged)
-    ⊎ ((bytes : List ℕ) × (said : List ℕ) × IsStopped bytes options fault said × Appends before after said)
-    ⊎ ((fault ≡ placeless WriteFailed) × (HasFailedToReport options failed ⊎ HasFailedToSave options before after))
+    ⊎ ((bytes : List ℕ) × (said : List ℕ) × IsStopped bytes options fault said
+    × Appends before after said)
+    ⊎ ((fault ≡ placeless WriteFailed)
+    × (HasFailedToReport options failed ⊎ HasFailedToSave options before after))
 
 -- what the program does: it runs what words ask for
 abbrev pub behaviour : Behaviour Asked

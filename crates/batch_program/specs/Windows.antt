@@ -13,7 +13,8 @@ AreNarrow (Some text) numbers =
 -- the window has these numbers, if there are any
 abbrev pub IsWindowOf : Option WindowNumbers → Option Rectangle → Type 0
 IsWindowOf None window = window ≡ None
-IsWindowOf (Some numbers) window = IsWindow (rectangle_of numbers) × (window ≡ Some (rectangle_of numbers))
+IsWindowOf (Some numbers) window =
+    IsWindow (rectangle_of numbers) × (window ≡ Some (rectangle_of numbers))
 
 -- there are numbers, and no window has them
 abbrev pub HasNoWindow : Option WindowNumbers → Type 0

@@ -29,13 +29,16 @@ pub record LeavesRange (meaning : Meaning) (generations : ℕ) : Type 0 where
   pub listing : IsListing cells meaning.live
   pub outside : StaysWithin (bounds_of cells) meaning.generation generations → ⊥
 
--- the run is accepted, by this rule and of a file that means this, and the plane has the cells of the file
-pub record IsAccepted (bytes : List ℕ) (options : Options) (meaning : Meaning) (rule : CountRule) (here : Plane) : Type 0 where
+-- the run is accepted, by this rule and of a file that means this, and the plane has the cells of
+-- the file
+pub record IsAccepted (bytes : List ℕ) (options : Options) (meaning : Meaning) (rule : CountRule)
+    (here : Plane) : Type 0 where
   pub cells : List Cell
   pub listing : IsListing cells here
   pub same : IsSame here meaning.live
   pub lawful : IsRule rule
-  pub accepted : Judges bytes options (Ok (record { meaning = meaning; rule = rule; cells = cells }))
+  pub accepted : Judges bytes options
+      (Ok (record { meaning = meaning; rule = rule; cells = cells }))
 
 -- the run is refused before its first line: by its judgement, or since there was no room
 unfoldable pub IsRefused : List ℕ → Options → Fault → Type 0

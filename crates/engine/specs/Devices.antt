@@ -13,10 +13,11 @@ IsWholeInput remaining bytes = IfSome remaining (λ left. bytes ≡ left)
 
 -- memory ran out, and the source did not fail between the two counts; or it failed
 abbrev pub IsReadRefusal : ℕ → ℕ → Refusal → Type 0
-IsReadRefusal before after refusal = ((refusal ≡ NoMemory) × (after ≡ before)) ⊎ ((refusal ≡ ReadFailed) × HasFailed before after)
+IsReadRefusal before after refusal =
+    ((refusal ≡ NoMemory) × (after ≡ before)) ⊎ ((refusal ≡ ReadFailed) × HasFailed before after)
 
--- a source before and after a call, what it had left and what it had given until then, where that is known, whether it had
--- ended, and how often it had failed
+-- a source before and after a call, what it had left and what it had given until then, where that
+-- is known, whether it had ended, and how often it had failed
 pub record SourceChange (S : Type 0) : Type 1 where
   pub old : S
   pub new : S
@@ -26,9 +27,17 @@ pub record SourceChange (S : Type 0) : Type 1 where
   pub failure_count : S → ℕ
 
 -- that of a source which was so before and is so after
-abbrev pub reading_of : {S : Type 0} → (S → Option (List ℕ)) → (S → Option (List ℕ)) → (S → Type 0) → (S → ℕ) → S → S → SourceChange S
+abbrev pub reading_of : {S : Type 0} → (S → Option (List ℕ)) → (S → Option (List ℕ)) →
+    (S → Type 0) → (S → ℕ) → S → S → SourceChange S
 reading_of remaining given has_ended failure_count old new =
-    record { old = old; new = new; remaining = remaining; given = given; has_ended = has_ended; failure_count = failure_count }
+    record {
+      old = old;
+      new = new;
+      remaining = remaining;
+      given = given;
+      has_ended = has_ended;
+      failure_count = failure_count;
+    }
 
 -- these are all bytes that the source gave, up to its end, and it did not fail
 pub record GivesAll {S : Type 0} (source : SourceChange S) (bytes : List ℕ) : Type 0 where
@@ -39,11 +48,14 @@ pub record GivesAll {S : Type 0} (source : SourceChange S) (bytes : List ℕ) : 
 
 -- the source could not be read to its end
 abbrev pub IsUnread : {S : Type 0} → SourceChange S → Refusal → Type 0
-IsUnread source refusal = IsReadRefusal (source.failure_count source.old) (source.failure_count source.new) refusal
+IsUnread source refusal =
+    IsReadRefusal (source.failure_count source.old) (source.failure_count source.new) refusal
 
--- all bytes of the source were read, and this was done with them; or they could not be read, which is the answer, and all else
--- is unchanged
-abbrev pub IsDoneWithAll : {S T : Type 0} → SourceChange S → (List ℕ → Type 0) → Result T Fault → Type 0 → Type 0
+-- all bytes of the source were read, and this was done with them; or they could not be read, which
+-- is the answer, and all else is unchanged
+abbrev pub IsDoneWithAll : {S T : Type 0} → SourceChange S → (List ℕ → Type 0) → Result T Fault →
+    Type 0 → Type 0
 IsDoneWithAll source IsDone result unchanged =
     ((bytes : List ℕ) × GivesAll source bytes × IsDone bytes)
-    ⊎ ((refusal : Refusal) × IsUnread source refusal × (result ≡ Err (placeless refusal)) × unchanged)
+    ⊎ ((refusal : Refusal) × IsUnread source refusal × (result ≡ Err (placeless refusal))
+    × unchanged)

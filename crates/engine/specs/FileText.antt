@@ -24,7 +24,8 @@ HasText (Some Rle) cells = FitsRle (bounds_of cells)
 HasText (Some Macrocell) cells = ⊤
 
 -- the macrocell text of the cells: that of the smallest square round (0,0) that holds them
-pub record IsMcText (comments : List (List ℕ)) (rule : CountRule) (generation : ℕ) (cells : List Cell) (text : List ℕ) : Type 0 where
+pub record IsMcText (comments : List (List ℕ)) (rule : CountRule) (generation : ℕ)
+    (cells : List Cell) (text : List ℕ) : Type 0 where
   pub level : ℕ
   pub smallest : IsSmallestLevel level (plane_of cells)
   pub is : text ≡ mc_text comments rule generation level (plane_of cells)
@@ -32,20 +33,30 @@ pub record IsMcText (comments : List (List ℕ)) (rule : CountRule) (generation 
 -- the text of the cells in the format, and none where no format is asked for
 abbrev pub IsFileText : Option Format → List (List ℕ) → CountRule → ℕ → List Cell → List ℕ → Type 0
 IsFileText None comments rule generation cells text = text ≡ []
-IsFileText (Some Rle) comments rule generation cells text = text ≡ rle_text comments rule generation cells
-IsFileText (Some Macrocell) comments rule generation cells text = IsMcText comments rule generation cells text
+IsFileText (Some Rle) comments rule generation cells text =
+    text ≡ rle_text comments rule generation cells
+IsFileText (Some Macrocell) comments rule generation cells text =
+    IsMcText comments rule generation cells text
 
--- the text of the plane's cells in the format is written between the two, and nothing where no format is asked for
-abbrev pub Writes : Option Format → Plane → List (List ℕ) → CountRule → ℕ → Option (List ℕ) → Option (List ℕ) → Type 0
+-- the text of the plane's cells in the format is written between the two, and nothing where no
+-- format is asked for
+abbrev pub Writes : Option Format → Plane → List (List ℕ) → CountRule → ℕ → Option (List ℕ) →
+    Option (List ℕ) → Type 0
 Writes None plane comments rule generation before after = Appends before after []
-Writes (Some Rle) plane comments rule generation before after = WritesRle plane comments rule generation before after
-Writes (Some Macrocell) plane comments rule generation before after = WritesMc plane comments rule generation before after
+Writes (Some Rle) plane comments rule generation before after =
+    WritesRle plane comments rule generation before after
+Writes (Some Macrocell) plane comments rule generation before after =
+    WritesMc plane comments rule generation before after
 
--- what was written between the two is read as the pattern, in the format, if its reader can read the pattern
-abbrev pub IsReadBack : Option Format → Plane → List (List ℕ) → CountRule → ℕ → Option (List ℕ) → Option (List ℕ) → Type 0
+-- what was written between the two is read as the pattern, in the format, if its reader can read
+-- the pattern
+abbrev pub IsReadBack : Option Format → Plane → List (List ℕ) → CountRule → ℕ → Option (List ℕ) →
+    Option (List ℕ) → Type 0
 IsReadBack None plane comments rule generation before after = ⊤
-IsReadBack (Some Rle) plane comments rule generation before after = IfTaken before after (IsReadBackFromRle plane comments rule generation)
-IsReadBack (Some Macrocell) plane comments rule generation before after = IfTaken before after (IsReadBackFromMc plane comments rule generation)
+IsReadBack (Some Rle) plane comments rule generation before after =
+    IfTaken before after (IsReadBackFromRle plane comments rule generation)
+IsReadBack (Some Macrocell) plane comments rule generation before after =
+    IfTaken before after (IsReadBackFromMc plane comments rule generation)
 
 -- the format can hold the plane's cells
 abbrev pub Fits : Option Format → Plane → Type 0

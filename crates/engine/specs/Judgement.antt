@@ -38,7 +38,8 @@ pub record IsStart (bytes : List ℕ) (options : Options) (start : Start) : Type
 
 -- the run stays within the range and the last generation
 abbrev pub StaysInRange : Options → Start → Type 0
-StaysInRange options start = StaysWithin (bounds_of start.cells) start.meaning.generation options.gens
+StaysInRange options start =
+    StaysWithin (bounds_of start.cells) start.meaning.generation options.gens
 
 -- the text is accepted, and its rule is refused, at the place of the header
 pub record RefusesRule (bytes : List ℕ) (options : Options) (fault : Fault) : Type 0 where
@@ -58,4 +59,5 @@ pub record RefusesRange (bytes : List ℕ) (options : Options) (fault : Fault) :
 -- the judgements of a run, in their order: its text, then the rule, then the range
 abbrev pub Judges : List ℕ → Options → Result Start Fault → Type 0
 Judges bytes options (Ok start) = IsStart bytes options start × StaysInRange options start
-Judges bytes options (Err fault) = (judged bytes ≡ Err fault) ⊎ RefusesRule bytes options fault ⊎ RefusesRange bytes options fault
+Judges bytes options (Err fault) =
+    (judged bytes ≡ Err fault) ⊎ RefusesRule bytes options fault ⊎ RefusesRange bytes options fault

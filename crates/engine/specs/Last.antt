@@ -8,9 +8,10 @@ use Rattle.engine.specs.Run.{last_generation}
 use Rattle.engine.specs.declared.options.Options.{Options}
 use Rattle.engine.specs.declared.running.Summary.{Summary}
 
--- a run of these bytes is accepted; the plane has the cells of its last generation, and the answer is its number, how many
--- cells are live in it, and the smallest box that holds them
-pub record EndsWith (bytes : List ℕ) (options : Options) (plane : Plane) (answer : Summary) : Type 0 where
+-- a run of these bytes is accepted; the plane has the cells of its last generation, and the answer
+-- is its number, how many cells are live in it, and the smallest box that holds them
+pub record EndsWith (bytes : List ℕ) (options : Options) (plane : Plane)
+    (answer : Summary) : Type 0 where
   pub start : Start
   pub accepted : Judges bytes options (Ok start)
   pub cells : IsSame plane (after start.rule start.meaning.live options.gens)

@@ -9,12 +9,15 @@ use Rattle.engine.specs.declared.options.Options.{Options}
 
 -- the line of one generation: its number and how many cells are live
 abbrev pub report_line : ℕ → ℕ → List ℕ
-report_line generation population = decimal generation ++ codes ": " ++ decimal population ++ codes "\n"
+report_line generation population =
+    decimal generation ++ codes ": " ++ decimal population ++ codes "\n"
 
--- a run has a line after so many generations: after none and after all of them, and after each multiple of the step
+-- a run has a line after so many generations: after none and after all of them, and after each
+-- multiple of the step
 abbrev pub is_shown : Options → ℕ → Bool
 is_shown options done =
-    not options.quiet && (done == 0 || done == options.gens || (nat_lt 0 options.step && (done % options.step) == 0))
+    not options.quiet
+    && (done == 0 || done == options.gens || (nat_lt 0 options.step && (done % options.step) == 0))
 
 -- all such numbers up to one of them, rising
 abbrev pub shown_until : Options → ℕ → List ℕ
@@ -27,14 +30,17 @@ shown options = shown_until options options.gens
 -- the line of the cells after so many generations from the start
 abbrev pub IsLineAfter : CountRule → Plane → ℕ → ℕ → List ℕ → Type 0
 IsLineAfter rule plane start done line =
-    (cells : List Cell) × IsListing cells (after rule plane done) × (line ≡ report_line (start + done) (length cells))
+    (cells : List Cell) × IsListing cells (after rule plane done)
+    × (line ≡ report_line (start + done) (length cells))
 
 -- the text is the lines after each of these numbers of generations
 abbrev pub AreLinesAfter : CountRule → Plane → ℕ → List ℕ → List ℕ → Type 0
 AreLinesAfter rule plane start numbers text =
-    (lines : List (List ℕ)) × AllZip (IsLineAfter rule plane start) numbers lines × (text ≡ concat lines)
+    (lines : List (List ℕ)) × AllZip (IsLineAfter rule plane start) numbers lines
+    × (text ≡ concat lines)
 
 -- what is said of a generation with these cells: its line, or nothing where the report is left out
 abbrev pub IsSaid : Bool → ℕ → Plane → List ℕ → Type 0
 IsSaid true generation plane said = said ≡ []
-IsSaid false generation plane said = (cells : List Cell) × IsListing cells plane × (said ≡ report_line generation (length cells))
+IsSaid false generation plane said =
+    (cells : List Cell) × IsListing cells plane × (said ≡ report_line generation (length cells))

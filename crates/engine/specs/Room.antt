@@ -7,8 +7,9 @@ use Rattle.universe.specs.Cells.{exponent_of, limit_of, live_cells, rule_of}
 use Rattle.universe.specs.Runs.{IsExhausted}
 use Rattle.universe.specs.declared.universe.Universe.{Universe}
 
--- the cells before one of so many generations stand at a table for single generations; it has so many pair slots, was opened
--- with what these cells need and nothing else, and is full, or so many slots have no room for what they need
+-- the cells before one of so many generations stand at a table for single generations; it has so
+-- many pair slots, was opened with what these cells need and nothing else, and is full, or so many
+-- slots have no room for what they need
 pub record IsStuckWithin (by : CountRule) (plane : Plane) (pairs generations : ℕ) : Type 0 where
   pub done : ℕ
   pub before : done < generations

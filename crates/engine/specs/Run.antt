@@ -28,8 +28,10 @@ last_generation start options = start.meaning.generation + options.gens
 abbrev pub IsLast : Start → Options → List Cell → Type 0
 IsLast start options cells = IsListing cells (after start.rule start.meaning.live options.gens)
 
--- the text is the whole report of a file that is run by the rule: its lines, and then the picture of the last cells
-pub record IsReport (meaning : Meaning) (rule : CountRule) (options : Options) (text : List ℕ) : Type 0 where
+-- the text is the whole report of a file that is run by the rule: its lines, and then the picture
+-- of the last cells
+pub record IsReport (meaning : Meaning) (rule : CountRule) (options : Options)
+    (text : List ℕ) : Type 0 where
   pub lines : List ℕ
   pub shows : AreLinesAfter rule meaning.live meaning.generation (shown options) lines
   pub is : text ≡ lines ++ picture_of options.window (after rule meaning.live options.gens)
@@ -37,15 +39,18 @@ pub record IsReport (meaning : Meaning) (rule : CountRule) (options : Options) (
 -- the text is the first lines of the report, or none
 abbrev pub IsBeginning : Meaning → CountRule → Options → List ℕ → Type 0
 IsBeginning meaning rule options text =
-    (count : ℕ) × AreLinesAfter rule meaning.live meaning.generation (take count (shown options)) text
+    (count : ℕ)
+    × AreLinesAfter rule meaning.live meaning.generation (take count (shown options)) text
 
 -- an accepted run says this in its report and writes this to its file, and gives this answer
-pub record Finishes (start : Start) (options : Options) (answer : Summary) (said written : List ℕ) : Type 0 where
+pub record Finishes (start : Start) (options : Options) (answer : Summary)
+    (said written : List ℕ) : Type 0 where
   pub cells : List Cell
   pub last : IsLast start options cells
   pub report : IsReport start.meaning start.rule options said
   pub fits : HasText options.format cells
-  pub file : IsFileText options.format start.meaning.comments start.rule (last_generation start options) cells written
+  pub file : IsFileText options.format start.meaning.comments start.rule
+      (last_generation start options) cells written
   pub summary : answer ≡ record {
     generation = last_generation start options;
     population = length cells;
@@ -69,8 +74,8 @@ IsAcceptedRun bytes options = (start : Start) × Judges bytes options (Ok start)
 abbrev pub IsSilentOrAccepted : List ℕ → Options → List ℕ → Type 0
 IsSilentOrAccepted bytes options said = (said ≡ []) ⊎ IsAcceptedRun bytes options
 
--- the run's text and rule are accepted, and its range where it has said anything; and this is the whole of its report, or
--- its first lines, or none
+-- the run's text and rule are accepted, and its range where it has said anything; and this is the
+-- whole of its report, or its first lines, or none
 pub record HasBegun (bytes : List ℕ) (options : Options) (said : List ℕ) : Type 0 where
   pub meaning : Meaning
   pub rule : CountRule
@@ -79,13 +84,15 @@ pub record HasBegun (bytes : List ℕ) (options : Options) (said : List ℕ) : T
   pub accepted : IsSilentOrAccepted bytes options said
   pub report : IsBeginning meaning rule options said ⊎ IsReport meaning rule options said
 
--- a run is about to read a macrocell file, which takes memory, and has said nothing; or it has begun
+-- a run is about to read a macrocell file, which takes memory, and has said nothing; or it has
+-- begun
 abbrev pub IsBegun : List ℕ → Options → List ℕ → Type 0
-IsBegun bytes options said = ((is_macrocell bytes ≡ true) × (said ≡ [])) ⊎ HasBegun bytes options said
+IsBegun bytes options said =
+    ((is_macrocell bytes ≡ true) × (said ≡ [])) ⊎ HasBegun bytes options said
 
--- a run has said nothing, before its first line or since it is quiet, and may stand at any generation. Its text and its rule are
--- accepted. A table of as many pair slots as the options allow, opened under this rule without a square, is full, whatever
--- filled it
+-- a run has said nothing, before its first line or since it is quiet, and may stand at any
+-- generation. Its text and its rule are accepted. A table of as many pair slots as the options
+-- allow, opened under this rule without a square, is full, whatever filled it
 pub record IsFullWithNothingSaid (bytes : List ℕ) (options : Options) (said : List ℕ) : Type 0 where
   pub meaning : Meaning
   pub rule : CountRule
@@ -94,31 +101,37 @@ pub record IsFullWithNothingSaid (bytes : List ℕ) (options : Options) (said : 
   pub silent : said ≡ []
   pub full : HasFullTable rule options.pairs
 
--- a run is accepted, and these are the first lines of its report, or none; and the tables that the options allow are too small
--- for a generation before its last
+-- a run is accepted, and these are the first lines of its report, or none; and the tables that the
+-- options allow are too small for a generation before its last
 pub record IsFullOnTheWay (bytes : List ℕ) (options : Options) (said : List ℕ) : Type 0 where
   pub start : Start
   pub accepted : Judges bytes options (Ok start)
   pub report : IsBeginning start.meaning start.rule options said
   pub stuck : IsStuckWithin start.rule start.meaning.live options.pairs options.gens
 
--- tables of as many pair slots as the options allow are full and nothing is said, or they are full on the way
+-- tables of as many pair slots as the options allow are full and nothing is said, or they are full
+-- on the way
 abbrev pub IsOutOfTables : List ℕ → Options → List ℕ → Type 0
-IsOutOfTables bytes options said = IsFullWithNothingSaid bytes options said ⊎ IsFullOnTheWay bytes options said
+IsOutOfTables bytes options said =
+    IsFullWithNothingSaid bytes options said ⊎ IsFullOnTheWay bytes options said
 
 -- memory ran out, or the tables of squares are full
 abbrev pub IsOutOfRoom : Refusal → Type 0
 IsOutOfRoom refusal = (refusal ≡ NoMemory) ⊎ (refusal ≡ NodesFull)
 
--- a run that has said this was stopped: memory ran out, or the tables that the options allow were full
+-- a run that has said this was stopped: memory ran out, or the tables that the options allow were
+-- full
 abbrev pub IsStopped : List ℕ → Options → Fault → List ℕ → Type 0
 IsStopped bytes options fault said =
-    ((fault ≡ placeless NoMemory) × IsBegun bytes options said) ⊎ ((fault ≡ placeless NodesFull) × IsOutOfTables bytes options said)
+    ((fault ≡ placeless NoMemory) × IsBegun bytes options said)
+    ⊎ ((fault ≡ placeless NodesFull) × IsOutOfTables bytes options said)
 
 -- a run of these bytes ended well: its report and its file took what it says and writes
-abbrev pub HasFinished : {W V : Type 0} → List ℕ → Options → SinkChange W → SinkChange V → Summary → Type 0
+abbrev pub HasFinished : {W V : Type 0} → List ℕ → Options → SinkChange W → SinkChange V → Summary →
+    Type 0
 HasFinished bytes options report file answer =
-    (start : Start) × (said : List ℕ) × (written : List ℕ) × Judges bytes options (Ok start) × Finishes start options answer said written
+    (start : Start) × (said : List ℕ) × (written : List ℕ) × Judges bytes options (Ok start)
+    × Finishes start options answer said written
     × Takes report said × Takes file written
 
 -- the run is accepted, this is the whole of its report, and the format can hold its last cells
@@ -130,29 +143,38 @@ pub record CanBeWritten (bytes : List ℕ) (options : Options) (said : List ℕ)
   pub report : IsReport start.meaning start.rule options said
   pub fits : HasText options.format cells
 
--- a sink of an accepted run failed. If it was that of the report, the file is unchanged. If it was that of the file, the report
--- took all that it says, and the format can hold the last cells
-abbrev pub HasFailedToWrite : {W V : Type 0} → List ℕ → Options → SinkChange W → SinkChange V → Type 0
+-- a sink of an accepted run failed. If it was that of the report, the file is unchanged. If it was
+-- that of the file, the report took all that it says, and the format can hold the last cells
+abbrev pub HasFailedToWrite : {W V : Type 0} → List ℕ → Options → SinkChange W → SinkChange V →
+    Type 0
 HasFailedToWrite bytes options report file =
     (Fails report × (file.new ≡ file.old) × IsAcceptedRun bytes options)
     ⊎ (Fails file × ((said : List ℕ) × CanBeWritten bytes options said × Takes report said))
 
--- a run of these bytes was refused, in one of four ways. The bytes are not accepted, and nothing is written. The format can't
--- hold the last cells, and the report is whole. Memory ran out or the tables are full. A sink failed
-abbrev pub HasEndedEarly : {W V : Type 0} → List ℕ → Options → SinkChange W → SinkChange V → Fault → Type 0
+-- a run of these bytes was refused, in one of four ways. The bytes are not accepted, and nothing is
+-- written. The format can't hold the last cells, and the report is whole. Memory ran out or the
+-- tables are full. A sink failed
+abbrev pub HasEndedEarly : {W V : Type 0} → List ℕ → Options → SinkChange W → SinkChange V → Fault →
+    Type 0
 HasEndedEarly bytes options report file fault =
     (Judges bytes options (Err fault) × (report.new ≡ report.old) × (file.new ≡ file.old))
-    ⊎ ((fault ≡ placeless BoxTooLarge) × (file.new ≡ file.old) × ((said : List ℕ) × IsTooLarge bytes options said × Takes report said))
-    ⊎ ((file.new ≡ file.old) × ((said : List ℕ) × IsStopped bytes options fault said × Takes report said))
+    ⊎ ((fault ≡ placeless BoxTooLarge) × (file.new ≡ file.old)
+    × ((said : List ℕ) × IsTooLarge bytes options said × Takes report said))
+    ⊎ ((file.new ≡ file.old)
+    × ((said : List ℕ) × IsStopped bytes options fault said × Takes report said))
     ⊎ ((fault ≡ placeless WriteFailed) × HasFailedToWrite bytes options report file)
 
--- what a run of these bytes by these options does to its report and to its file, and what it answers
-pub record IsRun {W V : Type 0} (bytes : List ℕ) (options : Options) (report : SinkChange W) (file : SinkChange V) (result : Result Summary Fault) : Type 0 where
-  -- it writes the defined report and file of the cells that the rule, applied that many times, makes live
+-- what a run of these bytes by these options does to its report and to its file, and what it
+-- answers
+pub record IsRun {W V : Type 0} (bytes : List ℕ) (options : Options) (report : SinkChange W)
+    (file : SinkChange V) (result : Result Summary Fault) : Type 0 where
+  -- it writes the defined report and file of the cells that the rule, applied that many times,
+  -- makes live
   pub finished : IfOk result (HasFinished bytes options report file)
   pub no_format : options.format ≡ None → file.new ≡ file.old
   -- no sink failed, or the answer is that one did
   pub unfailed : (result ≡ Err (placeless WriteFailed)) ⊎ (IsUnfailed file × IsUnfailed report)
-  -- what is not accepted is refused by its name and at its place, and nothing is written. What has no text in the format is
-  -- refused after the whole report. Else only memory, the tables or a sink end a run early
+  -- what is not accepted is refused by its name and at its place, and nothing is written. What has
+  -- no text in the format is refused after the whole report. Else only memory, the tables or a sink
+  -- end a run early
   pub refused : IfErr result (HasEndedEarly bytes options report file)

@@ -18,4 +18,9 @@ without_output run = record {
 
 -- which run it is, whatever is said and written of it
 abbrev pub run_of : Options → RunOptions
-run_of options = record { gens = options.gens; rule = options.rule; pairs = options.pairs; workers = options.workers }
+run_of options = record {
+  gens = options.gens;
+  rule = options.rule;
+  pairs = options.pairs;
+  workers = options.workers;
+}

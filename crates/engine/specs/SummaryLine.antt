@@ -13,4 +13,6 @@ bounds_text (Some box) =
 
 -- the line of a generation: its number, how many cells are live, and from where to where they go
 abbrev pub summary_line : Summary → List ℕ
-summary_line summary = decimal summary.generation ++ codes ": " ++ decimal summary.population ++ codes " cells" ++ bounds_text summary.bounds ++ codes "\n"
+summary_line summary =
+    decimal summary.generation ++ codes ": " ++ decimal summary.population ++ codes " cells"
+    ++ bounds_text summary.bounds ++ codes "\n"

@@ -5,8 +5,10 @@ use Rattle.squares.specs.Book.{Book, HasResult, IsFuture, MayRefuse}
 use Rattle.squares.specs.declared.sq.Sq.{Sq}
 use Rattle.hashlife_step.specs.Tallies.{MakesResults}
 
--- from the old book to the new one and from one count of expansions to another, this came of a call for the future of a square
-pub record FindsFuture (old new : Book) (sq : Sq) (before after : ℕ) (made : Result Sq Refusal) : Type 0 where
+-- from the old book to the new one and from one count of expansions to another, this came of a call
+-- for the future of a square
+pub record FindsFuture (old new : Book) (sq : Sq) (before after : ℕ)
+    (made : Result Sq Refusal) : Type 0 where
   -- it is the future
   pub ok : IfOk made (IsFuture new sq)
   -- and the book knows it as the result

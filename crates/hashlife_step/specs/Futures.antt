@@ -7,7 +7,9 @@ use Rattle.squares.specs.declared.sq.Sq.{Sq}
 
 -- each of the second squares is the future of that of the first
 pub record AreFutures (book : Book) (level : ℕ) (squares futures : List Sq) : Type 0 where
-  pub each : (k : ℕ) → k < length squares → Shows book (level - 1) (future book.rule book.exponent level (book.cells (nth squares k))) (nth futures k)
+  pub each : (k : ℕ) → k < length squares →
+      Shows book (level - 1) (future book.rule book.exponent level (book.cells (nth squares k)))
+      (nth futures k)
 
 -- of nine squares in three rows, the centres of the four that neighbours make
 abbrev pub AreCentres : Book → ℕ → List Sq → List Sq → Type 0
@@ -15,5 +17,6 @@ AreCentres book level = AreMade (centre_of (level + 1)) book level level
 
 -- their futures where there is time for them, else their centres
 pub record AreFinished (book : Book) (level : ℕ) (nine four : List Sq) : Type 0 where
-  pub futures : level ≤ book.exponent → AreMade (future book.rule book.exponent (level + 1)) book level level nine four
+  pub futures : level ≤ book.exponent →
+      AreMade (future book.rule book.exponent (level + 1)) book level level nine four
   pub four_centres : book.exponent < level → AreCentres book level nine four

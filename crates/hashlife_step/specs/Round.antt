@@ -11,6 +11,7 @@ pub record ShowsRound (book : Book) (plane : Plane) (sq : Sq) : Type 0 where
   pub known : IsKnown book sq.level sq
   pub cells : IsSame (square_plane book sq) plane
 
--- a square with the cells that a root's become in 2^exponent generations, by the rule and the exponent of the older book
+-- a square with the cells that a root's become in 2^exponent generations, by the rule and the
+-- exponent of the older book
 abbrev pub IsStepOf : Book → Book → Sq → Sq → Type 0
 IsStepOf old new root = IsRound new (after old.rule (square_plane old root) (2 ^ old.exponent))

@@ -17,4 +17,6 @@ Knows pushed views v = (v.pushed ≡ pushed) × (v.alone ≡ true → length vie
 
 -- what the deque holds is an end of what was pushed
 abbrev pub HoldsEnd : List ℕ → List Seen → Type 0
-HoldsEnd items views = (front : List ℕ) × ((port : ℕ) (v : Seen) → get_elem? views port ≡ some v → Knows (front ++ items) views v)
+HoldsEnd items views =
+    (front : List ℕ)
+    × ((port : ℕ) (v : Seen) → get_elem? views port ≡ some v → Knows (front ++ items) views v)

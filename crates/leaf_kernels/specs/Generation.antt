@@ -14,4 +14,6 @@ neighbours_at neighbourhood above here below x lane =
 abbrev pub AreNext : CountRule → List ℕ → List ℕ → List ℕ → List ℕ → Type 0
 AreNext rule above here below next =
     (x lane : ℤ) → in_rows x lane ≡ true →
-    four_rows_plane next x lane ≡ lives rule (four_rows_plane here x lane) (neighbours_at rule.neighbourhood above here below x lane)
+    four_rows_plane next x lane
+    ≡ lives rule (four_rows_plane here x lane)
+    (neighbours_at rule.neighbourhood above here below x lane)

@@ -9,4 +9,5 @@ pub record IsInner (side margin : ℕ) (z : ℤ) : Type 0 where
 
 -- the planes agree at the cells of the square that are at least so far inside
 abbrev pub AgreeInside : ℕ → ℕ → Plane → Plane → Type 0
-AgreeInside side margin plane other = (x y : ℤ) → IsInner side margin x → IsInner side margin y → plane x y ≡ other x y
+AgreeInside side margin plane other =
+    (x y : ℤ) → IsInner side margin x → IsInner side margin y → plane x y ≡ other x y

@@ -11,14 +11,16 @@ mask_of live = if live then 2 ^ 64 - 1 else 0
 
 -- whether a live cell becomes what a dead one doesn't
 abbrev pub changes : CountRule → ℕ → Bool
-changes rule count = if lives rule true count then not (lives rule false count) else lives rule false count
+changes rule count =
+    if lives rule true count then not (lives rule false count) else lives rule false count
 
 -- what the rule makes of cells with so many live neighbours
 pub record IsDigit (rule : CountRule) (count : ℕ) (digit : Digit) : Type 0 where
   pub births : digit.births ≡ mask_of (lives rule false count)
   pub changes : digit.changes ≡ mask_of (changes rule count)
 
--- whether the upper left and the lower right cell are neighbours, and the upper right and the lower left one
+-- whether the upper left and the lower right cell are neighbours, and the upper right and the lower
+-- left one
 abbrev pub has_falling : Neighbourhood → Bool
 has_falling Moore = true
 has_falling VonNeumann = false
@@ -36,4 +38,6 @@ pub record AreDiagonals (neighbourhood : Neighbourhood) (falling rising : ℕ) :
 
 -- what the rule makes of cells with each number of live neighbours
 abbrev pub AreDigits : CountRule → List Digit → Type 0
-AreDigits rule digits = (count : ℕ) (default : Digit) → count < 9 → IsDigit rule count (slice_index_or digits count default)
+AreDigits rule digits =
+    (count : ℕ) (default : Digit) → count < 9 →
+    IsDigit rule count (slice_index_or digits count default)

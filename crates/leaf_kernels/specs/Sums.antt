@@ -19,4 +19,5 @@ sum_at sum x y = number_at sum.ones x y + 2 * number_at sum.twos x y
 -- the number that a count has at a cell
 abbrev pub count_at : Count → ℤ → ℤ → ℕ
 count_at count x y =
-    number_at count.ones x y + 2 * number_at count.twos x y + 4 * number_at count.fours x y + 8 * number_at count.eights x y
+    number_at count.ones x y + 2 * number_at count.twos x y + 4 * number_at count.fours x y + 8
+    * number_at count.eights x y

@@ -21,7 +21,8 @@ numbers text = map number_of (fields text)
 
 -- the level and the four quadrants, if these are all numbers
 unfoldable pub inner_of : List (Option ℕ) → Option Node
-inner_of (Some level ∷ Some nw ∷ Some ne ∷ Some sw ∷ Some se ∷ []) = Some (Inner level (nw ∷ ne ∷ sw ∷ se ∷ []))
+inner_of (Some level ∷ Some nw ∷ Some ne ∷ Some sw ∷ Some se ∷ []) =
+    Some (Inner level (nw ∷ ne ∷ sw ∷ se ∷ []))
 inner_of _ = None
 
 -- the first of these is a number

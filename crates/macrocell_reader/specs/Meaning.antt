@@ -61,5 +61,6 @@ body_of text = drop 1 (lines 0 text)
 unfoldable pub judged : List ℕ → Result Meaning Fault
 judged text =
     if begins_with (codes "[M2]") text
-    then unless (first_fault [] (body_of text)) (meaning_with (after_lines nothing_said (body_of text)) (body_of text))
+    then unless (first_fault [] (body_of text))
+    (meaning_with (after_lines nothing_said (body_of text)) (body_of text))
     else Err (fault_at NotAPattern 0)

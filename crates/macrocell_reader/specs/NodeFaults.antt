@@ -23,7 +23,8 @@ is_node (Some (Inner level kids)) = nat_le 4 level
 -- the number is 0, which is the empty square, or that of an earlier node, one level lower
 abbrev pub is_child : List ℕ → ℕ → ℕ → Bool
 is_child levels level zero = true
-is_child levels level (suc before) = option_map_or (λ lower. lower + 1 == level) (slice_get levels before) false
+is_child levels level (suc before) =
+    option_map_or (λ lower. lower + 1 == level) (slice_get levels before) false
 
 abbrev pub has_children : List ℕ → Option Node → Bool
 has_children levels None = true

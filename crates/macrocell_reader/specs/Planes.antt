@@ -17,7 +17,8 @@ plane_at planes (suc before) = slice_index_or planes before empty
 abbrev pub node_plane : List Plane → Node → Plane
 node_plane planes (Leaf bits) = bits_plane bits
 node_plane planes (Inner level kids) =
-    joined (2 ^ (level - 1)) (plane_at planes (slice_index kids 0)) (plane_at planes (slice_index kids 1))
+    joined (2 ^ (level - 1)) (plane_at planes (slice_index kids 0))
+    (plane_at planes (slice_index kids 1))
     (plane_at planes (slice_index kids 2)) (plane_at planes (slice_index kids 3))
 
 -- the planes of these nodes after nodes with those planes
@@ -33,7 +34,8 @@ planes_of nodes = planes_after [] nodes
 abbrev pub root_level : List Node → ℕ
 root_level nodes = slice_index (map level_of nodes) (length nodes - 1)
 
--- the cells of the last of these nodes, round (0, 0); none where there is no node, since number 0 is empty
+-- the cells of the last of these nodes, round (0, 0); none where there is no node, since number 0
+-- is empty
 abbrev pub root_plane : List Node → Plane
 root_plane nodes = centred (root_level nodes) (plane_at (planes_of nodes) (length nodes))
 

@@ -30,13 +30,18 @@ generation_of text = within_limit (number_of (trimmed text))
 unfoldable pub said_fault : List ℕ → Option Refusal
 said_fault line =
     if begins_with (codes "#FRAMES") line then Some FramesNotRead
-    else (if begins_with (codes "#G") line && is_none (generation_of (drop 2 line)) then Some BadGen else None)
+    else (if begins_with (codes "#G") line && is_none (generation_of (drop 2 line)) then Some BadGen
+    else None)
 
 -- what is said after a line
 unfoldable pub after_line : Said → Line → Said
 after_line said line =
-    if begins_with (codes "#R") line.text then record said { rule = Some (trimmed (drop 2 line.text)); rule_place = line.place }
-    else (if begins_with (codes "#G") line.text then record said { generation = unwrap_or (generation_of (drop 2 line.text)) 0 }
+    if begins_with (codes "#R") line.text then record said {
+      rule = Some (trimmed (drop 2 line.text));
+      rule_place = line.place;
+    }
+    else (if begins_with (codes "#G") line.text
+    then record said { generation = unwrap_or (generation_of (drop 2 line.text)) 0 }
     else said)
 
 -- what is said after these lines, where the last of each kind counts

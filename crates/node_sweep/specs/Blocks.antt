@@ -16,26 +16,37 @@ pair_at transfer slots place = start (old_bits transfer) Pair + slice_index slot
 
 -- pairs of the rank above this one
 pub record ArePairs (transfer : Transfer) (rank : ℕ) (slots : List ℕ) : Type 0 where
-  pub pairs : (i : ℕ) → i < length slots → IsPairAbove (old_bits transfer) (old_words transfer) rank (pair_at transfer slots i)
+  pub pairs : (i : ℕ) → i < length slots →
+      IsPairAbove (old_bits transfer) (old_words transfer) rank (pair_at transfer slots i)
 
 -- which are wanted, and whose parts have copies
-pub record AreReady (transfer : Transfer) (copies : List ℕ) (rank : ℕ) (slots : List ℕ) : Type 0 where
+pub record AreReady (transfer : Transfer) (copies : List ℕ) (rank : ℕ)
+    (slots : List ℕ) : Type 0 where
   pub pairs : ArePairs transfer rank slots
   pub wanted : (i : ℕ) → i < length slots → wants transfer (pair_at transfer slots i)
-  pub parts : (i part : ℕ) → i < length slots → IsPart (old_words transfer (pair_at transfer slots i)) part → (part ≡ 0) ⊎ (slice_index copies part ≢ 0)
+  pub parts : (i part : ℕ) → i < length slots →
+      IsPart (old_words transfer (pair_at transfer slots i)) part →
+      (part ≡ 0) ⊎ (slice_index copies part ≢ 0)
 
 -- the parts of each word are the copies of the parts of a pair
-pub record ArePairedCopies (transfer : Transfer) (copies slots words : List ℕ) (end : ℕ) : Type 0 where
-  pub first : (i : ℕ) → i < end → first_part (slice_index words i) ≡ slice_index copies (first_part (old_words transfer (pair_at transfer slots i)))
-  pub second : (i : ℕ) → i < end → second_part (slice_index words i) ≡ slice_index copies (second_part (old_words transfer (pair_at transfer slots i)))
+pub record ArePairedCopies (transfer : Transfer) (copies slots words : List ℕ)
+    (end : ℕ) : Type 0 where
+  pub first : (i : ℕ) → i < end →
+      first_part (slice_index words i)
+      ≡ slice_index copies (first_part (old_words transfer (pair_at transfer slots i)))
+  pub second : (i : ℕ) → i < end →
+      second_part (slice_index words i)
+      ≡ slice_index copies (second_part (old_words transfer (pair_at transfer slots i)))
 
 -- the words that their copies have
 pub record AreWordsNeeded (transfer : Transfer) (new slots words : List ℕ) : Type 0 where
-  pub needed : (i : ℕ) → i < length slots → IsWordNeeded transfer new Pair (pair_at transfer slots i) (slice_index words i)
+  pub needed : (i : ℕ) → i < length slots →
+      IsWordNeeded transfer new Pair (pair_at transfer slots i) (slice_index words i)
 
 -- what stands at the first place of each word's way
 pub record AreFirstFound (transfer : Transfer) (new words found : List ℕ) (end : ℕ) : Type 0 where
-  pub there : (i : ℕ) → i < end → slice_index found i ≡ slice_index new (way (new_bits transfer) Pair (slice_index words i) 0)
+  pub there : (i : ℕ) → i < end →
+      slice_index found i ≡ slice_index new (way (new_bits transfer) Pair (slice_index words i) 0)
 
 -- each pair at so many places has a copy
 pub record AreCopiedTo (transfer : Transfer) (slots copies : List ℕ) (end : ℕ) : Type 0 where
@@ -53,16 +64,21 @@ HaveCopies transfer slots fresh = AreCopiedTo transfer slots fresh.copies.items 
 
 -- pairs of the old words, rank by rank
 abbrev pub IsRankOrder : Transfer → Order → Type 0
-IsRankOrder transfer order = AreRanked (old_bits transfer) (old_words transfer) order.slots.items order.ends
+IsRankOrder transfer order =
+    AreRanked (old_bits transfer) (old_words transfer) order.slots.items order.ends
 
 -- each part of them is 0, has a copy, or stands among pairs of a lower rank
 abbrev pub HasPartsBefore : Transfer → Order → Fresh → Type 0
-HasPartsBefore transfer order fresh = HavePartsBefore (old_bits transfer) (old_words transfer) order.slots.items order.ends fresh.copies.items
+HasPartsBefore transfer order fresh =
+    HavePartsBefore (old_bits transfer)
+    (old_words transfer) order.slots.items order.ends fresh.copies.items
 
 -- all of them are wanted
 abbrev pub IsOrderWanted : Transfer → Order → Type 0
-IsOrderWanted transfer order = AreWantedTo transfer order.slots.items (slice_index order.ends LARGEST_RANK)
+IsOrderWanted transfer order =
+    AreWantedTo transfer order.slots.items (slice_index order.ends LARGEST_RANK)
 
 -- those up to this rank have copies
 abbrev pub AreCopiedUpTo : Transfer → Order → Fresh → ℕ → Type 0
-AreCopiedUpTo transfer order fresh rank = AreCopiedTo transfer order.slots.items fresh.copies.items (slice_index order.ends rank)
+AreCopiedUpTo transfer order fresh rank =
+    AreCopiedTo transfer order.slots.items fresh.copies.items (slice_index order.ends rank)

@@ -33,27 +33,33 @@ pub record HasResultIn (old new : Book) (sq : Sq) : Type 0 where
 
 -- the result beside a pair is the empty square or wanted, if there is one
 abbrev pub IsResultWanted : (bits : ℕ) (words : Words) (wanted : ℕ → Type 0) (pair : ℕ) → Type 0
-IsResultWanted bits words wanted pair = (future : ℕ) → words (result_of bits pair) ≡ 2 ^ 32 + future → (future ≡ 0) ⊎ wanted future
+IsResultWanted bits words wanted pair =
+    (future : ℕ) → words (result_of bits pair) ≡ 2 ^ 32 + future → (future ≡ 0) ⊎ wanted future
 
--- all that one book knows of wanted squares another one knows too, though by other numbers: each square, and its result
--- where that is the empty square or wanted
-pub record CarriesWanted (bits : ℕ) (words : Words) (wanted : ℕ → Type 0) (old new : Book) : Type 0 where
+-- all that one book knows of wanted squares another one knows too, though by other numbers: each
+-- square, and its result where that is the empty square or wanted
+pub record CarriesWanted (bits : ℕ) (words : Words) (wanted : ℕ → Type 0)
+    (old new : Book) : Type 0 where
   pub rule : new.rule ≡ old.rule
   pub exponent : new.exponent ≡ old.exponent
   pub squares : (sq : Sq) → IsTrue (old.knows sq) → wanted sq.num.0 → HasTwinIn old new sq
-  pub results : (sq : Sq) → Contains old.results sq → wanted sq.num.0 → IsResultWanted bits words wanted sq.num.0 → HasResultIn old new sq
+  pub results : (sq : Sq) → Contains old.results sq → wanted sq.num.0 →
+      IsResultWanted bits words wanted sq.num.0 → HasResultIn old new sq
 
--- fresh words under the old rule and exponent, with what is wanted of the old ones and nothing else; what the old ones
--- know of that they know
-pub record HoldsWanted (still : Still) (wanted : ℕ → Type 0) (pairs : ℕ) (now : Still) : Type 0 where
+-- fresh words under the old rule and exponent, with what is wanted of the old ones and nothing
+-- else; what the old ones know of that they know
+pub record HoldsWanted (still : Still) (wanted : ℕ → Type 0) (pairs : ℕ)
+    (now : Still) : Type 0 where
   pub resized : IsResized (key_of still) (key_of now) pairs
   pub copies : CopiesWanted (key_of still) (key_of now) (words_of still) wanted (items_of now)
-  pub carries : CarriesWanted (key_of still).shape.bits (words_of still) wanted (book_in still) (book_in now)
+  pub carries : CarriesWanted (key_of still).shape.bits (words_of still) wanted (book_in still)
+      (book_in now)
 
 -- the new root is the copy of the old one, with its level and cells
 pub record IsRootCopy (still : Still) (root : Sq) (now : Still) (copy : Sq) : Type 0 where
   pub level : copy.level ≡ root.level
-  pub made : IsCopy (key_of still).shape.bits (key_of now).shape.bits (words_of still) (words_of now) (square_rank root.level) root.num.0 copy.num.0
+  pub made : IsCopy (key_of still).shape.bits (key_of now).shape.bits (words_of still)
+      (words_of now) (square_rank root.level) root.num.0 copy.num.0
   pub shown : Shows (book_in now) root.level ((book_in still).cells root) copy
 
 -- some table of this size has no room for what is wanted
@@ -62,12 +68,16 @@ pub record HasNoRoomToCopy (still : Still) (wanted : ℕ → Type 0) (pairs : �
   pub resized : IsResized (key_of still) to pairs
   pub full : HasNoRoomForWanted (key_of still) to (words_of still) wanted
 
--- what is kept of the root and the words; in a collection, between these two ranks only what others reach
+-- what is kept of the root and the words; in a collection, between these two ranks only what others
+-- reach
 abbrev pub is_kept : Still → Sq → Keep → (low high : ℕ) → (ℕ → Type 0)
-is_kept still root keep low high = IsWanted (key_of still).shape.bits (words_of still) keep root.num.0 low high
+is_kept still root keep low high =
+    IsWanted (key_of still).shape.bits (words_of still) keep root.num.0 low high
 
--- fresh words with what is kept and nothing else; for a collection, between some low and some high rank
-pub record CopiesStill (still : Still) (root : Sq) (keep : Keep) (pairs : ℕ) (now : Still) (copy : Sq) : Type 0 where
+-- fresh words with what is kept and nothing else; for a collection, between some low and some high
+-- rank
+pub record CopiesStill (still : Still) (root : Sq) (keep : Keep) (pairs : ℕ) (now : Still)
+    (copy : Sq) : Type 0 where
   pub low : ℕ
   pub high : ℕ
   pub all : HoldsWanted still (is_kept still root keep low high) pairs now
@@ -89,7 +99,8 @@ is_reached_in still root = Reaches (key_of still).shape.bits (words_of still) ro
 pub record IsSwept (still : Still) (root : Sq) (pairs : ℕ) (now : Still) (copy : Sq) : Type 0 where
   pub all : HoldsWanted still (is_reached_in still root) pairs now
   pub copied_root : IsRootCopy still root now copy
-  pub slots : (kind : Kind) (i : ℕ) → IsSlot (key_of now).shape.bits kind i → (words_of now i ≢ 0) ↔ is_reached_in now copy i
+  pub slots : (kind : Kind) (i : ℕ) → IsSlot (key_of now).shape.bits kind i →
+      (words_of now i ≢ 0) ↔ is_reached_in now copy i
 
 abbrev pub HasNoRoomFor : Still → Sq → ℕ → Type 0
 HasNoRoomFor still root pairs = HasNoRoomToCopy still (is_reached_in still root) pairs

@@ -9,17 +9,22 @@ use Rattle.node_sweep.specs.declared.transfer.Transfer.{Transfer}
 
 -- with all that is wanted
 abbrev pub CopiesInto : Transfer → List ℕ → Type 0
-CopiesInto transfer new = CopiesWanted transfer.old.key.now transfer.to (old_words transfer) (wants transfer) new
+CopiesInto transfer new =
+    CopiesWanted transfer.old.key.now transfer.to (old_words transfer) (wants transfer) new
 
 -- each block that is wanted has a copy
 pub record AreWantedCopied (transfer : Transfer) (fresh : Fresh) : Type 0 where
-  pub copied : (rank number : ℕ) → IsBlock (old_bits transfer) (old_words transfer) rank number → wants transfer number → number ≢ 0 → slice_index fresh.copies.items number ≢ 0
+  pub copied : (rank number : ℕ) → IsBlock (old_bits transfer) (old_words transfer) rank number →
+      wants transfer number → number ≢ 0 → slice_index fresh.copies.items number ≢ 0
 
 -- the root is the empty square or has a copy
 abbrev pub IsRootCopied : Transfer → Fresh → Type 0
-IsRootCopied transfer fresh = (transfer.ends.root ≡ 0) ⊎ (slice_index fresh.copies.items transfer.ends.root ≢ 0)
+IsRootCopied transfer fresh =
+    (transfer.ends.root ≡ 0) ⊎ (slice_index fresh.copies.items transfer.ends.root ≢ 0)
 
 -- what a collection keeps beside what is reached has copies
 abbrev pub AreAllEndsCopied : Transfer → Fresh → Type 0
 AreAllEndsCopied transfer fresh =
-    AreEndsCopied (old_bits transfer) (old_words transfer) transfer.ends.low transfer.ends.high fresh.copies.items (2 ^ old_bits transfer)
+    AreEndsCopied (old_bits transfer)
+    (old_words transfer) transfer.ends.low transfer.ends.high fresh.copies.items
+    (2 ^ old_bits transfer)

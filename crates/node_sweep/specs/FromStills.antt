@@ -14,7 +14,8 @@ pub record AreWordsOf (still : Still) (old : OldWords) : Type 0 where
   pub words : old.words.now ≡ items_of still
 
 -- out of these words, what is kept, into words of so many pair slots
-pub record IsTransferFrom (old : OldWords) (keep : Keep) (ends : Ends) (pairs : ℕ) (transfer : Transfer) : Type 0 where
+pub record IsTransferFrom (old : OldWords) (keep : Keep) (ends : Ends) (pairs : ℕ)
+    (transfer : Transfer) : Type 0 where
   pub same_old : transfer.old ≡ old
   pub same_keep : transfer.keep ≡ keep
   pub same_ends : transfer.ends ≡ ends

@@ -28,39 +28,51 @@ pub record KeepsMarks (old new : List ℕ) : Type 0 where
 -- there is room for a mark of each leaf and pair, and what has one is a block and wanted
 pub record AreMarks (transfer : Transfer) (marks : List ℕ) : Type 0 where
   pub long : length marks ≡ number_count transfer
-  pub blocks : (number : ℕ) → IsMarked marks number → IsSomeBlock (old_bits transfer) (old_words transfer) number
+  pub blocks : (number : ℕ) → IsMarked marks number →
+      IsSomeBlock (old_bits transfer) (old_words transfer) number
   pub wanted : (number : ℕ) → IsMarked marks number → wants transfer number
 
 -- both parts of the pair have marks, if it has one
 pub record ArePartsMarked (words : Words) (marks : List ℕ) (pair : ℕ) : Type 0 where
   pub marked : (part : ℕ) → IsMarked marks pair → IsPart (words pair) part → IsMarked marks part
 
--- the pair has a mark if it is small, and with its result if it is large and has one; both parts have marks if it has one
-pub record IsVisited (bits : ℕ) (words : Words) (low high : ℕ) (marks : List ℕ) (pair : ℕ) : Type 0 where
+-- the pair has a mark if it is small, and with its result if it is large and has one; both parts
+-- have marks if it has one
+pub record IsVisited (bits : ℕ) (words : Words) (low high : ℕ) (marks : List ℕ)
+    (pair : ℕ) : Type 0 where
   pub end : IsEndCopied bits words low high marks pair
   pub parts : ArePartsMarked words marks pair
 
 -- so it is with each pair above this rank
-pub record AreVisited (bits : ℕ) (words : Words) (low high : ℕ) (marks : List ℕ) (rank : ℕ) : Type 0 where
-  pub above : (other pair : ℕ) → rank < other → IsSlot bits Pair pair → IsBlock bits words other pair → IsVisited bits words low high marks pair
+pub record AreVisited (bits : ℕ) (words : Words) (low high : ℕ) (marks : List ℕ)
+    (rank : ℕ) : Type 0 where
+  pub above : (other pair : ℕ) → rank < other → IsSlot bits Pair pair →
+      IsBlock bits words other pair → IsVisited bits words low high marks pair
 
 -- and with the pairs of this rank at places from the one on to the other
-pub record AreVisitedTo (bits : ℕ) (words : Words) (low high : ℕ) (slots marks : List ℕ) (from to : ℕ) : Type 0 where
-  pub here : (place : ℕ) → from ≤ place → place < to → IsVisited bits words low high marks (start bits Pair + slice_index slots place)
+pub record AreVisitedTo (bits : ℕ) (words : Words) (low high : ℕ) (slots marks : List ℕ)
+    (from to : ℕ) : Type 0 where
+  pub here : (place : ℕ) → from ≤ place → place < to →
+      IsVisited bits words low high marks (start bits Pair + slice_index slots place)
 
 -- no mark is gone; a new one is that of the pair or of a block of a lower rank
 pub record GetsMarks (bits : ℕ) (words : Words) (rank pair : ℕ) (old new : List ℕ) : Type 0 where
   pub kept : (number : ℕ) → IsMarked old number → IsMarked new number
-  pub only : (number : ℕ) → IsMarked new number → IsMarked old number ⊎ ((number ≡ pair) ⊎ IsLowBlock bits words (rank - 1) number)
+  pub only : (number : ℕ) → IsMarked new number →
+      IsMarked old number ⊎ ((number ≡ pair) ⊎ IsLowBlock bits words (rank - 1) number)
 
 -- only the ranks of marked pairs are left
 pub record KeepsMarked (bits : ℕ) (marks old new : List ℕ) (slots : ℕ) : Type 0 where
-  pub marked : (slot : ℕ) → slot < slots → IsMarked marks (start bits Pair + slot) → slice_index new slot ≡ slice_index old slot
-  pub gone : (slot : ℕ) → slot < slots → slice_index marks (start bits Pair + slot) ≡ 0 → slice_index new slot ≡ 0
+  pub marked : (slot : ℕ) → slot < slots → IsMarked marks (start bits Pair + slot) →
+      slice_index new slot ≡ slice_index old slot
+  pub gone : (slot : ℕ) → slot < slots → slice_index marks (start bits Pair + slot) ≡ 0 →
+      slice_index new slot ≡ 0
   pub rest : (slot : ℕ) → slots ≤ slot → slice_index new slot ≡ slice_index old slot
 
--- what is wanted beside what others reach has marks, with all parts, and of the pairs that have marks this is the order
-pub record AreKept (transfer : Transfer) (root low high : ℕ) (marks slots ends : List ℕ) : Type 0 where
+-- what is wanted beside what others reach has marks, with all parts, and of the pairs that have
+-- marks this is the order
+pub record AreKept (transfer : Transfer) (root low high : ℕ)
+    (marks slots ends : List ℕ) : Type 0 where
   pub are_marks : AreMarks transfer marks
   pub root_marked : IsMarked marks root
   pub visited : AreVisited (old_bits transfer) (old_words transfer) low high marks 0
@@ -70,35 +82,45 @@ pub record AreKept (transfer : Transfer) (root low high : ℕ) (marks slots ends
 
 -- the result of a pair of this rank, which is large
 abbrev pub IsLargeResult : Transfer → (rank pair future : ℕ) → Type 0
-IsLargeResult transfer rank pair future = IsFinishedFrom (old_bits transfer) (old_words transfer) transfer.ends.high rank pair future
+IsLargeResult transfer rank pair future =
+    IsFinishedFrom (old_bits transfer) (old_words transfer) transfer.ends.high rank pair future
 
 -- the pair isn't large or has no result
 abbrev pub HasNoLargeResult : Transfer → ℕ → Type 0
-HasNoLargeResult transfer pair = IsUnfinished (old_bits transfer) (old_words transfer) transfer.ends.high pair
+HasNoLargeResult transfer pair =
+    IsUnfinished (old_bits transfer) (old_words transfer) transfer.ends.high pair
 
 -- the pair has a mark, if it is small
 abbrev pub IsMarkedIfSmall : Transfer → List ℕ → ℕ → Type 0
-IsMarkedIfSmall transfer marks pair = IsSmallCopied (old_bits transfer) (old_words transfer) transfer.ends.low marks pair
+IsMarkedIfSmall transfer marks pair =
+    IsSmallCopied (old_bits transfer) (old_words transfer) transfer.ends.low marks pair
 
 -- the pair and its result have marks, if it is large and has one
 abbrev pub IsMarkedIfFinished : Transfer → List ℕ → ℕ → Type 0
-IsMarkedIfFinished transfer marks pair = IsFinishedCopied (old_bits transfer) (old_words transfer) transfer.ends.high marks pair
+IsMarkedIfFinished transfer marks pair =
+    IsFinishedCopied (old_bits transfer) (old_words transfer) transfer.ends.high marks pair
 
 -- no mark is gone; a new one is that of the pair of this rank or of a block of a lower one
 abbrev pub MarksAtMost : Transfer → (rank pair : ℕ) → (old new : List ℕ) → Type 0
-MarksAtMost transfer rank pair old new = GetsMarks (old_bits transfer) (old_words transfer) rank pair old new
+MarksAtMost transfer rank pair old new =
+    GetsMarks (old_bits transfer) (old_words transfer) rank pair old new
 
 -- the pair was visited
 abbrev pub IsPairVisited : Transfer → List ℕ → ℕ → Type 0
-IsPairVisited transfer marks pair = IsVisited (old_bits transfer) (old_words transfer) transfer.ends.low transfer.ends.high marks pair
+IsPairVisited transfer marks pair =
+    IsVisited (old_bits transfer)
+    (old_words transfer) transfer.ends.low transfer.ends.high marks pair
 
 -- each pair above this rank was visited
 abbrev pub ArePairsVisited : Transfer → List ℕ → ℕ → Type 0
-ArePairsVisited transfer marks rank = AreVisited (old_bits transfer) (old_words transfer) transfer.ends.low transfer.ends.high marks rank
+ArePairsVisited transfer marks rank =
+    AreVisited (old_bits transfer)
+    (old_words transfer) transfer.ends.low transfer.ends.high marks rank
 
 -- of all ranks only those of marked pairs are left
 abbrev pub KeepsMarkedRanks : Transfer → List ℕ → (old new : List ℕ) → Type 0
-KeepsMarkedRanks transfer marks old new = KeepsMarked (old_bits transfer) marks old new (2 ^ old_bits transfer)
+KeepsMarkedRanks transfer marks old new =
+    KeepsMarked (old_bits transfer) marks old new (2 ^ old_bits transfer)
 
 -- what is wanted has marks, and its pairs stand in order
 abbrev pub KeepsWanted : Transfer → Kept → Type 0

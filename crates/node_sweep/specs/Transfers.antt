@@ -32,16 +32,21 @@ number_count transfer = start (old_bits transfer) Pair + 2 ^ old_bits transfer
 
 -- the number is to be copied
 abbrev pub wants : Transfer → ℕ → Type 0
-wants transfer = IsWanted (old_bits transfer) (old_words transfer) transfer.keep transfer.ends.root transfer.ends.low transfer.ends.high
+wants transfer =
+    IsWanted (old_bits transfer)
+    (old_words transfer) transfer.keep transfer.ends.root transfer.ends.low transfer.ends.high
 
--- the fresh words hold the copies that are noted, and nothing else; there is a note for each old leaf and pair
+-- the fresh words hold the copies that are noted, and nothing else; there is a note for each old
+-- leaf and pair
 pub record IsUnderway (transfer : Transfer) (fresh : Fresh) : Type 0 where
-  pub copying : IsCopying transfer.old.key.now transfer.to (old_words transfer) (wants transfer) fresh.words.items fresh.copies.items
+  pub copying : IsCopying transfer.old.key.now transfer.to (old_words transfer)
+      (wants transfer) fresh.words.items fresh.copies.items
   pub long : length fresh.copies.items ≡ number_count transfer
 
 -- all is copied, and the results of so many pairs were gone through
 abbrev pub AreResultsKept : Transfer → List ℕ → List ℕ → ℕ → Type 0
-AreResultsKept transfer copies new done = IsKeeping transfer.old.key.now transfer.to (old_words transfer) (wants transfer) copies new done
+AreResultsKept transfer copies new done =
+    IsKeeping transfer.old.key.now transfer.to (old_words transfer) (wants transfer) copies new done
 
 -- all is copied, and all results were gone through
 abbrev pub AreAllResultsKept : Transfer → List ℕ → List ℕ → Type 0
@@ -49,15 +54,18 @@ AreAllResultsKept transfer copies new = AreResultsKept transfer copies new (2 ^ 
 
 -- the words to stand beside the copies of the 64 pairs from this slot on
 abbrev pub AreNextResultWords : Transfer → List ℕ → List ℕ → ℕ → Type 0
-AreNextResultWords transfer copies told from = AreResultWords (old_bits transfer) (old_words transfer) copies told from 64
+AreNextResultWords transfer copies told from =
+    AreResultWords (old_bits transfer) (old_words transfer) copies told from 64
 
 -- each leaf has a copy
 abbrev pub AreLeavesCopied : Transfer → Fresh → Type 0
-AreLeavesCopied transfer fresh = AreCopied (old_words transfer) fresh.copies.items (start (old_bits transfer) Pair)
+AreLeavesCopied transfer fresh =
+    AreCopied (old_words transfer) fresh.copies.items (start (old_bits transfer) Pair)
 
 -- each leaf that has a mark has a copy
 abbrev pub AreMarkedLeavesCopied : Transfer → List ℕ → Fresh → Type 0
-AreMarkedLeavesCopied transfer marks fresh = AreCopied (slice_index marks) fresh.copies.items (start (old_bits transfer) Pair)
+AreMarkedLeavesCopied transfer marks fresh =
+    AreCopied (slice_index marks) fresh.copies.items (start (old_bits transfer) Pair)
 
 -- the number shows a pair of this rank in the old words
 pub record IsOldPair (transfer : Transfer) (rank pair : ℕ) : Type 0 where
@@ -66,11 +74,15 @@ pub record IsOldPair (transfer : Transfer) (rank pair : ℕ) : Type 0 where
 
 -- this is the word that the copy of the number has
 abbrev pub IsWordNeeded : Transfer → List ℕ → Kind → ℕ → ℕ → Type 0
-IsWordNeeded transfer new kind number word = IsWordOf (old_bits transfer) (new_bits transfer) (old_words transfer) (slice_index new) kind number word
+IsWordNeeded transfer new kind number word =
+    IsWordOf (old_bits transfer) (new_bits transfer) (old_words transfer)
+    (slice_index new) kind number word
 
 -- the number has this copy
 abbrev pub IsCopyMade : Transfer → List ℕ → ℕ → ℕ → Type 0
-IsCopyMade transfer new number copy = IsCopyOf (old_bits transfer) (new_bits transfer) (old_words transfer) (slice_index new) number copy
+IsCopyMade transfer new number copy =
+    IsCopyOf (old_bits transfer) (new_bits transfer) (old_words transfer)
+    (slice_index new) number copy
 
 -- the number has this copy, and that is noted
 pub record IsCopyNoted (transfer : Transfer) (fresh : Fresh) (number copy : ℕ) : Type 0 where
@@ -79,7 +91,8 @@ pub record IsCopyNoted (transfer : Transfer) (fresh : Fresh) (number copy : ℕ)
 
 -- copies of some that are wanted leave no room for another one
 abbrev pub HasNoRoomLeft : Transfer → Type 0
-HasNoRoomLeft transfer = HasNoRoomForWanted transfer.old.key.now transfer.to (old_words transfer) (wants transfer)
+HasNoRoomLeft transfer =
+    HasNoRoomForWanted transfer.old.key.now transfer.to (old_words transfer) (wants transfer)
 
 -- the refusal is a full table, and there is no room left
 abbrev pub SaysNoRoom : Transfer → Refusal → Type 0

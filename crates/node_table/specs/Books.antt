@@ -18,7 +18,8 @@ use Rattle.node_table.specs.declared.view.View.{View}
 abbrev pub entry_at : List KnownBlock → ℕ → ℕ → Option KnownBlock
 entry_at [] rank number = None
 entry_at (entry ∷ entries) rank number =
-    if (entry.number == number) && (entry.rank == rank) then Some entry else entry_at entries rank number
+    if (entry.number == number) && (entry.rank == rank) then Some entry
+    else entry_at entries rank number
 
 abbrev pub cells_there : Option KnownBlock → Plane
 cells_there None = empty
@@ -27,16 +28,20 @@ cells_there (Some entry) = plane_of entry.live
 abbrev pub knows_in : Knowledge → Sq → Bool
 knows_in known sq =
     (nat_le 3 sq.level && nat_le sq.level 65)
-    && (if sq.num.0 == 0 then true else is_some (entry_at known.blocks (square_rank sq.level) sq.num.0))
+    && (if sq.num.0 == 0 then true
+    else is_some (entry_at known.blocks (square_rank sq.level) sq.num.0))
 
 abbrev pub known_cells : Knowledge → Sq → Plane
-known_cells known sq = if sq.num.0 == 0 then empty else cells_there (entry_at known.blocks (square_rank sq.level) sq.num.0)
+known_cells known sq =
+    if sq.num.0 == 0 then empty
+    else cells_there (entry_at known.blocks (square_rank sq.level) sq.num.0)
 
 -- the square whose result it is
 abbrev pub square_of : KnownResult → Sq
 square_of result = numbered result.level result.square
 
--- the squares of a store and the results that are known; it is full where a shard without a zero slot is known, and takes no memory
+-- the squares of a store and the results that are known; it is full where a shard without a zero
+-- slot is known, and takes no memory
 abbrev pub book_of : List ℕ → Key → Knowledge → Book
 book_of store key known = record {
   rule = key.rule;

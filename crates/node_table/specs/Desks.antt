@@ -13,7 +13,8 @@ pub record IsDeskOf (table : NodeTable) (desk : Desk) : Type 0 where
 
 -- what tells a table from all others
 abbrev pub numbers_of : ℕ → TableId → List ℕ
-numbers_of bits id = bits ∷ id.words ∷ id.slots ∷ id.views_name ∷ id.atom ∷ id.block ∷ id.offset ∷ id.slot_names
+numbers_of bits id =
+    bits ∷ id.words ∷ id.slots ∷ id.views_name ∷ id.atom ∷ id.block ∷ id.offset ∷ id.slot_names
 
 abbrev pub store_of : NodeTable → List ℕ
 store_of table = numbers_of table.key.shape.bits table.table.shared.table_id
@@ -30,10 +31,13 @@ work_store expansions table = expansions ∷ store_of table
 abbrev pub work_at : ℕ → NodeTable → Desk → Book
 work_at expansions table desk = book_of (work_store expansions table) table.key desk.seat.me.0.known
 
--- the desk is one of each table at which such a book began, knows what is in the book, and has the number of expansions with which it came
+-- the desk is one of each table at which such a book began, knows what is in the book, and has the
+-- number of expansions with which it came
 pub record Returns (book : Book) (desk : Desk) : Type 0 where
-  pub returns : (table : NodeTable) (first : Desk) → Keeps (work_at first.expansions table first) book →
-      IsDeskOf table desk × (work_at first.expansions table desk ≡ book) × (desk.expansions ≡ first.expansions)
+  pub returns : (table : NodeTable) (first : Desk) →
+      Keeps (work_at first.expansions table first) book →
+      IsDeskOf table desk × (work_at first.expansions table desk ≡ book)
+      × (desk.expansions ≡ first.expansions)
 
 -- what a desk knows is the same, of whichever table it is
 pub record IsSameDesk (old new : Desk) : Type 0 where

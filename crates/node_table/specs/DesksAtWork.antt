@@ -15,7 +15,8 @@ book_here at = work_at at.expansions at.table.now at.desk
 abbrev pub KnowsAllOf : Desk → Desk → Type 0
 KnowsAllOf old new = Grows (known_by old) (known_by new)
 
--- the second desk has seen each word that the first has seen: so it has no room for a word for which the first has none
+-- the second desk has seen each word that the first has seen: so it has no room for a word for
+-- which the first has none
 abbrev pub HasSeenAllOf : Desk → Desk → Type 0
 HasSeenAllOf old new = HasSeenAll (known_by old) (known_by new)
 

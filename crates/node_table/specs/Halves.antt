@@ -16,7 +16,8 @@ pub record AreBeside (book : Book) (first second : Sq) : Type 0 where
   pub left : IsKnown book first.level first
   pub right : IsKnown book first.level second
 
--- the desk knows both squares of the half, which are of this level, and that its number shows the two
+-- the desk knows both squares of the half, which are of this level, and that its number shows the
+-- two
 pub record KnowsHalf (at : At) (level : ℕ) (half : Half) : Type 0 where
   pub left : IsKnown (book_here at) level half.left
   pub right : IsKnown (book_here at) level half.right
@@ -45,15 +46,21 @@ pub record AreHalves (at : At) (level : ℕ) (plane : Plane) (top bottom : Half)
   pub lower : KnowsHalf at (level - 1) bottom
 
 -- the quarters of a square of this level with these cells, and the halves of each
-pub record AreHalvesOfQuarters (at : At) (level : ℕ) (plane : Plane) (parts : HalvesOfQuarters) : Type 0 where
+pub record AreHalvesOfQuarters (at : At) (level : ℕ) (plane : Plane)
+    (parts : HalvesOfQuarters) : Type 0 where
   pub quarters : AreQuarters (book_here at) level plane parts.quarters
-  pub nw : AreHalves at (level - 1) ((book_here at).cells (nth parts.quarters 0)) parts.nw.0 parts.nw.1
-  pub ne : AreHalves at (level - 1) ((book_here at).cells (nth parts.quarters 1)) parts.ne.0 parts.ne.1
-  pub sw : AreHalves at (level - 1) ((book_here at).cells (nth parts.quarters 2)) parts.sw.0 parts.sw.1
-  pub se : AreHalves at (level - 1) ((book_here at).cells (nth parts.quarters 3)) parts.se.0 parts.se.1
+  pub nw : AreHalves at (level - 1)
+      ((book_here at).cells (nth parts.quarters 0)) parts.nw.0 parts.nw.1
+  pub ne : AreHalves at (level - 1)
+      ((book_here at).cells (nth parts.quarters 1)) parts.ne.0 parts.ne.1
+  pub sw : AreHalves at (level - 1)
+      ((book_here at).cells (nth parts.quarters 2)) parts.sw.0 parts.sw.1
+  pub se : AreHalves at (level - 1)
+      ((book_here at).cells (nth parts.quarters 3)) parts.se.0 parts.se.1
 
 -- the halves of the three rows of nine known squares of this level
-pub record AreHalvesOfRows (at : At) (level : ℕ) (nine : List Sq) (rows : HalvesOfRows) : Type 0 where
+pub record AreHalvesOfRows (at : At) (level : ℕ) (nine : List Sq)
+    (rows : HalvesOfRows) : Type 0 where
   pub known : All (IsKnown (book_here at) level) nine
   pub upper_left : IsHalfOf at (nth nine 0) (nth nine 1) rows.upper.0
   pub upper_right : IsHalfOf at (nth nine 1) (nth nine 2) rows.upper.1

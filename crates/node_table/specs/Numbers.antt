@@ -19,11 +19,13 @@ pub record KeepsTold (old new : Knowledge) : Type 0 where
 pub record IsNumber (bits : ℕ) (old new : Knowledge) (kind : Kind) (word index : ℕ) : Type 0 where
   pub slot : IsSlot bits kind index
   pub leaf : kind ≡ Leaf → KnowsBlock new 0 index (bits_plane word)
-  pub pair : (rank : ℕ) (one two : Plane) → kind ≡ Pair → KnowsBoth old rank word one two → KnowsBlock new (suc rank) index (paired rank one two)
+  pub pair : (rank : ℕ) (one two : Plane) → kind ≡ Pair → KnowsBoth old rank word one two →
+      KnowsBlock new (suc rank) index (paired rank one two)
 
 -- the number shows the two blocks that the desk knew, beside or below one another
 pub record IsPair (old new : Knowledge) (first second number : ℕ) : Type 0 where
-  pub shown : (rank : ℕ) (one two : Plane) → KnowsBlock old rank first one → KnowsBlock old rank second two →
+  pub shown : (rank : ℕ) (one two : Plane) → KnowsBlock old rank first one →
+      KnowsBlock old rank second two →
       KnowsBlock new (suc rank) number (paired rank one two)
 
 -- the desk knows what the number shows, as two blocks of some rank
@@ -33,7 +35,8 @@ pub record KnowsSomePair (known : Knowledge) (number : ℕ) : Type 0 where
   pub shown : KnowsBlock known (suc rank) number plane
 
 -- the desk knows what both numbers show: together what this number shows
-pub record ArePartsOf (known : Knowledge) (rank : ℕ) (plane : Plane) (first second : ℕ) : Type 0 where
+pub record ArePartsOf (known : Knowledge) (rank : ℕ) (plane : Plane)
+    (first second : ℕ) : Type 0 where
   pub one : Plane
   pub two : Plane
   pub cells : IsSame plane (paired rank one two)
@@ -41,4 +44,5 @@ pub record ArePartsOf (known : Knowledge) (rank : ℕ) (plane : Plane) (first se
   pub shows_two : KnowsBlock known rank second two
 
 pub record KnowsPairOf (old new : Knowledge) (number first second : ℕ) : Type 0 where
-  pub parts : (rank : ℕ) (plane : Plane) → KnowsBlock old (suc rank) number plane → ArePartsOf new rank plane first second
+  pub parts : (rank : ℕ) (plane : Plane) → KnowsBlock old (suc rank) number plane →
+      ArePartsOf new rank plane first second

@@ -13,9 +13,10 @@ use Rattle.node_table.specs.declared.table.NodeTable.{NodeTable}
 use Rattle.node_table.specs.Desks.{IsDeskOf, book_at, expansions_of}
 use Rattle.node_table.specs.Stills.{words_of, book_in}
 
--- a table begins with words under this rule and exponent: leaves and pairs stay, each result stays where it is the same
--- under both heads, and else goes; its first desk knows all that they say
-pub record Opens (still : Still) (rule : CountRule) (exponent : ℕ) (table : NodeTable) (desk : Desk) : Type 0 where
+-- a table begins with words under this rule and exponent: leaves and pairs stay, each result stays
+-- where it is the same under both heads, and else goes; its first desk knows all that they say
+pub record Opens (still : Still) (rule : CountRule) (exponent : ℕ) (table : NodeTable)
+    (desk : Desk) : Type 0 where
   pub of_table : IsDeskOf table desk
   pub key : table.key ≡ record { shape = still.key.shape; rule = rule; exponent = exponent }
   pub words : List ℕ
@@ -31,7 +32,8 @@ pub record StartsFrom (still : Still) (table : NodeTable) (desk : Desk) : Type 0
   pub known : KnowsAll still.key.shape.bits (words_of still) desk.seat.me.0.known
   pub no_expansions : expansions_of desk ≡ 0
 
--- all squares of the one book are squares of the other, with the same cells, and so are those whose results are known
+-- all squares of the one book are squares of the other, with the same cells, and so are those whose
+-- results are known
 pub record SaysAll (old new : Book) : Type 0 where
   pub rule : new.rule ≡ old.rule
   pub exponent : new.exponent ≡ old.exponent

@@ -38,16 +38,19 @@ abbrev pub with_known : View → Knowledge → View
 with_known view known = record { key = view.key; known = known }
 
 -- an event of the desk happened, by the word that stands there afterwards
-pub record Met {S : Type 0} (key : Key) (event : Event) (before : Me S View) (word : ℕ) (after : Me S View) : Type 0 where
+pub record Met {S : Type 0} (key : Key) (event : Event) (before : Me S View) (word : ℕ)
+    (after : Me S View) : Type 0 where
   pub same_key : after.0.key ≡ before.0.key
   pub slots : after.1 ≡ before.1
   pub learns : LearnsFrom key event before.0.known word after.0.known
   pub grows : Grows before.0.known after.0.known
   pub coherent : IsCoherent key.shape.bits after.0.known
-  pub stands : (rank : ℕ) (plane : Plane) → index_of event ≢ 0 → KnowsBlock before.0.known rank (index_of event) plane → word ≢ 0
+  pub stands : (rank : ℕ) (plane : Plane) → index_of event ≢ 0 →
+      KnowsBlock before.0.known rank (index_of event) plane → word ≢ 0
 
 abbrev pub HasMet : Event → {S : Type 0} → Me S View → ℕ → Me S View → Type 0
-HasMet event before found after = (key : Key) → before.0.key ≡ Some key → Met key event before (word_after event found) after
+HasMet event before found after =
+    (key : Key) → before.0.key ≡ Some key → Met key event before (word_after event found) after
 
 abbrev pub LoadsNode : {S : Type 0} → Step S → Me S View → ℕ → Me S View → Type 0
 LoadsNode step = HasMet (Look 0 step.word)

@@ -33,11 +33,13 @@ pub record IsReopened (was : Still) (key : Key) (now : Still) : Type 0 where
 
 -- this is the rank of what the number shows
 pub record HasRank (still : Still) (number found : ℕ) : Type 0 where
-  pub is : (rank : ℕ) → rank ≤ largest_rank → number ≢ 0 → IsBlock still.key.shape.bits (words_of still) rank number → found ≡ rank
+  pub is : (rank : ℕ) → rank ≤ largest_rank → number ≢ 0 →
+      IsBlock still.key.shape.bits (words_of still) rank number → found ≡ rank
 
 -- the result beside the number of a square stays
 pub record KeepsAtRank (still : Still) (key : Key) (pair : ℕ) (stays : Bool) : Type 0 where
-  pub is : (level : ℕ) → 3 < level → pair ≢ 0 → level ≤ 65 → IsBlock still.key.shape.bits (words_of still) (square_rank level) pair →
+  pub is : (level : ℕ) → 3 < level → pair ≢ 0 → level ≤ 65 →
+      IsBlock still.key.shape.bits (words_of still) (square_rank level) pair →
       IsTrue stays ↔ KeepsResult still.key key level
 
 -- the words are these, with this head

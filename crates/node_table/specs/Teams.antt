@@ -2,7 +2,8 @@
 use Rattle.std.specs.Prelude.{◌≡◌, ℕ, List, drop}
 use Rattle.squares.specs.Book.{Book}
 
--- the table, of the store of a desk at work: all but the number of expansions with which the desk came
+-- the table, of the store of a desk at work: all but the number of expansions with which the desk
+-- came
 abbrev pub table_in : List ℕ → List ℕ
 table_in store = drop 1 store
 

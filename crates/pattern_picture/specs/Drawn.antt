@@ -15,7 +15,8 @@ abbrev pub shade_rows : Plane → Blocks → List (List ℕ)
 shade_rows plane blocks = map (row_shades plane blocks) (coordinates blocks.top blocks.height)
 
 -- the picture shows the rectangle at the largest scale with at most so many pixels on each side
-pub record IsPictureOf (plane : Plane) (shown : Bounds) (size : ℕ) (picture : Picture) : Type 0 where
+pub record IsPictureOf (plane : Plane) (shown : Bounds) (size : ℕ)
+    (picture : Picture) : Type 0 where
   pub scale : Scale
   pub scaled : IsScale shown size scale
   pub width : picture.width ≡ scale.zoom * block_span scale.exponent shown.left shown.right

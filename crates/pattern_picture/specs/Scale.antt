@@ -27,13 +27,16 @@ block_at exponent z = int_div_euclid z (pos (2 ^ exponent))
 
 -- how many blocks there are from that of the first coordinate to that of the last
 abbrev pub block_span : ℕ → ℤ → ℤ → ℕ
-block_span exponent first last = unsigned_abs (block_at exponent last -ℤ block_at exponent first) + 1
+block_span exponent first last =
+    unsigned_abs (block_at exponent last -ℤ block_at exponent first) + 1
 
 -- how many blocks the longer side of the rectangle has
 abbrev pub longer_side : ℕ → Bounds → ℕ
-longer_side exponent shown = max (block_span exponent shown.left shown.right) (block_span exponent shown.top shown.bottom)
+longer_side exponent shown =
+    max (block_span exponent shown.left shown.right) (block_span exponent shown.top shown.bottom)
 
--- the blocks of 2^exponent cells from that of the rectangle's upper left cell to that of its lower right one
+-- the blocks of 2^exponent cells from that of the rectangle's upper left cell to that of its lower
+-- right one
 abbrev pub blocks_of : ℕ → Bounds → Blocks
 blocks_of exponent shown = record {
   exponent = exponent;
@@ -43,15 +46,19 @@ blocks_of exponent shown = record {
   height = block_span exponent shown.top shown.bottom;
 }
 
--- the scale at which the rectangle is shown as large as can be, with at most so many pixels on each side
+-- the scale at which the rectangle is shown as large as can be, with at most so many pixels on each
+-- side
 pub record IsScale (shown : Bounds) (size : ℕ) (scale : Scale) : Type 0 where
   pub fits : scale.zoom * longer_side scale.exponent shown ≤ size
   pub smallest_blocks : (other : ℕ) → other < scale.exponent → size < longer_side other shown
   pub one_pixel : 0 < scale.exponent → scale.zoom ≡ 1
-  pub largest_cells : scale.exponent ≡ 0 → scale.zoom < 16 → size < (scale.zoom + 1) * longer_side 0 shown
+  pub largest_cells : scale.exponent ≡ 0 → scale.zoom < 16 →
+      size < (scale.zoom + 1) * longer_side 0 shown
   pub pixels : (1 ≤ scale.zoom) × (scale.zoom ≤ 16)
   pub limit : scale.exponent ≤ 62
 
 -- a rectangle has one scale for a size
 abbrev pub OneScale : Type 0
-OneScale = (shown : Bounds) (size : ℕ) (scale other : Scale) → IsScale shown size scale → IsScale shown size other → scale ≡ other
+OneScale =
+    (shown : Bounds) (size : ℕ) (scale other : Scale) → IsScale shown size scale →
+    IsScale shown size other → scale ≡ other

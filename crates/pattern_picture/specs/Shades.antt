@@ -19,15 +19,19 @@ floor_log2 n = log2_up_to n n
 abbrev pub lightest : ℕ
 lightest = 160
 
--- how a block with so many live cells is drawn: white, 255, where there is none, and black, 0, where a block of one cell has it
+-- how a block with so many live cells is drawn: white, 255, where there is none, and black, 0,
+-- where a block of one cell has it
 unfoldable pub shade_of : ℕ → ℕ → ℕ
 shade_of exponent count =
-    if count == 0 then 255 else if exponent == 0 then 0 else lightest - (lightest * floor_log2 count / (2 * exponent))
+    if count == 0 then 255 else if exponent == 0 then 0
+    else lightest - (lightest * floor_log2 count / (2 * exponent))
 
 -- the shades of a row of the blocks
 abbrev pub row_shades : Plane → Blocks → ℤ → List ℕ
-row_shades plane blocks j = map (shade_of blocks.exponent) (block_counts plane blocks.exponent j blocks.left blocks.width)
+row_shades plane blocks j =
+    map (shade_of blocks.exponent) (block_counts plane blocks.exponent j blocks.left blocks.width)
 
 -- the shades of the blocks, row by row
 abbrev pub block_shades : Plane → Blocks → List ℕ
-block_shades plane blocks = flat_map (row_shades plane blocks) (coordinates blocks.top blocks.height)
+block_shades plane blocks =
+    flat_map (row_shades plane blocks) (coordinates blocks.top blocks.height)

@@ -11,12 +11,17 @@ side first last = distance first last + 1
 
 -- both sides of the box are below 2^31
 abbrev pub FitsRle : Option Bounds → Type 0
-FitsRle bounds = IfSome bounds (λ box. (side box.left box.right < 2 ^ 31) × (side box.top box.bottom < 2 ^ 31))
+FitsRle bounds =
+    IfSome bounds (λ box. (side box.left box.right < 2 ^ 31) × (side box.top box.bottom < 2 ^ 31))
 
 -- the upper left corner and the sides of a box, or those of no cells
 abbrev pub frame_of : Option Bounds → Frame
 frame_of None = record { corner = record { y = pos 0; x = pos 0 }; width = 0; height = 0 }
-frame_of (Some box) = record { corner = record { y = box.top; x = box.left }; width = side box.left box.right; height = side box.top box.bottom }
+frame_of (Some box) = record {
+  corner = record { y = box.top; x = box.left };
+  width = side box.left box.right;
+  height = side box.top box.bottom;
+}
 
 -- the rows of the frame, and the one after the last, have numbers of 64 bits
 pub record HasRoom (frame : Frame) : Type 0 where

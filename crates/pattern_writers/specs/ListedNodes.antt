@@ -26,7 +26,8 @@ listed_with book listed sq = with_new listed (squares_in (sq.level - 3) (book.ce
 abbrev pub found_in : List Square → Square → Option ℕ
 found_in listed square = if is_listed listed square then Some (number_in listed square) else None
 
--- the number of a square for which no node has to be added: 0 of an empty one, else that of its node
+-- the number of a square for which no node has to be added: 0 of an empty one, else that of its
+-- node
 abbrev pub number_of : NodeList → Sq → Option ℕ
 number_of list sq = if sq.num.0 == 0 then Some 0 else value_of list.numbers sq
 
@@ -34,20 +35,26 @@ number_of list sq = if sq.num.0 == 0 then Some 0 else value_of list.numbers sq
 pub record HasNumber (listed : List Square) (square : Square) (number : ℕ) : Type 0 where
   pub numbered : (more : List Square) → number_in (listed ++ more) square ≡ number
 
--- the nodes and the numbers of these squares, whatever squares follow them: a square of theirs adds none
+-- the nodes and the numbers of these squares, whatever squares follow them: a square of theirs adds
+-- none
 pub record AreListed (book : Book) (listed : List Square) (list : NodeList) : Type 0 where
-  pub numbers : (sq : Sq) → IsTrue (book.knows sq) → value_of list.numbers sq ≡ found_in listed (square_of book sq)
-  pub texts : (more : List Square) → map (square_text (listed ++ more)) listed ≡ map node_text list.nodes.items
+  pub numbers : (sq : Sq) → IsTrue (book.knows sq) →
+      value_of list.numbers sq ≡ found_in listed (square_of book sq)
+  pub texts : (more : List Square) →
+      map (square_text (listed ++ more)) listed ≡ map node_text list.nodes.items
   pub no_more : (sq : Sq) → IsTrue (book.knows sq) → is_listed listed (square_of book sq) ≡ true →
       (more : List Square) → listed_with book (listed ++ more) sq ≡ listed ++ more
 
 -- the new list has the squares of a square, too, which has this number
 pub record Lists (book : Book) (sq : Sq) (old new : NodeList) (number : ℕ) : Type 0 where
-  pub lists : (listed : List Square) → AreListed book listed old → AreListed book (listed_with book listed sq) new
-  pub numbers : (listed : List Square) → AreListed book listed old → HasNumber (listed_with book listed sq) (square_of book sq) number
+  pub lists : (listed : List Square) → AreListed book listed old →
+      AreListed book (listed_with book listed sq) new
+  pub numbers : (listed : List Square) → AreListed book listed old →
+      HasNumber (listed_with book listed sq) (square_of book sq) number
 
 -- the new list has the squares of these four, too, which have these numbers
-pub record ListsFour (book : Book) (squares : List Sq) (old new : NodeList) (numbers : List ℕ) : Type 0 where
+pub record ListsFour (book : Book) (squares : List Sq) (old new : NodeList)
+    (numbers : List ℕ) : Type 0 where
   pub number_nw : ℕ
   pub number_ne : ℕ
   pub number_sw : ℕ

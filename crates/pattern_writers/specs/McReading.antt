@@ -22,7 +22,8 @@ pub record FitsMc (comments : List (List ℕ)) (generation level : ℕ) (plane :
   pub numbers : length (listed_in level (from_corner level plane)) < 2 ^ 32
 
 -- the text is accepted, and has this meaning
-pub record IsReadFromMc (comments : List (List ℕ)) (rule : CountRule) (generation : ℕ) (plane : Plane) (text : List ℕ) : Type 0 where
+pub record IsReadFromMc (comments : List (List ℕ)) (rule : CountRule) (generation : ℕ)
+    (plane : Plane) (text : List ℕ) : Type 0 where
   pub meaning : Meaning
   pub accepted : judged text ≡ Ok meaning
   pub same_generation : meaning.generation ≡ generation
@@ -33,4 +34,5 @@ pub record IsReadFromMc (comments : List (List ℕ)) (rule : CountRule) (generat
 -- if a macrocell file can hold the pattern, the text is read as the pattern
 abbrev pub IsReadBackFromMc : Plane → List (List ℕ) → CountRule → ℕ → List ℕ → Type 0
 IsReadBackFromMc plane comments rule generation text =
-    (level : ℕ) → FitsMc comments generation level plane → IsReadFromMc comments rule generation plane text
+    (level : ℕ) → FitsMc comments generation level plane →
+    IsReadFromMc comments rule generation plane text

@@ -10,7 +10,8 @@ use Rattle.pattern_writers.specs.declared.mc_text.node.Node.TheVariants.{Leaf, I
 abbrev pub node_text : Node → List ℕ
 node_text (Leaf word) = leaf_text (bits_plane word)
 node_text (Inner level quarters) =
-    inner_text level (slice_index quarters 0) (slice_index quarters 1) (slice_index quarters 2) (slice_index quarters 3)
+    inner_text level (slice_index quarters 0) (slice_index quarters 1) (slice_index quarters 2)
+    (slice_index quarters 3)
 
 -- a node as a line
 abbrev pub node_line : Node → List ℕ

@@ -13,7 +13,8 @@ use Rattle.rle_reader.specs.Meaning.{Meaning, judged, live_plane}
 use Rattle.pattern_writers.specs.WrittenComments.{HasNoReturn, IsComment}
 
 -- a pattern whose text in RLE can be read
-pub record IsReadable (comments : List (List ℕ)) (generation : ℕ) (plane : Plane) (cells : List Cell) : Type 0 where
+pub record IsReadable (comments : List (List ℕ)) (generation : ℕ) (plane : Plane)
+    (cells : List Cell) : Type 0 where
   pub in_range : generation ≤ largest_generation
   pub are_comments : AllByRecursion IsComment comments
   pub listing : IsListing cells plane
@@ -21,7 +22,8 @@ pub record IsReadable (comments : List (List ℕ)) (generation : ℕ) (plane : P
   pub few : length cells ≤ most_live_cells
 
 -- the text is accepted, and has this meaning
-pub record IsReadFromRle (comments : List (List ℕ)) (rule : CountRule) (generation : ℕ) (plane : Plane) (text : List ℕ) : Type 0 where
+pub record IsReadFromRle (comments : List (List ℕ)) (rule : CountRule) (generation : ℕ)
+    (plane : Plane) (text : List ℕ) : Type 0 where
   pub meaning : Meaning
   pub accepted : judged text ≡ Ok meaning
   pub same_generation : meaning.generation ≡ generation
@@ -32,4 +34,5 @@ pub record IsReadFromRle (comments : List (List ℕ)) (rule : CountRule) (genera
 -- if the pattern can be read, the text is read as the pattern
 abbrev pub IsReadBackFromRle : Plane → List (List ℕ) → CountRule → ℕ → List ℕ → Type 0
 IsReadBackFromRle plane comments rule generation text =
-    (cells : List Cell) → IsReadable comments generation plane cells → IsReadFromRle comments rule generation plane text
+    (cells : List Cell) → IsReadable comments generation plane cells →
+    IsReadFromRle comments rule generation plane text

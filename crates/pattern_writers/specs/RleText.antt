@@ -33,10 +33,12 @@ framed_text frame comments rule generation cells =
 
 -- the text of the cells, with the comments, the rule and the generation
 abbrev pub rle_text : List (List ℕ) → CountRule → ℕ → List Cell → List ℕ
-rle_text comments rule generation cells = framed_text (frame_of (bounds_of cells)) comments rule generation cells
+rle_text comments rule generation cells =
+    framed_text (frame_of (bounds_of cells)) comments rule generation cells
 
 -- the text of the plane's cells, which have one, is written between the two
-pub record WritesRle (plane : Plane) (comments : List (List ℕ)) (rule : CountRule) (generation : ℕ) (before after : Option (List ℕ)) : Type 0 where
+pub record WritesRle (plane : Plane) (comments : List (List ℕ)) (rule : CountRule) (generation : ℕ)
+    (before after : Option (List ℕ)) : Type 0 where
   pub cells : List Cell
   pub listing : IsListing cells plane
   pub fits : FitsRle (bounds_of cells)

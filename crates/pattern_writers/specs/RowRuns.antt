@@ -17,7 +17,9 @@ first_cell run = record { y = run.row; x = run.first }
 -- a run and the runs that follow it: if the first of these begins where it ends, they are one run
 abbrev pub joined : RowRun → List RowRun → List RowRun
 joined run [] = run ∷ []
-joined run (next ∷ runs) = if is_at run.end run.row (first_cell next) then (record run { end = next.end } ∷ runs) else (run ∷ next ∷ runs)
+joined run (next ∷ runs) =
+    if is_at run.end run.row (first_cell next) then (record run { end = next.end } ∷ runs)
+    else (run ∷ next ∷ runs)
 
 -- the longest runs of cells in the order of reading
 abbrev pub runs_of : List Cell → List RowRun

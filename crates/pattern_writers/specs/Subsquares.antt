@@ -1,4 +1,5 @@
--- The squares that a macrocell file lists: those of side 8 and more in a square, without empty ones and repeats.
+-- The squares that a macrocell file lists: those of side 8 and more in a square, without empty ones
+-- and repeats.
 use Rattle.std.specs.Prelude.{ℕ, zero, suc, ◌+◌, ◌-◌, ◌^◌, ◌==◌, ◌&&◌, Bool, true, false, if◌then◌else◌, List, [], ◌∷◌, ◌++◌}
 use Rattle.std.specs.Cmp.Lexicographic.{pointwise}
 use Rattle.std.specs.List.{list_any, position_or_len}
@@ -49,7 +50,8 @@ se_of level plane = record { level = level; plane = cut (2 ^ level) (2 ^ level) 
 abbrev pub if_alive : Square → List Square
 if_alive square = if is_dead square then [] else (square ∷ [])
 
--- the nonempty aligned squares of side 8 and more in a square of level 3 and so many more, each after its quarters
+-- the nonempty aligned squares of side 8 and more in a square of level 3 and so many more, each
+-- after its quarters
 unfoldable pub squares_in : ℕ → Plane → List Square
 squares_in zero plane = if_alive (record { level = 3; plane = plane })
 squares_in (suc more) plane =
@@ -66,7 +68,8 @@ is_listed listed square = list_any (is_same_square square) listed
 -- these squares and those that follow them, where each is struck that is the same as an earlier one
 unfoldable pub with_new : List Square → List Square → List Square
 with_new listed [] = listed
-with_new listed (square ∷ squares) = with_new (if is_listed listed square then listed else (listed ++ square ∷ [])) squares
+with_new listed (square ∷ squares) =
+    with_new (if is_listed listed square then listed else (listed ++ square ∷ [])) squares
 
 -- the squares of a square of this level that stay, in order
 abbrev pub listed_in : ℕ → Plane → List Square
@@ -74,4 +77,5 @@ listed_in level plane = with_new [] (squares_in (level - 3) plane)
 
 -- the number of a square among these, which are counted from 1; that of an empty square is 0
 unfoldable pub number_in : List Square → Square → ℕ
-number_in listed square = if is_dead square then 0 else (position_or_len (is_same_square square) listed + 1)
+number_in listed square =
+    if is_dead square then 0 else (position_or_len (is_same_square square) listed + 1)

@@ -4,7 +4,8 @@ use Rattle.plane.specs.Device.{IsWriteRefusal}
 use Rattle.plane.specs.declared.refusal.Refusal.{Refusal}
 use Rattle.plane.specs.declared.refusal.Refusal.TheVariants.{BoxTooLarge, NoMemory}
 
--- a refusal before the first byte, as the pattern is too large or memory ran out, or one of the sink, for a pattern that fits
+-- a refusal before the first byte, as the pattern is too large or memory ran out, or one of the
+-- sink, for a pattern that fits
 abbrev pub IsWriterRefusal : {V : Type 0} → (V → ℕ) → V → V → Type 0 → Type 0 → Refusal → Type 0
 IsWriterRefusal failure_count old new TooLarge Fits refusal =
     ((refusal ≡ BoxTooLarge) × TooLarge × (new ≡ old))

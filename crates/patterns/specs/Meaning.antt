@@ -7,7 +7,8 @@ use Rattle.plane.specs.declared.fault.Fault.{Fault}
 use Rattle.rle_reader.specs.Meaning as rle
 use Rattle.text_lines.specs.Bytes.{begins_with}
 
--- the generation, the rule's text and the place to which its faults belong, the kept comments and the live cells
+-- the generation, the rule's text and the place to which its faults belong, the kept comments and
+-- the live cells
 pub record Meaning : Type 0 where
   pub generation : ℕ
   pub rule : Option (List ℕ)
@@ -43,4 +44,6 @@ seen_as meaning (Err fault) = Err fault
 
 -- what a text means, or its first fault
 unfoldable pub judged : List ℕ → Result Meaning Fault
-judged text = if is_macrocell text then seen_as of_macrocell (macrocell.judged text) else seen_as of_rle (rle.judged text)
+judged text =
+    if is_macrocell text then seen_as of_macrocell (macrocell.judged text)
+    else seen_as of_rle (rle.judged text)

@@ -28,4 +28,5 @@ pub record IsWithin (box : Bounds) (cell : Cell) : Type 0 where
 
 -- so many generations of the cells stay in the range
 abbrev pub HasReach : ℕ → List Cell → Type 0
-HasReach generations cells = IfSome (bounds_of cells) (λ box. IsBoxInRange (widened generations box))
+HasReach generations cells =
+    IfSome (bounds_of cells) (λ box. IsBoxInRange (widened generations box))

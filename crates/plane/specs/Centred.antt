@@ -9,7 +9,8 @@ centred level plane x y = plane (x +ℤ pos (2 ^ (level - 1))) (y +ℤ pos (2 ^ 
 
 -- whether the place lies in the square of this level round (0,0)
 abbrev pub is_round : ℕ → ℤ → ℤ → Bool
-is_round level x y = spans (2 ^ level) (x +ℤ pos (2 ^ (level - 1))) && spans (2 ^ level) (y +ℤ pos (2 ^ (level - 1)))
+is_round level x y =
+    spans (2 ^ level) (x +ℤ pos (2 ^ (level - 1))) && spans (2 ^ level) (y +ℤ pos (2 ^ (level - 1)))
 
 -- the square of this level round (0,0) has all live cells of the plane
 pub record Holds (level : ℕ) (plane : Plane) : Type 0 where

@@ -36,9 +36,10 @@ calls_until_failure device = device.calls_until_failure
 abbrev pub fail_at_failures : {T : Type 0} → FailAt T → ℕ
 fail_at_failures device = device.failures
 
--- a call was passed on, so that the device inside gave the answer and did what it may do; or it was the one that fails, and
--- the device inside is as it was
-pub record PassesOn {T Answer : Type 0} (May : T → Result Answer Failed → T → Type 0) (old new : FailAt T) (answer : Result Answer Failed) : Type 0 where
+-- a call was passed on, so that the device inside gave the answer and did what it may do; or it was
+-- the one that fails, and the device inside is as it was
+pub record PassesOn {T Answer : Type 0} (May : T → Result Answer Failed → T → Type 0)
+    (old new : FailAt T) (answer : Result Answer Failed) : Type 0 where
   pub passes : calls_until_failure old ≢ 1 → May (fail_at_inner old) answer (fail_at_inner new)
   pub fails : calls_until_failure old ≡ 1 → IsErr answer × (fail_at_inner new ≡ fail_at_inner old)
   pub calls : calls_until_failure new ≡ calls_until_failure old - 1

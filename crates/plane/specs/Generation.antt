@@ -20,4 +20,5 @@ IsKept old new = (x y : ℤ) → old x y ≡ true → new x y ≡ true
 -- the cell is live, and so is each cell that has it as a neighbour
 pub record HasAround (neighbourhood : Neighbourhood) (cell : Cell) (plane : Plane) : Type 0 where
   pub itself : plane cell.x cell.y ≡ true
-  pub around : All (λ offset. plane (cell.x -ℤ offset.right) (cell.y -ℤ offset.down) ≡ true) (offsets neighbourhood)
+  pub around : All (λ offset. plane (cell.x -ℤ offset.right) (cell.y -ℤ offset.down) ≡ true)
+      (offsets neighbourhood)

@@ -7,6 +7,9 @@ use Rattle.plane.specs.Square.{bit, bits_plane, joined}
 abbrev pub cell_at : ℕ → ℕ → ℕ → Bool
 cell_at word byte place = bit word (8 * byte + place)
 
--- the cells of the square that four leaves make: upper left, upper right, lower left and lower right
+-- the cells of the square that four leaves make: upper left, upper right, lower left and lower
+-- right
 abbrev pub leaves_plane : List ℕ → Plane
-leaves_plane leaves = joined 8 (bits_plane (slice_index leaves 0)) (bits_plane (slice_index leaves 1)) (bits_plane (slice_index leaves 2)) (bits_plane (slice_index leaves 3))
+leaves_plane leaves =
+    joined 8 (bits_plane (slice_index leaves 0)) (bits_plane (slice_index leaves 1))
+    (bits_plane (slice_index leaves 2)) (bits_plane (slice_index leaves 3))

@@ -30,7 +30,8 @@ widened n box = record {
   bottom = box.bottom +ℤ pos n;
 }
 
--- a run of so many generations, from this box and start, stays within the last generation and the range
+-- a run of so many generations, from this box and start, stays within the last generation and the
+-- range
 pub record StaysWithin (box : Option Bounds) (start generations : ℕ) : Type 0 where
   pub last_generation : start + generations ≤ largest_generation
   pub coordinates : IfSome box (λ bounds. IsBoxInRange (widened generations bounds))

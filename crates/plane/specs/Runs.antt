@@ -24,7 +24,8 @@ pub record IsRun (run : Cell × ℕ) : Type 0 where
 
 -- in the order of reading the other run begins behind this one
 abbrev pub Precedes : (Cell × ℕ) → (Cell × ℕ) → Type 0
-Precedes run other = (run.0.y <ℤ other.0.y) ⊎ ((run.0.y ≡ other.0.y) × ((run.0.x +ℤ pos run.1) ≤ℤ other.0.x))
+Precedes run other =
+    (run.0.y <ℤ other.0.y) ⊎ ((run.0.y ≡ other.0.y) × ((run.0.x +ℤ pos run.1) ≤ℤ other.0.x))
 
 -- each run precedes all that stand behind it
 abbrev pub AreRising : List (Cell × ℕ) → Type 0

@@ -3,7 +3,8 @@ use Rattle.std.specs.Prelude.{◌≡◌, ℕ, List, Option}
 use Rattle.std.specs.Io.KnownBytes.{Appends}
 use Rattle.plane.specs.Device.{HasFailed}
 
--- a sink before and after a call, what it took until then, where that is known, and how often it had failed
+-- a sink before and after a call, what it took until then, where that is known, and how often it
+-- had failed
 pub record SinkChange (S : Type 0) : Type 0 where
   pub old : S
   pub new : S
@@ -12,7 +13,12 @@ pub record SinkChange (S : Type 0) : Type 0 where
 
 -- that of a sink which was so before and is so after
 abbrev pub change_of : {S : Type 0} → (S → Option (List ℕ)) → (S → ℕ) → S → S → SinkChange S
-change_of taken failure_count old new = record { old = old; new = new; taken = taken; failure_count = failure_count }
+change_of taken failure_count old new = record {
+  old = old;
+  new = new;
+  taken = taken;
+  failure_count = failure_count;
+}
 
 -- the sink took this text
 abbrev pub Takes : {S : Type 0} → SinkChange S → List ℕ → Type 0

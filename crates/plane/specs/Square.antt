@@ -1,4 +1,5 @@
--- Squares of cells: planes that are dead outside 0 <= x, y < side. A square of level k has the side 2^k.
+-- Squares of cells: planes that are dead outside 0 <= x, y < side. A square of level k has the side
+-- 2^k.
 use Rattle.std.specs.Prelude.{◌≡◌, ℕ, ◌+◌, ◌-◌, ◌*◌, ◌^◌, ℤ, pos, ◌+ℤ◌, ◌-ℤ◌, Bool, false, ◌&&◌, if◌then◌else◌, int_lt, int_le, unsigned_abs, ◌==◌, min}
 use Rattle.std.specs.Int.{bit_at}
 use Rattle.rule_text.specs.CountRule.{CountRule}
@@ -34,9 +35,11 @@ joined side nw ne sw se x y =
 abbrev pub centre_of : ℕ → Plane → Plane
 centre_of level = cut (2 ^ (level - 1)) (2 ^ (level - 2)) (2 ^ (level - 2))
 
--- one of the nine overlapping squares of the level below: it begins so many quarters of the side from the top and the left
+-- one of the nine overlapping squares of the level below: it begins so many quarters of the side
+-- from the top and the left
 abbrev pub subsquare : ℕ → ℕ → ℕ → Plane → Plane
-subsquare level row column = cut (2 ^ (level - 1)) (column * 2 ^ (level - 2)) (row * 2 ^ (level - 2))
+subsquare level row column =
+    cut (2 ^ (level - 1)) (column * 2 ^ (level - 2)) (row * 2 ^ (level - 2))
 
 -- the cells of a leaf
 abbrev pub bit : ℕ → ℕ → Bool

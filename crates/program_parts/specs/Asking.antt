@@ -40,7 +40,8 @@ value_in app name words = one_of name (matches_of app words)
 
 -- the words are of the form, and clap has found this in them
 abbrev pub AreMatchesIn : App → List Text → ArgMatches → Type 0
-AreMatchesIn app words matches = (fault_of app words ≡ []) × (rows_of (found_of matches) ≡ matches_of app words)
+AreMatchesIn app words matches =
+    (fault_of app words ≡ []) × (rows_of (found_of matches) ≡ matches_of app words)
 
 -- the words give a text for this argument
 abbrev pub HasText : App → List ℕ → List Text → Type 0
@@ -50,20 +51,23 @@ HasText app name words = (text : Text) × (text_in app name words ≡ Some text)
 abbrev pub AsksForHelp : CommandLine → List Text → Type 0
 AsksForHelp line words = IsAmong kind.DisplayHelp (fault_of line.form words)
 
--- the words ask for nothing: they have a fault of form other than a request for the help, or are of the form with a
--- value that is not fit
+-- the words ask for nothing: they have a fault of form other than a request for the help, or are of
+-- the form with a value that is not fit
 abbrev pub AsksForNothing : CommandLine → List Text → Type 0
 AsksForNothing line words =
-    ((wrong : ErrorKind) × IsAmong wrong (fault_of line.form words) × (wrong ≡ kind.DisplayHelp → ⊥))
+    ((wrong : ErrorKind) × IsAmong wrong (fault_of line.form words)
+    × (wrong ≡ kind.DisplayHelp → ⊥))
     ⊎ ((fault_of line.form words ≡ []) × (line.IsFit words → ⊥))
 
--- the words are of the form, their values are fit, and the rule that they give is refused by this name
+-- the words are of the form, their values are fit, and the rule that they give is refused by this
+-- name
 pub record RefusesRule (line : CommandLine) (words : List Text) (refusal : Refusal) : Type 0 where
   pub form : fault_of line.form words ≡ []
   pub fit : line.IsFit words
   pub rule : IsRefusedRule (text_in line.form (codes "rule") words) refusal
 
--- the words are of the form, their values are fit, the rule that they give is one, and the window is refused
+-- the words are of the form, their values are fit, the rule that they give is one, and the window
+-- is refused
 pub record RefusesWindow (line : CommandLine) (words : List Text) (refusal : Refusal) : Type 0 where
   pub form : fault_of line.form words ≡ []
   pub fit : line.IsFit words
@@ -73,10 +77,11 @@ pub record RefusesWindow (line : CommandLine) (words : List Text) (refusal : Ref
 
 -- memory ran out while the words were read, or the rule or the window that they give is refused
 abbrev pub Refuses : CommandLine → List Text → Refusal → Type 0
-Refuses line words refusal = (refusal ≡ NoMemory) ⊎ RefusesRule line words refusal ⊎ RefusesWindow line words refusal
+Refuses line words refusal =
+    (refusal ≡ NoMemory) ⊎ RefusesRule line words refusal ⊎ RefusesWindow line words refusal
 
--- why words ask for no run: they are not of the form, or ask for the help; they are of the form, with this value that
--- is not fit; or they are refused
+-- why words ask for no run: they are not of the form, or ask for the help; they are of the form,
+-- with this value that is not fit; or they are refused
 abbrev pub IsReasonOf : CommandLine → List Text → WordsReason → Type 0
 IsReasonOf line words (Clap error) = IsAmong (kind_of error) (fault_of line.form words)
 IsReasonOf line words (Unfit misfit) = (fault_of line.form words ≡ []) × line.IsMisfit words misfit
@@ -86,5 +91,6 @@ IsReasonOf line words (Refused refusal) = Refuses line words refusal
 abbrev pub IsFaultOf : CommandLine → List Text → WordsFault → Type 0
 IsFaultOf line words (fault.Clap error) = IsAmong (kind_of error) (fault_of line.form words)
 IsFaultOf line words fault.Unfit =
-    (fault_of line.form words ≡ []) × ((misfit : Misfit) × line.IsMisfit words misfit) × (line.IsFit words → ⊥)
+    (fault_of line.form words ≡ []) × ((misfit : Misfit) × line.IsMisfit words misfit)
+    × (line.IsFit words → ⊥)
 IsFaultOf line words (fault.Refused refusal) = Refuses line words refusal

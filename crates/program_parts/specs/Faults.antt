@@ -37,8 +37,8 @@ IsBad (Clap error) = kind_of error ≡ kind.DisplayHelp → ⊥
 IsBad (Unfit misfit) = ⊤
 IsBad (Refused refusal) = ⊥
 
--- why a program stopped whose words ask for no run by this reason: they are bad, or refused; or the help that they ask for had no room, or
--- could not be written
+-- why a program stopped whose words ask for no run by this reason: they are bad, or refused; or the
+-- help that they ask for had no room, or could not be written
 abbrev pub IsStopOf : WordsReason → Type 0 → Type 0 → Stop → Type 0
 IsStopOf reason unchanged failed (stop.BadWords told) = (told ≡ reason) × IsBad reason × unchanged
 IsStopOf reason unchanged failed (stop.Refused told) =

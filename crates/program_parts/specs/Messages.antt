@@ -32,7 +32,8 @@ refused_status ReadFailed = 3
 refused_status WriteFailed = 3
 refused_status _ = 1
 
--- between the two the message of a program went out that words are bad, and why: one line, since the reason has no line feed
+-- between the two the message of a program went out that words are bad, and why: one line, since
+-- the reason has no line feed
 abbrev pub HasToldBadWords : List ℕ → Option (List ℕ) → Option (List ℕ) → Type 0
 HasToldBadWords program before after =
     (why : List ℕ) × All (λ byte. byte ≢ 10) why × Appends before after (bad_words_text program why)
@@ -52,13 +53,18 @@ abbrev pub HasTold : List ℕ → Stop → Option (List ℕ) → Option (List �
 HasTold program (BadWords reason) before after = HasToldBadWords program before after
 HasTold program (Refused fault) before after = HasToldFault program fault before after
 
--- a program told nothing where it ended well; else the message went out that says why it stopped, or the sink failed
+-- a program told nothing where it ended well; else the message went out that says why it stopped,
+-- or the sink failed
 abbrev pub HasToldEnd : {E : Type 0} → List ℕ → Result Unit Stop → SinkChange E → Type 0
 HasToldEnd program (Ok done) messages = messages.new ≡ messages.old
-HasToldEnd program (Err stop) messages = Fails messages ⊎ HasTold program stop (messages.taken messages.old) (messages.taken messages.new)
+HasToldEnd program (Err stop) messages =
+    Fails messages
+    ⊎ HasTold program stop (messages.taken messages.old) (messages.taken messages.new)
 
--- a program has no words: one is not UTF-8, or memory ran out, which one line says; or standard error failed
+-- a program has no words: one is not UTF-8, or memory ran out, which one line says; or standard
+-- error failed
 abbrev pub HasNoWords : {E : Type 0} → List ℕ → SinkChange E → ℕ → Type 0
 HasNoWords name err answer =
     ((answer ≡ 2) × (Fails err ⊎ HasToldBadWords name (err.taken err.old) (err.taken err.new)))
-    ⊎ ((answer ≡ 1) × (Fails err ⊎ HasToldFault name (placeless NoMemory) (err.taken err.old) (err.taken err.new)))
+    ⊎ ((answer ≡ 1)
+    × (Fails err ⊎ HasToldFault name (placeless NoMemory) (err.taken err.old) (err.taken err.new)))

@@ -49,7 +49,9 @@ node_option = record (valued (codes "nodes")) {
 
 -- `--workers N`: a number from 1 to 64, 1 if it is left out
 abbrev pub worker_option : Rule
-worker_option = record (valued (codes "workers")) { defaults = codes "1" ∷ []; parser = Some (parser.Unsigned 1 64) }
+worker_option =
+    record
+    (valued (codes "workers")) { defaults = codes "1" ∷ []; parser = Some (parser.Unsigned 1 64) }
 
 -- FILE, which has to be there
 abbrev pub file_argument : Rule

@@ -1,4 +1,5 @@
--- What words ask for by the options that every program has: the generations, the rule, the slots and the workers.
+-- What words ask for by the options that every program has: the generations, the rule, the slots
+-- and the workers.
 use Rattle.std.specs.Prelude.{◌≡◌, ◌⊎◌, ℕ, List, codes}
 use Rattle.clap.specs.Words.{App, Text}
 use Rattle.run_options.specs.declared.options.RunOptions.{RunOptions}
@@ -25,9 +26,11 @@ AreFitNumbers form words = (run : RunOptions) × GiveNumbers form words run
 
 -- no table may have the number of slots that words of this form give
 abbrev pub AreUnfitNodes : App → List Text → Type 0
-AreUnfitNodes form words = (pairs : ℕ) → IsPairNumber (value_in form (codes "nodes") words) pairs → ⊥
+AreUnfitNodes form words =
+    (pairs : ℕ) → IsPairNumber (value_in form (codes "nodes") words) pairs → ⊥
 
 -- the number of slots, or another one that words of this form give, is not fit
 abbrev pub IsUnfitNumber : App → List Text → WordsReason → Type 0
 IsUnfitNumber form words reason =
-    ((reason ≡ Unfit Nodes) × AreUnfitNodes form words) ⊎ ((reason ≡ Unfit Other) × (AreFitNumbers form words → ⊥))
+    ((reason ≡ Unfit Nodes) × AreUnfitNodes form words)
+    ⊎ ((reason ≡ Unfit Other) × (AreFitNumbers form words → ⊥))

@@ -38,4 +38,5 @@ IsAskedRule (Some text) rule = (read : CountRule) × Reads text (Ok read) × (ru
 -- the text that is given is refused as a rule, by this name
 abbrev pub IsRefusedRule : Option Text → Refusal → Type 0
 IsRefusedRule None refusal = ⊥
-IsRefusedRule (Some text) refusal = (fault : RuleFault) × Reads text (Err fault) × (refusal ≡ rule_refusal fault)
+IsRefusedRule (Some text) refusal =
+    (fault : RuleFault) × Reads text (Err fault) × (refusal ≡ rule_refusal fault)

@@ -8,15 +8,17 @@ use Rattle.program_parts.specs.declared.window_text.WindowNumbers.{WindowNumbers
 -- the text is a numeral, with or without a plus, of this number, which is below 2^bits
 abbrev pub IsUnsigned : ℕ → List ℕ → ℕ → Type 0
 IsUnsigned bits text number =
-    IsNumeral 10 (without_leading_plus text) × (number ≡ digits_value 10 (without_leading_plus text)) × (number < 2 ^ bits)
+    IsNumeral 10 (without_leading_plus text)
+    × (number ≡ digits_value 10 (without_leading_plus text)) × (number < 2 ^ bits)
 
 -- the text is a numeral, with or without a sign, of this number, which is from -2^63 to 2^63 - 1
 abbrev pub IsSigned : List ℕ → ℤ → Type 0
 IsSigned text number =
-    IsNumeral 10 (without_leading_sign text) × (number ≡ signed_digits_value 10 text) × FitsSigned w64 number
+    IsNumeral 10 (without_leading_sign text) × (number ≡ signed_digits_value 10 text)
+    × FitsSigned w64 number
 
--- the text is four numerals with commas between them: of the first column, the first row, how many columns and how many rows,
--- these below 2^bits
+-- the text is four numerals with commas between them: of the first column, the first row, how many
+-- columns and how many rows, these below 2^bits
 pub record WritesWindow (bits : ℕ) (text : List ℕ) (window : Rectangle) : Type 0 where
   pub x : List ℕ
   pub y : List ℕ
@@ -29,7 +31,12 @@ pub record WritesWindow (bits : ℕ) (text : List ℕ) (window : Rectangle) : Ty
   pub rows : IsUnsigned bits height window.height
 
 abbrev pub rectangle_of : WindowNumbers → Rectangle
-rectangle_of numbers = record { x = numbers.x; y = numbers.y; width = numbers.width; height = numbers.height }
+rectangle_of numbers = record {
+  x = numbers.x;
+  y = numbers.y;
+  width = numbers.width;
+  height = numbers.height;
+}
 
 -- these are the numbers of the text, if there is one
 abbrev pub AreNumbersOf : Option (List ℕ) → Option WindowNumbers → Type 0

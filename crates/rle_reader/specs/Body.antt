@@ -10,7 +10,8 @@ use Rattle.rle_reader.specs.declared.body.LocatedByte.{LocatedByte}
 -- the bytes of a text that begins at this place, each with its place
 unfoldable pub located_bytes : ℕ → List ℕ → List LocatedByte
 located_bytes place [] = []
-located_bytes place (first ∷ rest) = record { place = place; byte = first } ∷ located_bytes (place + 1) rest
+located_bytes place (first ∷ rest) =
+    record { place = place; byte = first } ∷ located_bytes (place + 1) rest
 
 -- a blank, a CR or an LF
 abbrev pub is_skipped : ℕ → Bool
@@ -22,7 +23,8 @@ significant all = filter (λ located. not (is_skipped located.byte)) all
 
 -- the significant bytes of a line: none in a comment
 unfoldable pub stripped_line : Line → List LocatedByte
-stripped_line line = if is_comment line.text then [] else significant (located_bytes line.place line.text)
+stripped_line line =
+    if is_comment line.text then [] else significant (located_bytes line.place line.text)
 
 -- a body without its comments, blanks and line ends
 abbrev pub stripped : List Line → List LocatedByte
@@ -30,11 +32,13 @@ stripped body = flat_map stripped_line body
 
 -- ---- what is left of it at some place
 
--- what is significant of the rest of a line that has begun before this place, and of the lines after it
+-- what is significant of the rest of a line that has begun before this place, and of the lines
+-- after it
 unfoldable pub stripped_inside : ℕ → List ℕ → List LocatedByte
 stripped_inside place rest =
     significant (located_bytes place (before_first is_line_feed rest))
-    ++ stripped (lines (place + position_or_len is_line_feed rest + 1) (after_first is_line_feed rest))
+    ++ stripped
+    (lines (place + position_or_len is_line_feed rest + 1) (after_first is_line_feed rest))
 
 -- what is significant of a source from this place on, at which a line begins or not
 unfoldable pub stripped_from : List ℕ → ℕ → Bool → List LocatedByte

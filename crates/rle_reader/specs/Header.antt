@@ -15,10 +15,12 @@ use Rattle.text_lines.specs.Numbers.{number_of}
 abbrev pub is_key : List ℕ → List ℕ → Bool
 is_key key name = str_eq_ignore_ascii_case name key
 
--- what stands behind `key =`, without the blanks at its ends; the key's letters stand in either case
+-- what stands behind `key =`, without the blanks at its ends; the key's letters stand in either
+-- case
 unfoldable pub value_behind : List ℕ → List ℕ → Option (List ℕ)
 value_behind key part =
-    if list_any (is_byte (byte "=")) part && is_key key (trimmed (before_first (is_byte (byte "=")) part))
+    if list_any (is_byte (byte "=")) part
+    && is_key key (trimmed (before_first (is_byte (byte "=")) part))
     then Some (trimmed (after_first (is_byte (byte "=")) part)) else None
 
 -- the part is `key = digits`
@@ -33,10 +35,12 @@ begins_as_header line = first_is_x (trimmed_start line)
     first_is_x [] = false
     first_is_x (first ∷ rest) = first == byte "x" || first == byte "X"
 
--- the rule behind the second comma, if there is such a comma; `rest` is what stands behind the first one
+-- the rule behind the second comma, if there is such a comma; `rest` is what stands behind the
+-- first one
 unfoldable pub rule_behind : List ℕ → Result (Option (List ℕ)) Refusal
 rule_behind rest =
-    if list_any (is_byte (byte ",")) rest then named (value_behind (codes "rule") (after_first (is_byte (byte ",")) rest)) else Ok None
+    if list_any (is_byte (byte ",")) rest
+    then named (value_behind (codes "rule") (after_first (is_byte (byte ",")) rest)) else Ok None
   where
     named : Option (List ℕ) → Result (Option (List ℕ)) Refusal
     named None = Err BadHeader
@@ -47,7 +51,8 @@ unfoldable pub header_rule : List ℕ → Result (Option (List ℕ)) Refusal
 header_rule line =
     let rest = after_first (is_byte (byte ",")) line in
     if begins_as_header line then
-    (if is_side (codes "x") (before_first (is_byte (byte ",")) line) && is_side (codes "y") (before_first (is_byte (byte ",")) rest)
+    (if is_side (codes "x") (before_first (is_byte (byte ",")) line)
+    && is_side (codes "y") (before_first (is_byte (byte ",")) rest)
     then rule_behind rest else Err BadHeader)
     else Err NotAPattern
 

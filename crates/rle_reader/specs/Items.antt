@@ -66,14 +66,18 @@ with_digit digit found = go found.items
 
 -- the items where a tag stands before them
 abbrev pub with_tag : LocatedByte → Items → Items
-with_tag tag found = record { items = record { digits = []; tag = tag } ∷ found.items; left_over = found.left_over }
+with_tag tag found = record {
+  items = record { digits = []; tag = tag } ∷ found.items;
+  left_over = found.left_over;
+}
 
 -- the items of a body
 unfoldable pub items_of : List LocatedByte → Items
 items_of [] = record { items = []; left_over = [] }
 items_of (first ∷ rest) =
     if is_digit first then with_digit first (items_of rest)
-    else (if is_end first then record { items = []; left_over = [] } else with_tag first (items_of rest))
+    else (if is_end first then record { items = []; left_over = [] }
+    else with_tag first (items_of rest))
 
 -- ---- what an item says
 
@@ -111,15 +115,18 @@ abbrev pub item_slice_between : List ℕ → ℕ → ℕ → ℕ → Result Tag 
 item_slice_between source place count end (Err refusal) = Err refusal
 item_slice_between source place count end (Ok tag) =
     if count == 0 then Err BadCount
-    else Ok (record { text = slice_range source place end; place = place; count = count; tag = tag })
+    else Ok
+    (record { text = slice_range source place end; place = place; count = count; tag = tag })
 
 -- the item from this place to its tag, if it has one
 unfoldable pub item_slice_from : List ℕ → ℕ → ℕ → LocatedByte → Result ItemSlice Refusal
-item_slice_from source place count located = item_slice_between source place count (located.place + 1) (tag_of located.byte)
+item_slice_from source place count located =
+    item_slice_between source place count (located.place + 1) (tag_of located.byte)
 
 -- the item in its text
 abbrev pub run_of : List ℕ → Item → Result ItemSlice Refusal
-run_of source item = item_slice_from source (place_of item.digits item.tag) (count_of item.digits) item.tag
+run_of source item =
+    item_slice_from source (place_of item.digits item.tag) (count_of item.digits) item.tag
 
 -- ---- one item after the other
 
@@ -128,7 +135,8 @@ unfoldable pub next_among : List ℕ → List Item → List LocatedByte → Resu
 next_among source [] [] = Ok None
 next_among source [] (digit ∷ rest) = Err (fault_at BadCount digit.place)
 next_among source (item ∷ items) left_over =
-    result_map_both (λ run. Some run) (λ refusal. fault_at refusal (place_of item.digits item.tag)) (run_of source item)
+    result_map_both (λ run. Some run) (λ refusal. fault_at refusal (place_of item.digits item.tag))
+    (run_of source item)
 
 abbrev pub next_of : List ℕ → Items → Result (Option ItemSlice) Fault
 next_of source found = next_among source found.items found.left_over

@@ -1,4 +1,5 @@
--- The runs of live cells that are still to come, as a machine reads them from a text that was checked.
+-- The runs of live cells that are still to come, as a machine reads them from a text that was
+-- checked.
 use Rattle.std.specs.Prelude.{ℕ, ◌+◌, ◌%◌, ◌^◌, max, false, if◌then◌else◌, List, [], ◌∷◌, ◌++◌, ℤ, Result, Ok, Err}
 use Rattle.std.specs.Int.{w64, cast_signed, cast_unsigned}
 use Rattle.plane.specs.declared.cell.Cell.{Cell}
@@ -39,8 +40,10 @@ live_left left column row count [] = []
 live_left left column row count (first ∷ rest) =
     if is_digit first then live_left left column row (capped (with_digit count first.byte)) rest
     else runs_at (λ tag. live_run (record { y = row; x = column }) tag (max count 1)
-    ++ live_left left (column_after left column tag (max count 1)) (row_after row tag (max count 1)) 0 rest) (tag_of first.byte)
+    ++ live_left left (column_after left column tag (max count 1))
+    (row_after row tag (max count 1)) 0 rest) (tag_of first.byte)
 
 -- the runs of what is left of a body
 abbrev pub live_rest : LiveRest → List (Cell × ℕ)
-live_rest rest = live_left rest.left rest.column rest.row 0 (stripped_from rest.source.now rest.at false)
+live_rest rest =
+    live_left rest.left rest.column rest.row 0 (stripped_from rest.source.now rest.at false)

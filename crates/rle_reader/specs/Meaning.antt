@@ -38,7 +38,8 @@ unfoldable pub first_fault_from : ℤ → State → List Item → List LocatedBy
 first_fault_from left state [] [] = None
 first_fault_from left state [] (first ∷ rest) = Some (fault_at BadCount first.place)
 first_fault_from left state (item ∷ items) left_over =
-    option_or (item_fault state item) (first_fault_from left (state_after left state item) items left_over)
+    option_or (item_fault state item)
+    (first_fault_from left (state_after left state item) items left_over)
 
 -- the first fault of a body whose first item begins at this cell
 unfoldable pub body_fault : Cell → Items → Option Fault
@@ -76,7 +77,8 @@ meaning_of text opening = record {
 unfoldable pub judged : List ℕ → Result Meaning Fault
 judged text = do
   opening ← opening_of (length text) (lines 0 text)
-  unless (body_fault opening.settings.pos (items_of (stripped opening.body))) (meaning_of text opening)
+  unless (body_fault opening.settings.pos (items_of (stripped opening.body)))
+      (meaning_of text opening)
 
 -- ---- the cells that a meaning makes live
 

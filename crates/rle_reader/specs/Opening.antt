@@ -22,8 +22,8 @@ after_lines settings (line ∷ rest) = do
   next ← at_place line.place (after_line settings line.text)
   after_lines next rest
 
--- what stands before the body: what the `#CXRLE` lines say, the kept comments, the header's place and rule;
--- and the lines of the body
+-- what stands before the body: what the `#CXRLE` lines say, the kept comments, the header's place
+-- and rule; and the lines of the body
 pub record Opening : Type 0 where
   pub settings : Settings
   pub comments : List (List ℕ)
@@ -36,7 +36,8 @@ unfoldable pub with_header : ℕ → List (List ℕ) → Settings → List Line 
 with_header end comments settings [] = Err (fault_at NotAPattern end)
 with_header end comments settings (header ∷ body) = do
   rule ← at_place header.place (header_rule header.text)
-  Ok (record { settings = settings; comments = comments; header = header.place; rule = rule; body = body })
+  Ok
+      (record { settings = settings; comments = comments; header = header.place; rule = rule; body = body })
 
 abbrev pub may_stand : Line → Bool
 may_stand line = stands_before_header line.text

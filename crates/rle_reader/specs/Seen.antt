@@ -41,12 +41,14 @@ seen_opening source found = result_map_both (opening_seen source) (λ fault. fau
 
 -- the first fault of the body behind what was read
 abbrev pub fault_in_body : List ℕ → Preamble → Option Fault
-fault_in_body source preamble = body_fault preamble.settings.pos (items_of (stripped_from source preamble.body true))
+fault_in_body source preamble =
+    body_fault preamble.settings.pos (items_of (stripped_from source preamble.body true))
 
 -- the runs of the live items behind what was read, as a machine keeps them
 abbrev pub live_runs_kept : List ℕ → Preamble → List (Cell × ℕ)
 live_runs_kept source preamble =
-    live_runs_from preamble.settings.pos.x (start_at preamble.settings.pos) (runs_kept source (stripped_from source preamble.body true))
+    live_runs_from preamble.settings.pos.x (start_at preamble.settings.pos)
+    (runs_kept source (stripped_from source preamble.body true))
 
 -- the rule of a header line, or its fault
 abbrev pub rule_at : Line → Result (Option (List ℕ)) Fault
@@ -62,7 +64,8 @@ seen_run found = result_map_both run_seen (λ fault. fault) found
 abbrev pub seen_next : Result (Option Run) Fault → Result (Option ItemSlice) Fault
 seen_next found = result_map_both (option_map run_seen) (λ fault. fault) found
 
--- the count reads digits at the front of these bytes, and the byte after them if there is one, and leaves these
+-- the count reads digits at the front of these bytes, and the byte after them if there is one, and
+-- leaves these
 pub record IsCount (all : List LocatedByte) (count : Count) (left : List LocatedByte) : Type 0 where
   pub digits : List LocatedByte
   pub each : AllByRecursion (λ located. is_digit located ≡ true) digits

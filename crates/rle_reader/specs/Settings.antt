@@ -25,7 +25,8 @@ after_word settings Other = settings
 -- of two refusals the one of the lower number
 abbrev pub lower : Option Refusal → Refusal → Option Refusal
 lower None refusal = Some refusal
-lower (Some other) refusal = if nat_le (number_of other) (number_of refusal) then Some other else Some refusal
+lower (Some other) refusal =
+    if nat_le (number_of other) (number_of refusal) then Some other else Some refusal
 
 -- the refusal of the lowest number
 abbrev pub lowest : List Refusal → Option Refusal
@@ -39,12 +40,14 @@ unless_refused (Some refusal) settings = Err refusal
 -- the settings after these readings of words, or the lowest refusal of a word
 unfoldable pub after_readings : Settings → List (Result Word Refusal) → Result Settings Refusal
 after_readings settings readings =
-    unless_refused (lowest (filter_map result_err readings)) (fold after_word settings (filter_map result_ok readings))
+    unless_refused (lowest (filter_map result_err readings))
+    (fold after_word settings (filter_map result_ok readings))
 
 -- the settings after a line before the header
 unfoldable pub after_line : Settings → List ℕ → Result Settings Refusal
 after_line settings line =
-    if is_settings_line line then after_readings settings (map word_of (words line)) else Ok settings
+    if is_settings_line line then after_readings settings (map word_of (words line))
+    else Ok settings
 
 -- the words of a text, or none where there is no text
 abbrev pub words_left : Option (List ℕ) → List (List ℕ)

@@ -25,7 +25,10 @@ start_at corner = record { column = corner.x; row = corner.y; live = 0 }
 -- after an item, where the pattern's left side is at this column
 abbrev pub after_item : ℤ → State → Tag → ℕ → State
 after_item left state Dead count = record state { column = state.column +ℤ pos count }
-after_item left state Live count = record state { column = state.column +ℤ pos count; live = state.live + count }
+after_item left state Live count = record state {
+  column = state.column +ℤ pos count;
+  live = state.live + count;
+}
 after_item left state Row count = record state { column = left; row = state.row +ℤ pos count }
 
 -- the coordinate is then above the limit
@@ -63,4 +66,7 @@ first_fault (refusal ∷ rest) = Some refusal
 
 -- the fault of an item that has a tag and a count: where it leads, or how many cells are live then
 unfoldable pub motion_fault : State → Tag → ℕ → Option Refusal
-motion_fault state tag count = first_fault (when (leaves_range state tag count) OutOfRange ++ when (passes_cells state tag count) TooManyCells)
+motion_fault state tag count =
+    first_fault
+    (when (leaves_range state tag count) OutOfRange
+    ++ when (passes_cells state tag count) TooManyCells)

@@ -28,7 +28,8 @@ cell_at (Some x) (Some y) =
 -- the cell that two numbers with a comma between them give
 unfoldable pub position_of : List ℕ → Result Cell Refusal
 position_of text =
-    cell_at (integer_of (before_first (is_byte (byte ",")) text)) (integer_of (after_first (is_byte (byte ",")) text))
+    cell_at (integer_of (before_first (is_byte (byte ",")) text))
+    (integer_of (after_first (is_byte (byte ",")) text))
 
 -- the generation, if the number is one
 unfoldable pub generation_at : Option ℕ → Result ℕ Refusal
@@ -38,6 +39,9 @@ generation_at (Some number) = if nat_le number largest_generation then Ok number
 -- what a word says
 unfoldable pub word_of : List ℕ → Result Word Refusal
 word_of text =
-    if begins_with (codes "Pos=") text then result_map_both (λ cell. Pos cell) (λ refusal. refusal) (position_of (drop 4 text))
-    else (if begins_with (codes "Gen=") text then result_map_both (λ number. Gen number) (λ refusal. refusal) (generation_at (number_of (drop 4 text)))
+    if begins_with (codes "Pos=") text
+    then result_map_both (λ cell. Pos cell) (λ refusal. refusal) (position_of (drop 4 text))
+    else (if begins_with (codes "Gen=") text
+    then result_map_both (λ number. Gen number) (λ refusal. refusal)
+    (generation_at (number_of (drop 4 text)))
     else Ok Other)

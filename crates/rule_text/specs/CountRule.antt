@@ -24,7 +24,11 @@ pub record CountRule : Type 0 where
 
 -- the rule of this neighbourhood and these digits
 abbrev pub count_rule : Neighbourhood → List ℕ → List ℕ → CountRule
-count_rule neighbourhood birth survival = record { neighbourhood = neighbourhood; birth = birth; survival = survival }
+count_rule neighbourhood birth survival = record {
+  neighbourhood = neighbourhood;
+  birth = birth;
+  survival = survival;
+}
 
 -- each digit is the count of some neighbours
 abbrev pub Fit : Neighbourhood → List ℕ → Type 0

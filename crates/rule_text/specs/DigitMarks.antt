@@ -12,8 +12,11 @@ and-true true = refl
 and-true false = refl
 
 -- what a filter keeps passes, and was there
-pub has-filter : (p : ℕ → Bool) (digits : List ℕ) (d : ℕ) → has (filter p digits) d ≡ (p d && has digits d)
-has-filter p digits d = any-filter_same (λ digit. digit == d) p (p d) (λ digit same. ap p (eqb-true digit d same)) digits
+pub has-filter : (p : ℕ → Bool) (digits : List ℕ) (d : ℕ) →
+    has (filter p digits) d ≡ (p d && has digits d)
+has-filter p digits d =
+    any-filter_same (λ digit. digit == d) p (p d)
+    (λ digit same. ap p (eqb-true digit d same)) digits
 
 -- each number up to 8 is a count
 pub has-counts : (d : ℕ) → d < 9 → has counts d ≡ true
@@ -24,7 +27,8 @@ pub has-filter_counts : (p : ℕ → Bool) (d : ℕ) → d < 9 → has (filter p
 has-filter_counts p d small = has-filter p counts d ∙ ap (λ b. p d && b) (has-counts d small) ∙ and-true (p d)
 
 -- a number is among the digits exactly if it is marked
-pub has-digits_listed : (listed : List Bool) (d : ℕ) → length listed ≡ 9 → has (digits_listed listed) d ≡ slice_index_or listed d false
+pub has-digits_listed : (listed : List Bool) (d : ℕ) → length listed ≡ 9 →
+    has (digits_listed listed) d ≡ slice_index_or listed d false
 unfolding digits_listed
 has-digits_listed listed d nine =
     elim (cases_lt d 9) [
@@ -35,7 +39,10 @@ has-digits_listed listed d nine =
           ∙ sym (get_or_past listed d false (omega arith))
     ]
 
-pub listed_again : (listed : List Bool) → length listed ≡ 9 → listed_digits (digits_listed listed) ≡ listed
+pub listed_again : (listed : List Bool) → length listed ≡ 9 →
+    listed_digits (digits_listed listed) ≡ listed
 unfolding counts listed_digits
 listed_again listed nine =
-    sym (fill_by_all (has (digits_listed listed)) listed 9 false nine (λ k _. sym (has-digits_listed listed k nine)))
+    sym
+    (fill_by_all (has (digits_listed listed)) listed 9 false nine
+    (λ k _. sym (has-digits_listed listed k nine)))

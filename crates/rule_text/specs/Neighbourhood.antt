@@ -20,9 +20,12 @@ step right down = record { right = right; down = down }
 
 -- from a cell to each of its neighbours, row by row
 unfoldable pub offsets : Neighbourhood → List Offset
-offsets Moore = step back back ∷ step stay back ∷ step on back ∷ step back stay ∷ step on stay ∷ step back on ∷ step stay on ∷ step on on ∷ []
+offsets Moore =
+    step back back ∷ step stay back ∷ step on back ∷ step back stay ∷ step on stay ∷ step back on
+    ∷ step stay on ∷ step on on ∷ []
 offsets VonNeumann = step stay back ∷ step back stay ∷ step on stay ∷ step stay on ∷ []
-offsets Hexagonal = step back back ∷ step stay back ∷ step back stay ∷ step on stay ∷ step stay on ∷ step on on ∷ []
+offsets Hexagonal =
+    step back back ∷ step stay back ∷ step back stay ∷ step on stay ∷ step stay on ∷ step on on ∷ []
 
 -- how many neighbours a cell has
 abbrev pub neighbour_count : Neighbourhood → ℕ

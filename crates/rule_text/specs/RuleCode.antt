@@ -11,7 +11,8 @@ number Moore = 0
 number VonNeumann = 1
 number Hexagonal = 2
 
--- bit d for a digit d of birth, bit 9 + d for a digit d of survival, and the neighbourhood from bit 18 on
+-- bit d for a digit d of birth, bit 9 + d for a digit d of survival, and the neighbourhood from bit
+-- 18 on
 abbrev pub code_of : CountRule → ℕ
 code_of rule =
     sum_by (λ digit. 2 ^ digit) rule.birth

@@ -1,4 +1,5 @@
--- What a rule's text is: the digits of birth and of survival in one of five forms, and a letter for the neighbourhood.
+-- What a rule's text is: the digits of birth and of survival in one of five forms, and a letter for
+-- the neighbourhood.
 use Rattle.std.specs.Prelude.{◌≡◌, ℕ, ◌+◌, ◌<◌, ◌==◌, ◌||◌, ◌⊎◌, if◌then◌else◌, Bool, true, false, List, [], ◌∷◌, ◌++◌, map, All, IsTrue, codes, Result, Ok, Err}
 use Rattle.std.specs.Char.{to_ascii_uppercase}
 use Rattle.rule_text.specs.CountRule.{CountRule, Fit, has, rising}
@@ -32,12 +33,17 @@ pub data Form : Type 0 where
   SurvivalBirth : Form
   DigitsAlone : Form
 
--- the digits of birth and of survival in a form, in capitals; digits alone are those of survival first
+-- the digits of birth and of survival in a form, in capitals; digits alone are those of survival
+-- first
 abbrev pub body : Form → List ℕ → List ℕ → List ℕ
-body BirthSlashSurvival birth survival = codes "B" ++ digit_text birth ++ codes "/S" ++ digit_text survival
-body SurvivalSlashBirth birth survival = codes "S" ++ digit_text survival ++ codes "/B" ++ digit_text birth
-body BirthSurvival birth survival = codes "B" ++ digit_text birth ++ codes "S" ++ digit_text survival
-body SurvivalBirth birth survival = codes "S" ++ digit_text survival ++ codes "B" ++ digit_text birth
+body BirthSlashSurvival birth survival =
+    codes "B" ++ digit_text birth ++ codes "/S" ++ digit_text survival
+body SurvivalSlashBirth birth survival =
+    codes "S" ++ digit_text survival ++ codes "/B" ++ digit_text birth
+body BirthSurvival birth survival =
+    codes "B" ++ digit_text birth ++ codes "S" ++ digit_text survival
+body SurvivalBirth birth survival =
+    codes "S" ++ digit_text survival ++ codes "B" ++ digit_text birth
 body DigitsAlone birth survival = digit_text survival ++ codes "/" ++ digit_text birth
 
 -- the letter that names a neighbourhood in a canonical text; the eight cells round a cell have none
@@ -58,13 +64,15 @@ pub record Written : Type 0 where
   pub birth : List ℕ
   pub survival : List ℕ
 
--- the text is the digits in a form and a letter for the neighbourhood, letters in either case, with blanks at the ends
+-- the text is the digits in a form and a letter for the neighbourhood, letters in either case, with
+-- blanks at the ends
 pub record Spells (text : List ℕ) (written : Written) : Type 0 where
   pub before : List ℕ
   pub form : Form
   pub letter : List ℕ
   pub after : List ℕ
-  pub spelled : capitals text ≡ before ++ body form written.birth written.survival ++ letter ++ after
+  pub spelled : capitals text
+      ≡ before ++ body form written.birth written.survival ++ letter ++ after
   pub names : Names letter written.neighbourhood
   pub blank_before : All (λ byte. IsTrue (is_blank byte)) before
   pub blank_after : All (λ byte. IsTrue (is_blank byte)) after
@@ -78,17 +86,25 @@ pub record Fits (written : Written) : Type 0 where
 
 -- the rule that is written: its digits once each, rising
 abbrev pub rule_of : Written → CountRule
-rule_of written = record { neighbourhood = written.neighbourhood; birth = rising written.birth; survival = rising written.survival }
+rule_of written = record {
+  neighbourhood = written.neighbourhood;
+  birth = rising written.birth;
+  survival = rising written.survival;
+}
 
 -- what it means to read a text so
 abbrev pub Reads : List ℕ → Result CountRule RuleFault → Type 0
 -- it spells digits that fit, without 0 in birth, and they are the rule's
-Reads text (Ok rule) = (written : Written) × Spells text written × Fits written × (has written.birth 0 ≡ false) × (rule ≡ rule_of written)
+Reads text (Ok rule) =
+    (written : Written) × Spells text written × Fits written × (has written.birth 0 ≡ false)
+    × (rule ≡ rule_of written)
 -- it spells digits that fit, with 0 in birth
-Reads text (Err BirthOnZero) = (written : Written) × Spells text written × Fits written × (has written.birth 0 ≡ true)
+Reads text (Err BirthOnZero) =
+    (written : Written) × Spells text written × Fits written × (has written.birth 0 ≡ true)
 -- it spells no digits that fit
 Reads text (Err BadRule) = (written : Written) → Spells text written → Fits written → ⊥
 
--- the text in which a rule is written: birth first, a slash, digits rising, and no letter for the eight cells
+-- the text in which a rule is written: birth first, a slash, digits rising, and no letter for the
+-- eight cells
 abbrev pub canonical_text : CountRule → List ℕ
 canonical_text rule = body BirthSlashSurvival rule.birth rule.survival ++ suffix rule.neighbourhood

@@ -7,10 +7,10 @@ use Rattle.plane.specs.declared.refusal.Refusal.{Refusal}
 use Rattle.plane.specs.declared.refusal.Refusal.TheVariants.{NodesFull, NoMemory}
 use Rattle.squares.specs.declared.sq.Sq.{Sq}
 
--- What a book knows: the rule and the exponent of its results; which squares it knows, and their cells; the nonempty
--- squares whose result it knows, and how many of these somebody else told it; whether it has no room for some square;
--- whether it takes memory; and the store of its squares, as numbers that tell it from others, and none for a book of its
--- own.
+-- What a book knows: the rule and the exponent of its results; which squares it knows, and their
+-- cells; the nonempty squares whose result it knows, and how many of these somebody else told it;
+-- whether it has no room for some square; whether it takes memory; and the store of its squares, as
+-- numbers that tell it from others, and none for a book of its own.
 pub record Book : Type 0 where
   pub rule : CountRule
   pub exponent : ℕ
@@ -44,7 +44,8 @@ IsEmpty sq = sq.num.0 ≡ 0
 
 -- the second square is the future of the first
 abbrev pub IsFuture : Book → Sq → Sq → Type 0
-IsFuture book sq = Shows book (sq.level - 1) (future book.rule book.exponent sq.level (book.cells sq))
+IsFuture book sq =
+    Shows book (sq.level - 1) (future book.rule book.exponent sq.level (book.cells sq))
 
 -- the result of the square is known: that of an empty square always is
 abbrev pub HasResult : Book → Sq → Type 0
@@ -55,11 +56,14 @@ pub record IsBook (book : Book) : Type 0 where
   pub rule : IsRule book.rule
   pub levels : (sq : Sq) → IsTrue (book.knows sq) → (3 ≤ sq.level) × (sq.level ≤ 65)
   pub square : (sq : Sq) → IsTrue (book.knows sq) → IsSquare (2 ^ sq.level) (book.cells sq)
-  pub one_number : (a b : Sq) → IsTrue (book.knows a) → IsTrue (book.knows b) → a.level ≡ b.level → IsSame (book.cells a) (book.cells b) → a ≡ b
+  pub one_number : (a b : Sq) → IsTrue (book.knows a) → IsTrue (book.knows b) → a.level ≡ b.level →
+      IsSame (book.cells a) (book.cells b) → a ≡ b
   pub zero_known : (level : ℕ) → 3 ≤ level → level ≤ 65 → IsTrue (book.knows (numbered level 0))
   pub zero_empty : (level : ℕ) → IsSame (book.cells (numbered level 0)) empty
-  pub results : (sq : Sq) → Contains book.results sq → IsTrue (book.knows sq) × (3 < sq.level) × (¬ IsEmpty sq)
-  pub results_once : (i j : ℕ) (sq : Sq) → slice_get book.results i ≡ Some sq → slice_get book.results j ≡ Some sq → i ≡ j
+  pub results : (sq : Sq) → Contains book.results sq →
+      IsTrue (book.knows sq) × (3 < sq.level) × (¬ IsEmpty sq)
+  pub results_once : (i j : ℕ) (sq : Sq) → slice_get book.results i ≡ Some sq →
+      slice_get book.results j ≡ Some sq → i ≡ j
 
 -- a book for results under this rule and exponent that knows the empty squares alone
 pub record IsFresh (rule : CountRule) (exponent : ℕ) (book : Book) : Type 0 where
@@ -69,7 +73,8 @@ pub record IsFresh (rule : CountRule) (exponent : ℕ) (book : Book) : Type 0 wh
   pub results : book.results ≡ []
   pub learned : book.learned ≡ 0
 
--- all that was known stays known, with the same cells, a full book stays full, and the store is the same
+-- all that was known stays known, with the same cells, a full book stays full, and the store is the
+-- same
 pub record Keeps (old new : Book) : Type 0 where
   pub rule : new.rule ≡ old.rule
   pub exponent : new.exponent ≡ old.exponent
@@ -98,7 +103,8 @@ pub record Gains (old new : List Sq) (sq : Sq) : Type 0 where
 -- the square's result is known now: it was known before, or somebody else told it
 pub record Learns (old new : Book) (sq : Sq) : Type 0 where
   pub known : HasResult new sq
-  pub told : KeepsResults old new ⊎ (Gains old.results new.results sq × (new.learned ≡ suc old.learned))
+  pub told : KeepsResults old new
+      ⊎ (Gains old.results new.results sq × (new.learned ≡ suc old.learned))
 
 -- the square's result is known now, and no other is new
 pub record AddsResult (old new : Book) (sq : Sq) : Type 0 where
@@ -108,7 +114,9 @@ pub record AddsResult (old new : Book) (sq : Sq) : Type 0 where
 
 -- a refusal that the book may give: that memory ran out, if it takes any, or that it is full
 abbrev pub MayRefuse : Book → Refusal → Type 0
-MayRefuse book refusal = ((refusal ≡ NoMemory) × IsTrue book.takes_memory) ⊎ ((refusal ≡ NodesFull) × IsTrue book.is_full)
+MayRefuse book refusal =
+    ((refusal ≡ NoMemory) × IsTrue book.takes_memory)
+    ⊎ ((refusal ≡ NodesFull) × IsTrue book.is_full)
 
 -- that memory ran out, or one of these refusals
 abbrev pub LacksMemoryOr : (Refusal → Type 0) → Refusal → Type 0
@@ -123,12 +131,17 @@ pub record AreQuarters (book : Book) (level : ℕ) (plane : Plane) (quarters : L
   pub nw : Shows book (level - 1) (cut (2 ^ (level - 1)) 0 0 plane) (nth quarters 0)
   pub ne : Shows book (level - 1) (cut (2 ^ (level - 1)) (2 ^ (level - 1)) 0 plane) (nth quarters 1)
   pub sw : Shows book (level - 1) (cut (2 ^ (level - 1)) 0 (2 ^ (level - 1)) plane) (nth quarters 2)
-  pub se : Shows book (level - 1) (cut (2 ^ (level - 1)) (2 ^ (level - 1)) (2 ^ (level - 1)) plane) (nth quarters 3)
+  pub se : Shows book (level - 1) (cut (2 ^ (level - 1)) (2 ^ (level - 1)) (2 ^ (level - 1)) plane)
+      (nth quarters 3)
 
 -- the nine overlapping squares of a square of this level with these cells, row by row
-pub record AreSubsquares (book : Book) (level : ℕ) (plane : Plane) (squares : List Sq) : Type 0 where
-  pub shown : (row column : ℕ) → row < 3 → column < 3 → Shows book (level - 1) (subsquare level row column plane) (nth squares (3 * row + column))
+pub record AreSubsquares (book : Book) (level : ℕ) (plane : Plane)
+    (squares : List Sq) : Type 0 where
+  pub shown : (row column : ℕ) → row < 3 → column < 3 →
+      Shows book (level - 1) (subsquare level row column plane) (nth squares (3 * row + column))
 
 -- the cells of four squares of a level, beside and below one another
 abbrev pub joined_squares : Book → ℕ → List Sq → Plane
-joined_squares book level quarters = joined (2 ^ level) (book.cells (nth quarters 0)) (book.cells (nth quarters 1)) (book.cells (nth quarters 2)) (book.cells (nth quarters 3))
+joined_squares book level quarters =
+    joined (2 ^ level) (book.cells (nth quarters 0)) (book.cells (nth quarters 1))
+    (book.cells (nth quarters 2)) (book.cells (nth quarters 3))

@@ -7,7 +7,8 @@ use Rattle.squares.specs.declared.sq.Sq.{Sq}
 
 -- each square of the map has a copy of this number, with the same level and cells
 pub record AreCopies (from to : Book) (copies : Noted Num) : Type 0 where
-  pub same : (sq : Sq) (num : Num) → value_of copies sq ≡ Some num → Shows to sq.level (from.cells sq) (numbered sq.level num.0)
+  pub same : (sq : Sq) (num : Num) → value_of copies sq ≡ Some num →
+      Shows to sq.level (from.cells sq) (numbered sq.level num.0)
 
 -- each square of the map is known, and has such a copy
 pub record AreKnownCopies (from to : Book) (copies : Noted Num) : Type 0 where

@@ -36,14 +36,17 @@ has_level level (Some node) = level_of node == level
 
 -- whether a square of this level has this number
 abbrev pub knows_number : List Node → ℕ → ℕ → Bool
-knows_number nodes level n = if n == 0 then nat_le 3 level && nat_le level 65 else has_level level (node_at nodes n)
+knows_number nodes level n =
+    if n == 0 then nat_le 3 level && nat_le level 65 else has_level level (node_at nodes n)
 
 abbrev pub leaf_plane : Option Node → Plane
 leaf_plane (Some (Leaf word)) = bits_plane word
 leaf_plane _ = empty
 
 abbrev pub inner_plane : (ℕ → Plane) → ℕ → Option Node → Plane
-inner_plane plane side (Some (Inner quarters)) = joined side (plane quarters.nw.0) (plane quarters.ne.0) (plane quarters.sw.0) (plane quarters.se.0)
+inner_plane plane side (Some (Inner quarters)) =
+    joined side (plane quarters.nw.0) (plane quarters.ne.0) (plane quarters.sw.0)
+    (plane quarters.se.0)
 inner_plane plane side _ = empty
 
 -- the cells of a number's square, of level 3 and so many more
@@ -51,10 +54,13 @@ abbrev pub plane_at : List Node → ℕ → ℕ → Plane
 plane_at nodes zero n = leaf_plane (node_at nodes n)
 plane_at nodes (suc more) n = inner_plane (plane_at nodes more) (2 ^ (more + 3)) (node_at nodes n)
 
--- the squares of the records whose result is known, where the first record has the number behind this one
+-- the squares of the records whose result is known, where the first record has the number behind
+-- this one
 abbrev pub results_from : ℕ → List Record → List Sq
 results_from n [] = []
-results_from n (r ∷ rs) = if is_some r.future then numbered (level_of r.node) (suc n) ∷ results_from (suc n) rs else results_from (suc n) rs
+results_from n (r ∷ rs) =
+    if is_some r.future then numbered (level_of r.node) (suc n) ∷ results_from (suc n) rs
+    else results_from (suc n) rs
 
 abbrev pub plain_book : CountRule → ℕ → List Record → Book
 plain_book rule exponent records = record {
@@ -82,19 +88,26 @@ pub record AreKnown (nodes : List Node) (quarters : Quarters) : Type 0 where
 -- no node stands for an empty square, and no two for the same
 pub record IsGood (nodes : List Node) : Type 0 where
   pub leaf : (n word : ℕ) → node_at nodes n ≡ Some (Leaf word) → (word ≢ 0) × (word < 2 ^ 64)
-  pub inner : (n : ℕ) (quarters : Quarters) → node_at nodes n ≡ Some (Inner quarters) → AreKnown nodes quarters
-  pub distinct : (n m : ℕ) (node : Node) → node_at nodes n ≡ Some node → node_at nodes m ≡ Some node → n ≡ m
+  pub inner : (n : ℕ) (quarters : Quarters) → node_at nodes n ≡ Some (Inner quarters) →
+      AreKnown nodes quarters
+  pub distinct : (n m : ℕ) (node : Node) → node_at nodes n ≡ Some node →
+      node_at nodes m ≡ Some node → n ≡ m
 
 -- the map has the number of each node of a kind
-pub record HasNumbers {Key : Type 0} (order : Key → Key → Ordering) (node : Key → Node) (nodes : List Node) (numbers : BTreeMap Key Num) : Type 0 where
-  pub listed : (key : Key) (num : Num) → node_at nodes num.0 ≡ Some (node key) → get order numbers key ≡ Some num
-  pub found : (key : Key) (num : Num) → get order numbers key ≡ Some num → node_at nodes num.0 ≡ Some (node key)
+pub record HasNumbers {Key : Type 0} (order : Key → Key → Ordering) (node : Key → Node)
+    (nodes : List Node) (numbers : BTreeMap Key Num) : Type 0 where
+  pub listed : (key : Key) (num : Num) → node_at nodes num.0 ≡ Some (node key) →
+      get order numbers key ≡ Some num
+  pub found : (key : Key) (num : Num) → get order numbers key ≡ Some num →
+      node_at nodes num.0 ≡ Some (node key)
 
 -- quarters are ordered by their level, and then by their numbers
 abbrev pub quarters_order : Quarters → Quarters → Ordering
 quarters_order a b =
     ordering_then (nat_cmp a.level b.level)
-    (ordering_then (nat_cmp a.nw.0 b.nw.0) (ordering_then (nat_cmp a.ne.0 b.ne.0) (ordering_then (nat_cmp a.sw.0 b.sw.0) (nat_cmp a.se.0 b.se.0))))
+    (ordering_then (nat_cmp a.nw.0 b.nw.0)
+    (ordering_then (nat_cmp a.ne.0 b.ne.0)
+    (ordering_then (nat_cmp a.sw.0 b.sw.0) (nat_cmp a.se.0 b.se.0))))
 
 -- the number of a number's result
 abbrev pub future_at : List Record → ℕ → Option Num
@@ -103,5 +116,8 @@ future_at records (suc i) = option_and_then (λ (r : Record). r.future) (slice_g
 
 -- each result is the future of its square
 pub record AreFutures (rule : CountRule) (exponent : ℕ) (records : List Record) : Type 0 where
-  pub futures : (n : ℕ) (node : Node) (num : Num) → node_at (nodes_of records) n ≡ Some node → future_at records n ≡ Some num →
-      (3 < level_of node) × IsFuture (plain_book rule exponent records) (numbered (level_of node) n) (numbered (level_of node - 1) num.0)
+  pub futures : (n : ℕ) (node : Node) (num : Num) → node_at (nodes_of records) n ≡ Some node →
+      future_at records n ≡ Some num →
+      (3 < level_of node)
+      × IsFuture (plain_book rule exponent records) (numbered (level_of node) n)
+      (numbered (level_of node - 1) num.0)

@@ -31,8 +31,10 @@ pub record ArePassedBy (upper lower : List Segment) (counts : List ℕ) (column 
   pub upper_ends : AllByRecursion (EndsBy (2 * column)) (take (slice_index counts 0) upper)
   pub lower_ends : AllByRecursion (EndsBy (2 * column)) (take (slice_index counts 1) lower)
 
--- the four squares stand in this column of the row above, in the one behind it, and in the same two of the row below
-pub record AreQuartersIn (upper lower : List Segment) (column : ℕ) (quarters : List Sq) : Type 0 where
+-- the four squares stand in this column of the row above, in the one behind it, and in the same two
+-- of the row below
+pub record AreQuartersIn (upper lower : List Segment) (column : ℕ)
+    (quarters : List Sq) : Type 0 where
   pub nw : square_at upper (2 * column) ≡ Some (nth quarters 0)
   pub ne : square_at upper (2 * column + 1) ≡ Some (nth quarters 1)
   pub sw : square_at lower (2 * column) ≡ Some (nth quarters 2)
@@ -50,7 +52,8 @@ pub record CanJoin (book : Book) (quarters : List Sq) : Type 0 where
 pub record HaveQuarters (book : Book) (width : ℕ) (upper lower : List Segment) : Type 0 where
   pub upper_columns : HasColumns (2 * width) upper
   pub lower_columns : HasColumns (2 * width) lower
-  pub known : (column : ℕ) (quarters : List Sq) → column < width → AreQuartersIn upper lower column quarters → CanJoin book quarters
+  pub known : (column : ℕ) (quarters : List Sq) → column < width →
+      AreQuartersIn upper lower column quarters → CanJoin book quarters
 
 -- in this column the row has the square that the quarters in two rows make
 pub record IsJoinedAt (old new : Book) (upper lower row : List Segment) (column : ℕ) : Type 0 where
@@ -58,12 +61,17 @@ pub record IsJoinedAt (old new : Book) (upper lower row : List Segment) (column 
   pub read : AreQuartersIn upper lower column quarters
   pub square : Sq
   pub there : square_at row column ≡ Some square
-  pub shown : Shows new ((nth quarters 0).level + 1) (joined_squares old (nth quarters 0).level quarters) square
+  pub shown : Shows new ((nth quarters 0).level + 1)
+      (joined_squares old (nth quarters 0).level quarters) square
 
 -- so many columns of the row have the squares that two rows make
 abbrev pub IsJoined : Book → Book → List Segment → List Segment → ℕ → List Segment → Type 0
-IsJoined old new upper lower width row = (column : ℕ) → column < width → IsJoinedAt old new upper lower row column
+IsJoined old new upper lower width row =
+    (column : ℕ) → column < width → IsJoinedAt old new upper lower row column
 
 -- each of the first columns has the square of the plane's cells there, from this row of cells on
 abbrev pub IsRow : Book → ℕ → ℕ → ℕ → Plane → List Segment → Type 0
-IsRow book level width top plane row = (column : ℕ) → column < width → (sq : Sq) × (square_at row column ≡ Some sq) × Shows book level (cut (2 ^ level) (column * 2 ^ level) top plane) sq
+IsRow book level width top plane row =
+    (column : ℕ) → column < width →
+    (sq : Sq) × (square_at row column ≡ Some sq)
+    × Shows book level (cut (2 ^ level) (column * 2 ^ level) top plane) sq

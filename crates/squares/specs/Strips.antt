@@ -29,11 +29,16 @@ ArePassed spans count row left = (x : ℕ) → left ≤ x → in_spans (take cou
 
 -- of each of the eight rows from this one on, so many spans are passed at this column of leaves
 abbrev pub ArePassedIn : List Span → List ℕ → ℕ → ℕ → Type 0
-ArePassedIn spans passed top column = (y : ℕ) → y < 8 → (slice_index passed y ≤ length spans) × ArePassed spans (slice_index passed y) (y + top) (8 * column)
+ArePassedIn spans passed top column =
+    (y : ℕ) → y < 8 →
+    (slice_index passed y ≤ length spans)
+    × ArePassed spans (slice_index passed y) (y + top) (8 * column)
 
 -- up to this column of leaves the row has the same cells in each leaf
 abbrev pub IsSameUpTo : List Span → ℕ → ℕ → ℕ → Type 0
-IsSameUpTo spans row column end = (other x : ℕ) → column ≤ other → other < end → x < 8 → in_spans spans (x + 8 * other) row ≡ in_spans spans (x + 8 * column) row
+IsSameUpTo spans row column end =
+    (other x : ℕ) → column ≤ other → other < end → x < 8 →
+    in_spans spans (x + 8 * other) row ≡ in_spans spans (x + 8 * column) row
 
 -- in the order of reading the other run begins where this one does, or behind
 abbrev pub LeadsRun : (Cell × ℕ) → (Cell × ℕ) → Type 0
@@ -48,7 +53,8 @@ AreInReadingOrder (run ∷ runs) = AllByRecursion (LeadsRun run) runs × AreInRe
 abbrev pub spans_left : ℕ → Option Span → List (Cell × ℕ) → List Span
 spans_left half next runs = option_to_list next ++ map (span_of half) runs
 
--- what is left of runs in the order of reading: spans of a square of this half side, from this row on
+-- what is left of runs in the order of reading: spans of a square of this half side, from this row
+-- on
 pub record AreLeft (half top : ℕ) (next : Option Span) (runs : List (Cell × ℕ)) : Type 0 where
   pub bound : half ≤ 2 ^ 62
   pub fit : AllByRecursion (FitsRound half) runs

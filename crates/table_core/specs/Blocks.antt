@@ -1,7 +1,6 @@
--- What a number shows.
--- A block of rank 0 is a square of level 3. A block of rank r + 1 is two blocks of rank r: beside one another where r is
--- even, below one another where r is odd. So a square of level k has rank 2 (k - 3), and two of them side by side, a
--- half, have the next rank.
+-- What a number shows. A block of rank 0 is a square of level 3. A block of rank r + 1 is two
+-- blocks of rank r: beside one another where r is even, below one another where r is odd. So a
+-- square of level k has rank 2 (k - 3), and two of them side by side, a half, have the next rank.
 use Rattle.std.specs.Prelude.{◌≢◌, ℕ, zero, suc, ◌+◌, ◌-◌, ◌*◌, ◌/◌, ◌%◌, ◌^◌, ◌==◌, if◌then◌else◌}
 use Rattle.plane.specs.Plane.{Plane}
 use Rattle.plane.specs.Square.{IsSame, empty, bits_plane}
@@ -28,17 +27,20 @@ height rank = 2 ^ (rank / 2 + 3)
 
 -- two blocks of this rank as one
 abbrev pub paired : ℕ → Plane → Plane → Plane
-paired rank one two = if rank % 2 == 0 then beside (width rank) one two else below (height rank) one two
+paired rank one two =
+    if rank % 2 == 0 then beside (width rank) one two else below (height rank) one two
 
--- the number stands for a block of this rank: 0 for the empty one, the index of a nonzero leaf word for a square of level
--- 3, the index of a nonzero pair word for the two blocks that its parts stand for
+-- the number stands for a block of this rank: 0 for the empty one, the index of a nonzero leaf word
+-- for a square of level 3, the index of a nonzero pair word for the two blocks that its parts stand
+-- for
 abbrev pub IsBlock : ℕ → Words → ℕ → ℕ → Type 0
 IsBlock bits words zero zero = Unit {0}
 IsBlock bits words zero (suc i) = IsSlot bits Leaf (suc i) × (words (suc i) ≢ 0)
 IsBlock bits words (suc rank) zero = Unit {0}
 IsBlock bits words (suc rank) (suc i) =
     IsSlot bits Pair (suc i) × (words (suc i) ≢ 0)
-    × IsBlock bits words rank (first_part (words (suc i))) × IsBlock bits words rank (second_part (words (suc i)))
+    × IsBlock bits words rank (first_part (words (suc i)))
+    × IsBlock bits words rank (second_part (words (suc i)))
 
 -- the cells of the block that a number stands for
 abbrev pub cells_of : Words → ℕ → ℕ → Plane
@@ -46,7 +48,8 @@ cells_of words zero zero = empty
 cells_of words zero (suc i) = bits_plane (words (suc i))
 cells_of words (suc rank) zero = empty
 cells_of words (suc rank) (suc i) =
-    paired rank (cells_of words rank (first_part (words (suc i)))) (cells_of words rank (second_part (words (suc i))))
+    paired rank (cells_of words rank (first_part (words (suc i))))
+    (cells_of words rank (second_part (words (suc i))))
 
 -- the number shows the block of this rank with these cells
 pub record ShowsBlock (bits : ℕ) (words : Words) (rank number : ℕ) (plane : Plane) : Type 0 where

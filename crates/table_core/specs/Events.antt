@@ -26,4 +26,5 @@ word_after (Tell desk index number) found = if found == 0 then 2 ^ 32 + number e
 
 -- all words afterwards
 abbrev pub words_after : Event → List ℕ → List ℕ
-words_after event words = slice_set words (index_of event) (word_after event (slice_index words (index_of event)))
+words_after event words =
+    slice_set words (index_of event) (word_after event (slice_index words (index_of event)))

@@ -12,7 +12,8 @@ pub record KnowsFullShard (bits : ℕ) (known : Knowledge) : Type 0 where
   pub kind : Kind
   pub shard : ℕ
   pub within : 256 * shard + 256 ≤ 2 ^ slot_bits bits kind
-  pub full : (slot : ℕ) → slot < 256 → (word : ℕ) × HasSeen known (start bits kind + (256 * shard + slot)) word
+  pub full : (slot : ℕ) → slot < 256 →
+      (word : ℕ) × HasSeen known (start bits kind + (256 * shard + slot)) word
 
 -- whether it has seen words at so many indices from the first on
 unfoldable pub has_seen_all : Knowledge → ℕ → ℕ → Bool
@@ -23,7 +24,8 @@ has_seen_all known first (suc count) =
 -- whether one of so many shards, the first of which begins at this index, is full
 unfoldable pub has_full_shard : Knowledge → ℕ → ℕ → Bool
 has_full_shard known first zero = false
-has_full_shard known first (suc count) = has_seen_all known (first + 256 * count) 256 || has_full_shard known first count
+has_full_shard known first (suc count) =
+    has_seen_all known (first + 256 * count) 256 || has_full_shard known first count
 
 -- whether it knows a shard without a zero slot
 unfoldable pub knows_full_shard : ℕ → Knowledge → Bool

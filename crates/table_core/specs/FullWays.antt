@@ -10,7 +10,8 @@ use Rattle.table_core.specs.Knowledge.{HasSeen, HasSeenAll, IsTrueOf}
 
 -- it has seen another word there, and not 0
 abbrev pub HasSeenAnother : Knowledge → ℕ → ℕ → Type 0
-HasSeenAnother known index word = (other : ℕ) × HasSeen known index other × (other ≢ 0) × (other ≢ word)
+HasSeenAnother known index word =
+    (other : ℕ) × HasSeen known index other × (other ≢ 0) × (other ≢ word)
 
 -- it has seen another word at each place of the word's way
 pub record KnowsFullWay (bits : ℕ) (known : Knowledge) (kind : Kind) (word : ℕ) : Type 0 where
@@ -20,12 +21,17 @@ pub record KnowsFullWay (bits : ℕ) (known : Knowledge) (kind : Kind) (word : �
 abbrev pub StandsNowhere : ℕ → Words → Kind → ℕ → Type 0
 StandsNowhere bits words kind word = (index : ℕ) → IsSlot bits kind index → words index ≢ word
 
--- a way that a desk knows to be full is full for all that have seen what it saw; and the word stands nowhere, now or in
--- any later good words
-pub record StaysFull (key : Key) (words : Words) (known : Knowledge) (kind : Kind) (word : ℕ) : Type 0 where
-  pub stays : (after : Knowledge) → HasSeenAll known after → KnowsFullWay key.shape.bits after kind word
-  pub nowhere : (later : Words) → KeepsWords words later → IsGood key later → StandsNowhere key.shape.bits later kind word
+-- a way that a desk knows to be full is full for all that have seen what it saw; and the word
+-- stands nowhere, now or in any later good words
+pub record StaysFull (key : Key) (words : Words) (known : Knowledge) (kind : Kind)
+    (word : ℕ) : Type 0 where
+  pub stays : (after : Knowledge) → HasSeenAll known after →
+      KnowsFullWay key.shape.bits after kind word
+  pub nowhere : (later : Words) → KeepsWords words later → IsGood key later →
+      StandsNowhere key.shape.bits later kind word
 
 abbrev pub EveryFullWayStays : Type 0
-EveryFullWayStays = (key : Key) (words : Words) (known : Knowledge) (kind : Kind) (word : ℕ) → word ≢ 0 →
-    IsTrueOf key.shape.bits words known → KnowsFullWay key.shape.bits known kind word → StaysFull key words known kind word
+EveryFullWayStays =
+    (key : Key) (words : Words) (known : Knowledge) (kind : Kind) (word : ℕ) → word ≢ 0 →
+    IsTrueOf key.shape.bits words known → KnowsFullWay key.shape.bits known kind word →
+    StaysFull key words known kind word

@@ -29,23 +29,28 @@ pub record IsFutureOf (key : Key) (words : Words) (index number : ℕ) : Type 0 
 
 -- the pair at the index is a finite block, of at most a square of level 65
 abbrev pub IsPairBlock : ℕ → Words → ℕ → Type 0
-IsPairBlock bits words index = (rank : ℕ) × (rank < largest_rank) × IsBlock bits words (suc rank) index
+IsPairBlock bits words index =
+    (rank : ℕ) × (rank < largest_rank) × IsBlock bits words (suc rank) index
 
 -- the result word beside the pair at the index is that of a future
 abbrev pub TellsFuture : Key → Words → ℕ → Type 0
 TellsFuture key words index =
-    (number : ℕ) × (words (result_of key.shape.bits index) ≡ 2 ^ 32 + number) × IsFutureOf key words index number
+    (number : ℕ) × (words (result_of key.shape.bits index) ≡ 2 ^ 32 + number)
+    × IsFutureOf key words index number
 
--- good words: the head names the rule and the exponent, a word of a leaf or a pair stands once, and on its own way, each
--- pair is a block, and each result is that of a future
+-- good words: the head names the rule and the exponent, a word of a leaf or a pair stands once, and
+-- on its own way, each pair is a block, and each result is that of a future
 pub record IsGood (key : Key) (words : Words) : Type 0 where
   pub names : words 0 ≡ head key
   pub fits : (index : ℕ) → words index < 2 ^ 64
   pub once : (kind : Kind) (i j : ℕ) → IsSlot key.shape.bits kind i → IsSlot key.shape.bits kind j →
       words i ≢ 0 → words i ≡ words j → i ≡ j
-  pub on_way : (kind : Kind) (i : ℕ) → IsSlot key.shape.bits kind i → words i ≢ 0 → IsOnWay key.shape.bits words kind i
-  pub blocks : (i : ℕ) → IsSlot key.shape.bits Pair i → words i ≢ 0 → IsPairBlock key.shape.bits words i
-  pub results : (i : ℕ) → IsSlot key.shape.bits Pair i → words (result_of key.shape.bits i) ≢ 0 → TellsFuture key words i
+  pub on_way : (kind : Kind) (i : ℕ) → IsSlot key.shape.bits kind i → words i ≢ 0 →
+      IsOnWay key.shape.bits words kind i
+  pub blocks : (i : ℕ) → IsSlot key.shape.bits Pair i → words i ≢ 0 →
+      IsPairBlock key.shape.bits words i
+  pub results : (i : ℕ) → IsSlot key.shape.bits Pair i → words (result_of key.shape.bits i) ≢ 0 →
+      TellsFuture key words i
 
 -- the words of a whole table, and good
 pub record AreGoodWords (key : Key) (words : List ℕ) : Type 0 where
@@ -58,7 +63,8 @@ pub record KeepsWords (old new : Words) : Type 0 where
 
 -- no nonzero word of a leaf or a pair has changed
 pub record KeepsSlots (bits : ℕ) (old new : Words) : Type 0 where
-  pub kept : (kind : Kind) (index : ℕ) → IsSlot bits kind index → old index ≢ 0 → new index ≡ old index
+  pub kept : (kind : Kind) (index : ℕ) → IsSlot bits kind index → old index ≢ 0 →
+      new index ≡ old index
 
 -- the word comes to the index, where 0 stood, and nowhere else anything
 pub record Fills (old new : Words) (index word : ℕ) : Type 0 where
@@ -70,9 +76,11 @@ pub record Fills (old new : Words) (index word : ℕ) : Type 0 where
 abbrev pub PartsStand : ℕ → Words → Kind → ℕ → Type 0
 PartsStand bits words Leaf word = Unit {0}
 PartsStand bits words Pair word =
-    (rank : ℕ) × (rank < largest_rank) × IsBlock bits words rank (first_part word) × IsBlock bits words rank (second_part word)
+    (rank : ℕ) × (rank < largest_rank) × IsBlock bits words rank (first_part word)
+    × IsBlock bits words rank (second_part word)
 
--- the word may come to the index: at each earlier place of its way another word stands, and its parts are there
+-- the word may come to the index: at each earlier place of its way another word stands, and its
+-- parts are there
 pub record MayStand (bits : ℕ) (words : Words) (kind : Kind) (index word : ℕ) : Type 0 where
   pub some : word ≢ 0
   pub fits : word < 2 ^ 64

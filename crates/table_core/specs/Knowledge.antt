@@ -24,11 +24,14 @@ pub record Says (entry : KnownBlock) (rank number : ℕ) (plane : Plane) : Type 
 
 -- one of the entries says it
 abbrev pub Lists : List KnownBlock → ℕ → ℕ → Plane → Type 0
-Lists blocks rank number plane = (entry : KnownBlock) × Contains blocks entry × Says entry rank number plane
+Lists blocks rank number plane =
+    (entry : KnownBlock) × Contains blocks entry × Says entry rank number plane
 
--- it knows that the number shows the block of this rank with these cells; that 0 shows the empty one is always known
+-- it knows that the number shows the block of this rank with these cells; that 0 shows the empty
+-- one is always known
 abbrev pub KnowsBlock : Knowledge → ℕ → ℕ → Plane → Type 0
-KnowsBlock known rank number plane = ((number ≡ 0) × IsSame empty plane) ⊎ Lists known.blocks rank number plane
+KnowsBlock known rank number plane =
+    ((number ≡ 0) × IsSame empty plane) ⊎ Lists known.blocks rank number plane
 
 -- whether there is a result of the square with this number
 abbrev pub has_result : List KnownResult → ℕ → Bool
@@ -52,29 +55,38 @@ pub record IsTrueResult (bits : ℕ) (words : Words) (result : KnownResult) : Ty
 
 -- it knows the square of the result
 abbrev pub KnowsSquareOf : Knowledge → KnownResult → Type 0
-KnowsSquareOf known result = (plane : Plane) × KnowsBlock known (square_rank result.level) result.square plane
+KnowsSquareOf known result =
+    (plane : Plane) × KnowsBlock known (square_rank result.level) result.square plane
 
--- what a desk knows is true of the words: each word stands at its index and isn't 0, each number shows its block, and
--- each result is told beside a square that it knows, which has no second one
+-- what a desk knows is true of the words: each word stands at its index and isn't 0, each number
+-- shows its block, and each result is told beside a square that it knows, which has no second one
 pub record IsTrueOf (bits : ℕ) (words : Words) (known : Knowledge) : Type 0 where
   pub seen : AllByRecursion (λ entry. (words entry.0 ≡ entry.1) × (entry.1 ≢ 0)) known.words
-  pub blocks : AllByRecursion (λ entry. ShowsBlock bits words entry.rank entry.number (plane_of entry.live)) known.blocks
+  pub blocks : AllByRecursion
+      (λ entry. ShowsBlock bits words entry.rank entry.number (plane_of entry.live)) known.blocks
   pub results : AllByRecursion (IsTrueResult bits words) known.results
   pub squares : AllByRecursion (KnowsSquareOf known) known.results
   pub once : HasEachOnce known.results
 
--- what a desk knows agrees with itself: a number shows one block, at the index of a leaf or a pair, of at most a square of
--- level 65, and a block has one number; each result is of a square that it knows, which has no second one
+-- what a desk knows agrees with itself: a number shows one block, at the index of a leaf or a pair,
+-- of at most a square of level 65, and a block has one number; each result is of a square that it
+-- knows, which has no second one
 pub record IsConsistent (bits : ℕ) (known : Knowledge) : Type 0 where
   pub one_block : (rank other number : ℕ) (plane also : Plane) → number ≢ 0 →
-      KnowsBlock known rank number plane → KnowsBlock known other number also → (rank ≡ other) × IsSame plane also
+      KnowsBlock known rank number plane → KnowsBlock known other number also →
+      (rank ≡ other) × IsSame plane also
   pub one_number : (rank number other : ℕ) (plane : Plane) →
       KnowsBlock known rank number plane → KnowsBlock known rank other plane → number ≡ other
-  pub inside : (rank number : ℕ) (plane : Plane) → KnowsBlock known rank number plane → IsInside (width rank) (height rank) plane
-  pub leaf : (number : ℕ) (plane : Plane) → number ≢ 0 → KnowsBlock known 0 number plane → IsSlot bits Leaf number
-  pub pair : (rank number : ℕ) (plane : Plane) → number ≢ 0 → KnowsBlock known (suc rank) number plane →
+  pub inside : (rank number : ℕ) (plane : Plane) → KnowsBlock known rank number plane →
+      IsInside (width rank) (height rank) plane
+  pub leaf : (number : ℕ) (plane : Plane) → number ≢ 0 → KnowsBlock known 0 number plane →
+      IsSlot bits Leaf number
+  pub pair : (rank number : ℕ) (plane : Plane) → number ≢ 0 →
+      KnowsBlock known (suc rank) number plane →
       IsSlot bits Pair number × (rank < largest_rank)
-  pub results : AllByRecursion (λ result. (3 < result.level) × (result.square ≢ 0) × KnowsSquareOf known result) known.results
+  pub results : AllByRecursion
+      (λ result. (3 < result.level) × (result.square ≢ 0)
+      × KnowsSquareOf known result) known.results
   pub once : HasEachOnce known.results
 
 -- each word that the one has seen, the other has seen too

@@ -17,7 +17,8 @@ pub record KnowsBoth (known : Knowledge) (rank word : ℕ) (one two : Plane) : T
   pub first : KnowsBlock known rank (first_part word) one
   pub second : KnowsBlock known rank (second_part word) two
 
--- it knows both parts of a pair's word, as blocks of one rank, that of less than a square of level 65
+-- it knows both parts of a pair's word, as blocks of one rank, that of less than a square of level
+-- 65
 pub record KnowsParts (known : Knowledge) (word : ℕ) : Type 0 where
   pub rank : ℕ
   pub low : rank < largest_rank
@@ -30,7 +31,8 @@ abbrev pub KnowsPartsFor : Knowledge → Kind → ℕ → Type 0
 KnowsPartsFor known Leaf word = Unit {0}
 KnowsPartsFor known Pair word = KnowsParts known word
 
--- a word may be claimed: at each earlier place of its way the desk has seen another word, and it knows the word's parts
+-- a word may be claimed: at each earlier place of its way the desk has seen another word, and it
+-- knows the word's parts
 pub record MayClaim (bits : ℕ) (known : Knowledge) (index word : ℕ) : Type 0 where
   pub kind : Kind
   pub some : word ≢ 0
@@ -38,7 +40,8 @@ pub record MayClaim (bits : ℕ) (known : Knowledge) (index word : ℕ) : Type 0
   pub place : ℕ
   pub short : place < 256
   pub here : way bits kind word place ≡ index
-  pub before : (earlier : ℕ) → earlier < place → (other : ℕ) × HasSeen known (way bits kind word earlier) other × (other ≢ word)
+  pub before : (earlier : ℕ) → earlier < place →
+      (other : ℕ) × HasSeen known (way bits kind word earlier) other × (other ≢ word)
   pub parts : KnowsPartsFor known kind word
 
 -- a result may be asked for: the slot is that of a square that the desk knows
@@ -55,7 +58,8 @@ pub record MayAsk (bits : ℕ) (known : Knowledge) (index : ℕ) : Type 0 where
 pub record MayTell (key : Key) (known : Knowledge) (index number : ℕ) : Type 0 where
   pub of : MayAsk key.shape.bits known index
   pub low : number < 2 ^ 32
-  pub shown : KnowsBlock known (square_rank (of.level - 1)) number (future key.rule key.exponent of.level of.plane)
+  pub shown : KnowsBlock known (square_rank (of.level - 1)) number
+      (future key.rule key.exponent of.level of.plane)
 
 -- the event is lawful for a desk that knows so much
 abbrev pub IsLawful : Key → Knowledge → Event → Type 0

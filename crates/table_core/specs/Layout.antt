@@ -1,5 +1,6 @@
--- Where the words of a table stand, and which slots a word may take.
--- A table of 2^bits pair slots has the head at index 0, then 2^(bits - 2) leaf slots, the pair slots, and a result slot for each pair slot.
+-- Where the words of a table stand, and which slots a word may take. A table of 2^bits pair slots
+-- has the head at index 0, then 2^(bits - 2) leaf slots, the pair slots, and a result slot for each
+-- pair slot.
 use Rattle.std.specs.Prelude.{◌≡◌, ℕ, ◌+◌, ◌-◌, ◌*◌, ◌/◌, ◌%◌, ◌^◌, ◌<◌, ◌≤◌}
 use Rattle.table_core.specs.declared.shape.Kind.{Kind}
 use Rattle.table_core.specs.declared.shape.Kind.TheVariants.{Leaf, Pair}
@@ -41,7 +42,8 @@ second_part word = word % 2 ^ 32
 unfoldable pub first : ℕ → ℕ → ℕ
 first bits word = word * 0x9E37_79B9_7F4A_7C15 % 2 ^ 64 / 2 ^ (64 - bits)
 
--- the slot at this place of the word's way: the 256 slots of an aligned shard, from the first slot on and round
+-- the slot at this place of the word's way: the 256 slots of an aligned shard, from the first slot
+-- on and round
 unfoldable pub slot_on_way : ℕ → ℕ → ℕ → ℕ
 slot_on_way bits word place =
     let slot = first bits word in
@@ -57,9 +59,12 @@ IsInShard bits kind word index =
     let begin = start bits kind + 256 * (first (slot_bits bits kind) word / 256) in
     (begin ≤ index) × (index < begin + 256)
 
--- the way goes through its shard: each place is one of the shard's slots, no two are one, and each slot is some place
+-- the way goes through its shard: each place is one of the shard's slots, no two are one, and each
+-- slot is some place
 pub record GoesThroughShard (bits : ℕ) (kind : Kind) (word : ℕ) : Type 0 where
   pub slots : (place : ℕ) → IsSlot bits kind (way bits kind word place)
   pub inside : (place : ℕ) → IsInShard bits kind word (way bits kind word place)
-  pub distinct : (one two : ℕ) → one < 256 → two < 256 → way bits kind word one ≡ way bits kind word two → one ≡ two
-  pub covers : (index : ℕ) → IsInShard bits kind word index → (place : ℕ) × (place < 256) × (way bits kind word place ≡ index)
+  pub distinct : (one two : ℕ) → one < 256 → two < 256 →
+      way bits kind word one ≡ way bits kind word two → one ≡ two
+  pub covers : (index : ℕ) → IsInShard bits kind word index →
+      (place : ℕ) × (place < 256) × (way bits kind word place ≡ index)

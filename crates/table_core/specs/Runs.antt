@@ -16,14 +16,15 @@ pub record Table : Type 0 where
   pub words : List ℕ
   pub desks : List Knowledge
 
--- what may happen: an event; a desk is split, and a new one knows the same; another desk is joined into one, and then
--- knows nothing of its own
+-- what may happen: an event; a desk is split, and a new one knows the same; another desk is joined
+-- into one, and then knows nothing of its own
 pub data Action : Type 0 where
   happens : Event → Action
   splits : ℕ → Action
   joins : ℕ → ℕ → Action
 
--- a lawful event happens: its desk learns from the word that stands there then, and no other desk learns anything
+-- a lawful event happens: its desk learns from the word that stands there then, and no other desk
+-- learns anything
 pub record Happens (key : Key) (old : Table) (event : Event) (new : Table) : Type 0 where
   pub known : Knowledge
   pub after : Knowledge
@@ -56,7 +57,8 @@ Acts key old (joins into desk) new = Joins old into desk new
 -- a list of actions, one after another
 abbrev pub Runs : Key → Table → List Action → Table → Type 0
 Runs key old [] new = new ≡ old
-Runs key old (action ∷ actions) new = (between : Table) × Acts key old action between × Runs key between actions new
+Runs key old (action ∷ actions) new =
+    (between : Table) × Acts key old action between × Runs key between actions new
 
 -- the words are good, and what each desk knows is true of them
 pub record IsSoundTable (key : Key) (table : Table) : Type 0 where
@@ -66,10 +68,13 @@ pub record IsSoundTable (key : Key) (table : Table) : Type 0 where
 -- whichever desks know them, two numbers that show one block are one number
 abbrev pub OneNumber : Table → Type 0
 OneNumber table =
-    (a b : ℕ) (one two : Knowledge) → slice_get table.desks a ≡ Some one → slice_get table.desks b ≡ Some two →
-    (rank n m : ℕ) (plane : Plane) → KnowsBlock one rank n plane → KnowsBlock two rank m plane → n ≡ m
+    (a b : ℕ) (one two : Knowledge) → slice_get table.desks a ≡ Some one →
+    slice_get table.desks b ≡ Some two →
+    (rank n m : ℕ) (plane : Plane) → KnowsBlock one rank n plane → KnowsBlock two rank m plane →
+    n ≡ m
 
--- the desk that knows afterwards what this one knew before: itself, or the one that it was joined into
+-- the desk that knows afterwards what this one knew before: itself, or the one that it was joined
+-- into
 abbrev pub heir_at : Action → ℕ → ℕ
 heir_at (happens event) desk = desk
 heir_at (splits other) desk = desk
@@ -93,4 +98,6 @@ pub record IsKept (key : Key) (actions : List Action) (old new : Table) : Type 0
   pub one_number : OneNumber new
 
 abbrev pub EveryRun : Type 0
-EveryRun = (key : Key) (old new : Table) (actions : List Action) → IsSoundTable key old → Runs key old actions new → IsKept key actions old new
+EveryRun =
+    (key : Key) (old new : Table) (actions : List Action) → IsSoundTable key old →
+    Runs key old actions new → IsKept key actions old new

@@ -25,7 +25,8 @@ trimmed_end text = reverse (trimmed_start (reverse text))
 abbrev pub trimmed : List ℕ → List ℕ
 trimmed text = trimmed_end (trimmed_start text)
 
--- the parts of a text that each end with a byte that passes the test, which the last one may lack; without these ends
+-- the parts of a text that each end with a byte that passes the test, which the last one may lack;
+-- without these ends
 unfoldable pub ended_parts : (ℕ → Bool) → List ℕ → List (List ℕ)
 ended_parts test [] = []
 ended_parts test (first ∷ rest) =

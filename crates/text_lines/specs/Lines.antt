@@ -20,11 +20,13 @@ raw_lines text = ended_parts is_line_feed text
 unfoldable pub without_return : List ℕ → List ℕ
 without_return line = if ends_with (codes "\r") line then take (length line - 1) line else line
 
--- the lines with their places, where the first begins at this place, and each next one after the LF before it
+-- the lines with their places, where the first begins at this place, and each next one after the LF
+-- before it
 unfoldable pub placed_lines : ℕ → List (List ℕ) → List Line
 placed_lines place [] = []
 placed_lines place (text ∷ texts) =
-    record { place = place; text = without_return text } ∷ placed_lines (place + length text + 1) texts
+    record { place = place; text = without_return text }
+    ∷ placed_lines (place + length text + 1) texts
 
 -- the lines of a text that begins at this place
 abbrev pub lines : ℕ → List ℕ → List Line

@@ -24,7 +24,8 @@ still_cells rooted = square_plane (book_in (still_of rooted)) (root_of rooted)
 
 -- the cells of a square at a table, one step later
 abbrev pub next_cells : OpenTable → Sq → Plane
-next_cells opened root = after (key_at opened).rule (square_plane (known_at opened) root) (2 ^ (key_at opened).exponent)
+next_cells opened root =
+    after (key_at opened).rule (square_plane (known_at opened) root) (2 ^ (key_at opened).exponent)
 
 abbrev pub live_cells : Universe → Plane
 live_cells universe = square_plane (known_at universe.here) universe.root

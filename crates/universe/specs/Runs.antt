@@ -50,9 +50,11 @@ ReachesExponent exponent start (Full same) = IsSameUniverse start same
 -- where the step was not taken, the table is the same, and full
 abbrev pub IsFullInPlace : Universe → Attempt → Type 0
 IsFullInPlace start (Done later) = Unit {0}
-IsFullInPlace start (Full same) = StaysOpen start.here same.here × IsTrue (known_at same.here).is_full
+IsFullInPlace start (Full same) =
+    StaysOpen start.here same.here × IsTrue (known_at same.here).is_full
 
--- the table has the largest size, was opened from words with what the root reaches and nothing else, and is full now
+-- the table has the largest size, was opened from words with what the root reaches and nothing
+-- else, and is full now
 pub record IsFullFromAlone (still : Still) (root : Sq) (universe : Universe) : Type 0 where
   pub alone : Still
   pub copy : Sq
@@ -60,8 +62,9 @@ pub record IsFullFromAlone (still : Still) (root : Sq) (universe : Universe) : T
   pub size : pairs_in universe.here ≡ limit_of universe
   pub filled : HasFilledUp alone (rule_of universe) (exponent_of universe) universe.here
 
--- no table helps any more. Words show the cells by a square. The table has the largest size, was opened with what this square
--- reaches and nothing else, and is full; or the largest size has no room for what the square reaches
+-- no table helps any more. Words show the cells by a square. The table has the largest size, was
+-- opened with what this square reaches and nothing else, and is full; or the largest size has no
+-- room for what the square reaches
 pub record IsExhausted (universe : Universe) : Type 0 where
   pub still : Still
   pub root : Sq

@@ -27,8 +27,10 @@ pub record IsCompacted (old new : RootedStill) : Type 0 where
   pub rule : (key_of (still_of new)).rule ≡ (key_of (still_of old)).rule
   pub pairs : 2 ^ (key_of (still_of new)).shape.bits ≤ 2 ^ (key_of (still_of old)).shape.bits
 
--- the cells at a table that has just been opened of the words under this exponent, beside these other tables
-pub record IsOpenedAt (rooted : RootedStill) (exponent : ℕ) (beside : OtherTables) (universe : Universe) : Type 0 where
+-- the cells at a table that has just been opened of the words under this exponent, beside these
+-- other tables
+pub record IsOpenedAt (rooted : RootedStill) (exponent : ℕ) (beside : OtherTables)
+    (universe : Universe) : Type 0 where
   pub cells : IsSame (live_cells universe) (still_cells rooted)
   pub opened : IsOpened (still_of rooted) (key_of (still_of rooted)).rule exponent universe.here
   pub others : universe.others ≡ beside

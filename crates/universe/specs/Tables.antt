@@ -27,10 +27,13 @@ pairs_in opened = 2 ^ (key_at opened).shape.bits
 abbrev pub HasPairs : ℕ → OpenTable → Type 0
 HasPairs pairs opened = pairs_in opened ≡ pairs
 
--- a table of the same shape under this rule and exponent that has just been opened from the words, and knows what they show
-pub record IsOpened (still : Still) (rule : CountRule) (exponent : ℕ) (opened : OpenTable) : Type 0 where
+-- a table of the same shape under this rule and exponent that has just been opened from the words,
+-- and knows what they show
+pub record IsOpened (still : Still) (rule : CountRule) (exponent : ℕ)
+    (opened : OpenTable) : Type 0 where
   pub opens : Opens still rule exponent opened.table opened.desk
-  pub shows : (sq : Sq) → IsKnown (book_in still) sq.level sq → Shows (known_at opened) sq.level ((book_in still).cells sq) sq
+  pub shows : (sq : Sq) → IsKnown (book_in still) sq.level sq →
+      Shows (known_at opened) sq.level ((book_in still).cells sq) sq
 
 -- the same table, which knows all that it knew
 pub record StaysOpen (old new : OpenTable) : Type 0 where
@@ -39,7 +42,8 @@ pub record StaysOpen (old new : OpenTable) : Type 0 where
 
 -- the table is under this rule and exponent
 abbrev pub IsTableUnder : CountRule → ℕ → OpenTable → Type 0
-IsTableUnder rule exponent opened = ((key_at opened).exponent ≡ exponent) × ((key_at opened).rule ≡ rule)
+IsTableUnder rule exponent opened =
+    ((key_at opened).exponent ≡ exponent) × ((key_at opened).rule ≡ rule)
 
 -- a table that has just been opened without a square
 pub record IsFreshTable (rule : CountRule) (exponent pairs : ℕ) (opened : OpenTable) : Type 0 where
@@ -49,21 +53,25 @@ pub record IsFreshTable (rule : CountRule) (exponent pairs : ℕ) (opened : Open
   pub under : IsTableUnder rule exponent opened
   pub size : pairs_in opened ≡ pairs
 
--- a table of so many pair slots for single generations by this rule, which knows the square of these cells round (0,0)
-pub record IsBuilt (rule : CountRule) (live : Plane) (pairs : ℕ) (opened : OpenTable) (root : Sq) : Type 0 where
+-- a table of so many pair slots for single generations by this rule, which knows the square of
+-- these cells round (0,0)
+pub record IsBuilt (rule : CountRule) (live : Plane) (pairs : ℕ) (opened : OpenTable)
+    (root : Sq) : Type 0 where
   pub under : IsTableUnder rule 0 opened
   pub size : pairs_in opened ≡ pairs
   pub round : IsRound (known_at opened) live root
   pub level : root.level ≤ 63
 
 -- the table was opened from these words under this rule and exponent, and is full now
-pub record HasFilledUp (still : Still) (rule : CountRule) (exponent : ℕ) (table : OpenTable) : Type 0 where
+pub record HasFilledUp (still : Still) (rule : CountRule) (exponent : ℕ)
+    (table : OpenTable) : Type 0 where
   pub first : Desk
   pub opens : Opens still rule exponent table.table first
   pub keeps : Keeps (book_at table.table first) (known_at table)
   pub full : IsTrue (known_at table).is_full
 
--- a table of so many pair slots for single generations by this rule, which was opened without a square, is full
+-- a table of so many pair slots for single generations by this rule, which was opened without a
+-- square, is full
 pub record HasFullTable (rule : CountRule) (pairs : ℕ) : Type 0 where
   pub still : Still
   pub vacant : IsVacant still pairs

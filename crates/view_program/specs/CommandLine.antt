@@ -22,12 +22,19 @@ output_option = record (valued_in_short (codes "output") 111) { required = true 
 
 -- `--size N`: a number from 16 to 4096, 1024 if it is left out
 abbrev pub size_option : Rule
-size_option = record (valued (codes "size")) { defaults = codes "1024" ∷ []; parser = Some (parser.Unsigned 16 4096) }
+size_option =
+    record
+    (valued (codes "size")) {
+      defaults = codes "1024"
+          ∷ [];
+      parser = Some (parser.Unsigned 16 4096);
+    }
 
 -- the options in this order, and FILE
 abbrev pub command_rules : List Rule
 command_rules =
-    generation_option ∷ output_option ∷ window_option ∷ size_option ∷ rule_option ∷ node_option ∷ worker_option ∷ file_argument ∷ []
+    generation_option ∷ output_option ∷ window_option ∷ size_option ∷ rule_option ∷ node_option
+    ∷ worker_option ∷ file_argument ∷ []
 
 -- the form of the words
 abbrev pub command_form : App
@@ -53,7 +60,8 @@ IsSizeNumber text size = IsNumber text size × IsSize size
 abbrev pub IsAskedRectangle : Option Text → Option Bounds → Type 0
 IsAskedRectangle None window = window ≡ None
 IsAskedRectangle (Some text) window =
-    (given : Rectangle) × WritesWindow 64 text given × IsShown (sides_of given) × (window ≡ Some (sides_of given))
+    (given : Rectangle) × WritesWindow 64 text given × IsShown (sides_of given)
+    × (window ≡ Some (sides_of given))
 
 -- the words are of the form, and ask for this
 pub record AsksFor (words : List Text) (asked : Asked) : Type 0 where
@@ -67,8 +75,8 @@ pub record AsksFor (words : List Text) (asked : Asked) : Type 0 where
 
 -- ---- faults of the words
 
--- the words have values that are fit: numbers, of which those of nodes, workers and size are such, a FILE, a NAME that ends
--- with .png, and a window of four numbers, if there is one
+-- the words have values that are fit: numbers, of which those of nodes, workers and size are such,
+-- a FILE, a NAME that ends with .png, and a window of four numbers, if there is one
 pub record IsFit (words : List Text) : Type 0 where
   pub run : AreFitNumbers command_form words
   pub file : (name : Text) × (text_for (codes "file") words ≡ Some name)
@@ -78,7 +86,8 @@ pub record IsFit (words : List Text) : Type 0 where
 
 -- this value is not fit
 abbrev pub IsMisfit : List Text → Misfit → Type 0
-IsMisfit words (Ending endings) = (name : Text) → text_for (codes "output") words ≡ Some name → IsFitName name → ⊥
+IsMisfit words (Ending endings) =
+    (name : Text) → text_for (codes "output") words ≡ Some name → IsFitName name → ⊥
 IsMisfit words Window = IsFitWindow 64 (text_for (codes "window") words) → ⊥
 IsMisfit words Nodes = AreUnfitNodes command_form words
 IsMisfit words Other = IsFit words → ⊥
@@ -86,8 +95,14 @@ IsMisfit words Other = IsFit words → ⊥
 -- the text that is given has the numbers of no rectangle that can be shown
 abbrev pub IsRefusedWindow : Option Text → Type 0
 IsRefusedWindow None = ⊥
-IsRefusedWindow (Some text) = (given : Rectangle) × WritesWindow 64 text given × (IsShown (sides_of given) → ⊥)
+IsRefusedWindow (Some text) =
+    (given : Rectangle) × WritesWindow 64 text given × (IsShown (sides_of given) → ⊥)
 
 -- the form of the words, and the values that are fit
 abbrev pub command_line : CommandLine
-command_line = record { form = command_form; IsFit = IsFit; IsMisfit = IsMisfit; IsRefusedWindow = IsRefusedWindow }
+command_line = record {
+  form = command_form;
+  IsFit = IsFit;
+  IsMisfit = IsMisfit;
+  IsRefusedWindow = IsRefusedWindow;
+}

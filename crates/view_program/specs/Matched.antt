@@ -13,5 +13,7 @@ pub record HasFiles (words : List Text) : Type 0 where
 
 -- the words ask for this view, of the file and into the picture that they name
 abbrev pub AskForView : List Text → View → Type 0
-AskForView words view = (asked : Asked) → text_for (codes "file") words ≡ Some (string_bytes asked.file) →
-    text_for (codes "output") words ≡ Some (string_bytes asked.output) → IsFitName (string_bytes asked.output) → AsksFor words (record asked { view = view })
+AskForView words view =
+    (asked : Asked) → text_for (codes "file") words ≡ Some (string_bytes asked.file) →
+    text_for (codes "output") words ≡ Some (string_bytes asked.output) →
+    IsFitName (string_bytes asked.output) → AsksFor words (record asked { view = view })

@@ -17,7 +17,9 @@ pixel_words scale =
 -- the size of the picture of a rectangle, and what a pixel is
 abbrev pub scale_words : Bounds → Scale → List ℕ
 scale_words shown scale =
-    codes ": " ++ product_words (scale.zoom * block_span scale.exponent shown.left shown.right) (scale.zoom * block_span scale.exponent shown.top shown.bottom)
+    codes ": "
+    ++ product_words (scale.zoom * block_span scale.exponent shown.left shown.right)
+    (scale.zoom * block_span scale.exponent shown.top shown.bottom)
     ++ codes " pixels, " ++ pixel_words scale ++ codes "\n"
 
 -- the line of a picture of this name

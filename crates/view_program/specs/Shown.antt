@@ -6,7 +6,8 @@ use Rattle.plane.specs.declared.cell.Bounds.{Bounds}
 use Rattle.program_parts.specs.WindowText.{rectangle_of}
 use Rattle.program_parts.specs.declared.window_text.WindowNumbers.{WindowNumbers}
 
--- the last of so many coordinates from the first on; where there are none it is the one before the first
+-- the last of so many coordinates from the first on; where there are none it is the one before the
+-- first
 abbrev pub last_of : ℤ → ℕ → ℤ
 last_of first count = (first +ℤ pos count) -ℤ pos 1
 
@@ -22,7 +23,8 @@ sides_of rectangle = record {
 -- the window has these sides, if there are numbers of one
 abbrev pub IsSidesOf : Option WindowNumbers → Option Bounds → Type 0
 IsSidesOf None window = window ≡ None
-IsSidesOf (Some numbers) window = IsShown (sides_of (rectangle_of numbers)) × (window ≡ Some (sides_of (rectangle_of numbers)))
+IsSidesOf (Some numbers) window =
+    IsShown (sides_of (rectangle_of numbers)) × (window ≡ Some (sides_of (rectangle_of numbers)))
 
 -- there are numbers, and what they say can't be shown
 abbrev pub HasNoSides : Option WindowNumbers → Type 0

@@ -17,33 +17,48 @@ use Rattle.view_program.specs.PictureLine.{picture_line}
 use Rattle.view_program.specs.Shown.{rectangle_shown}
 use Rattle.view_program.specs.declared.request.View.{View}
 
--- a run of these bytes ends with a generation of which this is said, under the name of its picture, and this is the picture
-pub record IsDrawn (bytes : List ℕ) (view : View) (name said : List ℕ) (picture : Picture) : Type 0 where
+-- a run of these bytes ends with a generation of which this is said, under the name of its picture,
+-- and this is the picture
+pub record IsDrawn (bytes : List ℕ) (view : View) (name said : List ℕ)
+    (picture : Picture) : Type 0 where
   pub plane : Plane
   pub answer : Summary
   pub ends : EndsWith bytes (without_output view.run) plane answer
   pub shows : IsPictureOf plane (rectangle_shown view.window answer.bounds) view.size picture
-  pub lines : said ≡ summary_line answer ++ picture_line name (rectangle_shown view.window answer.bounds) shows.scale
+  pub lines : said
+      ≡ summary_line answer
+      ++ picture_line name (rectangle_shown view.window answer.bounds) shows.scale
 
 -- a view ended well: its report took what it says, and its file a PNG file of the picture
 abbrev pub HasDrawn : {W V : Type 0} → List ℕ → View → List ℕ → SinkChange W → SinkChange V → Type 0
 HasDrawn bytes view name report file =
-    (said : List ℕ) × (picture : Picture) × IsDrawn bytes view name said picture × Takes report said × ((drawn : List ℕ) × IsPngFile picture.width picture.rows drawn × Takes file drawn)
+    (said : List ℕ) × (picture : Picture) × IsDrawn bytes view name said picture × Takes report said
+    × ((drawn : List ℕ) × IsPngFile picture.width picture.rows drawn × Takes file drawn)
 
--- a view was refused: its run was, or memory ran out, and nothing was written; or the run is accepted, and a sink failed:
--- that of the report, and nothing was written to the file; or that of the file, after the whole report
-abbrev pub HasNotDrawn : {W V : Type 0} → List ℕ → View → List ℕ → SinkChange W → SinkChange V → Fault → Type 0
+-- a view was refused: its run was, or memory ran out, and nothing was written; or the run is
+-- accepted, and a sink failed: that of the report, and nothing was written to the file; or that of
+-- the file, after the whole report
+abbrev pub HasNotDrawn : {W V : Type 0} → List ℕ → View → List ℕ → SinkChange W → SinkChange V →
+    Fault → Type 0
 HasNotDrawn bytes view name report file fault =
-    (IsRefused bytes (without_output view.run) fault × (report.new ≡ report.old) × (file.new ≡ file.old))
-    ⊎ ((fault ≡ placeless WriteFailed) × IsAcceptedRun bytes (without_output view.run) × Fails report × (file.new ≡ file.old))
-    ⊎ ((fault ≡ placeless WriteFailed) × ((said : List ℕ) × (picture : Picture) × IsDrawn bytes view name said picture × Takes report said) × Fails file)
+    (IsRefused bytes (without_output view.run) fault × (report.new ≡ report.old)
+    × (file.new ≡ file.old))
+    ⊎ ((fault ≡ placeless WriteFailed) × IsAcceptedRun bytes (without_output view.run)
+    × Fails report × (file.new ≡ file.old))
+    ⊎ ((fault ≡ placeless WriteFailed)
+    × ((said : List ℕ) × (picture : Picture) × IsDrawn bytes view name said picture
+    × Takes report said)
+    × Fails file)
 
 -- what a view of these bytes does to its report and to its file, and what it answers
-pub record IsView {W V : Type 0} (bytes : List ℕ) (view : View) (name : List ℕ) (report : SinkChange W) (file : SinkChange V) (result : Result Unit Fault) : Type 0 where
-  -- it writes the two lines and the picture of the cells that the rule, applied that many times, makes live
+pub record IsView {W V : Type 0} (bytes : List ℕ) (view : View) (name : List ℕ)
+    (report : SinkChange W) (file : SinkChange V) (result : Result Unit Fault) : Type 0 where
+  -- it writes the two lines and the picture of the cells that the rule, applied that many times,
+  -- makes live
   pub finished : OnOk result (HasDrawn bytes view name report file)
   -- no sink failed, or the answer is that one did
   pub unfailed : (result ≡ Err (placeless WriteFailed)) ⊎ (IsUnfailed file × IsUnfailed report)
-  -- it refuses what is not accepted, by its name and at its place, and then has written nothing; and else only where memory
-  -- ran out or the tables are full, and nothing was written, or where a sink failed
+  -- it refuses what is not accepted, by its name and at its place, and then has written nothing;
+  -- and else only where memory ran out or the tables are full, and nothing was written, or where a
+  -- sink failed
   pub refused : IfErr result (HasNotDrawn bytes view name report file)

@@ -8,7 +8,8 @@ use Rattle.squares.specs.Noted.{Noted, value_of}
 use Rattle.viewport.specs.declared.gaps.Side.{Side}
 use Rattle.viewport.specs.declared.gaps.Side.TheVariants.{Left, Right, Top, Bottom}
 
--- how far the cell (x, y) lies from a side of a square of this size: 0 in the column or the row at that side
+-- how far the cell (x, y) lies from a side of a square of this size: 0 in the column or the row at
+-- that side
 abbrev pub distance_from : Side → ℕ → ℤ → ℤ → ℤ
 distance_from Left size x y = x
 distance_from Right size x y = (pos size -ℤ pos 1) -ℤ x

@@ -18,9 +18,11 @@ pub record IsHalfRow (h : ℕ) (plane first second : Plane) (y row : ℕ) : Type
 
 -- two squares of these sides side_by_side one another are the plane's rows from `top` on
 pub record AreRowsFrom (top h : ℕ) (plane first second : Plane) : Type 0 where
-  pub cells : (x : ℤ) (y : ℕ) → y < h → plane x (pos (top + y)) ≡ side_by_side h first second x (pos y)
+  pub cells : (x : ℤ) (y : ℕ) → y < h →
+      plane x (pos (top + y)) ≡ side_by_side h first second x (pos y)
 
--- two squares, of h cells and n rows of blocks a side, side_by_side one another are the upper or the lower half of the plane, the one that has a row of blocks, and this is the row there
+-- two squares, of h cells and n rows of blocks a side, side_by_side one another are the upper or
+-- the lower half of the plane, the one that has a row of blocks, and this is the row there
 pub record IsHalfOfBlocks (n h : ℕ) (plane first second : Plane) (row there : ℕ) : Type 0 where
   pub inside : there < n
   pub upper : row < n → (row ≡ there) × AreRowsFrom 0 h plane first second

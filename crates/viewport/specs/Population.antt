@@ -29,4 +29,5 @@ IsKnownCount book sq population = IsTrue (book.knows sq) × IsCount book sq popu
 
 -- each value that is kept is the number of live cells of its square, which is known
 pub record AreCounts (book : Book) (counts : Noted ℕ) : Type 0 where
-  pub count : (sq : Sq) (population : ℕ) → value_of counts sq ≡ Some population → IsKnownCount book sq population
+  pub count : (sq : Sq) (population : ℕ) → value_of counts sq ≡ Some population →
+      IsKnownCount book sq population

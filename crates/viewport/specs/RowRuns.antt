@@ -1,4 +1,5 @@
--- The runs of live cells of a row: each is its first cell and how many there are, from there to the right.
+-- The runs of live cells of a row: each is its first cell and how many there are, from there to the
+-- right.
 use Rattle.std.specs.Prelude.{◌≡◌, ℕ, ◌<◌, ℤ, pos, ◌+ℤ◌, ◌-ℤ◌, ◌≤ℤ◌, ◌<ℤ◌, ◌||◌, Bool, List, [], ◌∷◌}
 use Rattle.std.specs.List.{AllByRecursion, list_any}
 use Rattle.plane.specs.Plane.{Plane}
@@ -15,7 +16,8 @@ end_of run = run.0 +ℤ pos run.1
 -- no run is empty, and behind each one is a dead cell before the next begins
 abbrev pub AreApart : List (ℤ × ℕ) → Type 0
 AreApart [] = Unit {0}
-AreApart (run ∷ runs) = (0 < run.1) × AllByRecursion (λ other. end_of run <ℤ other.0) runs × AreApart runs
+AreApart (run ∷ runs) =
+    (0 < run.1) × AllByRecursion (λ other. end_of run <ℤ other.0) runs × AreApart runs
 
 -- whether one of the runs has the cell at x
 unfoldable pub is_in_some : List (ℤ × ℕ) → ℤ → Bool
@@ -31,8 +33,10 @@ pub record EndBy (x : ℤ) (runs : List (ℤ × ℕ)) : Type 0 where
   pub apart : AreApart runs
   pub ends : AllByRecursion (λ run. end_of run ≤ℤ x) runs
 
--- the new runs have the cells of the old ones and these, which lie from left on within so many places
-pub record AddsCells (left : ℤ) (wide : ℕ) (cells : ℤ → Bool) (old new : List (ℤ × ℕ)) : Type 0 where
+-- the new runs have the cells of the old ones and these, which lie from left on within so many
+-- places
+pub record AddsCells (left : ℤ) (wide : ℕ) (cells : ℤ → Bool)
+    (old new : List (ℤ × ℕ)) : Type 0 where
   pub end : EndBy (left +ℤ pos wide) new
   pub adds : (x : ℤ) → is_in_some new x ≡ (is_in_some old x || cells x)
 
@@ -46,4 +50,6 @@ run_cells first count x = is_in_row_run x (first, count)
 
 -- a row has one list of runs
 abbrev pub OneListOfRuns : Type 0
-OneListOfRuns = (plane : Plane) (y : ℤ) (runs others : List (ℤ × ℕ)) → AreRowRuns plane y runs → AreRowRuns plane y others → runs ≡ others
+OneListOfRuns =
+    (plane : Plane) (y : ℤ) (runs others : List (ℤ × ℕ)) → AreRowRuns plane y runs →
+    AreRowRuns plane y others → runs ≡ others

@@ -20,7 +20,9 @@ abbrev pub IsFirstRow : Plane → ℤ → Option ℤ → Type 0
 IsFirstRow plane from None = IsDeadFrom plane from
 IsFirstRow plane from (Some row) = (from ≤ℤ row) × IsLiveRow plane row × AreDeadRows plane from row
 
--- the first row with a live cell among those of a square from `from` to before `end`, if there is one
+-- the first row with a live cell among those of a square from `from` to before `end`, if there is
+-- one
 abbrev pub IsFirstRowBelow : Plane → ℕ → ℕ → Option ℕ → Type 0
 IsFirstRowBelow plane from end None = AreDeadRows plane (pos from) (pos end)
-IsFirstRowBelow plane from end (Some row) = (from ≤ row) × (row < end) × IsLiveRow plane (pos row) × AreDeadRows plane (pos from) (pos row)
+IsFirstRowBelow plane from end (Some row) =
+    (from ≤ row) × (row < end) × IsLiveRow plane (pos row) × AreDeadRows plane (pos from) (pos row)

@@ -13,7 +13,8 @@ pub record IsInBlocks (side : ℕ) (strip : Strip) : Type 0 where
 
 -- how many live cells each block of the strip has
 abbrev pub strip_counts : Plane → ℕ → Strip → List ℕ
-strip_counts plane exponent strip = block_counts plane exponent (pos strip.row) (pos strip.from) (strip.end - strip.from)
+strip_counts plane exponent strip =
+    block_counts plane exponent (pos strip.row) (pos strip.from) (strip.end - strip.from)
 
 -- so many columns from the first one on are not too far away for 64 bits
 pub record IsNearRange (first : ℤ) (count : ℕ) : Type 0 where
@@ -27,4 +28,5 @@ pub record AreBeside (left : ℤ) (width : ℕ) (half : ℤ) (columns : Columns)
   pub end : pos columns.end ≤ℤ (half +ℤ half)
   pub before : 0 < columns.before → (left +ℤ pos columns.before) ≤ℤ (pos 0 -ℤ half)
   pub inside : columns.from < columns.end → left +ℤ pos columns.before ≡ pos columns.from -ℤ half
-  pub behind : 0 < columns.behind → half ≤ℤ (left +ℤ pos (columns.before + (columns.end - columns.from)))
+  pub behind : 0 < columns.behind →
+      half ≤ℤ (left +ℤ pos (columns.before + (columns.end - columns.from)))

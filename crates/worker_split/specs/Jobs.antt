@@ -32,13 +32,15 @@ HaveFutures book jobs futures = AllZip (HasFuture book) jobs futures.items
 abbrev pub new_results : Book → Book → ℕ
 new_results old new = length new.results - length old.results
 
--- the desk that comes back from so many workers is one of the table and knows all that the other knew; its number of expansions only
--- rises, by at most the number of new results times that of workers
+-- the desk that comes back from so many workers is one of the table and knows all that the other
+-- knew; its number of expansions only rises, by at most the number of new results times that of
+-- workers
 pub record ComesBack (table : NodeTable) (workers : ℕ) (old new : Desk) : Type 0 where
   pub of_table : IsDeskOf table new
   pub keeps : Keeps (book_at table old) (book_at table new)
   pub rises : expansions_of old ≤ expansions_of new
-  pub expansions : expansions_of new ≤ expansions_of old + workers * new_results (book_at table old) (book_at table new)
+  pub expansions : expansions_of new
+      ≤ expansions_of old + workers * new_results (book_at table old) (book_at table new)
 
 -- the book is full
 abbrev pub RefusesFull : Book → Refusal → Type 0

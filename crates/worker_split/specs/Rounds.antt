@@ -22,7 +22,8 @@ pub record IsAnswerAt (jobs : List Sq) (book : Book) (place : ℕ) (future : Sq)
   pub is : HasFuture book job future
 
 -- the future of the job at a place, or its refusal
-pub record IsSettled (jobs : List Sq) (book : Book) (place : ℕ) (future : Result Sq Refusal) : Type 0 where
+pub record IsSettled (jobs : List Sq) (book : Book) (place : ℕ)
+    (future : Result Sq Refusal) : Type 0 where
   pub within : place < length jobs
   pub ok : IfOk future (IsAnswerAt jobs book place)
   pub refusal : IfErr future (RefusesFull book)
@@ -49,7 +50,8 @@ pub record StayIdle (old new : List Member) : Type 0 where
   pub shares : shares_of new ≡ shares_of old
   pub idle : (count : ℕ) → All (IsIdle count) old → All (IsIdle count) new
 
--- so many idle workers that share all jobs, an empty place for each job, and room for a future of each
+-- so many idle workers that share all jobs, an empty place for each job, and room for a future of
+-- each
 pub record HasRoom (count workers : ℕ) (room : Room) : Type 0 where
   pub len : length room.members.items ≡ workers
   pub idle : All (IsIdle count) room.members.items
@@ -80,11 +82,13 @@ pub record IsMember (base : Book) (jobs : List Sq) (member : Member) : Type 0 wh
 
 -- the worker stays one of the same round
 abbrev pub StaysMember : Member → Member → Type 0
-StaysMember old new = (base : Book) (jobs : List Sq) → IsMember base jobs old → IsMember base jobs new
+StaysMember old new =
+    (base : Book) (jobs : List Sq) → IsMember base jobs old → IsMember base jobs new
 
 -- what the worker found goes on from what it had found
 pub record FindsMore (jobs : List Sq) (old new : Member) : Type 0 where
-  pub found : (base : Book) → IsMember base jobs old → IfSome new.at (λ at. HasFound base jobs at new.solver)
+  pub found : (base : Book) → IsMember base jobs old →
+      IfSome new.at (λ at. HasFound base jobs at new.solver)
 
 -- the worker has run
 pub record HasRun (jobs : List Sq) (old new : Member) : Type 0 where
@@ -107,4 +111,6 @@ pub record AreMembers (base : Book) (count : ℕ) (members : List Member) : Type
 
 -- each place that is not empty has the future of its job, or its refusal
 abbrev pub PlacesFit : List Sq → Book → List (Option (Result Sq Refusal)) → Type 0
-PlacesFit jobs book places = (place : ℕ) (future : Result Sq Refusal) → slice_get places place ≡ Some (Some future) → IsSettled jobs book place future
+PlacesFit jobs book places =
+    (place : ℕ) (future : Result Sq Refusal) → slice_get places place ≡ Some (Some future) →
+    IsSettled jobs book place future

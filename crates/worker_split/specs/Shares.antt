@@ -8,7 +8,8 @@ use Rattle.worker_split.specs.declared.members.Member.{Member}
 abbrev pub shares_of : List Member → List (List ℕ)
 shares_of members = map (λ member. share_in member.own) members
 
--- one after the other the shares are all jobs, each once, and no share is longer than another by more than one
+-- one after the other the shares are all jobs, each once, and no share is longer than another by
+-- more than one
 pub record AreShares (count : ℕ) (shares : List (List ℕ)) : Type 0 where
   pub whole : concat shares ≡ jobs_between 0 count
   pub even : All (λ one. All (λ other. length one ≤ length other + 1) shares) shares

@@ -15,7 +15,8 @@ pub record Works (times : ℕ) (old new : Book) (before after : ℕ) : Type 0 wh
 
 -- the same of a desk that is at work
 abbrev pub Continues : ℕ → At → At → Tally → Tally → Type 0
-Continues times old new before after = Works times (book_here old) (book_here new) before.expansions after.expansions
+Continues times old new before after =
+    Works times (book_here old) (book_here new) before.expansions after.expansions
 
 -- a desk came back with what is in the book, and then so many expansions were added to its number
 pub record Leaves (book : Book) (made : ℕ) (desk : Desk) : Type 0 where
