@@ -33,8 +33,42 @@ GIGABYTE = 10**9
 MEMORY = 4 * GIGABYTE
 MEMORY_OF_JOB = 3 * GIGABYTE // 2
 MOST_JOBS = 4
-# Crates off the longest chain are proved at a lower priority.
-BEHIND = ["nice", "-n", "5"]
+# About how many seconds a check takes with one job. They say which crates come first, and which get more jobs; a crate that is not listed counts by
+# its lines.
+SECONDS = {
+    "rule_text": 45,
+    "run_options": 13,
+    "plane": 95,
+    "png_writer": 83,
+    "leaf_kernels": 85,
+    "squares": 200,
+    "table_core": 27,
+    "hashlife_step": 220,
+    "node_table": 280,
+    "node_sweep": 290,
+    "job_queues": 18,
+    "worker_split": 235,
+    "viewport": 300,
+    "pattern_picture": 55,
+    "table_growth": 25,
+    "universe": 150,
+    "text_lines": 27,
+    "rle_reader": 110,
+    "macrocell_reader": 75,
+    "patterns": 65,
+    "pattern_writers": 225,
+    "engine": 130,
+    "program_parts": 150,
+    "batch_program": 70,
+    "lifebatch": 90,
+}
+# A check of so many seconds is shorter with more jobs where cores are free, and a check of so many with a second job where none is.
+WITH_JOBS = 30
+LONG = 100
+# A chain of at least this share of the longest one counts as long too.
+SHARE = 0.6
+# How much lower the priority of a crate is for each crate with a longer chain that runs beside it.
+NICE = 5
 # The disk space that the folders `out` of all crates take.
 DISK = 2 * GIGABYTE
 TARGET = "x86_64-unknown-linux-gnu"
@@ -91,13 +125,18 @@ def all_below(crates: Crates) -> dict[str, set[str]]:
     return found
 
 
+def seconds_of(name: str) -> int:
+    """The processor seconds that the check of a crate is expected to take."""
+    lines = sum(len(it.read_bytes().splitlines()) for it in folder(name).glob("src/**/*.rt"))
+    return SECONDS.get(name, 12 + lines // 8)
+
+
 def chains(crates: Crates) -> dict[str, int]:
-    """For each crate the number of lines in the longest chain of crates from it to the program."""
-    lines = {name: sum(len(it.read_bytes().splitlines()) for it in folder(name).glob("src/**/*.rt")) for name in crates}
+    """For each crate the seconds of the longest chain of crates from it to the program."""
     found = {}
     for name in reversed(crates):
         above = [found[it] for it, below in crates.items() if name in below]
-        found[name] = lines[name] + max(above, default=0)
+        found[name] = seconds_of(name) + max(above, default=0)
     return found
 
 
@@ -197,7 +236,9 @@ class Run:
 
     def call(self) -> None:
         how = {"cwd": folder(self.name), "stdin": subprocess.DEVNULL, "stdout": self.said, "stderr": subprocess.STDOUT}
-        self.process = subprocess.Popen(self.commands.pop(0), start_new_session=True, **how)
+        # A group of its own, so that it can be ended, in the session of the build: Linux may share the cores out by session, and then
+        # `nice` says nothing between two of them.
+        self.process = subprocess.Popen(self.commands.pop(0), preexec_fn=os.setpgrp, **how)
 
     def poll(self) -> Optional[int]:
         """Starts the next command if one has ended. Returns the status once the last one, or a failed one, has ended."""
@@ -262,7 +303,7 @@ class Build:
     progress: Progress
     # For each crate those below it.
     below: dict[str, set[str]]
-    # For each crate the number of lines in the longest chain of crates from it to the program.
+    # For each crate the seconds of the longest chain of crates from it to the program.
     chain: dict[str, int]
     running: dict[str, Run] = field(default_factory=dict)
     done: set[str] = field(default_factory=set)
@@ -271,24 +312,31 @@ class Build:
     # The number of the signal that interrupts the build.
     signal: int = 0
 
-    def start(self, name: str, jobs: int, behind: list[str]) -> None:
+    def start(self, name: str, jobs: int) -> None:
         shutil.rmtree(library(name).parent, ignore_errors=True)
         library(name).parent.mkdir(parents=True)
         below = self.below[name]
         is_program = name == self.program.name
         commands = commands_for_program(self.program, below, jobs) if is_program else commands_for_library(name, below, jobs)
-        self.running[name] = Run(name, [[*behind, *it] for it in commands], jobs, self.sums[name])
+        longer = sum(self.chain[it] > self.chain[name] for it in self.running)
+        nice = ["nice", "-n", str(NICE * longer)] if longer else []
+        self.running[name] = Run(name, [[*nice, *it] for it in commands], jobs, self.sums[name])
+
+    def jobs_for(self, name: str, ready: list[str]) -> int:
+        """How many jobs a crate that is ready gets: the cores that no other crate can use, and two for a long check on a long chain."""
+        seconds, others = seconds_of(name), self.running.keys() | set(ready) - {name}
+        is_on_long_chain = self.chain[name] >= SHARE * max(self.chain[it] for it in [name, *others])
+        free = self.cores - len(others) if seconds >= WITH_JOBS else 1
+        return max(min(free, MOST_JOBS), 2 if seconds >= LONG and is_on_long_chain else 1)
 
     def start_all(self, ready: list[str]) -> None:
-        """Starts the crates that there is room for. The one with the longest chain of crates above it gets as many jobs as cores and memory
-        allow; the others get one each, at a lower priority."""
+        """Starts the crates that there is room for, the one with the longest chain of crates above it first."""
         for name in ready:
             room = self.memory - sum(it.memory() for it in self.running.values())
             if self.running and (room < MEMORY or len(self.running) == self.cores):
                 return
-            is_longest = all(self.chain[name] >= self.chain[it] for it in self.running)
-            most = min(self.cores, MOST_JOBS, 1 + max(room - MEMORY, 0) // MEMORY_OF_JOB)
-            self.start(name, most if is_longest else 1, [] if is_longest else BEHIND)
+            most = 1 + max(room - MEMORY, 0) // MEMORY_OF_JOB
+            self.start(name, min(self.jobs_for(name, ready), most))
 
     def end(self, name: str, status: int) -> bool:
         """Records a proved crate, or prints why it isn't proved and returns False."""
