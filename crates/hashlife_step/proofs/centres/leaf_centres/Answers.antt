@@ -1,7 +1,7 @@
 use Rattle.std.proofs.Common.{◌≡◌, ℕ, ◌<◌, length, arith, rules}
 use Rattle.squares.specs.Book.{Book, Keeps, numbered}
 use Rattle.squares.specs.declared.sq.Sq.{Sq}
-use Rattle.squares.proofs.Kept.{keeps_none, keeps_trans, known_kept}
+use Rattle.squares.proofs.Kept.{adds_trans, keeps_none, keeps_trans, known_kept}
 use Rattle.squares.proofs.FourKnown.{each_known}
 use Rattle.hashlife_step.proofs.FourCentres.{middle_later}
 use Rattle.hashlife_step.proofs.centres.leaf_centres.Goals as goal
@@ -41,3 +41,15 @@ returns-clause-ok g c =
       sw = middle_later _ _ _ 3 3 c.args.nine _ (known _ (keeps_trans k1 k2)) (omega arith) k3 k4 c.in_ok-lower_left.ensures.ok;
       se = middle_later _ _ _ 3 4 c.args.nine _ (known _ (keeps_trans k1 (keeps_trans k2 k3))) (omega arith) k4 (keeps_none _) c.in_ok-lower_right.ensures.ok;
     }
+
+pub returns-in_err-upper_right-clause-adds : goal.returns-in_err-upper_right-clause-adds
+returns-in_err-upper_right-clause-adds g c = adds_trans c.leaf_centre.ensures.adds c.leaf_centre-2.ensures.adds
+
+pub returns-in_err-lower_left-clause-adds : goal.returns-in_err-lower_left-clause-adds
+returns-in_err-lower_left-clause-adds g c = adds_trans c.leaf_centre.ensures.adds (adds_trans c.leaf_centre-2.ensures.adds c.leaf_centre-3.ensures.adds)
+
+pub returns-in_err-lower_right-clause-adds : goal.returns-in_err-lower_right-clause-adds
+returns-in_err-lower_right-clause-adds g c = adds_trans c.leaf_centre.ensures.adds (adds_trans c.leaf_centre-2.ensures.adds (adds_trans c.leaf_centre-3.ensures.adds c.leaf_centre-4.ensures.adds))
+
+pub returns-clause-adds : goal.returns-clause-adds
+returns-clause-adds g c = adds_trans c.leaf_centre.ensures.adds (adds_trans c.leaf_centre-2.ensures.adds (adds_trans c.leaf_centre-3.ensures.adds c.leaf_centre-4.ensures.adds))

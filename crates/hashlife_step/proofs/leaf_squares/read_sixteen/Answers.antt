@@ -1,6 +1,7 @@
 use Rattle.std.proofs.Common.{refl}
 use Rattle.plane.specs.Leaves.{leaves_plane}
 use Rattle.hashlife_step.proofs.LeafSquares.{quarters_shown}
+use Rattle.squares.proofs.Kept.{adds_trans}
 use Rattle.hashlife_step.proofs.leaf_squares.read_sixteen.Goals as goal
 
 pub returns-clause-value : goal.returns-clause-value
@@ -11,3 +12,6 @@ returns-clause-value g c =
     refl c.requires.level ((g.met.S.Squares.is_book c.args.book.now).square c.args.sq c.requires.known.known)
     c.read_parts.ensures.value c.read_leaves-nw.ensures.adds.keeps c.read_leaves-ne.ensures.adds.keeps c.read_leaves-sw.ensures.adds.keeps
     c.read_leaves-nw.ensures.value c.read_leaves-ne.ensures.value c.read_leaves-sw.ensures.value c.read_leaves-se.ensures.value
+
+pub returns-clause-adds : goal.returns-clause-adds
+returns-clause-adds g c = adds_trans c.read_parts.ensures.adds (adds_trans c.read_leaves-nw.ensures.adds (adds_trans c.read_leaves-ne.ensures.adds (adds_trans c.read_leaves-sw.ensures.adds c.read_leaves-se.ensures.adds)))

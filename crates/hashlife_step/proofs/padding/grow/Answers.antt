@@ -2,7 +2,7 @@ use Rattle.std.proofs.Common.{◌≡◌, ℕ, ◌+◌, ◌≤◌, ◌∙◌, ap,
 use Rattle.std.proofs.lemmas.Result.{IfOk-weaker}
 use Rattle.squares.specs.Book.{Book, IsBook, IsKnown, numbered}
 use Rattle.squares.specs.declared.sq.Sq.{Sq}
-use Rattle.squares.proofs.Kept.{keeps_trans, known_kept}
+use Rattle.squares.proofs.Kept.{adds_trans, keeps_trans, known_kept}
 use Rattle.squares.proofs.FourKnown.{empty_known, four_known, known_as}
 use Rattle.hashlife_step.proofs.Grown.{grown_shown}
 use Rattle.hashlife_step.proofs.padding.grow.Goals as goal
@@ -52,3 +52,18 @@ quad-requires-5-clause-known g c =
     let empty_level = ap (λ (sq : Sq). sq.level) c.empty-empty.ensures in
     four_known (known_kept k3 c.in_ok-upper_left.ensures.ok.known) (known_kept k4 c.in_ok-upper_right.ensures.ok.known) (known_kept k5 c.in_ok-lower_left.ensures.ok.known)
     (known_as (ap (λ n. n + 1) (at_level ∙ sym empty_level)) c.in_ok-lower_right.ensures.ok.known)
+
+pub returns-in_err-upper_left-clause-adds : goal.returns-in_err-upper_left-clause-adds
+returns-in_err-upper_left-clause-adds g c = adds_trans c.read_parts.ensures.adds c.quad.ensures.adds
+
+pub returns-in_err-upper_right-clause-adds : goal.returns-in_err-upper_right-clause-adds
+returns-in_err-upper_right-clause-adds g c = adds_trans c.read_parts.ensures.adds (adds_trans c.quad.ensures.adds c.quad-2.ensures.adds)
+
+pub returns-in_err-lower_left-clause-adds : goal.returns-in_err-lower_left-clause-adds
+returns-in_err-lower_left-clause-adds g c = adds_trans c.read_parts.ensures.adds (adds_trans c.quad.ensures.adds (adds_trans c.quad-2.ensures.adds c.quad-3.ensures.adds))
+
+pub returns-in_err-lower_right-clause-adds : goal.returns-in_err-lower_right-clause-adds
+returns-in_err-lower_right-clause-adds g c = adds_trans c.read_parts.ensures.adds (adds_trans c.quad.ensures.adds (adds_trans c.quad-2.ensures.adds (adds_trans c.quad-3.ensures.adds c.quad-4.ensures.adds)))
+
+pub returns-clause-adds : goal.returns-clause-adds
+returns-clause-adds g c = adds_trans c.read_parts.ensures.adds (adds_trans c.quad.ensures.adds (adds_trans c.quad-2.ensures.adds (adds_trans c.quad-3.ensures.adds (adds_trans c.quad-4.ensures.adds c.quad-5.ensures.adds))))

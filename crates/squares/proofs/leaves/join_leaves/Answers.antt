@@ -1,7 +1,7 @@
 use Rattle.std.proofs.lemmas.Result.{IfOk-weaker}
 use Rattle.std.proofs.Common.{get_or}
 use Rattle.plane.specs.Square.{bits_plane}
-use Rattle.squares.proofs.Kept.{keeps_trans, known_kept}
+use Rattle.squares.proofs.Kept.{adds_trans, keeps_trans, known_kept}
 use Rattle.squares.proofs.FourKnown.{four_known, numbered_joined}
 use Rattle.squares.proofs.leaves.join_leaves.Goals as goal
 
@@ -20,3 +20,15 @@ pub quad-requires-clause-known : goal.quad-requires-clause-known
 quad-requires-clause-known g c =
     let k4 = c.leaf-4.ensures.adds.keeps in let k3 = keeps_trans c.leaf-3.ensures.adds.keeps k4 in let k2 = keeps_trans c.leaf-2.ensures.adds.keeps k3 in
     four_known (known_kept k2 c.in_ok-upper_left.ensures.ok.known) (known_kept k3 c.in_ok-upper_right.ensures.ok.known) (known_kept k4 c.in_ok-lower_left.ensures.ok.known) c.in_ok-lower_right.ensures.ok.known
+
+pub returns-in_err-upper_right-clause-adds : goal.returns-in_err-upper_right-clause-adds
+returns-in_err-upper_right-clause-adds g c = adds_trans c.leaf.ensures.adds c.leaf-2.ensures.adds
+
+pub returns-in_err-lower_left-clause-adds : goal.returns-in_err-lower_left-clause-adds
+returns-in_err-lower_left-clause-adds g c = adds_trans c.leaf.ensures.adds (adds_trans c.leaf-2.ensures.adds c.leaf-3.ensures.adds)
+
+pub returns-in_err-lower_right-clause-adds : goal.returns-in_err-lower_right-clause-adds
+returns-in_err-lower_right-clause-adds g c = adds_trans c.leaf.ensures.adds (adds_trans c.leaf-2.ensures.adds (adds_trans c.leaf-3.ensures.adds c.leaf-4.ensures.adds))
+
+pub returns-clause-adds : goal.returns-clause-adds
+returns-clause-adds g c = adds_trans c.leaf.ensures.adds (adds_trans c.leaf-2.ensures.adds (adds_trans c.leaf-3.ensures.adds (adds_trans c.leaf-4.ensures.adds c.quad.ensures.adds)))
