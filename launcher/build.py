@@ -327,7 +327,8 @@ class Build:
         seconds, others = seconds_of(name), self.running.keys() | set(ready) - {name}
         is_on_long_chain = self.chain[name] >= SHARE * max(self.chain[it] for it in [name, *others])
         free = self.cores - len(others) if seconds >= WITH_JOBS else 1
-        return max(min(free, MOST_JOBS), 2 if seconds >= LONG and is_on_long_chain else 1)
+        least = 2 if self.cores > 1 and seconds >= LONG and is_on_long_chain else 1
+        return max(min(free, MOST_JOBS), least)
 
     def start_all(self, ready: list[str]) -> None:
         """Starts the crates that there is room for, the one with the longest chain of crates above it first."""
