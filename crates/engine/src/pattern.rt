@@ -3,14 +3,14 @@
 ghost use Rattle.std.specs.Prelude.{◌≡◌, None, IfOk, IfErr, OnOk, IsOkUnless};
 ghost use Rattle.plane.specs.Square.{IsSame};
 ghost use Rattle.universe.specs.Cells.{live_cells};
-ghost use Rattle.pattern_picture.specs.Drawn.{IsPictureOf};
+ghost use Rattle.pattern_picture.specs.Drawings.{IsDrawingOf};
 ghost use Rattle.pattern_picture.specs.Scale.{IsShown, IsSize};
 ghost use Rattle.viewport.specs.BoundingBox.{HasBounds};
 
 use crate::format::Format;
+use pattern_picture::Drawing;
 use pattern_writers::{write_mc, write_rle};
 use plane::{Bounds, Refusal, Sink, Window};
-use png_writer::Image;
 use rule_text::Rule;
 use std::alloc::Global;
 use std::thread::Threads;
@@ -56,12 +56,12 @@ impl Pattern {
         self.cells.bounds(alloc)
     }
 
-    /// A picture of a rectangle of the pattern, whose sides lie from -2^62 to 2^62, as large as can be with at most `size`
+    /// How a rectangle of the pattern is drawn, whose sides lie from -2^62 to 2^62, as large as can be with at most `size`
     /// pixels on each side, 16 to 4096. `NoMemory` where there is no room for it.
-    pub fn picture(&self, alloc: Global, shown: Bounds, size: u32) -> Result<Image, Refusal>
+    pub fn picture(&self, alloc: Global, shown: Bounds, size: u32) -> Result<Drawing, Refusal>
         requires shown { IsShown shown }
         requires size { IsSize size }
-        ensures drawn { IfOk result (IsPictureOf (plane_of self.now) shown size) }
+        ensures drawn { IfOk result (IsDrawingOf (plane_of self.now) shown size) }
         ensures memory { IsOkUnless result Refusal.NoMemory }
     {
         let (still, root) = (self.cells.still(), self.cells.root());

@@ -1,6 +1,4 @@
 pub mod Floors
 pub mod OneScale
-pub mod RowsOfBlocks
 pub mod RowsOfShades
 pub mod Shading
-pub mod Zooms

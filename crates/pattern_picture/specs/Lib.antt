@@ -1,4 +1,3 @@
-pub mod Drawn
-pub mod Pixels
+pub mod Drawings
 pub mod Scale
 pub mod Shades

@@ -1,14 +1,12 @@
-//! Pictures of the cells of a square: at what scale a rectangle is shown, the shades of its blocks, and the rows of
-//! pixels.
+//! Pictures of the cells of a square: at what scale a rectangle is shown, and the shades of its blocks.
 #![tactic(auto)]
 
 mod laws;
 mod pictures;
-mod pixels;
 mod scale;
 mod shades;
 
 pub use laws::one_scale;
-pub use pictures::picture;
+pub use pictures::{Drawing, picture};
 pub use scale::Scale;
 pub use shades::block_shades;

@@ -5,3 +5,4 @@ pub mod Rows
 pub mod RowsOfCodes
 pub mod Sends
 pub mod Streams
+pub mod Zooms

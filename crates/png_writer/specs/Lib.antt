@@ -6,6 +6,7 @@ pub mod Crc32
 pub mod Examples
 pub mod Items
 pub mod Picture
+pub mod Pixels
 pub mod Repeats
 pub mod Rows
 pub mod Sends

@@ -1,5 +1,6 @@
 mod Endings
 mod PictureLines
+mod RowsOfBlocks
 mod ShownBoxes
 mod Views
 mod WindowTexts

@@ -18,10 +18,10 @@ use Rattle.engine.specs.declared.options.Options.{Options}
 use Rattle.engine.specs.declared.running.Summary.{Summary}
 use Rattle.engine.proofs.Endings.{begun_none}
 use Rattle.png_writer.specs.Picture.{IsPngFile, Picture}
-use Rattle.pattern_picture.specs.Drawn.{IsPictureOf}
 use Rattle.pattern_picture.specs.Scale.{IsScale}
 use Rattle.pattern_picture.specs.declared.scale.Scale.{Scale}
 use Rattle.pattern_picture.proofs.OneScale.{one_scale_lem}
+use Rattle.view_program.specs.Drawn.{IsPictureOf}
 use Rattle.view_program.specs.PictureLine.{picture_line}
 use Rattle.view_program.specs.Shown.{rectangle_shown}
 use Rattle.view_program.specs.View.{IsDrawn, IsView}

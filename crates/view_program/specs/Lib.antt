@@ -1,4 +1,5 @@
 pub mod CommandLine
+pub mod Drawn
 pub mod FormLaws
 pub mod Matched
 pub mod PictureLine

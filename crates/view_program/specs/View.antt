@@ -12,7 +12,7 @@ use Rattle.engine.specs.RunOptions.{without_output}
 use Rattle.engine.specs.SummaryLine.{summary_line}
 use Rattle.engine.specs.declared.running.Summary.{Summary}
 use Rattle.png_writer.specs.Picture.{IsPngFile, Picture}
-use Rattle.pattern_picture.specs.Drawn.{IsPictureOf}
+use Rattle.view_program.specs.Drawn.{IsPictureOf}
 use Rattle.view_program.specs.PictureLine.{picture_line}
 use Rattle.view_program.specs.Shown.{rectangle_shown}
 use Rattle.view_program.specs.declared.request.View.{View}

@@ -13,6 +13,7 @@ use crate::request::View;
 use crate::shown::rectangle_shown;
 use engine::{last_pattern, load, write_summary};
 use plane::{Fault, Sink, Source};
+use png_writer::Image;
 use std::alloc::Global;
 use std::sync::Wait;
 use std::thread::Threads;
@@ -45,7 +46,14 @@ pub fn draw<R: Threads + Wait + Sync, W: Sink, V: Sink>(
 {
     let (last, summary) = last_pattern(rt, alloc, bytes, &view.run)?;
     let shown = rectangle_shown(view.window, summary.bounds);
-    let image = last.picture(alloc, shown, view.size)?;
+    let drawing = last.picture(alloc, shown, view.size)?;
+    let image = Image::zoomed(
+        alloc,
+        drawing.shades.as_slice(),
+        drawing.blocks.width,
+        drawing.blocks.height,
+        drawing.scale.zoom,
+    )?;
     write_summary(report, &summary)?;
     write_picture_line(report, name, shown, view.size)?;
     image.write(file)?;

@@ -1,4 +1,4 @@
-use Rattle.std.proofs.Common.{◌≡◌, Err, rules, refl, sym, ◌∙◌, subst}
+use Rattle.std.proofs.Common.{◌≡◌, Err, ap, length, rules, refl, sym, ◌∙◌, subst}
 use Rattle.std.specs.Io.KnownBytes.{Appends}
 use Rattle.plane.specs.Device.{HasFailed}
 use Rattle.plane.specs.Fault.{placeless}
@@ -6,10 +6,12 @@ use Rattle.plane.specs.declared.cell.Bounds.{Bounds}
 use Rattle.plane.specs.declared.refusal.Refusal.TheVariants.{NoMemory}
 use Rattle.engine.specs.Pattern.{plane_of}
 use Rattle.engine.specs.RunOptions.{without_output}
-use Rattle.pattern_picture.specs.Drawn.{IsPictureOf}
 use Rattle.pattern_picture.specs.Scale.{IsScale, IsShown}
 use Rattle.pattern_picture.specs.declared.scale.Scale.{Scale}
+use Rattle.view_program.specs.Drawn.{IsPictureOf}
 use Rattle.view_program.specs.PictureLine.{picture_line}
+use Rattle.view_program.specs.Shown.{rectangle_shown}
+use Rattle.view_program.proofs.RowsOfBlocks.{columns_fit, picture_drawn, rows_fit, shades-length}
 use Rattle.view_program.proofs.ShownBoxes.{can_be_shown}
 use Rattle.view_program.proofs.Views.{ends_well, file_failed, out_of_memory, refused_at_once, report_failed}
 use Rattle.view_program.proofs.drawing.draw.Goals as goal
@@ -28,6 +30,25 @@ pub write_picture_line-requires-clause-shown : goal.write_picture_line-requires-
 write_picture_line-requires-clause-shown g c =
     subst IsShown (sym c.rectangle_shown-shown.ensures)
     (can_be_shown c.in_ok-last.last c.args.view.now.window c.in_ok-last.summary.bounds c.requires.window c.in_ok-last.ensures.ok.summary.bounds)
+
+pub returns-in_err-drawing : goal.returns-in_err-drawing
+returns-in_err-drawing g c =
+    let is : c.from_residual-in_err-drawing.result ≡ Err (placeless NoMemory) = search rules in
+    rw is (refused_at_once c.args.bytes.now c.args.view.now c.args.name.now _ _ (placeless NoMemory) refl refl
+    (out_of_memory c.args.bytes.now (without_output c.args.view.now.run) (plane_of c.in_ok-last.last) c.in_ok-last.summary c.in_ok-last.ensures.ok))
+
+pub zoomed-requires-clause-shades : goal.zoomed-requires-clause-shades
+zoomed-requires-clause-shades g c =
+    ap length c.as_slice.ensures.value
+    ∙ shades-length (plane_of c.in_ok-last.last) _ c.args.view.now.size c.in_ok-drawing.drawing c.in_ok-drawing.ensures.drawn
+
+pub zoomed-requires-clause-width : goal.zoomed-requires-clause-width
+zoomed-requires-clause-width g c =
+    columns_fit (plane_of c.in_ok-last.last) _ c.args.view.now.size c.in_ok-drawing.drawing c.in_ok-drawing.ensures.drawn c.requires.size
+
+pub zoomed-requires-clause-height : goal.zoomed-requires-clause-height
+zoomed-requires-clause-height g c =
+    rows_fit (plane_of c.in_ok-last.last) _ c.args.view.now.size c.in_ok-drawing.drawing c.in_ok-drawing.ensures.drawn c.requires.size
 
 pub returns-in_err-image : goal.returns-in_err-image
 returns-in_err-image g c =
@@ -57,8 +78,8 @@ returns-in_err-write g c =
     let answer = c.in_ok-last.summary in
     let image = c.in_ok-image.image in
     let same = c.rectangle_shown-shown.ensures in
-    let shows = subst (λ (box : Bounds). IsPictureOf plane box view.size image) same
-    c.in_ok-image.ensures.drawn in
+    let drawn = picture_drawn plane _ view.size c.in_ok-drawing.drawing c.in_ok-drawing.ensures.drawn _ c.as_slice.ensures.value image c.in_ok-image.ensures.width c.in_ok-image.ensures.rows in
+    let shows = subst (λ (box : Bounds). IsPictureOf plane box view.size image) same drawn in
     let line = subst (λ (box : Bounds). (scale : Scale) × IsScale box view.size scale × Appends (g.W.Sink.taken c.write_summary.new.out) (g.W.Sink.taken c.write_picture_line.new.out) (picture_line c.args.name.now box scale)) same
     c.in_ok-write_picture_line.ensures.written in
     let is : c.from_residual-in_err-write.result ≡ Err (placeless c.in_err-write.field-0.0) = search rules in
@@ -72,8 +93,8 @@ returns g c =
     let answer = c.in_ok-last.summary in
     let image = c.in_ok-image.image in
     let same = c.rectangle_shown-shown.ensures in
-    let shows = subst (λ (box : Bounds). IsPictureOf plane box view.size image) same
-    c.in_ok-image.ensures.drawn in
+    let drawn = picture_drawn plane _ view.size c.in_ok-drawing.drawing c.in_ok-drawing.ensures.drawn _ c.as_slice.ensures.value image c.in_ok-image.ensures.width c.in_ok-image.ensures.rows in
+    let shows = subst (λ (box : Bounds). IsPictureOf plane box view.size image) same drawn in
     let line = subst (λ (box : Bounds). (scale : Scale) × IsScale box view.size scale × Appends (g.W.Sink.taken c.write_summary.new.out) (g.W.Sink.taken c.write_picture_line.new.out) (picture_line c.args.name.now box scale)) same
     c.in_ok-write_picture_line.ensures.written in
     ends_well c.args.bytes.now view c.args.name.now _ _ plane answer c.in_ok-last.ensures.ok image shows (g.W.Sink.taken c.write_summary.new.out) c.in_ok-write_summary.ensures.written line

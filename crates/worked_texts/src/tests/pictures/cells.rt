@@ -1,11 +1,13 @@
 //! Pictures of cells.
 
-ghost use Rattle.std.specs.Prelude.{◌≡◌};
+ghost use Rattle.std.specs.Prelude.{◌≡◌, ◌*◌, IsTrue};
 ghost use Rattle.pattern_picture.specs.Scale.{IsShown, IsSize};
+ghost use Rattle.png_writer.specs.Picture.{IsSide};
 
 use crate::tests::pictures::files::length_and_checksum;
-use pattern_picture::picture;
+use pattern_picture::{Drawing, picture};
 use plane::Bounds;
+use png_writer::{Image, SIDE_LIMIT};
 use rule_text::Rule;
 use squares::{PlainBook, join_leaves};
 use std::process::Abort;
@@ -31,9 +33,34 @@ fn assert_drawn<R: Abort + AllocGlobal>(
 {
     let mut book = PlainBook::new(rt.alloc(), Rule::dead(), 0);
     let sq = join_leaves(&mut book, LEAVES)?;
-    let image = picture(rt.alloc(), &book, sq, shown, size)?;
+    let drawing = picture(rt.alloc(), &book, sq, shown, size)?;
+    let image = image_of(rt, &drawing)?;
     assert_eq!(rt; length_and_checksum(rt.alloc(), &image)?, expected);
     Ok(())
+}
+
+// The pixels of a drawing.
+fn image_of<R: Abort + AllocGlobal>(rt: &R, drawing: &Drawing) -> Result<Image, Fail> {
+    let (zoom, width, height) = (
+        drawing.scale.zoom,
+        drawing.blocks.width,
+        drawing.blocks.height,
+    );
+    assert!(rt; is_side(zoom, width) && is_side(zoom, height));
+    assert_eq!(rt;
+        drawing.shades.len() as u64,
+        u64::from(width) * u64::from(height)
+    );
+    let shades = drawing.shades.as_slice();
+    Ok(Image::zoomed(rt.alloc(), shades, width, height, zoom)?)
+}
+
+// Whether a picture may have so many blocks on a side, each of so many pixels.
+fn is_side(zoom: u32, blocks: u32) -> bool
+    ensures { IsTrue result → IsSide (zoom * blocks) }
+{
+    let pixels = u64::from(zoom) * u64::from(blocks);
+    1 <= pixels && pixels <= u64::from(SIDE_LIMIT)
 }
 
 const fn sides(left: i64, top: i64, right: i64, bottom: i64) -> Bounds

@@ -3,10 +3,10 @@ use Rattle.std.specs.Prelude.{◌≡◌, ℕ, ◌*◌, List, map}
 use Rattle.plane.specs.declared.cell.Bounds.{Bounds}
 use Rattle.plane.specs.Plane.{Plane}
 use Rattle.png_writer.specs.Picture.{Picture}
+use Rattle.png_writer.specs.Pixels.{zoomed}
 use Rattle.viewport.specs.declared.blocks.Blocks.{Blocks}
 use Rattle.viewport.specs.Picture.{coordinates}
 use Rattle.pattern_picture.specs.declared.scale.Scale.{Scale}
-use Rattle.pattern_picture.specs.Pixels.{zoomed}
 use Rattle.pattern_picture.specs.Scale.{IsScale, block_span, blocks_of}
 use Rattle.pattern_picture.specs.Shades.{row_shades}
 

@@ -1,19 +1,21 @@
 -- The rows of a rectangle of blocks.
-use Rattle.std.proofs.Common.{◌≡◌, ℕ, zero, suc, ◌*◌, ℤ, pos, ◌+ℤ◌, List, [], ◌∷◌, ◌++◌, length, take, drop, refl, sym, ap, ◌∙◌, arith, length-append}
+use Rattle.std.proofs.Common.{◌≡◌, ℕ, zero, suc, ◌*◌, ◌≤◌, ℤ, pos, ◌+ℤ◌, List, [], ◌∷◌, ◌++◌, length, take, drop, refl, sym, ap, ◌∙◌, arith, length-append}
 use Rattle.std.specs.Prelude.{flat_map, map}
+use Rattle.std.proofs.Math.Nat.{mul-le-mul_left, mul-le-mul_right}
 use Rattle.std.proofs.Math.Seq.{take-append_seam, drop-append_seam}
 use Rattle.std.proofs.lemmas.List.{length-map}
 use Rattle.plane.specs.declared.cell.Bounds.{Bounds}
 use Rattle.plane.specs.Plane.{Plane}
-use Rattle.png_writer.specs.Picture.{Picture}
+use Rattle.png_writer.specs.Picture.{IsSide, Picture}
+use Rattle.png_writer.specs.Pixels.{cut_rows, zoomed}
 use Rattle.viewport.specs.declared.blocks.Blocks.{Blocks}
 use Rattle.viewport.specs.Blocks.{block_counts, block_count}
 use Rattle.viewport.specs.Picture.{coordinates}
-use Rattle.pattern_picture.specs.declared.scale.Scale.{Scale}
-use Rattle.pattern_picture.specs.Drawn.{IsPictureOf, shade_rows}
-use Rattle.pattern_picture.specs.Pixels.{cut_rows, zoomed}
-use Rattle.pattern_picture.specs.Scale.{IsScale, blocks_of}
+use Rattle.pattern_picture.specs.declared.pictures.Drawing.{Drawing}
+use Rattle.pattern_picture.specs.Drawings.{IsDrawingOf}
+use Rattle.pattern_picture.specs.Scale.{IsSize, longer_side}
 use Rattle.pattern_picture.specs.Shades.{block_shades, row_shades, shade_of}
+use Rattle.view_program.specs.Drawn.{IsPictureOf, shade_rows}
 
 coordinates-length : (first : ℤ) (count : ℕ) → length (coordinates first count) ≡ count
 unfolding coordinates
@@ -48,21 +50,35 @@ block_shades-cut plane blocks =
     ap (λ n. cut_rows blocks.width n (block_shades plane blocks)) (sym (coordinates-length blocks.top blocks.height))
     ∙ cut_joined blocks.width (row_shades plane blocks) (coordinates blocks.top blocks.height) (row_shades-length plane blocks)
 
-pub block_shades-length : (plane : Plane) (blocks : Blocks) → length (block_shades plane blocks) ≡ blocks.width * blocks.height
+block_shades-length : (plane : Plane) (blocks : Blocks) → length (block_shades plane blocks) ≡ blocks.width * blocks.height
 block_shades-length plane blocks =
     joined-length blocks.width (row_shades plane blocks) (coordinates blocks.top blocks.height) (row_shades-length plane blocks)
     ∙ ap (λ n. blocks.width * n) (coordinates-length blocks.top blocks.height)
 
--- the picture of a rectangle, from its scale, its blocks and their shades
-pub picture_drawn : (plane : Plane) (shown : Bounds) (size : ℕ) (scale : Scale) (blocks : Blocks) (shades : List ℕ) (picture : Picture) →
-    IsScale shown size scale → blocks ≡ blocks_of scale.exponent shown → shades ≡ block_shades plane blocks →
-    picture.width ≡ scale.zoom * blocks.width → picture.rows ≡ zoomed scale.zoom (cut_rows blocks.width blocks.height shades) → IsPictureOf plane shown size picture
-picture_drawn plane shown size scale blocks shades picture scaled same shaded width rows = record {
-  scale = scale;
-  scaled = scaled;
-  width = width ∙ ap (λ b. scale.zoom * b.width) same;
-  rows = rows
-      ∙ ap (λ s. zoomed scale.zoom (cut_rows blocks.width blocks.height s)) shaded
-      ∙ ap (zoomed scale.zoom) (block_shades-cut plane blocks)
-      ∙ ap (λ b. zoomed scale.zoom (shade_rows plane b)) same;
-}
+is_side : (zoom span longer size : ℕ) → IsSize size → 1 ≤ zoom → 1 ≤ span → span ≤ longer → zoom * longer ≤ size → IsSide (zoom * span)
+is_side zoom span longer size sized some one short fits =
+    (omega (arith, mul-le-mul_right span some, one), omega (arith, mul-le-mul_left zoom short, fits, sized.most))
+
+-- a drawing of a rectangle
+module _ (plane : Plane) (shown : Bounds) (size : ℕ) (drawing : Drawing) (drawn : IsDrawingOf plane shown size drawing) where
+  pub shades-length : length drawing.shades.items ≡ drawing.blocks.width * drawing.blocks.height
+  shades-length = ap length drawn.shades ∙ block_shades-length plane drawing.blocks
+
+  pub columns_fit : IsSize size → IsSide (drawing.scale.zoom * drawing.blocks.width)
+  columns_fit sized = rw drawn.blocks (is_side drawing.scale.zoom _ (longer_side drawing.scale.exponent shown) size sized drawn.scaled.pixels.0 (omega arith) (omega arith) drawn.scaled.fits)
+
+  pub rows_fit : IsSize size → IsSide (drawing.scale.zoom * drawing.blocks.height)
+  rows_fit sized = rw drawn.blocks (is_side drawing.scale.zoom _ (longer_side drawing.scale.exponent shown) size sized drawn.scaled.pixels.0 (omega arith) (omega arith) drawn.scaled.fits)
+
+  -- and its pixels, made of a slice of its shades
+  pub picture_drawn : (slice : List ℕ) → slice ≡ drawing.shades.items → (picture : Picture) → picture.width ≡ drawing.scale.zoom * drawing.blocks.width →
+      picture.rows ≡ zoomed drawing.scale.zoom (cut_rows drawing.blocks.width drawing.blocks.height slice) → IsPictureOf plane shown size picture
+  picture_drawn slice same picture width rows = record {
+    scale = drawing.scale;
+    scaled = drawn.scaled;
+    width = width ∙ ap (λ b. drawing.scale.zoom * b.width) drawn.blocks;
+    rows = rows
+        ∙ ap (λ s. zoomed drawing.scale.zoom (cut_rows drawing.blocks.width drawing.blocks.height s)) (same ∙ drawn.shades)
+        ∙ ap (zoomed drawing.scale.zoom) (block_shades-cut plane drawing.blocks)
+        ∙ ap (λ b. zoomed drawing.scale.zoom (shade_rows plane b)) drawn.blocks;
+  }
