@@ -9,6 +9,7 @@ use crate::application::Application;
 use crate::entry::program;
 use crate::words::tell_no_words;
 use plane::Sink;
+use std::alloc::{AllocError, Global};
 use std::rt::{Env, Files};
 use std::sync::Wait;
 use std::thread::Threads;
@@ -45,7 +46,17 @@ fn run_words<
     ensures none { IsErr result → (out.new ≡ out.old) × (err.new ≡ err.old) }
 {
     let alloc = rt.alloc();
-    let words: Vec<String> = env::args(rt)?.collect(alloc)?;
-    let words: Vec<&str> = words.iter().map(|word| word.as_str()).collect(alloc)?;
+    let words = system_words(rt)?;
+    let words = texts(alloc, words.as_slice())?;
     Ok(program::<A, R, O, E>(rt, alloc, words.as_slice(), out, err))
+}
+
+// The words that the system gives.
+fn system_words<R: Env + AllocGlobal>(rt: &R) -> io::Result<Vec<String>> {
+    Ok(env::args(rt)?.collect(rt.alloc())?)
+}
+
+// The words as texts.
+fn texts<'a>(alloc: Global, words: &'a [String]) -> Result<Vec<&'a str>, AllocError> {
+    words.iter().map(|word| word.as_str()).collect(alloc)
 }
