@@ -4,6 +4,7 @@ pub mod Notes
 pub mod Recursing
 pub mod Futures
 pub mod Swept
+pub mod Begun
 pub mod Underway
 pub mod Pigeons
 pub mod Few
@@ -15,6 +16,7 @@ pub mod Ranked
 pub mod Ending
 pub mod Gathered
 pub mod Tallies
+pub mod Begins
 pub mod Ordering
 pub mod SideBySide
 pub mod Marking

@@ -7,14 +7,15 @@ use Rattle.table_core.specs.Blocks.{Words, IsBlock}
 use Rattle.table_core.specs.Good.{KeepsWords}
 use Rattle.table_core.proofs.Comparisons.{same_or_other}
 use Rattle.table_core.proofs.Lists.{length_set}
-use Rattle.node_sweep.specs.Copies.{IsCopy, IsLowBlock, IsWantedCopy}
-use Rattle.node_sweep.specs.Copying.{AreCopied}
+use Rattle.table_core.proofs.Ways.{not_head}
+use Rattle.node_sweep.specs.Copies.{HasFullWay, IsCopy, IsLowBlock, IsWantedCopy}
+use Rattle.node_sweep.specs.Copying.{AreCopied, IsCopying}
 use Rattle.node_sweep.specs.Placing.{IsPlaced}
-use Rattle.node_sweep.specs.Transfers.{fresh_words, new_bits, old_bits, old_words, wants, IsCopyNoted, IsUnderway, IsWordNeeded}
+use Rattle.node_sweep.specs.Transfers.{fresh_words, new_bits, old_bits, old_words, wants, HasNoRoomLeft, IsCopyNoted, IsUnderway, IsWordNeeded}
 use Rattle.node_sweep.specs.declared.transfer.Fresh.{Fresh}
 use Rattle.node_sweep.specs.declared.transfer.Transfer.{Transfer}
 use Rattle.node_sweep.proofs.Futures.{block_below}
-use Rattle.node_sweep.proofs.Notes.{copying_still, copy_made, number_inside}
+use Rattle.node_sweep.proofs.Notes.{copying_still, copy_made, number_inside, number_slot}
 use Rattle.node_sweep.proofs.Recursing.{copy_of_all, empty_copy_of}
 use Rattle.node_sweep.proofs.SameBlocks.{block_some, copy_later, copy_none, same_original}
 use Rattle.node_sweep.proofs.Swept.{kind_of_block, zero_noted}
@@ -54,6 +55,35 @@ module _ (transfer : Transfer) (fresh : Fresh) (underway : IsUnderway transfer f
   pub copy_there : (number copy rank : ℕ) → IsCopyNoted transfer fresh number copy → IsBlock (old_bits transfer) (old_words transfer) rank number →
       (number ≡ 0) ⊎ (slice_index fresh.copies.items number ≢ 0)
   copy_there number copy rank noted block = ⊎_elim (λ z. inl z) (λ some. inr (copy_some number copy rank noted block some)) (same_or_other number 0)
+
+  -- it stays so where neither list changes
+  pub underway_as : (now : Fresh) → now.words.items ≡ fresh.words.items → now.copies.items ≡ fresh.copies.items → IsUnderway transfer now
+  underway_as now words copies = record {
+    copying = subst (λ cs. IsCopying transfer.old.key.now transfer.to (old_words transfer) (wants transfer) now.words.items cs) (sym copies)
+        (subst (λ ws. IsCopying transfer.old.key.now transfer.to (old_words transfer) (wants transfer) ws fresh.copies.items) (sym words) underway.copying);
+    long = ap (λ (cs : List ℕ). length cs) copies ∙ underway.long;
+  }
+
+  -- there is no room left where a word's way is full
+  pub no_room : (kind : Kind) (number word : ℕ) → number ≢ 0 → wants transfer number → IsWordNeeded transfer fresh.words.items kind number word →
+      HasFullWay (new_bits transfer) (fresh_words fresh) kind word → HasNoRoomLeft transfer
+  no_room kind number word some wanted needed full = record {
+    words = fresh.words.items;
+    good = underway.copying.good;
+    copies = λ other i slot there.
+        let n = underway.copying.each other i slot there in (
+          n.0,
+          subst (IsWantedCopy (old_bits transfer) (new_bits transfer) (old_words transfer) (fresh_words fresh) (wants transfer) n.0) n.1
+              (underway.copying.copied n.0 (λ z. not_head (new_bits transfer) other i slot (sym n.1 ∙ z))),
+        );
+    number = number;
+    is_wanted = wanted;
+    kind = kind;
+    slot = number_slot transfer.old.key.now transfer.to (old_words transfer) (wants transfer) fresh.words.items transfer.old.good.good underway.copying.good kind number word some needed;
+    word = word;
+    needed = needed;
+    full = full;
+  }
 
   -- a word is placed, and its index noted
   module _ (now : Fresh) (kind : Kind) (number word index : ℕ) (some : number ≢ 0) (wanted : wants transfer number) (needed : IsWordNeeded transfer fresh.words.items kind number word)

@@ -48,11 +48,21 @@ pub are_parts : {at : At} {level : ℕ} {plane : Plane} {parts : HalvesOfQuarter
     ArePartsOfParts (book_here at) level plane (record { whole = parts.quarters; nw = squares_of parts.nw.0 parts.nw.1; ne = squares_of parts.ne.0 parts.ne.1; sw = squares_of parts.sw.0 parts.sw.1; se = squares_of parts.se.0 parts.se.1 })
 are_parts h = record { whole = h.quarters; nw = h.nw.quarters; ne = h.ne.quarters; sw = h.sw.quarters; se = h.se.quarters }
 
+-- a quarter is known at its own level, which is above 3
+pub quarter_known : {book : Book} (level : ℕ) {sq : Sq} → IsKnown book (level - 1) sq → IsKnown book sq.level sq
+quarter_known {book} level {sq} known = subst (λ n. IsKnown book n sq) (sym known.at_level) known
+
+pub quarter_above : {book : Book} {level : ℕ} {sq : Sq} → 4 < level → IsKnown book (level - 1) sq → 3 < sq.level
+quarter_above above known = let same = known.at_level in omega arith
+
 module _ {at : At} {level : ℕ} {plane : Plane} {parts : HalvesOfQuarters} (above : 4 < level) (high : level ≤ 65) (r : AreHalvesOfQuarters at level plane parts) where
   fits : level - 1 - 1 < 65
   fits = omega arith
 
   -- the two squares of a half of the middle column
+  pub first_beside : AreBeside (book_here at) parts.nw.0.right parts.ne.0.left
+  first_beside = beside fits r.nw.quarters.ne.known r.ne.quarters.nw.known
+
   pub second_beside : AreBeside (book_here at) parts.nw.1.right parts.ne.1.left
   second_beside = beside fits r.nw.quarters.se.known r.ne.quarters.sw.known
 

@@ -12,6 +12,7 @@ use Rattle.table_core.specs.Good.{head}
 use Rattle.table_core.specs.Opening.{KeepsResult, StaysOrGoes, Reopens}
 use Rattle.table_core.proofs.Blocks.{one_rank}
 use Rattle.table_core.proofs.Comparisons.{same_or_other}
+use Rattle.table_core.proofs.Lists.{length_set}
 use Rattle.table_core.proofs.Ways.{not_head, not_result}
 use Rattle.node_table.specs.declared.still.Still.{Still}
 use Rattle.rule_text.specs.CountRule.{CountRule}
@@ -134,6 +135,28 @@ module _ (was : Still) (key : Key) where
         }
 
   -- under one rule and exponent all results stay
+  -- the words with another head, before any result was gone through
+  pub through_start : (new : List ℕ) (name : ℕ) → new ≡ slice_set was.words 0 name → name ≡ head key → name < 2 ^ 64 → IsThrough was key new 0
+  through_start new name is names low =
+      let items : List ℕ = was.words in
+      let size_is = was.good.long in
+      let inside : 0 < length items = omega arith in
+      let other : (i : ℕ) → i ≢ 0 → slice_index new i ≡ words_of was i =
+      λ i apart. ap (λ (ws : List ℕ). slice_index ws i) is ∙ get_or-set_other items 0 i name 0 apart in
+      let first : slice_index new 0 ≡ name = ap (λ (ws : List ℕ). slice_index ws 0) is ∙ get_or-set_same items 0 name 0 inside in
+      record {
+        long = ap (λ (ws : List ℕ). length ws) is ∙ length_set items 0 name ∙ size_is;
+        names = first ∙ names;
+        fits = λ i. ⊎_elim
+            (λ e. subst (λ n. n < 2 ^ 64) (sym (ap (slice_index new) e ∙ first)) low)
+            (λ apart. subst (λ n. n < 2 ^ 64) (sym (other i apart)) (was.good.good.fits i))
+            (same_or_other i 0);
+        slots = λ kind i slot. other i (not_head was.key.shape.bits kind i slot);
+        results = λ i level slot less above block. let from = slot.from in absurd (omega arith);
+        vacant = λ i slot none. other (result_of was.key.shape.bits i) (result_some was.key.shape.bits i slot) ∙ none;
+        rest = λ i slot from. other (result_of was.key.shape.bits i) (result_some was.key.shape.bits i slot);
+      }
+
   pub through_same : (new : List ℕ) → was.key.rule ≡ key.rule → was.key.exponent ≡ key.exponent → key.shape ≡ was.key.shape → IsThrough was key new 0 → Reopens was.key key (words_of was) (slice_index new)
   through_same new rules exponents shape h = record {
     shape = shape;

@@ -4,7 +4,7 @@ use Rattle.std.proofs.Common.{arith}
 use Rattle.std.specs.Bool.{Decides}
 use Rattle.std.proofs.lemmas.Bool.{cond-true, cond-false, le-leb, lt-leb}
 use Rattle.std.proofs.lemmas.Bool.Decides.{Decides-int_eq}
-use Rattle.std.proofs.lemmas.List.{take_more, map-append}
+use Rattle.std.proofs.lemmas.List.{append-nil, drop_all, take_more, map-append}
 use Rattle.plane.specs.declared.cell.Cell.{Cell}
 use Rattle.std.specs.Prelude.{ℤ, if◌then◌else◌, nat_le}
 use Rattle.std.specs.Ordering.{int_eq}
@@ -84,6 +84,15 @@ items_of-band left next after bands i d done later h is behind =
     ∙ sym (append_assoc done (items_of left next band.items) (items_of left (cell_after next band.items) rest))
     ∙ ap (λ l. l ++ items_of left (cell_after next band.items) rest) (sym is)
     ∙ ap (λ cell. later ++ items_of left cell rest) (sym behind)
+
+-- no run is left, and no band
+pub all_pushed : (left : ℤ) (next : Cell) (runs : List RowRun) (i : ℕ) (done : List Item) → length runs ≤ i → done ++ items_of left next (drop i runs) ≡ done
+all_pushed left next runs i done end = ap (λ l. done ++ items_of left next l) (drop_all i runs end) ∙ append-nil done
+
+pub all_bands_pushed : (left : ℤ) (next : Cell) (bands : List (Vec RowRun Global)) (i : ℕ) (done : List Item) → length bands ≤ i →
+    done ++ items_of left next (flat_map (λ (band : Vec RowRun Global). band.items) (drop i bands)) ≡ done
+all_bands_pushed left next bands i done end =
+    ap (λ l. done ++ items_of left next (flat_map (λ (band : Vec RowRun Global). band.items) l)) (drop_all i bands end) ∙ append-nil done
 
 -- what the items of a run are pushed as
 pub run_items-pushed : (before one two three : List Item) (left : ℤ) (next : Cell) (run : RowRun) (start : ℤ) (rows dead live : ℕ) →

@@ -18,6 +18,7 @@ use Rattle.node_table.specs.Stills.{IsVacant, book_in, key_of}
 use Rattle.node_sweep.specs.CopiedStills.{IsSwept}
 use Rattle.squares.specs.Rounds.{square_plane}
 use Rattle.universe.specs.Cells.{exponent_of, limit_of, live_cells, root_of, rule_of, still_of}
+use Rattle.universe.specs.Outcomes.{LacksMemoryOrRoom}
 use Rattle.universe.specs.Runs.{IsAttempt, IsFullAtLimit, IsFullFromAlone, IsFullInPlace, IsAtExponent}
 use Rattle.universe.specs.Stills.{IsOpenedAt, IsSweptFrom}
 use Rattle.universe.specs.Tables.{HasFilledUp, IsFreshTable, IsOpened, StaysOpen, key_at, known_at}
@@ -33,6 +34,12 @@ pub full_book : (book : Book) (refusal : Refusal) → (refusal ≡ NoMemory) ⊎
 full_book book refusal (inl memory) full = absurd cc
 full_book book refusal (inr (inl no_memory)) full = let memory = no_memory.0 in absurd cc
 full_book book refusal (inr (inr no_room)) full = no_room.1
+
+-- memory ran out, or a table is full
+pub memory_or_room : (book : Book) (refusal : Refusal) → (refusal ≡ NoMemory) ⊎ MayRefuse book refusal → LacksMemoryOrRoom refusal
+memory_or_room book refusal (inl memory) = inl memory
+memory_or_room book refusal (inr (inl no_memory)) = inl no_memory.0
+memory_or_room book refusal (inr (inr no_room)) = inr no_room.0
 
 -- words without a square, opened
 pub fresh_table : (still : Still) (rule : CountRule) (exponent slots pairs : ℕ) {opened : OpenTable} → slots ≡ pairs → IsVacant still slots → IsOpened still rule exponent opened → IsFreshTable rule exponent pairs opened

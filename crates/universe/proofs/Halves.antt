@@ -1,7 +1,8 @@
--- A step in two halves.
-use Rattle.std.proofs.Common.{◌≡◌, ◌≢◌, ℕ, zero, suc, ◌+◌, ◌-◌, ◌^◌, refl, ◌∙◌, ap, arith}
+-- A step in two halves, and what holds of results.
+use Rattle.std.proofs.Common.{◌≡◌, ◌≢◌, ℕ, zero, suc, ◌+◌, ◌-◌, ◌^◌, refl, ◌∙◌, ap, subst, arith}
 use Rattle.std.proofs.Math.Nat.{pow-suc}
-use Rattle.std.specs.Prelude.{Result, Ok, Err, IfErr, IfOk}
+use Rattle.std.proofs.lemmas.Result.{IfOk-at_ok}
+use Rattle.std.specs.Prelude.{Result, Ok, Err, IfErr, IfOk, IfSome, Option, Some}
 
 pub ok_then : {T E : Type 0} (P Q : T → Type 0) (r : Result T E) → ((x : T) → P x → Q x) → IfOk r P → IfOk r Q
 ok_then P Q (Ok x) f h = f x h
@@ -17,3 +18,7 @@ two_halves (suc e) some =
     let down : suc e - 1 ≡ e = omega arith in
     let double = pow-suc 2 e in
     ap (λ n. 2 ^ n + 2 ^ n) down ∙ omega (arith, double)
+
+-- what holds of a result's value holds of one that was found to be it
+pub found_ok : {A E : Type 0} (P : A → Type 0) (result : Result A E) {found : Option A} {value : A} → IfSome found (λ v. result ≡ Ok v) → found ≡ Some value → IfOk result P → P value
+found_ok P result some is ok = IfOk-at_ok P (subst (λ o. IfSome o (λ v. result ≡ Ok v)) is some) ok

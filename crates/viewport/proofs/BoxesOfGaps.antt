@@ -1,10 +1,10 @@
 -- The box of a square and the gaps at its sides, each by the other.
 use Rattle.std.proofs.Common.{◌≡◌, ℕ, ◌-◌, ◌^◌, ◌≤◌, ◌<◌, ℤ, pos, ◌-ℤ◌, ◌≤ℤ◌, sym, ◌∙◌, ap, subst, arith, w64, to_z}
-use Rattle.std.specs.Prelude.{Option, Some}
+use Rattle.std.specs.Prelude.{Option, None, Some}
 use Rattle.std.proofs.lemmas.Int.{ints, to_z_pos}
 use Rattle.plane.specs.declared.cell.Bounds.{Bounds}
 use Rattle.plane.specs.Plane.{Plane}
-use Rattle.plane.specs.Square.{IsSquare}
+use Rattle.plane.specs.Square.{IsSame, IsSquare, empty}
 use Rattle.viewport.specs.BoundingBox.{IsBoxOf, IsLocalBox}
 use Rattle.viewport.specs.declared.gaps.Side.{Side}
 use Rattle.viewport.specs.declared.gaps.Side.TheVariants.{Left, Right, Top, Bottom}
@@ -86,3 +86,7 @@ read_box size left right top bottom p is most l r t b =
 -- a gap that was found
 pub found_gap : (side : Side) (size gap : ℕ) (p : Plane) (o : Option ℕ) → o ≡ Some gap → IsGap side size p o → IsNearest side size p gap
 found_gap side size gap p o e is = let some : IsGap side size p (Some gap) = subst (λ (r : Option ℕ). IsGap side size p r) e is in some
+
+-- no gap was found
+pub none_found : (side : Side) (size : ℕ) (p : Plane) (o : Option ℕ) → o ≡ None → IsGap side size p o → IsSame p empty
+none_found side size p o e is = let none : IsGap side size p None = subst (λ (r : Option ℕ). IsGap side size p r) e is in none

@@ -1,16 +1,17 @@
 -- The bits of a leaf: how many are set, and which cells they are.
 use Rattle.std.proofs.Common.{◌≡◌, ℕ, zero, suc, ◌+◌, ◌*◌, ◌/◌, ◌^◌, ◌<◌, ◌≤◌, pos, ◌+ℤ◌, Bool, true, cond, ◌&&◌, List, ◌∷◌, length, filter, refl, sym, ◌∙◌, ap, arith, length-append}
-use Rattle.std.specs.Prelude.{◌==◌}
+use Rattle.std.specs.Prelude.{◌==◌, nat_eq, bit_and}
 use Rattle.std.specs.Int.{bit_at}
 use Rattle.std.specs.Int.RustNames.{count_ones}
 use lib.Count.{ones_step}
 use Rattle.std.proofs.lemmas.Int.{ints}
 use Rattle.std.proofs.lemmas.List.Elements.{filter-append}
-use Rattle.std.proofs.lemmas.Nat.Bits.{bit_at-lt}
+use Rattle.std.proofs.lemmas.Nat.Bits.{bit_at-lt, shr_and_one}
 use Rattle.std.proofs.Math.Nat.{pow-suc}
 use native.Mathlib.Nat.{div-div-eq-div-mul}
 use Rattle.plane.specs.declared.cell.Cell.{Cell}
-use Rattle.plane.specs.Square.{bits_plane, spans, bit}
+use Rattle.plane.specs.Plane.{Plane}
+use Rattle.plane.specs.Square.{IsSame, bits_plane, spans, bit}
 use Rattle.plane.specs.Window.{row_places, places, cells_in}
 use Rattle.plane.proofs.Cells.{at}
 use Rattle.viewport.specs.Population.{cell_count}
@@ -63,6 +64,10 @@ in_leaf n h = grind (arith, ints)
 pub shows : (word x y : ℕ) → x < 8 → y < 8 → bits_plane word (pos x) (pos y) ≡ bit word (8 * y + x)
 shows word x y wide tall =
     ap (λ b. (b && spans 8 (pos y)) && bit word (8 * y + x)) (in_leaf x wide) ∙ ap (λ b. b && bit word (8 * y + x)) (in_leaf y tall)
+
+-- a cell of a leaf, as its bit is read
+pub leaf_cell : (word x y : ℕ) (p : Plane) → x < 8 → y < 8 → IsSame p (bits_plane word) → nat_eq (bit_and (word / 2 ^ (8 * y + x)) 1) 1 ≡ p (pos x) (pos y)
+leaf_cell word x y p wide tall same = sym (same.same (pos x) (pos y) ∙ shows word x y wide tall ∙ ap (λ b. b == 1) (sym (shr_and_one word (8 * y + x))))
 
 one_or_none : (b : ℕ) (c : Cell) (cs : List Cell) → b < 2 → length (cond (b == 1) (c ∷ cs) cs) ≡ b + length cs
 one_or_none zero c cs low = let e : zero + length cs ≡ length cs = omega arith in sym e

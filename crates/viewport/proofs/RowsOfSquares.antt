@@ -16,7 +16,7 @@ use Rattle.viewport.proofs.FirstRows.{rows_beside, outside_low, outside_high}
 use Rattle.viewport.proofs.LeafBoxes.{eq_true}
 use Rattle.viewport.proofs.Leaves.{shows}
 use Rattle.viewport.specs.Halves.{side_by_side, IsHalfRow}
-use Rattle.viewport.proofs.Quarters.{dead_row, from_nothing, IsQuartered, over}
+use Rattle.viewport.proofs.Quarters.{dead_column, dead_row, from_nothing, IsQuartered, over}
 use Rattle.viewport.proofs.RunsBeside.{adds_as, adds_no_more}
 
 no_cells : (x : ℤ) → is_in_some [] x ≡ false
@@ -42,6 +42,17 @@ second b c d e = ap (λ t. t || c) e
 pub half_row : (h : ℕ) (p q : Plane) (left x : ℤ) (y : ℕ) → side_by_side h p q (x -ℤ left) (pos y) ≡ (cells_at p left y x || cells_at q (left +ℤ pos h) y x)
 half_row h p q left x y =
     ap (λ v. p (x -ℤ left) (pos y) || q ((x -ℤ left) -ℤ pos h) v) (from_nothing (pos y)) ∙ ap (λ u. p (x -ℤ left) (pos y) || q u (pos y)) (further_left x left h)
+
+-- a cell of two squares beside one another
+module _ (h : ℕ) (p q : Plane) (in_p : IsSquare h p) (in_q : IsSquare h q) (x y half : ℕ) (side : half ≡ h) where
+  pub left_cell : x < half → side_by_side h p q (pos x) (pos y) ≡ p (pos x) (pos y)
+  left_cell low = or_false _ _ (dead_column h q in_q _ _ (outside_low h (pos x -ℤ pos h) (above_half x h (omega arith))))
+
+  pub right_cell : half ≤ x → side_by_side h p q (pos x) (pos y) ≡ q (pos (x - half)) (pos y)
+  right_cell high =
+      second _ _ false (dead_column h p in_p (pos x) (pos y) (outside_high h (pos x) (below_half x h (omega arith))))
+      ∙ ap (q (pos x -ℤ pos h)) (from_nothing (pos y)) ∙ ap (λ u. q u (pos y)) (lower_row x h (omega arith))
+      ∙ ap (λ n. q (pos (x - n)) (pos y)) (sym side)
 
 module _ (h : ℕ) (p nw ne sw se : Plane) (quarters : IsQuartered h p nw ne sw se) (y : ℕ) where
   whole : (x : ℤ) → p x (pos y) ≡ (side_by_side h nw ne x (pos y) || side_by_side h sw se (x -ℤ pos 0) (pos y -ℤ pos h))
@@ -165,6 +176,10 @@ middle_fits left half level least fits e room = let twice = twice_half level lea
 
 pub quarter_room : (left half : ℤ) (level low : ℕ) → 1 ≤ level → half ≡ pos (2 ^ (level - 1)) → low ≡ level - 1 → (left +ℤ pos (2 ^ level)) ≤ℤ pos (2 ^ 62) → ((left +ℤ half) +ℤ pos (2 ^ low)) ≤ℤ pos (2 ^ 62)
 quarter_room left half level low least e f room = let g = ap (λ n. 2 ^ n) f in let twice = twice_half level least in omega (arith, ints, g, twice)
+
+-- room for a square has room for its left half
+pub half_room : (left : ℤ) (level low : ℕ) → 1 ≤ level → low ≡ level - 1 → (left +ℤ pos (2 ^ level)) ≤ℤ pos (2 ^ 62) → (left +ℤ pos (2 ^ low)) ≤ℤ pos (2 ^ 62)
+half_room left level low least e room = let f = ap (λ n. 2 ^ n) e in let twice = twice_half level least in omega (arith, ints, f, twice)
 
 next_place : (n : ℕ) → suc n ≡ n + 1
 next_place n = omega arith

@@ -120,6 +120,11 @@ pub blocks_of_half : (level e n : ℕ) → e < level → n ≡ 2 ^ (level - e - 
 blocks_of_half level e n low side =
     let twice = twice_half (level - e) (omega arith) in omega (arith, twice, side)
 
+pub left_in_blocks : (n there : ℕ) (strip left : Strip) → IsInBlocks (n + n) strip → there < n → left.row ≡ there → left.from ≡ min strip.from n → left.end ≡ min strip.end n → IsInBlocks n left
+left_in_blocks n there strip left in_blocks inside row from end =
+    let order = in_blocks.order in
+    record { row = omega (arith, row); order = omega (arith, order, from, end); end = omega (arith, end) }
+
 module _ (n there : ℕ) (strip left right : Strip) (in_blocks : IsInBlocks (n + n) strip) (inside : there < n) (are : AreParts n there strip left right) where
   pub right_in_blocks : IsInBlocks n right
   right_in_blocks =

@@ -1,7 +1,8 @@
 -- What stands at a place of a round.
 use Rattle.std.proofs.Common.{◌≡◌, ◌<◌, ◌⊎◌, ℕ, zero, suc, Bool, true, false, All, List, [], ◌∷◌, ◌++◌, length, set, take, sym, refl, ap, ◌∙◌, subst, ⊎_elim, cond, arith, Option, Some, None, MatchOption, replicate, inl, inr, Ok, Err}
 use Rattle.std.specs.List.{AllZip, slice_get}
-use Rattle.std.specs.Prelude.{IsTrue, IfOk, IfErr}
+use Rattle.std.specs.Prelude.{IsTrue, IfOk, IfErr, IfSome, slice_index_or}
+use Rattle.std.proofs.lemmas.Option.{slice_get-get_or}
 use Rattle.plane.specs.declared.refusal.Refusal.TheVariants.{NodesFull}
 use Rattle.std.specs.Option.{unwrap_or}
 use Rattle.std.proofs.lemmas.List.Elements.{All-append, All-take, AllZip-push}
@@ -86,3 +87,10 @@ never (suc n) (suc place) future e = never n place future e
 
 pub none_placed : (jobs : List Sq) (book : Book) (places : List (Option (Result Sq Refusal))) (n : ℕ) → places ≡ replicate n None → PlacesFit jobs book places
 none_placed jobs book places n is place future e = absurd (never n place future (subst (λ (xs : List (Option (Result Sq Refusal))). slice_get xs place ≡ Some (Some future)) is e))
+
+-- what stands at a place fits
+pub fits_at : (jobs : List Sq) (book : Book) (places : List (Option (Result Sq Refusal))) (k : ℕ) → k < length places → PlacesFit jobs book places → IfSome (slice_index_or places k None) (IsSettled jobs book k)
+fits_at jobs book places k less fit = elim (slice_index_or places k None) as (λ o. slice_index_or places k None ≡ o → IfSome o (IsSettled jobs book k)) [
+  | None ↦ λ is. tt
+  | Some future ↦ λ is. fit k future (slice_get-get_or places k None less ∙ ap Some is)
+] refl

@@ -1,4 +1,4 @@
-use Rattle.std.proofs.Common.{◌≡◌, ◌+◌, ◌-◌, ◌++◌, [], Err, length, rules, refl, sym, subst, arith, inl}
+use Rattle.std.proofs.Common.{◌≡◌, ◌+◌, ◌-◌, ◌++◌, [], Err, length, rules, refl, sym, ◌∙◌, subst, arith, inl}
 use Rattle.std.proofs.KnownBytes.{Appends-nil, Appends-trans}
 use Rattle.plane.specs.Plane.{after}
 use Rattle.plane.specs.Square.{IsSame}
@@ -29,7 +29,7 @@ loop-done-init g c =
     record {
       within = omega arith;
       later = none_later c.in_ok-report_generation.ensures.same;
-      unfailed = search rules;
+      unfailed = c.in_ok-report_generation.ensures.unfailed;
       said = (
         said.0,
         shows_next rule plane c.args.generation options [] 0 plane [] said.0 (shows_none rule plane c.args.generation) (same_refl plane)
@@ -99,7 +99,7 @@ loop-done-preserved g c =
     record {
       within = c.next_shown-next.ensures.within;
       later = then_same next later c.in_ok-report_generation-2.ensures.same;
-      unfailed = search rules;
+      unfailed = c.in_ok-report_generation-2.ensures.unfailed ∙ c.loop-done.invariant.unfailed;
       said = (
         said.0 ++ line.0,
         subst (λ ns. AreLinesAfter rule plane c.args.generation ns (said.0 ++ line.0)) (sym numbers) shows,
@@ -120,3 +120,9 @@ returns-clause-reported g c =
       subst (λ n. AreLinesAfter (rule_of c.args.start) (live_cells c.args.start) c.args.generation (shown_until c.args.options.now n) said.0) all said.1,
       said.2,
     )
+
+pub returns-clause-unfailed : goal.returns-clause-unfailed
+returns-clause-unfailed g c = c.loop-done.invariant.unfailed
+
+pub overflow_add-generation : goal.overflow_add-generation
+overflow_add-generation g c = omega (arith, c.requires.last, c.next_shown-next.ensures.within)

@@ -222,3 +222,27 @@ replace_by_futures-returns-in_err-squares-clause-makes g t c =
     let same = replaced.same_length in
     let known = next_known (future (book c.args.book.now).rule (book c.args.book.now).exponent c.args.level) (book c.args.book.now) (book c.loop-i.book) c.args.level c.loop-i.i c.args.squares.now c.loop-i.squares replaced (omega arith) c.requires.known in
     makes_trans (record { keeps = replaced.keeps; tally = c.loop-i.invariant.1 }) (makes_at known.at_level c.future_in_order.ensures.makes)
+
+pub make-returns-then-sq-clause-makes : goal.make-returns-then-sq-clause-makes
+make-returns-then-sq-clause-makes g t c = makes_none c.leaf_future.ensures.adds
+
+pub make-returns-then-sq-eq-BASE_LEVEL-clause-makes : goal.make-returns-then-sq-eq-BASE_LEVEL-clause-makes
+make-returns-then-sq-eq-BASE_LEVEL-clause-makes g t c = makes_none c.base_future.ensures.adds
+
+pub make-returns-in_err-parts-clause-makes : goal.make-returns-in_err-parts-clause-makes
+make-returns-in_err-parts-clause-makes g t c = makes_none c.nine.ensures.adds
+
+pub finish-overlaps-requires-clause-known : goal.finish-overlaps-requires-clause-known
+finish-overlaps-requires-clause-known g t c = c.requires.known
+
+pub replace_by_futures-returns-in_err-ask_ahead-clause-makes : goal.replace_by_futures-returns-in_err-ask_ahead-clause-makes
+replace_by_futures-returns-in_err-ask_ahead-clause-makes g t c = c.ask_ahead.ensures.makes
+
+pub replace_by_futures-returns-clause-makes : goal.replace_by_futures-returns-clause-makes
+replace_by_futures-returns-clause-makes g t c = record { keeps = c.loop-i.invariant.0.keeps; tally = c.loop-i.invariant.1 }
+
+pub ask_ahead-returns-clause-makes : goal.ask_ahead-returns-clause-makes
+ask_ahead-returns-clause-makes g t c = c.loop-k.invariant
+
+pub ask_ahead-returns-in_default-clause-makes : goal.ask_ahead-returns-in_default-clause-makes
+ask_ahead-returns-in_default-clause-makes g t c = makes_none (adds_none _)

@@ -1,11 +1,11 @@
-use Rattle.std.proofs.Common.{◌≡◌, ◌⊎◌, refl, rules}
-use Rattle.std.specs.Prelude.{IfErr}
+use Rattle.std.proofs.Common.{◌≡◌, ◌⊎◌, refl}
 use Rattle.plane.specs.declared.refusal.Refusal.TheVariants.{NodesFull, NoMemory}
 use Rattle.table_core.specs.Blocks.{square_rank}
 use Rattle.squares.specs.Book.{numbered}
 use Rattle.node_sweep.specs.CopiedStills.{HasNoRoomToKeep, is_kept}
 use Rattle.node_sweep.specs.Transfers.{HasNoRoomLeft}
 use Rattle.node_sweep.proofs.Carried.{copy_in, holds_wanted, root_copy}
+use Rattle.node_table.proofs.Refusing.{sent_on}
 use Rattle.node_sweep.proofs.Squares.{known_shows}
 use Rattle.node_sweep.proofs.Transferred.{copies_at_rest, made_at_rest, no_room_to_copy, refused_as, root_block, same_ranks, transfer_of}
 use Rattle.node_sweep.proofs.stills.copy.Goals as goal
@@ -27,7 +27,8 @@ returns-in_err-words-clause-refusal c =
     let root = c.args.root in
     let transfer = c.new-transfer.result in
     let is = transfer_of still c.of_still-old.result c.args.keep c.in_ok-ends.field-0.ends root.num.0 c.args.pairs transfer c.new-transfer.ensures c.of_still-old.ensures c.in_ok-ends.ensures.same_root in
-    let refused : IfErr c.from_residual-in_err-words.result (λ refusal. (refusal ≡ NoMemory) ⊎ ((refusal ≡ NodesFull) × HasNoRoomLeft transfer)) = search rules in
+    let refused = sent_on (λ refusal. (refusal ≡ NoMemory) ⊎ ((refusal ≡ NodesFull) × HasNoRoomLeft transfer)) c.from_residual-in_err-words.result c.in_err-words.field-0.0
+    c.from_residual-in_err-words.ensures.1 c.in_err-words.ensures.refusal in
     refused_as (HasNoRoomLeft transfer) (HasNoRoomToKeep still root c.args.keep c.args.pairs) c.from_residual-in_err-words.result
     (λ full. record { low = transfer.ends.low; high = transfer.ends.high; full = no_room_to_copy still c.args.keep root.num.0 c.args.pairs transfer is full }) refused
 

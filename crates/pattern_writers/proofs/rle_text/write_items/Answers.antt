@@ -1,9 +1,9 @@
-use Rattle.std.proofs.Common.{◌≡◌, ◌∙◌, ap}
+use Rattle.std.proofs.Common.{◌≡◌, ◌∙◌, ap, refl}
 use Rattle.std.proofs.KnownBytes.{Appends-trans}
 use Rattle.std.proofs.lemmas.Result.{on_ok_weaker}
 use Rattle.rule_text.specs.RuleText.{canonical_text}
 use Rattle.pattern_writers.specs.Opening.{header_line, position_line}
-use Rattle.pattern_writers.proofs.BlocksOut.{block_begun, block_out}
+use Rattle.pattern_writers.proofs.BlocksOut.{block_begun, block_out, passed_on, told_since}
 use Rattle.pattern_writers.proofs.rle_text.write_items.Goals as goal
 
 pub returns-clause-written : goal.returns-clause-written
@@ -19,3 +19,20 @@ returns-clause-written g c =
     (block_begun _ _ c.new-block.result.items _ c.new-block.ensures
     (Appends-trans _ _ _ _ _ (Appends-trans _ _ _ _ _ begun headed) c.in_ok-write_body.ensures.written)) wrote)
     (rw c.as_slice.ensures.value at c.write_all.ensures.written)
+
+pub returns-in_err-begin-clause-failure : goal.returns-in_err-begin-clause-failure
+returns-in_err-begin-clause-failure g c =
+    passed_on _ _ _ c.in_err-begin.field-0.0 _ refl c.from_residual.ensures.0 c.from_residual.ensures.1 c.in_err-begin.ensures.failure
+
+pub returns-in_err-put-clause-failure : goal.returns-in_err-put-clause-failure
+returns-in_err-put-clause-failure g c =
+    passed_on _ _ _ c.in_err-put.field-0.0 _ c.in_ok-begin.ensures.failure.unfailed c.from_residual-in_err-put.ensures.0 c.from_residual-in_err-put.ensures.1 c.in_err-put.ensures.failure
+
+pub returns-in_err-write_body-clause-failure : goal.returns-in_err-write_body-clause-failure
+returns-in_err-write_body-clause-failure g c =
+    passed_on _ _ _ c.in_err-write_body.field-0.0 _ (c.in_ok-put.ensures.failure.unfailed ∙ c.in_ok-begin.ensures.failure.unfailed) c.from_residual-in_err-write_body.ensures.0 c.from_residual-in_err-write_body.ensures.1 c.in_err-write_body.ensures.failure
+
+pub returns-clause-failure : goal.returns-clause-failure
+returns-clause-failure g c =
+    let since = c.in_ok-write_body.ensures.failure.unfailed ∙ c.in_ok-put.ensures.failure.unfailed ∙ c.in_ok-begin.ensures.failure.unfailed in
+    told_since _ _ _ c.write_all.result since c.write_all.ensures.failure

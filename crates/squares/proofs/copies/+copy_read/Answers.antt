@@ -117,3 +117,45 @@ returns-clause-copies g t c =
     noted_known_copies from now c.loop-quarter.copies c.insert.new.self sq c.in_ok-copy.copy c.in_ok-insert.ensures.updates (reads.known sq c.requires.known.known)
     (shown_later was from now sq.level sq c.in_ok-copy.copy reads c.requires.known.known shown)
     (kept_copies from from to now c.loop-quarter.copies (keeps_none _) c.quad.ensures.adds.keeps c.loop-quarter.invariant.copies)
+
+pub returns-then-is_empty-clause-from : goal.returns-then-is_empty-clause-from
+returns-then-is_empty-clause-from g t c = adds_none _
+
+pub returns-then-is_empty-clause-adds : goal.returns-then-is_empty-clause-adds
+returns-then-is_empty-clause-adds g t c = adds_none _
+
+pub returns-then-level-eq-LEAF_LEVEL-clause-from : goal.returns-then-level-eq-LEAF_LEVEL-clause-from
+returns-then-level-eq-LEAF_LEVEL-clause-from g t c = c.cells_of.ensures.adds
+
+pub returns-then-level-eq-LEAF_LEVEL-clause-adds : goal.returns-then-level-eq-LEAF_LEVEL-clause-adds
+returns-then-level-eq-LEAF_LEVEL-clause-adds g t c = c.leaf.ensures.adds
+
+pub returns-in-Some-clause-from : goal.returns-in-Some-clause-from
+returns-in-Some-clause-from g t c = adds_none _
+
+pub returns-in-Some-clause-adds : goal.returns-in-Some-clause-adds
+returns-in-Some-clause-adds g t c = adds_none _
+
+pub returns-in_err-quarter-clause-from : goal.returns-in_err-quarter-clause-from
+returns-in_err-quarter-clause-from g t c = adds_trans c.quarters_of-quarters.ensures.adds (adds_trans c.loop-quarter.invariant.reads c.copy_read.ensures.from)
+
+pub returns-in_err-quarter-clause-adds : goal.returns-in_err-quarter-clause-adds
+returns-in_err-quarter-clause-adds g t c = adds_trans c.loop-quarter.invariant.adds c.copy_read.ensures.adds
+
+pub returns-in_err-copy-clause-from : goal.returns-in_err-copy-clause-from
+returns-in_err-copy-clause-from g t c = adds_trans c.quarters_of-quarters.ensures.adds c.loop-quarter.invariant.reads
+
+pub returns-in_err-copy-clause-adds : goal.returns-in_err-copy-clause-adds
+returns-in_err-copy-clause-adds g t c = adds_trans c.loop-quarter.invariant.adds c.quad.ensures.adds
+
+pub returns-in_err-insert-clause-from : goal.returns-in_err-insert-clause-from
+returns-in_err-insert-clause-from g t c = adds_trans c.quarters_of-quarters.ensures.adds c.loop-quarter.invariant.reads
+
+pub returns-in_err-insert-clause-adds : goal.returns-in_err-insert-clause-adds
+returns-in_err-insert-clause-adds g t c = adds_trans c.loop-quarter.invariant.adds c.quad.ensures.adds
+
+pub returns-clause-from : goal.returns-clause-from
+returns-clause-from g t c = adds_trans c.quarters_of-quarters.ensures.adds c.loop-quarter.invariant.reads
+
+pub returns-clause-adds : goal.returns-clause-adds
+returns-clause-adds g t c = adds_trans c.loop-quarter.invariant.adds c.quad.ensures.adds

@@ -9,6 +9,7 @@ use Rattle.squares.specs.SquareRows.{HaveQuarters, IsJoined, IsRow}
 use Rattle.squares.specs.Strips.{AreInOrder, AreLeft, AreTaken, IsTaken, spans_left}
 use Rattle.squares.specs.declared.spans.Span.{Span}
 use Rattle.squares.specs.declared.square_rows.Segment.{Segment}
+use Rattle.squares.proofs.Kept.{adds_none, adds_trans}
 use Rattle.squares.proofs.StripLaws.{at_most, left_below_at, left_from, left_from_top, order_taken, wider}
 use Rattle.squares.proofs.StripRows.{empty_shown, have_quarters, left_cells_below, none_taken, row_same, rows_joined, taken_cells, taken_twice}
 use Rattle.squares.proofs.RowColumns.{row_kept}
@@ -157,3 +158,24 @@ returns-clause-taken g t c =
     always_ok : {A E : Type 0} (result : Result A E) (P : Type 0) → P → OnOk result P
     always_ok (Ok a) P p = p
     always_ok (Err e) P p = tt
+
+pub returns-then-lies_below-clause-adds : goal.returns-then-lies_below-clause-adds
+returns-then-lies_below-clause-adds g t c = adds_none _
+
+pub returns-in_err-empty_row-clause-adds : goal.returns-in_err-empty_row-clause-adds
+returns-in_err-empty_row-clause-adds g t c = adds_none _
+
+pub returns-in_err-spans-clause-adds : goal.returns-in_err-spans-clause-adds
+returns-in_err-spans-clause-adds g t c = adds_none _
+
+pub returns-then-level-eq-LEAF_LEVEL-clause-adds : goal.returns-then-level-eq-LEAF_LEVEL-clause-adds
+returns-then-level-eq-LEAF_LEVEL-clause-adds g t c = c.leaf_row.ensures.adds
+
+pub returns-in_err-upper-clause-adds : goal.returns-in_err-upper-clause-adds
+returns-in_err-upper-clause-adds g t c = c.strip_row.ensures.adds
+
+pub returns-in_err-lower-clause-adds : goal.returns-in_err-lower-clause-adds
+returns-in_err-lower-clause-adds g t c = adds_trans c.strip_row.ensures.adds c.strip_row-2.ensures.adds
+
+pub returns-clause-adds : goal.returns-clause-adds
+returns-clause-adds g t c = adds_trans c.strip_row.ensures.adds (adds_trans c.strip_row-2.ensures.adds c.join_rows.ensures.adds)

@@ -31,3 +31,9 @@ returns-clause-cells g c =
     cells_shown book level runs c.square_at.result (omega (arith, low)) c.requires.fit
     (subst (λ n. Shows book level (cut (2 ^ level) n 0 (marked (in_spans (map (span_of (2 ^ (level - 1))) runs)))) c.square_at.result) (let e : 0 * 2 ^ level ≡ 0 = omega arith in e)
     (shown_there book level 1 0 (marked (in_spans (map (span_of (2 ^ (level - 1))) runs))) c.in_ok-row.row.items 0 c.square_at.result row (omega arith) there))
+
+pub returns-in_err-row-clause-adds : goal.returns-in_err-row-clause-adds
+returns-in_err-row-clause-adds g c = c.strip_row.ensures.adds
+
+pub returns-clause-adds : goal.returns-clause-adds
+returns-clause-adds g c = c.strip_row.ensures.adds

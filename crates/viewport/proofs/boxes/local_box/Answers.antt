@@ -1,11 +1,82 @@
 use Rattle.std.proofs.Common.{ℕ, ◌^◌, pow_mono}
 use Rattle.plane.specs.Plane.{Plane}
-use Rattle.squares.proofs.Kept.{keeps_trans}
+use Rattle.squares.proofs.Kept.{adds_trans, keeps_trans, known_kept}
 use Rattle.viewport.specs.declared.gaps.Side.TheVariants.{Left, Right, Top, Bottom}
-use Rattle.viewport.proofs.BoxesOfGaps.{found_gap, read_box}
+use Rattle.viewport.proofs.BoxesOfGaps.{found_gap, none_found, read_box}
 use Rattle.viewport.proofs.GapsLater.{gap_before}
 use Rattle.viewport.proofs.Quarters.{known_square}
 use Rattle.viewport.proofs.boxes.local_box.Goals as goal
+
+pub side_gap-requires-2-clause-known : goal.side_gap-requires-2-clause-known
+side_gap-requires-2-clause-known g c = known_kept c.in_ok-left.ensures.adds.keeps c.requires.known
+
+pub side_gap-requires-3-clause-known : goal.side_gap-requires-3-clause-known
+side_gap-requires-3-clause-known g c =
+    let keeps = keeps_trans c.in_ok-left.ensures.adds.keeps c.in_ok-right.ensures.adds.keeps in
+    known_kept keeps c.requires.known
+
+pub side_gap-requires-4-clause-known : goal.side_gap-requires-4-clause-known
+side_gap-requires-4-clause-known g c =
+    let k2 = keeps_trans c.in_ok-left.ensures.adds.keeps c.in_ok-right.ensures.adds.keeps in
+    known_kept (keeps_trans k2 c.in_ok-top.ensures.adds.keeps) c.requires.known
+
+pub returns-in_err-right-clause-adds : goal.returns-in_err-right-clause-adds
+returns-in_err-right-clause-adds g c = adds_trans c.in_ok-left.ensures.adds c.in_err-right.ensures.adds
+
+pub returns-in_err-top-clause-adds : goal.returns-in_err-top-clause-adds
+returns-in_err-top-clause-adds g c =
+    adds_trans (adds_trans c.in_ok-left.ensures.adds c.in_ok-right.ensures.adds) c.in_err-top.ensures.adds
+
+pub returns-in_err-bottom-clause-adds : goal.returns-in_err-bottom-clause-adds
+returns-in_err-bottom-clause-adds g c =
+    let a2 = adds_trans c.in_ok-left.ensures.adds c.in_ok-right.ensures.adds in
+    adds_trans (adds_trans a2 c.in_ok-top.ensures.adds) c.in_err-bottom.ensures.adds
+
+pub returns-in_default-2-clause-adds : goal.returns-in_default-2-clause-adds
+returns-in_default-2-clause-adds g c = adds_trans c.in_ok-left.ensures.adds c.in_ok-right.ensures.adds
+
+pub returns-in_default-3-clause-adds : goal.returns-in_default-3-clause-adds
+returns-in_default-3-clause-adds g c =
+    adds_trans (adds_trans c.in_ok-left.ensures.adds c.in_ok-right.ensures.adds) c.in_ok-top.ensures.adds
+
+pub returns-in_default-4-clause-adds : goal.returns-in_default-4-clause-adds
+returns-in_default-4-clause-adds g c =
+    let a2 = adds_trans c.in_ok-left.ensures.adds c.in_ok-right.ensures.adds in
+    adds_trans (adds_trans a2 c.in_ok-top.ensures.adds) c.in_ok-bottom.ensures.adds
+
+pub returns-in_default-clause-ok : goal.returns-in_default-clause-ok
+returns-in_default-clause-ok g c =
+    none_found Left (2 ^ c.args.sq.level) _ _ c.in_default.is c.in_ok-left.ensures.ok
+
+pub returns-in_default-2-clause-ok : goal.returns-in_default-2-clause-ok
+returns-in_default-2-clause-ok g c =
+    let was = g.R.Reading.book c.args.book.now in
+    let sq = c.args.sq in
+    let keeps = c.in_ok-left.ensures.adds.keeps in
+    none_found Right (2 ^ sq.level) _ _ c.in_default-2.is
+    (gap_before Right was _ sq _ keeps c.requires.known.known c.in_ok-right.ensures.ok)
+
+pub returns-in_default-3-clause-ok : goal.returns-in_default-3-clause-ok
+returns-in_default-3-clause-ok g c =
+    let was = g.R.Reading.book c.args.book.now in
+    let sq = c.args.sq in
+    let keeps = keeps_trans c.in_ok-left.ensures.adds.keeps c.in_ok-right.ensures.adds.keeps in
+    none_found Top (2 ^ sq.level) _ _ c.in_default-3.is
+    (gap_before Top was _ sq _ keeps c.requires.known.known c.in_ok-top.ensures.ok)
+
+pub returns-in_default-4-clause-ok : goal.returns-in_default-4-clause-ok
+returns-in_default-4-clause-ok g c =
+    let was = g.R.Reading.book c.args.book.now in
+    let sq = c.args.sq in
+    let k2 = keeps_trans c.in_ok-left.ensures.adds.keeps c.in_ok-right.ensures.adds.keeps in
+    let keeps = keeps_trans k2 c.in_ok-top.ensures.adds.keeps in
+    none_found Bottom (2 ^ sq.level) _ _ c.in_default-4.is
+    (gap_before Bottom was _ sq _ keeps c.requires.known.known c.in_ok-bottom.ensures.ok)
+
+pub returns-clause-adds : goal.returns-clause-adds
+returns-clause-adds g c =
+    let a2 = adds_trans c.in_ok-left.ensures.adds c.in_ok-right.ensures.adds in
+    adds_trans (adds_trans a2 c.in_ok-top.ensures.adds) c.in_ok-bottom.ensures.adds
 
 pub returns-clause-ok : goal.returns-clause-ok
 returns-clause-ok g c =

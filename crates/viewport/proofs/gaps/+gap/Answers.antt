@@ -2,7 +2,7 @@ use Rattle.std.proofs.Common.{◌+◌, ◌-◌, ◌^◌, ℕ, sym, ◌∙◌, su
 use Rattle.std.specs.Prelude.{Option}
 use Rattle.std.specs.Option.{option_map}
 use Rattle.plane.proofs.Paddings.{twice_half}
-use Rattle.squares.proofs.Kept.{known_kept}
+use Rattle.squares.proofs.Kept.{adds_trans, known_kept}
 use Rattle.squares.proofs.NotedValues.{true_of_kept, true_of_same}
 use Rattle.viewport.specs.Gaps.{IsGap, IsKnownGap}
 use Rattle.viewport.proofs.GapsLater.{gap_as, gap_later, gap_level, kept_gaps}
@@ -95,3 +95,6 @@ quarters_gap-returns-clause-ok g t c =
     (subst (λ n. IsGap c.args.side (2 ^ sq.level) (was.cells sq) (option_map (λ x. x + n) c.in_ok-far.far)) (sym c.half_side.ensures.value)
     (subst (λ n. IsGap c.args.side n (was.cells sq) (option_map (λ x. x + h) c.in_ok-far.far)) (sym (twice_half sq.level (omega arith)))
     (far_found c.args.side h (was.cells sq) _ _ c.in_ok-far.far halves none far)))
+
+pub quarters_gap-returns-clause-adds : goal.quarters_gap-returns-clause-adds
+quarters_gap-returns-clause-adds g t c = adds_trans c.quarters_of-quarters.ensures.adds (adds_trans c.in_ok-near.ensures.adds c.in_ok-far.ensures.adds)

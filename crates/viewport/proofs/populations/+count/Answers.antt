@@ -1,6 +1,6 @@
 use Rattle.std.proofs.Common.{sym, subst, arith, rules}
 use Rattle.squares.specs.Book.{nth, AreQuarters}
-use Rattle.squares.proofs.Kept.{keeps_trans, known_kept}
+use Rattle.squares.proofs.Kept.{adds_none, adds_trans, keeps_trans, known_kept}
 use Rattle.plane.specs.Plane.{Plane}
 use Rattle.plane.proofs.Same.{plane_equal}
 use Rattle.viewport.proofs.Counts.{counted_as, none_counted, four_counted, few}
@@ -105,3 +105,39 @@ count_quarters-returns-clause-ok g t c =
 
 pub count-returns-clause-ok : goal.count-returns-clause-ok
 count-returns-clause-ok g t c = c.in_ok-whole.ensures.ok
+
+pub count-returns-then-is_empty-clause-adds : goal.count-returns-then-is_empty-clause-adds
+count-returns-then-is_empty-clause-adds g t c = adds_none _
+
+pub count-returns-in-Some-clause-adds : goal.count-returns-in-Some-clause-adds
+count-returns-in-Some-clause-adds g t c = adds_none _
+
+pub count-returns-in_err-insert-clause-adds : goal.count-returns-in_err-insert-clause-adds
+count-returns-in_err-insert-clause-adds g t c = c.in_ok-whole.ensures.adds
+
+pub count-returns-clause-adds : goal.count-returns-clause-adds
+count-returns-clause-adds g t c = c.in_ok-whole.ensures.adds
+
+pub count_quarters-returns-in_err-count-clause-adds : goal.count_quarters-returns-in_err-count-clause-adds
+count_quarters-returns-in_err-count-clause-adds g t c = adds_trans c.quarters_of.ensures.adds c.in_err-count.ensures.adds
+
+pub count_quarters-returns-in_err-upper-clause-adds : goal.count_quarters-returns-in_err-upper-clause-adds
+count_quarters-returns-in_err-upper-clause-adds g t c =
+    adds_trans (adds_trans c.quarters_of.ensures.adds c.in_ok-count.ensures.adds) c.in_err-upper.ensures.adds
+
+pub count_quarters-returns-in_err-count-2-clause-adds : goal.count_quarters-returns-in_err-count-2-clause-adds
+count_quarters-returns-in_err-count-2-clause-adds g t c =
+    let a1 = adds_trans c.quarters_of.ensures.adds c.in_ok-count.ensures.adds in
+    adds_trans (adds_trans a1 c.in_ok-upper.ensures.adds) c.in_err-count-2.ensures.adds
+
+pub count_quarters-returns-in_err-lower-clause-adds : goal.count_quarters-returns-in_err-lower-clause-adds
+count_quarters-returns-in_err-lower-clause-adds g t c =
+    let a1 = adds_trans c.quarters_of.ensures.adds c.in_ok-count.ensures.adds in
+    let a2 = adds_trans a1 c.in_ok-upper.ensures.adds in
+    adds_trans (adds_trans a2 c.in_ok-count-2.ensures.adds) c.in_err-lower.ensures.adds
+
+pub count_quarters-returns-clause-adds : goal.count_quarters-returns-clause-adds
+count_quarters-returns-clause-adds g t c =
+    let a1 = adds_trans c.quarters_of.ensures.adds c.in_ok-count.ensures.adds in
+    let a2 = adds_trans a1 c.in_ok-upper.ensures.adds in
+    adds_trans (adds_trans a2 c.in_ok-count-2.ensures.adds) c.in_ok-lower.ensures.adds

@@ -1,4 +1,4 @@
-use Rattle.std.proofs.Common.{◌^◌, ◌≤◌, ◌-◌, ◌<◌, ◌≡◌, pos, ◌+ℤ◌, ◌-ℤ◌, true, refl, sym, subst, ap, arith, rules, w64, SFits}
+use Rattle.std.proofs.Common.{◌^◌, ◌≤◌, ◌-◌, ◌<◌, ◌≡◌, pos, ◌+ℤ◌, ◌-ℤ◌, ◌≤ℤ◌, true, refl, sym, subst, ap, arith, rules, w64, SFits}
 use Rattle.std.proofs.lemmas.Int.{to_z-of_z}
 use Rattle.std.proofs.lemmas.Result.{IfOk-weaker, on_ok_weaker}
 use Rattle.std.specs.Prelude.{IsTrue}
@@ -9,7 +9,7 @@ use Rattle.viewport.proofs.Counts.{zero_is_empty}
 use Rattle.squares.proofs.SquareNumbers.{same_sq}
 use Rattle.viewport.proofs.Quarters.{known_square, of_quarter}
 use Rattle.viewport.proofs.RowsOfHalves.{again_adds, both_add, ends_between}
-use Rattle.viewport.proofs.RowsOfSquares.{middle_fits, quarter_room, row_as}
+use Rattle.viewport.proofs.RowsOfSquares.{half_room, middle_fits, quarter_room, row_as}
 use Rattle.viewport.proofs.RunsBeside.{adds_none}
 use Rattle.viewport.proofs.runs.+add_row.Goals as goal
 
@@ -89,3 +89,39 @@ returns g t c =
           _ c.half_with_row-row.ensures.first.at_level one _ c.add_row-2.new.runs.items least c.half_with_row-row.ensures.second.at_level two)
           (simp to_z-of_z at c.add_row-2.ensures.ok);
     }
+
+pub add_leaf_row-requires-clause-room : goal.add_leaf_row-requires-clause-room
+add_leaf_row-requires-clause-room g t c =
+    let left : SFits w64 c.args.left = c.ranges.left in
+    simp to_z-of_z (subst (λ n. (c.args.left +ℤ pos (2 ^ n)) ≤ℤ pos (2 ^ 62)) c.if-sq-eq-LEAF_LEVEL.true c.requires.room)
+
+pub overflow_add-middle : goal.overflow_add-middle
+overflow_add-middle g t c =
+    let left : SFits w64 c.args.left = c.ranges.left in
+    let half : SFits w64 c.signed_half_side.result = search rules in
+    let least : 1 ≤ c.args.sq.level = omega arith in
+    simp to_z-of_z (middle_fits c.args.left c.signed_half_side.result c.args.sq.level least left c.signed_half_side.ensures.side c.requires.room)
+
+pub add_row-requires : goal.add_row-requires
+add_row-requires g t c κs within =
+    let left : SFits w64 c.args.left = c.ranges.left in
+    let least : 1 ≤ c.args.sq.level = omega arith in
+    let known = c.half_with_row-row.ensures.first in
+    let row = subst (λ n. c.half_with_row-row.result.2 < 2 ^ n) (sym known.at_level) c.half_with_row-row.ensures.row.inside in
+    let room = half_room c.args.left c.args.sq.level c.half_with_row-row.result.0.level least known.at_level c.requires.room in
+    (search rules, (search rules, of_quarter _ _ _ c.requires.level known (row, (simp to_z-of_z room, simp to_z-of_z c.requires.before))))
+
+pub add_run-requires-clause-before : goal.add_run-requires-clause-before
+add_run-requires-clause-before g t c =
+    let left : SFits w64 c.args.left = c.ranges.left in
+    let half : SFits w64 c.signed_half_side.result = search rules in
+    let least : 1 ≤ c.args.sq.level = omega arith in
+    let far = c.signed_half_side.result in
+    let side = c.signed_half_side.ensures.side in
+    let middle : SFits w64 (c.args.left +ℤ far) = middle_fits c.args.left far c.args.sq.level least left side c.requires.room in
+    let plane = (g.B.Look.book c.args.book.now).cells c.args.sq in
+    let is = c.half_with_row-row.ensures.row in
+    let low = c.half_with_row-row.ensures.first.at_level in
+    let one = simp to_z-of_z at c.in_ok-add_row.ensures.ok in
+    let mid = c.add_row.new.runs.items in
+    simp to_z-of_z (ends_between c.args.sq.level c.args.left far side plane _ _ c.args.y _ is c.args.runs.now.items mid _ low one)

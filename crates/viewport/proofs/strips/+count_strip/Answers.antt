@@ -1,13 +1,13 @@
-use Rattle.std.proofs.Common.{◌≡◌, ◌-◌, ◌^◌, ◌++◌, sym, subst, ◌∙◌, ap, arith, rules}
+use Rattle.std.proofs.Common.{◌≡◌, ◌-◌, ◌^◌, ◌++◌, ◌≤◌, sym, subst, ◌∙◌, ap, arith, rules}
 use Rattle.std.proofs.lemmas.Result.{on_ok_weaker}
 use Rattle.plane.specs.Plane.{Plane}
 use Rattle.plane.proofs.Same.{plane_equal}
-use Rattle.squares.proofs.Kept.{keeps_trans, known_kept}
+use Rattle.squares.proofs.Kept.{keeps_none, keeps_trans, known_kept}
 use Rattle.viewport.specs.Strips.{IsInBlocks, strip_counts}
 use Rattle.viewport.proofs.Counts.{zero_is_empty}
 use Rattle.viewport.proofs.CountsLater.{kept_counts}
-use Rattle.viewport.proofs.Quarters.{own_level}
-use Rattle.viewport.proofs.StripCounts.{blocks_of_half, empty_blocks, joined_on, no_blocks, parts_of, right_in_blocks, strip_in_halves, whole_block}
+use Rattle.viewport.proofs.Quarters.{of_quarter, own_level}
+use Rattle.viewport.proofs.StripCounts.{blocks_of_half, empty_blocks, joined_on, left_in_blocks, no_blocks, parts_of, right_in_blocks, strip_in_halves, whole_block}
 use Rattle.viewport.proofs.strips.+count_strip.Goals as goal
 
 pub returns-then-strip-clause-ok : goal.returns-then-strip-clause-ok
@@ -89,3 +89,30 @@ returns-clause-ok g t c =
 
 pub returns-clause-keeps : goal.returns-clause-keeps
 returns-clause-keeps g t c = keeps_trans c.half_with_blocks-row.ensures.keeps (keeps_trans c.in_ok-count_strip.ensures.keeps c.count_strip-2.ensures.keeps)
+
+pub returns-then-strip-clause-keeps : goal.returns-then-strip-clause-keeps
+returns-then-strip-clause-keeps g t c = keeps_none _
+
+pub returns-then-is_empty-clause-keeps : goal.returns-then-is_empty-clause-keeps
+returns-then-is_empty-clause-keeps g t c = keeps_none _
+
+pub returns-in_err-count_strip-clause-keeps : goal.returns-in_err-count_strip-clause-keeps
+returns-in_err-count_strip-clause-keeps g t c = keeps_trans c.half_with_blocks-row.ensures.keeps c.in_err-count_strip.ensures.keeps
+
+pub count_strip-requires : goal.count_strip-requires
+count_strip-requires g t c κs within =
+    let exponent = c.requires.exponent in
+    let other = c.if-sq-exponent.false in
+    let half = c.half_with_blocks-row in
+    let at_level = half.ensures.first.at_level in
+    let n = c.half_side-half.result in
+    let side = c.half_side-half.ensures.value in
+    let part = c.left_part.ensures in
+    let blocks = blocks_of_half c.args.sq.level c.args.exponent n (omega (arith, exponent, other)) side in
+    let less : c.args.sq.level - c.args.exponent - 1 ≡ half.result.0.level - c.args.exponent = omega (arith, at_level) in
+    let whole = subst (λ n. IsInBlocks n c.args.strip) blocks c.requires.strip in
+    let left = left_in_blocks n half.result.2 c.args.strip c.left_part.result whole half.ensures.row.inside part.row part.from part.end in
+    let in_blocks = subst (λ n. IsInBlocks n c.left_part.result) (side ∙ ap (λ n. 2 ^ n) less) left in
+    let counts = kept_counts _ _ c.args.counts.now half.ensures.keeps c.requires.counted in
+    let below : c.args.exponent ≤ half.result.0.level = omega (arith, at_level, exponent, other) in
+    (search rules, (search rules, of_quarter _ _ _ c.requires.level half.ensures.first (below, (in_blocks, counts))))

@@ -1,9 +1,9 @@
-use Rattle.std.proofs.Common.{subst, IfOk, IfErr, true≢false, rules, arith}
+use Rattle.std.proofs.Common.{subst, IfOk, IfErr, true≢false, arith}
 use Rattle.node_table.specs.DesksAtWork.{book_here}
 use Rattle.worker_split.specs.Jobs.{RefusesFull}
 use Rattle.worker_split.specs.Rounds.{IsAnswerAt}
 use Rattle.worker_split.proofs.Books.{jobs_kept, works_then}
-use Rattle.worker_split.proofs.Places.{places_kept, zip_next}
+use Rattle.worker_split.proofs.Places.{fits_at, places_kept, zip_next}
 use Rattle.worker_split.proofs.filling.fill.Goals as goal
 
 pub loop-k-preserved : goal.loop-k-preserved
@@ -18,8 +18,8 @@ loop-k-preserved g c =
       works_then was.0 step,
       places_kept jobs old new c.args.places.now step.keeps was.1,
       (λ no. zip_next old new jobs c.loop-k.futures.items _ c.loop-k.k _ c.in-Ok.future (omega arith) step.keeps (jobs_kept first old jobs was.0.keeps c.requires.jobs) (was.2 no) at c.push_reserved.ensures.items),
-      search rules,
-      search rules,
+      omega (arith, was.3, c.push_reserved.ensures.len),
+      omega (arith, was.4, c.push_reserved.ensures.capacity),
       (λ t. step.keeps.full (was.5 t)),
     )
 
@@ -34,7 +34,20 @@ loop-k-preserved-in-Err g c =
       works_then was.0 step,
       places_kept jobs old new c.args.places.now step.keeps was.1,
       (λ no. absurd (true≢false no)),
-      search rules,
-      search rules,
+      omega (arith, was.3),
+      was.4,
       (λ _. refused.1),
     )
+
+pub fill_one-requires : goal.fill_one-requires
+fill_one-requires g c =
+    let jobs = c.args.shared.now.jobs.now in
+    let now = book_here c.loop-k.at in
+    let was = c.loop-k.invariant in
+    let within = c.loop-k-test.true in
+    let known = jobs_kept (book_here c.args.at.now) now jobs was.0.keeps c.requires.jobs in
+    let fits = fits_at jobs now c.args.places.now c.loop-k.k (omega (arith, within, c.requires.len)) was.1 in
+    (c.type_bounds.sync-G, (within, (known, fits)))
+
+pub push_reserved-requires : goal.push_reserved-requires
+push_reserved-requires g c = let was = c.loop-k.invariant in omega (arith, was.3, was.4, c.loop-k-test.true)

@@ -1,4 +1,5 @@
-use Rattle.std.proofs.Common.{sym, subst, ◌∙◌, IfSome}
+use Rattle.std.proofs.Common.{◌≡◌, All, List, length, sym, subst, ◌∙◌, IfSome}
+use Rattle.job_queues.specs.declared.queues.JobStealer.{JobStealer}
 use Rattle.node_table.specs.DesksAtWork.{book_here}
 use Rattle.worker_split.specs.Rounds.{AreSettled, CanSolve, HasFound}
 use Rattle.worker_split.proofs.Books.{works_then}
@@ -22,4 +23,18 @@ returns-clause-found g c = record {
         works = works_then (works_then (works_then was.works c.own_share.ensures.continues) solved.continues) later;
         answers = subst (λ v. AreSettled jobs last v.items) (sym c.help.ensures.answers) answers;
       };
+}
+
+pub other_shares-requires : goal.other_shares-requires
+other_shares-requires g c =
+    let count = length c.args.shared.now.jobs.now in
+    let others = subst (λ (queues : List JobStealer). All (λ (other : JobStealer). other.count ≡ count) queues) (sym c.as_mut_slice.ensures.value) c.requires.queues.others in
+    (c.type_bounds.sync-G, (others, c.own_share.ensures.solver))
+
+pub help-requires : goal.help-requires
+help-requires g c = c.other_shares.ensures.solver.known
+
+pub returns-in_default-clause-found : goal.returns-in_default-clause-found
+returns-in_default-clause-found g c = record {
+  found = λ base m. subst (λ o. IfSome o (λ at. HasFound base c.args.shared.now.jobs.now at c.args.member.now.solver)) (sym c.take.ensures.after) tt;
 }

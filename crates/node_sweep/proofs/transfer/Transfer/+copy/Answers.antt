@@ -1,15 +1,18 @@
 use Rattle.std.proofs.Common.{◌≡◌, ◌≤◌, ◌+◌, ◌∙◌, ap, sym, subst, arith}
 use Rattle.std.specs.Prelude.{slice_index}
 use Rattle.std.proofs.lemmas.List.{get_or_default}
+use Rattle.std.proofs.lemmas.Result.{IfOk-from_err}
 use Rattle.table_core.specs.declared.shape.Kind.TheVariants.{Pair}
 use Rattle.table_core.specs.Layout.{start, first_part, second_part}
 use Rattle.table_core.specs.Blocks.{IsBlock}
 use Rattle.node_sweep.specs.Copies.{IsCopy}
-use Rattle.node_sweep.specs.Transfers.{fresh_words, old_bits, old_words}
+use Rattle.node_sweep.specs.Transfers.{SaysNoRoom, fresh_words, old_bits, old_words}
 use Rattle.node_sweep.proofs.SameBlocks.{copy_later, block_parts}
 use Rattle.node_sweep.proofs.Futures.{block_below}
 use Rattle.node_sweep.proofs.Places.{sought_start}
 use Rattle.node_sweep.proofs.Recursing.{IsPairOf, copy_as, leaf_below, as_pair, higher, first_low, second_low, first_wanted, second_wanted}
+use Rattle.node_table.proofs.Refusing.{sent_on}
+use Rattle.node_sweep.proofs.SideBySide.{keeps_on}
 use Rattle.node_sweep.proofs.Underway.{already_noted, block_inside, empty_noted}
 use Rattle.node_sweep.proofs.transfer.Transfer.+copy.Goals as goal
 
@@ -110,3 +113,26 @@ note-requires-clause-tried t c = sought_start _ _ _ _
 
 pub note-requires-2-clause-tried : goal.note-requires-2-clause-tried
 note-requires-2-clause-tried t c = sought_start _ _ _ _
+
+pub returns-in_err-first-clause-ok : goal.returns-in_err-first-clause-ok
+returns-in_err-first-clause-ok t c = IfOk-from_err c.from_residual.result _ c.from_residual.ensures.0
+
+pub returns-in_err-first-clause-full : goal.returns-in_err-first-clause-full
+returns-in_err-first-clause-full t c = sent_on (SaysNoRoom c.args.self.now) c.from_residual.result c.in_err-first.field-0.0 c.from_residual.ensures.1 c.in_err-first.ensures.full
+
+pub returns-in_err-second-clause-keeps : goal.returns-in_err-second-clause-keeps
+returns-in_err-second-clause-keeps t c = keeps_on (fresh_words c.args.fresh.now) (fresh_words c.copy.new.fresh) (fresh_words c.copy-2.new.fresh) c.copy.ensures.keeps c.copy-2.ensures.keeps
+
+pub returns-in_err-second-clause-ok : goal.returns-in_err-second-clause-ok
+returns-in_err-second-clause-ok t c = IfOk-from_err c.from_residual-in_err-second.result _ c.from_residual-in_err-second.ensures.0
+
+pub returns-in_err-second-clause-full : goal.returns-in_err-second-clause-full
+returns-in_err-second-clause-full t c =
+    sent_on (SaysNoRoom c.args.self.now) c.from_residual-in_err-second.result c.in_err-second.field-0.0 c.from_residual-in_err-second.ensures.1 c.in_err-second.ensures.full
+
+pub returns-clause-keeps : goal.returns-clause-keeps
+returns-clause-keeps t c =
+    let before = fresh_words c.args.fresh.now in
+    let between = fresh_words c.copy-2.new.fresh in
+    keeps_on before between (fresh_words c.note-2.new.fresh)
+    (keeps_on before (fresh_words c.copy.new.fresh) between c.copy.ensures.keeps c.copy-2.ensures.keeps) c.note-2.ensures.keeps

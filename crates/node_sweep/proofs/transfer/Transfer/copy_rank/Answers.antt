@@ -1,7 +1,9 @@
-use Rattle.std.proofs.Common.{◌≤◌, ◌+◌, List, ℕ, length, sym, subst, arith}
+use Rattle.std.proofs.Common.{◌≤◌, ◌+◌, List, ℕ, length, sym, subst, refl, arith}
 use Rattle.std.specs.Prelude.{slice_index, slice_range}
+use Rattle.std.proofs.lemmas.Result.{IfOk-from_err}
 use Rattle.node_sweep.specs.Blocks.{AreCopiedTo, AreReady}
-use Rattle.node_sweep.specs.Transfers.{fresh_words, old_bits, old_words}
+use Rattle.node_sweep.specs.Transfers.{SaysNoRoom, fresh_words, old_bits, old_words}
+use Rattle.node_table.proofs.Refusing.{sent_on}
 use Rattle.node_sweep.proofs.SideBySide.{copied_still, ends_rise, keeps_on, part_copied, part_few, part_ready, parts_copied}
 use Rattle.node_sweep.proofs.Underway.{noted_still}
 use Rattle.node_sweep.proofs.transfer.Transfer.copy_rank.Goals as goal
@@ -69,3 +71,18 @@ returns-clause-copied c =
 pub returns-in_err-copy_block-clause-keeps : goal.returns-in_err-copy_block-clause-keeps
 returns-in_err-copy_block-clause-keeps c =
     keeps_on (fresh_words c.args.fresh.now) (fresh_words c.loop-from.fresh) (fresh_words c.copy_block.new.fresh) c.loop-from.invariant.keeps c.copy_block.ensures.keeps
+
+pub loop-from-init : goal.loop-from-init
+loop-from-init c = record {
+  underway = c.requires.underway;
+  keeps = record { kept = λ index some. refl };
+  copied = c.requires.done;
+  begin = omega arith;
+  short = c.requires.order.rising c.args.below c.requires.low;
+}
+
+pub returns-in_err-copy_block-clause-copied : goal.returns-in_err-copy_block-clause-copied
+returns-in_err-copy_block-clause-copied c = IfOk-from_err c.from_residual.result _ c.from_residual.ensures.0
+
+pub returns-in_err-copy_block-clause-full : goal.returns-in_err-copy_block-clause-full
+returns-in_err-copy_block-clause-full c = sent_on (SaysNoRoom c.args.self.now) c.from_residual.result c.in_err-copy_block.field-0.0 c.from_residual.ensures.1 c.in_err-copy_block.ensures.full

@@ -64,3 +64,11 @@ returns-clause-visited c =
     let here : AreVisitedTo bits old low high order.slots.items marks (slice_index order.ends below) (slice_index order.ends (below + 1)) =
     record { here = λ place above less. h.here.here place above (omega arith) } in
     rank_visited bits old low high below order.slots.items order.ends marks c.requires.low c.requires.order h.above here
+
+pub loop-place-init : goal.loop-place-init
+loop-place-init c = record {
+  marks = c.requires.marks;
+  above = c.requires.visited;
+  here = record { here = λ place from less. absurd (omega arith) };
+  kept = record { kept = λ number marked. marked };
+}

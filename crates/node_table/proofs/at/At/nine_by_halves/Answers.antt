@@ -4,7 +4,7 @@ use Rattle.node_table.proofs.Refusing.{on_err}
 use Rattle.node_table.proofs.RefusedNine.{no_first, no_second, no_third, no_fourth, no_upper, no_left, no_middle, no_right, no_lower}
 use Rattle.node_table.proofs.TwoHalves.{half_kept, half_of, half_stays, joined_of}
 use Rattle.node_table.proofs.Working.{book_kept, learns_trans}
-use Rattle.node_table.proofs.NineByHalves.{are_parts, column_halves, left_halves, parts_kept, right_halves, second_beside, third_beside, fourth_beside}
+use Rattle.node_table.proofs.NineByHalves.{are_parts, column_halves, left_halves, parts_kept, quarter_above, quarter_known, right_halves, first_beside, second_beside, third_beside, fourth_beside}
 use Rattle.node_table.proofs.at.At.nine_by_halves.Goals as goal
 
 pub half-requires-2 : goal.half-requires-2
@@ -123,3 +123,33 @@ returns-in_err-lower-clause-full c =
     (half_stays (learns_trans c.half-4.ensures.learns (learns_trans c.whole.ensures.learns (learns_trans c.whole-2.ensures.learns (learns_trans c.whole-3.ensures.learns (learns_trans c.whole-4.ensures.learns c.whole-5.ensures.learns))))) c.in_ok-third.ensures.ok)
     (half_stays (learns_trans c.whole.ensures.learns (learns_trans c.whole-2.ensures.learns (learns_trans c.whole-3.ensures.learns (learns_trans c.whole-4.ensures.learns c.whole-5.ensures.learns)))) c.in_ok-fourth.ensures.ok)
     c.in_err-lower.ensures.full)
+
+pub prefetch_result-requires-clause-known : goal.prefetch_result-requires-clause-known
+prefetch_result-requires-clause-known c = quarter_known _ c.read_halves_of_quarters-parts.ensures.value.quarters.nw.known
+
+pub prefetch_result-requires-clause-level : goal.prefetch_result-requires-clause-level
+prefetch_result-requires-clause-level c = quarter_above c.requires.level c.read_halves_of_quarters-parts.ensures.value.quarters.nw.known
+
+pub prefetch_result-requires-2-clause-known : goal.prefetch_result-requires-2-clause-known
+prefetch_result-requires-2-clause-known c = quarter_known _ c.read_halves_of_quarters-parts.ensures.value.quarters.ne.known
+
+pub prefetch_result-requires-2-clause-level : goal.prefetch_result-requires-2-clause-level
+prefetch_result-requires-2-clause-level c = quarter_above c.requires.level c.read_halves_of_quarters-parts.ensures.value.quarters.ne.known
+
+pub prefetch_result-requires-3-clause-known : goal.prefetch_result-requires-3-clause-known
+prefetch_result-requires-3-clause-known c = quarter_known _ c.read_halves_of_quarters-parts.ensures.value.quarters.sw.known
+
+pub prefetch_result-requires-3-clause-level : goal.prefetch_result-requires-3-clause-level
+prefetch_result-requires-3-clause-level c = quarter_above c.requires.level c.read_halves_of_quarters-parts.ensures.value.quarters.sw.known
+
+pub prefetch_result-requires-4-clause-known : goal.prefetch_result-requires-4-clause-known
+prefetch_result-requires-4-clause-known c = quarter_known _ c.read_halves_of_quarters-parts.ensures.value.quarters.se.known
+
+pub prefetch_result-requires-4-clause-level : goal.prefetch_result-requires-4-clause-level
+prefetch_result-requires-4-clause-level c = quarter_above c.requires.level c.read_halves_of_quarters-parts.ensures.value.quarters.se.known
+
+pub half-requires : goal.half-requires
+half-requires c = first_beside c.requires.level c.requires.known.high c.read_halves_of_quarters-parts.ensures.value
+
+pub returns-in_err-first-clause-learns : goal.returns-in_err-first-clause-learns
+returns-in_err-first-clause-learns c = learns_trans c.read_halves_of_quarters-parts.ensures.learns c.half.ensures.learns

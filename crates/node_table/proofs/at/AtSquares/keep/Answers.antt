@@ -1,4 +1,4 @@
-use Rattle.std.proofs.Common.{◌-◌, refl}
+use Rattle.std.proofs.Common.{◌-◌, inl, refl}
 use Rattle.plane.specs.Square.{future}
 use Rattle.table_core.specs.Blocks.{square_rank}
 use Rattle.table_core.proofs.Knowing.{knows_same}
@@ -6,7 +6,7 @@ use Rattle.node_table.specs.Books.{known_cells}
 use Rattle.node_table.proofs.Entries.{has_number}
 use Rattle.node_table.proofs.Desks.{known_block, square_slot}
 use Rattle.node_table.proofs.Telling.{may_tell, book_adds, told_some}
-use Rattle.node_table.proofs.Working.{keeps_here}
+use Rattle.node_table.proofs.Working.{book_kept, goes_on_here, keeps_here, learns_none}
 use Rattle.node_table.proofs.at.AtSquares.keep.Goals as goal
 
 pub result_index-index-requires : goal.result_index-index-requires
@@ -32,3 +32,15 @@ returns-then-not-is_empty-clause-ok c =
 
 pub returns-then-not-is_empty-clause-keeps : goal.returns-then-not-is_empty-clause-keeps
 returns-then-not-is_empty-clause-keeps c = keeps_here c.tell.ensures.here c.tell.ensures.met.grows
+
+pub returns-then-not-is_empty-clause-grows : goal.returns-then-not-is_empty-clause-grows
+returns-then-not-is_empty-clause-grows c = record { table = c.tell.ensures.here.table; grows = c.tell.ensures.met.grows }
+
+pub returns-else-not-is_empty-clause-ok : goal.returns-else-not-is_empty-clause-ok
+returns-else-not-is_empty-clause-ok c = record { known = inl (c.is_empty.ensures.0 c.if-not-is_empty.false); learned = refl; results = inl refl }
+
+pub returns-else-not-is_empty-clause-grows : goal.returns-else-not-is_empty-clause-grows
+returns-else-not-is_empty-clause-grows c = goes_on_here (learns_none c.args.self.now)
+
+pub returns-else-not-is_empty-clause-keeps : goal.returns-else-not-is_empty-clause-keeps
+returns-else-not-is_empty-clause-keeps c = book_kept (learns_none c.args.self.now)

@@ -1,9 +1,12 @@
-use Rattle.std.proofs.Common.{[], refl, sym, subst}
+use Rattle.std.proofs.Common.{[], ap, inl, map, refl, sym, subst}
+use Rattle.std.specs.Prelude.{Some}
 use Rattle.squares.specs.declared.sq.Sq.{Sq}
 use Rattle.squares.specs.Book.{IsFuture}
+use Rattle.table_core.specs.declared.knowledge.Knowledge.{Knowledge}
+use Rattle.node_table.specs.Books.{square_of}
 use Rattle.node_table.specs.Desks.{work_store}
 use Rattle.node_table.specs.DesksAtWork.{book_here}
-use Rattle.node_table.proofs.Working.{keeps_here}
+use Rattle.node_table.proofs.Working.{book_kept, goes_on_here, keeps_here, learns_none}
 use Rattle.node_table.proofs.Entries.{block_of, has_number}
 use Rattle.node_table.proofs.Desks.{coherent_here, square_slot}
 use Rattle.node_table.proofs.Telling.{may_ask, no_result, book_learns, is_future, empty_future}
@@ -47,3 +50,38 @@ returns-clause-results c =
 
 pub returns-clause-keeps : goal.returns-clause-keeps
 returns-clause-keeps c = keeps_here c.ask-word.ensures.here c.ask-word.ensures.met.grows
+
+pub returns-then-is_empty-clause-empty : goal.returns-then-is_empty-clause-empty
+returns-then-is_empty-clause-empty c = λ empty. ap (λ (s : Sq). Some s) c.empty.ensures
+
+pub returns-then-is_empty-clause-results : goal.returns-then-is_empty-clause-results
+returns-then-is_empty-clause-results c = record {
+  known = inl (c.is_empty.ensures.0 c.if-is_empty.true);
+  told = inl (record { results = refl; learned = refl });
+}
+
+pub returns-then-is_empty-clause-grows : goal.returns-then-is_empty-clause-grows
+returns-then-is_empty-clause-grows c = goes_on_here (learns_none c.args.self.now)
+
+pub returns-then-is_empty-clause-keeps : goal.returns-then-is_empty-clause-keeps
+returns-then-is_empty-clause-keeps c = book_kept (learns_none c.args.self.now)
+
+pub returns-then-word-eq0-clause-empty : goal.returns-then-word-eq0-clause-empty
+returns-then-word-eq0-clause-empty c = λ empty. absurd (has_number c.is_empty.ensures c.if-is_empty.false empty)
+
+pub returns-then-word-eq0-clause-results : goal.returns-then-word-eq0-clause-results
+returns-then-word-eq0-clause-results c =
+    let same = c.ask-word.ensures.met.learns.none c.if-word-eq0.true in
+    record { results = ap (λ (known : Knowledge). map square_of known.results) same; learned = ap (λ (known : Knowledge). known.learned) same }
+
+pub returns-then-word-eq0-clause-grows : goal.returns-then-word-eq0-clause-grows
+returns-then-word-eq0-clause-grows c = record { table = c.ask-word.ensures.here.table; grows = c.ask-word.ensures.met.grows }
+
+pub returns-then-word-eq0-clause-keeps : goal.returns-then-word-eq0-clause-keeps
+returns-then-word-eq0-clause-keeps c = keeps_here c.ask-word.ensures.here c.ask-word.ensures.met.grows
+
+pub returns-clause-empty : goal.returns-clause-empty
+returns-clause-empty c = λ empty. absurd (has_number c.is_empty.ensures c.if-is_empty.false empty)
+
+pub returns-clause-grows : goal.returns-clause-grows
+returns-clause-grows c = record { table = c.ask-word.ensures.here.table; grows = c.ask-word.ensures.met.grows }

@@ -1,16 +1,17 @@
-use Rattle.std.proofs.Common.{◌≡◌, ◌+◌, ◌<◌, ◌∙◌, ap, sym, subst, arith, rules, length, List, ℕ, Vec, Global}
-use Rattle.std.specs.Prelude.{slice_index, slice_set}
+use Rattle.std.proofs.Common.{◌≡◌, ◌+◌, ◌<◌, ◌∙◌, ap, sym, subst, arith, length, List, ℕ, Vec, Global}
+use Rattle.std.specs.Prelude.{slice_index, slice_set, ◌^◌}
+use Rattle.std.proofs.lemmas.Result.{IfOk-from_err}
 use Rattle.std.proofs.lemmas.List.{get_or_read}
 use Rattle.table_core.specs.declared.key.Key.{Key}
 use Rattle.table_core.specs.declared.shape.Shape.{Shape}
 use Rattle.table_core.specs.Layout.{size, result_of}
-use Rattle.table_core.specs.Good.{AreGoodWords}
+use Rattle.table_core.specs.Good.{AreGoodWords, head}
 use Rattle.table_core.specs.Opening.{Reopens}
 use Rattle.table_core.proofs.Lists.{length_set}
 use Rattle.table_core.proofs.Reopenings.{every_reopening}
 use Rattle.node_table.specs.declared.still.Still.{Still}
 use Rattle.node_table.specs.Stills.{words_of}
-use Rattle.node_table.proofs.Reopening.{IsThrough, rules_decided, through_kept, through_none, through_gone, through_same, through_all}
+use Rattle.node_table.proofs.Reopening.{IsThrough, rules_decided, through_kept, through_none, through_gone, through_same, through_all, through_start}
 use Rattle.node_table.proofs.still.Still.reopen.Goals.{then-index-ne0+then-not-keeps_result, else-index-ne0, else-index-ne0-via-then-index-ne0+else-not-keeps_result, else-index-ne0-via-else-index-ne0}
 use Rattle.node_table.proofs.still.Still.reopen.Goals as goal
 
@@ -20,12 +21,15 @@ good_again was key new shape long reopens = record {
   good = (every_reopening was.key key (words_of was) (slice_index new) was.good.good reopens).good;
 }
 
+begun : (was : Still) (key : Key) (items : List ℕ) (name : ℕ) → items ≡ was.words → name ≡ head key → name < 2 ^ 64 → IsThrough was key (slice_set items 0 name) 0
+begun was key items name same = through_start was key (slice_set items 0 name) name (ap (λ (ws : List ℕ). slice_set ws 0 name) same)
+
 pub of_words-requires : goal.of_words-requires
 of_words-requires c =
     let was = c.args.self.now in
     let new = slice_set c.in_ok-words.words.items 0 c.head.result in
-    let h : IsThrough was c.args.key new 0 = search rules in
-    let reopens = through_same was c.args.key new (c.has_rule_of-one_rule.ensures.0 c.if-one_rule.true) (search rules) c.requires h in
+    let h = begun was c.args.key c.in_ok-words.words.items c.head.result c.in_ok-words.ensures c.head.ensures c.head.type_inv in
+    let reopens = through_same was c.args.key new (c.has_rule_of-one_rule.ensures.0 c.if-one_rule.true) c.if-self-key.true c.requires h in
     good_again was c.args.key new c.requires h.long reopens
 
 pub loop-slot-preserved : goal.loop-slot-preserved
@@ -72,3 +76,24 @@ returns c =
       same_key = c.of_words-2.ensures.same_key;
       reopens = subst (λ (ws : List ℕ). Reopens was.key key (words_of was) (slice_index ws)) (sym c.of_words-2.ensures.same_words) reopens;
     }
+
+pub returns-in_err-words : goal.returns-in_err-words
+returns-in_err-words c = IfOk-from_err c.from_residual.result _ c.from_residual.ensures.0
+
+pub loop-slot-init : goal.loop-slot-init
+loop-slot-init c = begun c.args.self.now c.args.key c.in_ok-words.words.items c.head.result c.in_ok-words.ensures c.head.ensures c.head.type_inv
+
+pub returns-then-self-key : goal.returns-then-self-key
+returns-then-self-key c =
+    let was = c.args.self.now in
+    let key = c.args.key in
+    let new = slice_set c.in_ok-words.words.items 0 c.head.result in
+    let h = begun was key c.in_ok-words.words.items c.head.result c.in_ok-words.ensures c.head.ensures c.head.type_inv in
+    let reopens = through_same was key new (c.has_rule_of-one_rule.ensures.0 c.if-one_rule.true) c.if-self-key.true c.requires h in
+    record {
+      same_key = c.of_words.ensures.same_key;
+      reopens = subst (λ (ws : List ℕ). Reopens was.key key (words_of was) (slice_index ws)) (sym c.of_words.ensures.same_words) reopens;
+    }
+
+pub keeps_result-requires-clause-rule : goal.keeps_result-requires-clause-rule
+keeps_result-requires-clause-rule c = c.has_rule_of-one_rule.ensures

@@ -1,7 +1,9 @@
-use Rattle.std.proofs.Common.{◌≡◌, ◌++◌, ◌∙◌, get_or, ap, SFits, w64, rules}
+use Rattle.std.proofs.Common.{◌≡◌, ◌++◌, ◌∙◌, get_or, flat_map, Vec, Global, ap, sym, SFits, w64, rules}
 use Rattle.std.proofs.lemmas.Int.{to_z-of_z}
+use Rattle.std.proofs.lemmas.Result.{IfOk-from_err}
 use Rattle.pattern_writers.specs.Items.{cell_after, items_of}
-use Rattle.pattern_writers.proofs.BodyText.{items_of-band}
+use Rattle.pattern_writers.specs.declared.rle_text.row_run.RowRun.{RowRun}
+use Rattle.pattern_writers.proofs.BodyText.{all_bands_pushed, items_of-band}
 use Rattle.pattern_writers.proofs.rle_text.items.items.Goals as goal
 
 pub bands-preserved : goal.bands-preserved
@@ -15,3 +17,17 @@ bands-preserved c =
     let after : c.in_ok-next.next ≡ cell_after c.bands.next band.items = c.in_ok-next.ensures.next ∙ ap (cell_after c.bands.next) runs in
     c.bands.invariant
     ∙ items_of-band c.args.corner.x c.bands.next c.in_ok-next.next c.args.bands.now c.bands.band-index c.band-item.result c.bands.items.items c.push_runs.new.items.items c.bands-test.true pushed after
+
+pub bands-init : goal.bands-init
+bands-init c =
+    let corner = c.args.corner in
+    let runs = flat_map (λ (band : Vec RowRun Global). band.items) c.args.bands.now in
+    ap (λ l. l ++ items_of corner.x corner runs) (sym c.new-items.ensures.items)
+
+pub returns : goal.returns
+returns c =
+    let none = all_bands_pushed c.args.corner.x c.bands.next c.args.bands.now c.bands.band-index c.bands.items.items c.bands-test.false in
+    sym (c.bands.invariant ∙ none)
+
+pub returns-in_err-next : goal.returns-in_err-next
+returns-in_err-next c = IfOk-from_err c.from_residual.result _ c.from_residual.ensures.0

@@ -1,5 +1,6 @@
-use Rattle.std.proofs.Common.{◌≡◌, ◌+◌, ◌<◌, ◌≤◌, [], ◌++◌, arith, codes, length, ap, sym, subst, ◌∙◌, length-append}
+use Rattle.std.proofs.Common.{◌≡◌, ◌+◌, ◌<◌, ◌≤◌, [], ◌++◌, arith, codes, length, ap, refl, sym, subst, ◌∙◌, length-append}
 use Rattle.std.proofs.KnownBytes.{Appends-nil}
+use Rattle.pattern_writers.proofs.BlocksOut.{passed_on}
 use Rattle.pattern_writers.proofs.BodyText.{LaysOut-off, LaysOut-on}
 use Rattle.pattern_writers.proofs.rle_text.layout.add_to_line.Goals as goal
 use Rattle.pattern_writers.proofs.rle_text.layout.add_to_line.Goals.{then-len-piece-gt-LINE_LENGTH+in_ok-end_line, else-len-piece-gt-LINE_LENGTH}
@@ -32,3 +33,7 @@ returns-clause-laid g c =
           let fits : length line + length piece ≤ 70 = subst (λ n. n + length piece ≤ 70) c.len.ensures.value w.if-len-piece-gt-LINE_LENGTH.false in
           ([], rw (w.file-is, w.block-is) (Appends-nil _), LaysOut-on line piece _ fits next)
     ]
+
+pub returns-in_err-end_line-clause-failure : goal.returns-in_err-end_line-clause-failure
+returns-in_err-end_line-clause-failure g c =
+    passed_on _ _ _ c.in_err-end_line.field-0.0 _ refl c.from_residual.ensures.0 c.from_residual.ensures.1 c.in_err-end_line.ensures.failure

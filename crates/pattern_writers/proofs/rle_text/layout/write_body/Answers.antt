@@ -1,8 +1,9 @@
-use Rattle.std.proofs.Common.{◌++◌, ◌∙◌, codes, rules, arith, ◌≡◌}
-use Rattle.std.proofs.KnownBytes.{Appends-trans}
+use Rattle.std.proofs.Common.{◌++◌, ◌∙◌, [], length, codes, refl, sym, ap, subst, rules, arith, ◌≡◌, ◌≤◌}
+use Rattle.std.proofs.KnownBytes.{Appends-nil, Appends-trans}
 use Rattle.std.proofs.lemmas.List.{take_all}
-use Rattle.std.proofs.lemmas.Result.{on_ok_weaker}
-use Rattle.pattern_writers.specs.Layout.{body_text}
+use Rattle.std.proofs.lemmas.Result.{IfOk-from_err, on_ok_weaker}
+use Rattle.pattern_writers.specs.Layout.{body_text, laid_out}
+use Rattle.pattern_writers.proofs.BlocksOut.{passed_on, told_since}
 use Rattle.pattern_writers.proofs.BodyText.{LaysOut-more, body_text-ends}
 use Rattle.pattern_writers.proofs.rle_text.layout.write_body.Goals as goal
 
@@ -29,3 +30,35 @@ returns-clause-written g c =
     on_ok_weaker c.end_line.result
     (λ wrote. rw whole (Appends-trans _ _ _ (before.0 ++ put.0) (last ++ codes "\n") (Appends-trans _ _ _ before.0 put.0 before.1 put.1) wrote))
     c.end_line.ensures.written
+
+pub loop-item-init : goal.loop-item-init
+loop-item-init g c =
+    let empty = c.new-line.ensures in (
+      subst (λ l. length l ≤ 70) (sym empty) (omega arith),
+      refl,
+      ([], Appends-nil _, λ rest. ap (λ l. laid_out l rest) (sym empty)),
+    )
+
+pub add_to_line-requires-clause-piece : goal.add_to_line-requires-clause-piece
+add_to_line-requires-clause-piece g c =
+    let same = ap length c.as_str.ensures.value in
+    let short = c.text.ensures.short in omega (arith, same, short)
+
+pub returns-in_err-add_to_line-clause-written : goal.returns-in_err-add_to_line-clause-written
+returns-in_err-add_to_line-clause-written g c = IfOk-from_err c.from_residual.result _ c.from_residual.ensures.0
+
+pub returns-in_err-add_to_line-2-clause-written : goal.returns-in_err-add_to_line-2-clause-written
+returns-in_err-add_to_line-2-clause-written g c = IfOk-from_err c.from_residual-in_err-add_to_line-2.result _ c.from_residual-in_err-add_to_line-2.ensures.0
+
+pub returns-in_err-add_to_line-clause-failure : goal.returns-in_err-add_to_line-clause-failure
+returns-in_err-add_to_line-clause-failure g c =
+    passed_on _ _ _ c.in_err-add_to_line.field-0.0 _ c.loop-item.invariant.1 c.from_residual.ensures.0 c.from_residual.ensures.1 c.in_err-add_to_line.ensures.failure
+
+pub returns-in_err-add_to_line-2-clause-failure : goal.returns-in_err-add_to_line-2-clause-failure
+returns-in_err-add_to_line-2-clause-failure g c =
+    passed_on _ _ _ c.in_err-add_to_line-2.field-0.0 _ c.loop-item.invariant.1 c.from_residual-in_err-add_to_line-2.ensures.0 c.from_residual-in_err-add_to_line-2.ensures.1 c.in_err-add_to_line-2.ensures.failure
+
+pub returns-clause-failure : goal.returns-clause-failure
+returns-clause-failure g c =
+    let since = c.in_ok-add_to_line-2.ensures.failure.unfailed ∙ c.loop-item.invariant.1 in
+    told_since _ _ _ c.end_line.result since c.end_line.ensures.failure
