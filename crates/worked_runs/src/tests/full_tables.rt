@@ -8,8 +8,8 @@ use crate::tests::macrocell::{self, WRITTEN};
 use crate::tests::nodes::{FULL, GLIDER, REPORTED, SETTLED};
 use crate::tests::refused::REFUSED;
 use crate::tests::rows::{
-    COMMENTED_GLIDER, FAR_REPLICATOR, MACROCELL, NEAR_REPLICATOR, RLE, Row, assert_told,
-    assert_whole_or_refused,
+    COMMENTED_GLIDER, FAR_REPLICATOR, MACROCELL, NEAR_REPLICATOR, RLE, Row, assert_reported,
+    assert_told, assert_whole_or_refused,
 };
 use plane::Refusal;
 use sample_patterns::many_leaves;
@@ -60,19 +60,21 @@ fn assert_whole_or_full<R: Abort + AllocGlobal + Threads + Wait + Sync>(
 }
 
 /// The rows of short runs.
-pub(crate) const SHORT: [&[Row]; 7] = [
-    PATTERNS,
-    LIMITS,
-    LONG_ROWS,
-    STEPS,
-    WRITTEN,
-    REFUSED,
-    macrocell::REFUSED,
-];
+pub(crate) fn short_runs() -> [&'static [Row]; 7] {
+    [
+        PATTERNS,
+        LIMITS,
+        LONG_ROWS,
+        STEPS,
+        WRITTEN,
+        REFUSED,
+        macrocell::REFUSED,
+    ]
+}
 
 #[test]
 fn runs_each_pattern_in_the_fewest_slots(rt: HostRuntime) -> Result<(), AllocError> {
-    for rows in SHORT {
+    for rows in short_runs() {
         assert_room(&rt, rows)?;
         assert_whole_or_full(&rt, rows, 2)?;
     }
@@ -160,8 +162,7 @@ fn refuses_65536_leaves_in_the_fewest_slots(rt: HostRuntime) -> Result<(), Alloc
             workers,
             ..MACROCELL
         };
-        let end = Ended::of(&rt, file.as_str(), &few.options())?;
-        assert_told(&rt, "", &end, (Some(FULL), "", ""));
+        assert_reported(&rt, file.as_str(), &few.options(), Some(FULL), "")?;
     }
     Ok(())
 }

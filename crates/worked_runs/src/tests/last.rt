@@ -29,14 +29,23 @@ fn answer_of<R: Abort + AllocGlobal + Threads + Wait + Sync>(
     Ok(summary)
 }
 
+/// Whether the last pattern of a row is answered as its run is.
+fn assert_answered_as_run<R: Abort + AllocGlobal + Threads + Wait + Sync>(
+    rt: &R,
+    row: &Row,
+) -> Result<(), AllocError> {
+    let end = Ended::of(rt, row.file, &row.options())?;
+    assert_eq!(rt; (row.file, answer_of(rt, row)), (row.file, end.outcome));
+    Ok(())
+}
+
 /// Whether the last patterns of rows are answered as their runs are.
 fn assert_answered_as_runs<R: Abort + AllocGlobal + Threads + Wait + Sync>(
     rt: &R,
     rows: &[Row],
 ) -> Result<(), AllocError> {
     for row in rows {
-        let end = Ended::of(rt, row.file, &row.options())?;
-        assert_eq!(rt; (row.file, answer_of(rt, row)), (row.file, end.outcome));
+        assert_answered_as_run(rt, row)?;
     }
     Ok(())
 }
@@ -55,8 +64,7 @@ fn last_patterns_are_refused_as_runs(rt: HostRuntime) -> Result<(), AllocError> 
             // It has no text in the format, and a pattern.
             assert!(rt; answer_of(&rt, row).is_ok());
         } else {
-            let end = Ended::of(&rt, row.file, &row.options())?;
-            assert_eq!(rt; (row.file, answer_of(&rt, row)), (row.file, end.outcome));
+            assert_answered_as_run(&rt, row)?;
         }
     }
     Ok(())

@@ -1,7 +1,6 @@
 //! A macrocell file of 65536 different leaves.
 
-use crate::tests::ended::Ended;
-use crate::tests::rows::{PLAIN, assert_told};
+use crate::tests::rows::{PLAIN, assert_reported};
 use engine::Options;
 use sample_patterns::many_leaves;
 use std::alloc::AllocError;
@@ -12,8 +11,7 @@ fn counts_the_cells_of_many_leaves(rt: HostRuntime) -> Result<(), AllocError> {
     let file = many_leaves(rt.alloc())?;
     for workers in [1, 2] {
         let options = Options { workers, ..PLAIN };
-        let end = Ended::of(&rt, file.as_str(), &options)?;
-        assert_told(&rt, "", &end, (None, "0: 524289\n", ""));
+        assert_reported(&rt, file.as_str(), &options, None, "0: 524289\n")?;
     }
     Ok(())
 }

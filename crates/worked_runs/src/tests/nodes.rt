@@ -2,7 +2,7 @@
 
 use crate::tests::ended::Ended;
 use crate::tests::rows::{
-    FAR_GLIDER, FAR_REPLICATOR, PLAIN, R_PENTOMINO, RLE, Row, assert_rows, assert_told,
+    FAR_GLIDER, FAR_REPLICATOR, PLAIN, R_PENTOMINO, RLE, Row, assert_reported, assert_rows,
 };
 use engine::Options;
 use plane::{Fault, Refusal};
@@ -122,11 +122,8 @@ fn refuses_300_leaves_in_the_fewest_slots(rt: HostRuntime) -> Result<(), AllocEr
         pairs: 1024,
         ..RLE.options()
     };
-    let end = Ended::of(&rt, file.as_str(), &few)?;
-    assert_told(&rt, "", &end, (Some(FULL), "", ""));
-    let end = Ended::of(&rt, file.as_str(), &PLAIN)?;
-    assert_told(&rt, "", &end, (None, "0: 1184\n", ""));
-    Ok(())
+    assert_reported(&rt, file.as_str(), &few, Some(FULL), "")?;
+    assert_reported(&rt, file.as_str(), &PLAIN, None, "0: 1184\n")
 }
 
 // The words 1 to 160, 16 in a row, each in the middle of a leaf of its own: bit j of the word i is the cell
@@ -184,15 +181,13 @@ fn refuses_the_first_generation_of_160_leaves(rt: HostRuntime) -> Result<(), All
             workers,
             ..RLE.options()
         };
-        let end = Ended::of(&rt, file.as_str(), &few)?;
-        assert_told(&rt, "", &end, (Some(FULL), "0: 562\n", ""));
+        assert_reported(&rt, file.as_str(), &few, Some(FULL), "0: 562\n")?;
         let many = Options {
             pairs: PLAIN.pairs,
             format: None,
             ..few
         };
-        let end = Ended::of(&rt, file.as_str(), &many)?;
-        assert_told(&rt, "", &end, (None, "0: 562\n1: 1736\n", ""));
+        assert_reported(&rt, file.as_str(), &many, None, "0: 562\n1: 1736\n")?;
     }
     Ok(())
 }
@@ -207,8 +202,7 @@ fn refuses_65536_leaves(rt: HostRuntime) -> Result<(), AllocError> {
             workers,
             ..RLE.options()
         };
-        let end = Ended::of(&rt, file.as_str(), &options)?;
-        assert_told(&rt, "", &end, (Some(FULL), "", ""));
+        assert_reported(&rt, file.as_str(), &options, Some(FULL), "")?;
     }
     Ok(())
 }

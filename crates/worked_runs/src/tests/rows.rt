@@ -202,3 +202,28 @@ pub(crate) fn assert_rows<R: Abort + AllocGlobal + Threads + Wait + Sync>(
     }
     Ok(())
 }
+
+/// Runs rows by so many workers, and compares what is written with what they say.
+pub(crate) fn assert_rows_by<R: Abort + AllocGlobal + Threads + Wait + Sync>(
+    rt: &R,
+    rows: &[Row],
+    workers: usize,
+) -> Result<(), AllocError> {
+    for row in rows {
+        assert_rows(rt, &[Row { workers, ..*row }])?;
+    }
+    Ok(())
+}
+
+/// Runs a file that writes no pattern, and compares how the run ended and what it reports.
+pub(crate) fn assert_reported<R: Abort + AllocGlobal + Threads + Wait + Sync>(
+    rt: &R,
+    file: &str,
+    options: &Options,
+    fault: Option<Fault>,
+    report: &str,
+) -> Result<(), AllocError> {
+    let end = Ended::of(rt, file, options)?;
+    assert_told(rt, "", &end, (fault, report, ""));
+    Ok(())
+}

@@ -1,9 +1,11 @@
 //! Runs by several workers: they write what one writes.
 
 use crate::tests::ended::Ended;
-use crate::tests::full_tables::SHORT;
+use crate::tests::full_tables::short_runs;
 use crate::tests::nodes::{COLLECTED, REPORTED, SETTLED};
-use crate::tests::rows::{FAR_GLIDER, FAR_REPLICATOR, Row, assert_rows, assert_whole_or_refused};
+use crate::tests::rows::{
+    FAR_GLIDER, FAR_REPLICATOR, Row, assert_rows, assert_rows_by, assert_whole_or_refused,
+};
 use crate::tests::short_writes::ShortWrites;
 use engine::{Gate, run_gated};
 use plane::Refusal;
@@ -12,22 +14,21 @@ use std::sync::atomic::{AtomicU64, Ordering};
 use std::test::Fail;
 use table_core::Shape;
 
+// Long runs.
+const LONG: &[Row] = &[SETTLED, COLLECTED, REPORTED, FAR_GLIDER, FAR_REPLICATOR];
+
 #[test]
 fn any_number_of_workers_writes_the_same(rt: HostRuntime) -> Result<(), AllocError> {
     for workers in [1, 2, 4, 64] {
-        for row in [SETTLED, COLLECTED, REPORTED, FAR_GLIDER, FAR_REPLICATOR] {
-            assert_rows(&rt, &[Row { workers, ..row }])?;
-        }
+        assert_rows_by(&rt, LONG, workers)?;
     }
     Ok(())
 }
 
 #[test]
 fn two_workers_answer_each_row(rt: HostRuntime) -> Result<(), AllocError> {
-    for rows in SHORT {
-        for row in rows {
-            assert_rows(&rt, &[Row { workers: 2, ..*row }])?;
-        }
+    for rows in short_runs() {
+        assert_rows_by(&rt, rows, 2)?;
     }
     Ok(())
 }
