@@ -49,6 +49,13 @@ module _ (old read : Book) (level : ℕ) (nine : List Sq) (quarters : List (List
       four_known (known_kept keeps (are.each k (omega arith)).se.known) (known_kept keeps (are.each (k + 1) (omega arith)).sw.known)
       (known_kept keeps (are.each (k + 3) (omega arith)).ne.known) (known_kept keeps (are.each (k + 4) inside).nw.known)
 
+  -- the inner quarters are low enough to be joined
+  pub inner_low : (k : ℕ) → k + 4 < length nine → (nth (quarters_of quarters k) 3).level < 65
+  inner_low k inside =
+      let part = (are.each k (omega arith)).se.known.at_level in
+      let whole = known k (numbered 0 0) (omega arith) in
+      let low = whole.low in let high = whole.high in omega (arith, part, low, high)
+
   -- the square of the inner quarters is the centre
   pub middle_shown : (before now new : Book) (k : ℕ) (sq : Sq) → IsBook old → k + 4 < length nine → Keeps old read → Keeps read before → Keeps before now → Keeps now new →
       Shows now ((nth (quarters_of quarters k) 3).level + 1) (joined_squares before (nth (quarters_of quarters k) 3).level (inner_quarters quarters k)) sq →

@@ -1,4 +1,5 @@
-use Rattle.std.proofs.Common.{◌≡◌, ◌∙◌, Err, Some, codes, rules, sym, ap}
+use Rattle.std.proofs.Common.{◌≡◌, ◌∙◌, Err, Some, codes, sym, ap}
+use Rattle.std.proofs.result.Match.{err_is}
 use Rattle.program_parts.proofs.AskedWords.{text_by}
 use Rattle.batch_program.specs.CommandLine.{command_form}
 use Rattle.batch_program.proofs.asking.asked_by.Goals as goal
@@ -8,7 +9,7 @@ returns-in_default-clause-faults c = λ words are. (are.0, λ fit. let none = c.
 
 pub returns-in_err-options-clause-faults : goal.returns-in_err-options-clause-faults
 returns-in_err-options-clause-faults c = λ words are.
-    let is : c.from_residual.result ≡ Err c.in_err-options.field-0.0 = search rules in
+    let is : c.from_residual.result ≡ Err c.in_err-options.field-0.0 = err_is _ _ c.from_residual.ensures.1 in
     rw is (c.in_err-options.ensures.faults words are (c.in-Some.file.now, sym (text_by command_form words c.args.matches.now are (codes "file")) ∙ sym c.in-Some.ensures))
 
 pub returns-clause-asks : goal.returns-clause-asks

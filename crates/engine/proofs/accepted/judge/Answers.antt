@@ -1,4 +1,5 @@
-use Rattle.std.proofs.Common.{◌≡◌, Err, rules, subst, sym}
+use Rattle.std.proofs.Common.{◌≡◌, Err, subst, sym}
+use Rattle.std.proofs.result.Match.{err_is}
 use Rattle.plane.specs.Fault.{placeless}
 use Rattle.universe.specs.Cells.{live_cells}
 use Rattle.patterns.specs.PatternFile.{meaning_of}
@@ -9,17 +10,17 @@ use Rattle.engine.proofs.accepted.judge.Goals as goal
 
 pub returns-in_err-text-clause-refused : goal.returns-in_err-text-clause-refused
 returns-in_err-text-clause-refused c =
-    let is : c.from_residual.result ≡ Err c.in_err-text.field-0.0 = search rules in
+    let is : c.from_residual.result ≡ Err c.in_err-text.field-0.0 = err_is _ _ c.from_residual.ensures.1 in
     rw is (text_refused c.args.bytes.now c.args.options.now c.in_err-text.field-0.0 c.in_err-text.ensures.refused)
 
 pub returns-in_err-rule-clause-refused : goal.returns-in_err-rule-clause-refused
 returns-in_err-rule-clause-refused c =
-    let is : c.from_residual-in_err-rule.result ≡ Err c.in_err-rule.field-0.0 = search rules in
+    let is : c.from_residual-in_err-rule.result ≡ Err c.in_err-rule.field-0.0 = err_is _ _ c.from_residual-in_err-rule.ensures.1 in
     rw is (rule_refused c.args.bytes.now c.args.options.now (meaning_of c.in_ok-text.text) c.in_ok-text.ensures.accepted c.in_err-rule.field-0.0 c.in_err-rule.ensures.err)
 
 pub returns-in_err-universe-clause-refused : goal.returns-in_err-universe-clause-refused
 returns-in_err-universe-clause-refused c =
-    let is : c.from_residual-in_err-universe.result ≡ Err (placeless c.in_err-universe.field-0.0) = search rules in
+    let is : c.from_residual-in_err-universe.result ≡ Err (placeless c.in_err-universe.field-0.0) = err_is _ _ c.from_residual-in_err-universe.ensures.1 in
     rw is (range_refused c.args.bytes.now c.args.options.now (meaning_of c.in_ok-text.text) c.in_ok-text.ensures.accepted c.in_ok-rule.rule c.in_ok-rule.ensures.ok.0 c.in_err-universe.field-0.0 c.in_err-universe.ensures.refused c.in_err-universe.ensures.full)
 
 pub returns-clause-accepted : goal.returns-clause-accepted

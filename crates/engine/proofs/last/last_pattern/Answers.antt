@@ -1,4 +1,5 @@
 use Rattle.std.proofs.Common.{◌≡◌, Err, rules, refl, subst, arith, inl}
+use Rattle.std.proofs.result.Match.{err_is}
 use Rattle.plane.specs.Fault.{placeless}
 use Rattle.plane.specs.declared.refusal.Refusal.TheVariants.{NoMemory}
 use Rattle.plane.proofs.Same.{same_refl, same_trans}
@@ -30,7 +31,7 @@ returns-in_err-universe-clause-refused g c =
     let start = c.in_ok-begun.begun.universe in
     let gens = c.without_output-options.result.gens in
     let same : IsRunOn start 0 start = none_later (record { cells = same_refl (live_cells start); rule = refl; limit = refl }) in
-    let is : c.from_residual-in_err-universe.result ≡ Err (placeless c.in_err-universe.field-0.0) = search rules in
+    let is : c.from_residual-in_err-universe.result ≡ Err (placeless c.in_err-universe.field-0.0) = err_is _ _ c.from_residual-in_err-universe.ensures.1 in
     rw is (subst (λ (options : Options). IsRefused c.args.bytes.now options (placeless c.in_err-universe.field-0.0)) c.without_output-options.ensures
     (stops c.args.bytes.now c.without_output-options.result (meaning_of c.in_ok-begun.begun.text) (rule_of start) (live_cells start) c.in_ok-begun.ensures.accepted
     c.in_err-universe.field-0.0 c.in_err-universe.ensures.refusal

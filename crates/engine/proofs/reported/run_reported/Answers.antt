@@ -1,5 +1,6 @@
-use Rattle.std.proofs.Common.{◌≡◌, ◌+◌, ◌-◌, ◌++◌, [], Err, length, rules, refl, sym, ◌∙◌, subst, arith, inl}
+use Rattle.std.proofs.Common.{◌≡◌, ◌+◌, ◌-◌, ◌++◌, [], Err, length, refl, sym, ◌∙◌, subst, arith, inl}
 use Rattle.std.proofs.KnownBytes.{Appends-nil, Appends-trans}
+use Rattle.std.proofs.result.Match.{err_is}
 use Rattle.plane.specs.Plane.{after}
 use Rattle.plane.specs.Square.{IsSame}
 use Rattle.plane.proofs.Same.{same_refl}
@@ -15,7 +16,7 @@ pub returns-in_err-report_generation-clause-refused : goal.returns-in_err-report
 returns-in_err-report_generation-clause-refused g c =
     let rule = rule_of c.args.start in
     let plane = live_cells c.args.start in
-    let is : c.from_residual.result ≡ Err c.in_err-report_generation.field-0.0 = search rules in
+    let is : c.from_residual.result ≡ Err c.in_err-report_generation.field-0.0 = err_is _ _ c.from_residual.ensures.1 in
     rw is (stopped g.W.Sink.taken g.W.Sink.failure_count c.args.report.now c.args.report.now c.report_generation.new.report rule plane c.args.generation c.args.options.now
     c.in_err-report_generation.field-0.0 0 [] refl (shows_none rule plane c.args.generation) (Appends-nil _) c.in_err-report_generation.ensures.refused)
 
@@ -52,7 +53,7 @@ pub returns-in_err-universe-clause-refused : goal.returns-in_err-universe-clause
 returns-in_err-universe-clause-refused g c =
     let options = c.args.options.now in
     let said = c.loop-done.invariant.said in
-    let is : c.from_residual-in_err-universe.result ≡ Err c.in_err-universe.field-0.0 = search rules in
+    let is : c.from_residual-in_err-universe.result ≡ Err c.in_err-universe.field-0.0 = err_is _ _ c.from_residual-in_err-universe.ensures.1 in
     rw is (inl (
       c.in_err-universe.ensures.refusal,
       c.loop-done.invariant.unfailed,
@@ -66,7 +67,7 @@ returns-in_err-universe-clause-refused g c =
 
 pub returns-in_err-universe-clause-full : goal.returns-in_err-universe-clause-full
 returns-in_err-universe-clause-full g c =
-    let is : c.from_residual-in_err-universe.result ≡ Err c.in_err-universe.field-0.0 = search rules in
+    let is : c.from_residual-in_err-universe.result ≡ Err c.in_err-universe.field-0.0 = err_is _ _ c.from_residual-in_err-universe.ensures.1 in
     rw is (λ full. stuck_on c.args.options.now.gens c.loop-done.done (c.next_shown-next.result - c.loop-done.done) c.loop-done.invariant.later
     (omega (arith, c.next_shown-next.ensures.later, c.next_shown-next.ensures.within)) (c.in_err-universe.ensures.full full))
 
@@ -76,7 +77,7 @@ returns-in_err-report_generation-2-clause-refused g c =
     let rule = rule_of c.args.start in
     let plane = live_cells c.args.start in
     let said = c.loop-done.invariant.said in
-    let is : c.from_residual-in_err-report_generation-2.result ≡ Err c.in_err-report_generation-2.field-0.0 = search rules in
+    let is : c.from_residual-in_err-report_generation-2.result ≡ Err c.in_err-report_generation-2.field-0.0 = err_is _ _ c.from_residual-in_err-report_generation-2.ensures.1 in
     rw is (stopped g.W.Sink.taken g.W.Sink.failure_count c.args.report.now c.loop-done.report c.report_generation-in-loop-done.new.report rule plane c.args.generation options
     c.in_err-report_generation-2.field-0.0 (length (shown_until options c.loop-done.done)) said.0 c.loop-done.invariant.unfailed
     (first_lines rule plane c.args.generation options c.loop-done.done said.0 c.loop-done.invariant.within said.1) said.2 c.in_err-report_generation-2.ensures.refused)

@@ -1,4 +1,5 @@
 use Rattle.std.proofs.Common.{◌≡◌, ◌+◌, ◌≤◌, Err, rules, refl, sym, ◌∙◌, subst, inl}
+use Rattle.std.proofs.result.Match.{err_is}
 use Rattle.plane.specs.Fault.{placeless}
 use Rattle.plane.specs.declared.range.TheConstants.{GENERATION_LIMIT}
 use Rattle.plane.specs.declared.refusal.Refusal.TheVariants.{NoMemory}
@@ -17,7 +18,7 @@ use Rattle.engine.proofs.running.run_gated.Goals as goal
 
 pub returns-in_err-begun : goal.returns-in_err-begun
 returns-in_err-begun g c =
-    let is : c.from_residual.result ≡ Err c.in_err-begun.field-0.0 = search rules in
+    let is : c.from_residual.result ≡ Err c.in_err-begun.field-0.0 = err_is _ _ c.from_residual.ensures.1 in
     rw is (refused_at_once _ _ _ _ _ refl refl c.in_err-begun.ensures.refused)
 
 pub run_reported-requires-clause-rule : goal.run_reported-requires-clause-rule
@@ -39,7 +40,7 @@ run_reported-requires-clause-last g c κs within =
 
 pub returns-in_err-universe : goal.returns-in_err-universe
 returns-in_err-universe g c =
-    let is : c.from_residual-in_err-universe.result ≡ Err (placeless c.in_err-universe.field-0.0) = search rules in
+    let is : c.from_residual-in_err-universe.result ≡ Err (placeless c.in_err-universe.field-0.0) = err_is _ _ c.from_residual-in_err-universe.ensures.1 in
     rw is (refused_reporting c.args.bytes.now c.args.options.now (meaning_of c.in_ok-begun.begun.text) (rule_of c.in_ok-begun.begun.universe) (live_cells c.in_ok-begun.begun.universe) c.in_ok-begun.ensures.accepted
     c.generation-start.result c.in_err-universe.field-0.0 _ _ refl c.generation-start.ensures
     (λ full. subst (λ n. IsStuckWithin (rule_of c.in_ok-begun.begun.universe) (live_cells c.in_ok-begun.begun.universe) n c.args.options.now.gens) c.in_ok-begun.ensures.limit (c.in_err-universe.ensures.full full)) c.in_err-universe.ensures.refused)
@@ -52,14 +53,14 @@ returns-in_err-last g c =
 
 pub returns-in_err-draw : goal.returns-in_err-draw
 returns-in_err-draw g c =
-    let is : c.from_residual-in_err-draw.result ≡ Err (placeless c.in_err-draw.field-0.0) = search rules in
+    let is : c.from_residual-in_err-draw.result ≡ Err (placeless c.in_err-draw.field-0.0) = err_is _ _ c.from_residual-in_err-draw.ensures.1 in
     let refused = c.in_err-draw.ensures.failure.refused in
     let failed = subst (λ n. HasFailed n (g.W.Sink.failure_count c.draw.new.report)) c.in_ok-universe.ensures.unfailed refused.1 in
     rw is (failed_early (λ _. refl) refused.0 (inl (failed, refl, (_, c.in_ok-begun.ensures.accepted.accepted))))
 
 pub returns-in_err-write : goal.returns-in_err-write
 returns-in_err-write g c =
-    let is : c.from_residual-in_err-write.result ≡ Err (placeless c.in_err-write.field-0.0) = search rules in
+    let is : c.from_residual-in_err-write.result ≡ Err (placeless c.in_err-write.field-0.0) = err_is _ _ c.from_residual-in_err-write.ensures.1 in
     rw is (refused_writing c.args.bytes.now c.args.options.now (meaning_of c.in_ok-begun.begun.text) (rule_of c.in_ok-begun.begun.universe) (live_cells c.in_ok-begun.begun.universe) c.in_ok-begun.ensures.accepted
     _ _ c.generation-start.result (plane_of c.in_ok-last.last) _ c.generation-start.ensures (same_trans c.in_ok-last.ensures.same c.in_ok-universe.ensures.cells) c.in_ok-universe.ensures.reported c.in_ok-draw.ensures.drawn
     c.args.options.now.format c.in_ok-last.ensures.ok.bounds.cells c.in_err-write.field-0.0 refl c.in_ok-last.ensures.ok.bounds.listing c.in_err-write.ensures.no_format (c.in_ok-draw.ensures.failure.unfailed ∙ c.in_ok-universe.ensures.unfailed) c.in_err-write.ensures.refused)

@@ -1,7 +1,7 @@
 use Rattle.std.proofs.Common.{◌≡◌, length, arith, rules}
 use Rattle.squares.specs.Book.{numbered}
 use Rattle.squares.proofs.Kept.{adds_trans, keeps_none, keeps_trans}
-use Rattle.hashlife_step.proofs.FourCentres.{inner_known, middle_shown}
+use Rattle.hashlife_step.proofs.FourCentres.{inner_known, inner_low, middle_shown}
 use Rattle.hashlife_step.proofs.centres.four_centres.Goals as goal
 
 pub read_nine-requires-clause-low : goal.read_nine-requires-clause-low
@@ -58,3 +58,26 @@ returns-in_err-upper_left-clause-adds g c = adds_trans c.read_nine.ensures.adds 
 
 pub returns-in_err-upper_right-clause-adds : goal.returns-in_err-upper_right-clause-adds
 returns-in_err-upper_right-clause-adds g c = adds_trans c.read_nine.ensures.adds (adds_trans c.quad.ensures.adds c.quad-2.ensures.adds)
+
+pub returns-then-level-eq-LEAF_LEVEL-clause-adds : goal.returns-then-level-eq-LEAF_LEVEL-clause-adds
+returns-then-level-eq-LEAF_LEVEL-clause-adds g c = c.leaf_centres.ensures.adds
+
+pub quad-requires-clause-level : goal.quad-requires-clause-level
+quad-requires-clause-level g c =
+    let nine : length c.args.nine ≡ 9 = search rules in
+    inner_low _ _ _ _ _ c.requires.known c.read_nine.ensures.value 0 (omega arith)
+
+pub quad-requires-2-clause-level : goal.quad-requires-2-clause-level
+quad-requires-2-clause-level g c =
+    let nine : length c.args.nine ≡ 9 = search rules in
+    inner_low _ _ _ _ _ c.requires.known c.read_nine.ensures.value 1 (omega arith)
+
+pub quad-requires-3-clause-level : goal.quad-requires-3-clause-level
+quad-requires-3-clause-level g c =
+    let nine : length c.args.nine ≡ 9 = search rules in
+    inner_low _ _ _ _ _ c.requires.known c.read_nine.ensures.value 3 (omega arith)
+
+pub quad-requires-4-clause-level : goal.quad-requires-4-clause-level
+quad-requires-4-clause-level g c =
+    let nine : length c.args.nine ≡ 9 = search rules in
+    inner_low _ _ _ _ _ c.requires.known c.read_nine.ensures.value 4 (omega arith)

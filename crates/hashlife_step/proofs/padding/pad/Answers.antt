@@ -1,4 +1,5 @@
 use Rattle.std.proofs.Common.{arith}
+use Rattle.squares.proofs.Kept.{adds_trans}
 use Rattle.hashlife_step.proofs.RoundSquares.{room_after}
 use Rattle.hashlife_step.proofs.padding.pad.Goals as goal
 
@@ -9,3 +10,12 @@ returns-clause-room g c =
 
 pub returns-clause-level : goal.returns-clause-level
 returns-clause-level g c = let i = c.loop-padded.invariant in omega arith
+
+pub returns-in_err-padded-clause-adds : goal.returns-in_err-padded-clause-adds
+returns-in_err-padded-clause-adds g c = c.surround_leaf.ensures.adds
+
+pub returns-in_err-padded-2-clause-adds : goal.returns-in_err-padded-2-clause-adds
+returns-in_err-padded-2-clause-adds g c = adds_trans c.loop-padded.invariant.adds c.grow.ensures.adds
+
+pub returns-clause-adds : goal.returns-clause-adds
+returns-clause-adds g c = c.loop-padded.invariant.adds

@@ -1,5 +1,6 @@
 use Rattle.std.proofs.Common.{Err, rules, arith, ℕ, ◌≡◌, ◌+◌, ◌-◌, ◌<◌, length, sym, subst}
 use Rattle.std.proofs.lemmas.Result.{IfOk-weaker}
+use Rattle.std.proofs.result.Match.{err_is}
 use Rattle.plane.specs.Square.{future}
 use Rattle.squares.specs.Book.{IsKnown, nth, numbered}
 use Rattle.squares.specs.declared.sq.Sq.{Sq}
@@ -26,7 +27,7 @@ future_in_order-returns-in-Some g t c = record {
 
 pub future_in_order-returns-in_err-future : goal.future_in_order-returns-in_err-future
 future_in_order-returns-in_err-future g t c =
-    let is : c.from_residual.result ≡ Err c.in_err-future.field-0.0 = search rules in
+    let is : c.from_residual.result ≡ Err c.in_err-future.field-0.0 = err_is _ _ c.from_residual.ensures.1 in
     rw is (record {
       ok = tt;
       kept = tt;
@@ -40,7 +41,7 @@ future_in_order-returns-in_err-future g t c =
 
 pub future_in_order-returns-in_err-keep : goal.future_in_order-returns-in_err-keep
 future_in_order-returns-in_err-keep g t c =
-    let is : c.from_residual-in_err-keep.result ≡ Err c.in_err-keep.field-0.0 = search rules in
+    let is : c.from_residual-in_err-keep.result ≡ Err c.in_err-keep.field-0.0 = err_is _ _ c.from_residual-in_err-keep.ensures.1 in
     rw is (record {
       ok = tt;
       kept = tt;

@@ -1,5 +1,6 @@
 use Rattle.std.proofs.Common.{arith, sym, ◌∙◌}
 use Rattle.std.proofs.lemmas.Bool.{false≢true}
+use Rattle.squares.proofs.Kept.{adds_trans}
 use Rattle.hashlife_step.proofs.Trimmed.{centre_reached, round_kept, smallest_reached}
 use Rattle.hashlife_step.proofs.trimming.trim.Goals as goal
 
@@ -23,3 +24,15 @@ pub returns-after-loop-trimmed-clause-level : goal.returns-after-loop-trimmed-cl
 returns-after-loop-trimmed-clause-level g c =
     let book = g.S.Squares.book in
     smallest_reached (book c.args.book.now) (book c.loop-trimmed.book) _ _ c.loop-trimmed.trimmed c.loop-trimmed.invariant (g.met.S.Squares.is_book c.loop-trimmed.book) (λ above _. absurd (omega arith))
+
+pub returns-in_err-trimmed-clause-adds : goal.returns-in_err-trimmed-clause-adds
+returns-in_err-trimmed-clause-adds g c = c.surround_leaf.ensures.adds
+
+pub returns-in_err-trimmed-2-clause-adds : goal.returns-in_err-trimmed-2-clause-adds
+returns-in_err-trimmed-2-clause-adds g c = adds_trans (adds_trans c.loop-trimmed.invariant.adds c.is_held_by_centre.ensures.adds) c.centre.ensures.adds
+
+pub returns-else-is_held_by_centre-clause-adds : goal.returns-else-is_held_by_centre-clause-adds
+returns-else-is_held_by_centre-clause-adds g c = adds_trans c.loop-trimmed.invariant.adds c.is_held_by_centre.ensures.adds
+
+pub returns-after-loop-trimmed-clause-adds : goal.returns-after-loop-trimmed-clause-adds
+returns-after-loop-trimmed-clause-adds g c = c.loop-trimmed.invariant.adds

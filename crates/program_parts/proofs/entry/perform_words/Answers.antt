@@ -1,4 +1,5 @@
-use Rattle.std.proofs.Common.{◌≡◌, Err, rules, inl, inr}
+use Rattle.std.proofs.Common.{◌≡◌, Err, inl, inr}
+use Rattle.std.proofs.result.Match.{err_is}
 use Rattle.program_parts.specs.Asking.{texts_of}
 use Rattle.program_parts.specs.declared.stops.Stop.TheVariants.{Refused}
 use Rattle.program_parts.proofs.WordsFaults.{done_by_words, stopped_by_words}
@@ -6,7 +7,7 @@ use Rattle.program_parts.proofs.entry.perform_words.Goals as goal
 
 pub returns-in_err-perform-in-Ok-clause-stopped : goal.returns-in_err-perform-in-Ok-clause-stopped
 returns-in_err-perform-in-Ok-clause-stopped g c =
-    let is : c.from_residual.result ≡ Err (Refused c.in_err-perform-in-Ok.field-0.0) = search rules in
+    let is : c.from_residual.result ≡ Err (Refused c.in_err-perform-in-Ok.field-0.0) = err_is _ _ c.from_residual.ensures.1 in
     rw is (inl (c.in-Ok.asked, c.in-Ok.ensures.asks, c.in_err-perform-in-Ok.ensures.stopped))
 
 pub returns-in_ok-perform-in-Ok-clause-done : goal.returns-in_ok-perform-in-Ok-clause-done

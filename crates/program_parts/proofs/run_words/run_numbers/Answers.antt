@@ -1,4 +1,5 @@
-use Rattle.std.proofs.Common.{◌≡◌, Err, codes, refl, rules, subst, sym, inl, inr}
+use Rattle.std.proofs.Common.{◌≡◌, Err, codes, refl, subst, sym, inl, inr}
+use Rattle.std.proofs.result.Match.{err_is}
 use Rattle.program_parts.specs.Values.{IsNumber, IsPairNumber, IsWorkerNumber}
 use Rattle.program_parts.proofs.AskedWords.{value_by}
 use Rattle.program_parts.proofs.run_words.run_numbers.Goals as goal
@@ -6,21 +7,21 @@ use Rattle.program_parts.proofs.run_words.run_numbers.Goals as goal
 pub returns-in_err-gens-clause-err : goal.returns-in_err-gens-clause-err
 returns-in_err-gens-clause-err c = λ form words are.
     let value = value_by form words c.args.matches.now are (codes "generation") in
-    let is : c.from_residual.result ≡ Err c.in_err-gens.field-0.0 = search rules in
+    let is : c.from_residual.result ≡ Err c.in_err-gens.field-0.0 = err_is _ _ c.from_residual.ensures.1 in
     rw (is, c.in_err-gens.ensures.err.0)
     (inr (refl, λ fit. c.in_err-gens.ensures.err.1 fit.0.gens (subst (λ given. IsNumber given fit.0.gens) (sym value) fit.1.gens)))
 
 pub returns-in_err-pairs-clause-err : goal.returns-in_err-pairs-clause-err
 returns-in_err-pairs-clause-err c = λ form words are.
     let value = value_by form words c.args.matches.now are (codes "nodes") in
-    let is : c.from_residual-in_err-pairs.result ≡ Err c.in_err-pairs.field-0.0 = search rules in
+    let is : c.from_residual-in_err-pairs.result ≡ Err c.in_err-pairs.field-0.0 = err_is _ _ c.from_residual-in_err-pairs.ensures.1 in
     rw (is, c.in_err-pairs.ensures.err.0)
     (inl (refl, λ pairs fit. c.in_err-pairs.ensures.err.1 pairs (subst (λ given. IsPairNumber given pairs) (sym value) fit)))
 
 pub returns-in_err-workers-clause-err : goal.returns-in_err-workers-clause-err
 returns-in_err-workers-clause-err c = λ form words are.
     let value = value_by form words c.args.matches.now are (codes "workers") in
-    let is : c.from_residual-in_err-workers.result ≡ Err c.in_err-workers.field-0.0 = search rules in
+    let is : c.from_residual-in_err-workers.result ≡ Err c.in_err-workers.field-0.0 = err_is _ _ c.from_residual-in_err-workers.ensures.1 in
     rw (is, c.in_err-workers.ensures.err.0)
     (inr (refl, λ fit. c.in_err-workers.ensures.err.1 fit.0.workers (subst (λ given. IsWorkerNumber given fit.0.workers) (sym value) fit.1.workers)))
 

@@ -2,7 +2,7 @@ use Rattle.std.proofs.Common.{◌+◌, ◌-◌, ◌^◌, ℕ, sym, ◌∙◌, su
 use Rattle.std.specs.Prelude.{Option}
 use Rattle.std.specs.Option.{option_map}
 use Rattle.plane.proofs.Paddings.{twice_half}
-use Rattle.squares.proofs.Kept.{adds_trans, known_kept}
+use Rattle.squares.proofs.Kept.{adds_none, adds_trans, known_kept}
 use Rattle.squares.proofs.NotedValues.{true_of_kept, true_of_same}
 use Rattle.viewport.specs.Gaps.{IsGap, IsKnownGap}
 use Rattle.viewport.proofs.GapsLater.{gap_as, gap_later, gap_level, kept_gaps}
@@ -98,3 +98,57 @@ quarters_gap-returns-clause-ok g t c =
 
 pub quarters_gap-returns-clause-adds : goal.quarters_gap-returns-clause-adds
 quarters_gap-returns-clause-adds g t c = adds_trans c.quarters_of-quarters.ensures.adds (adds_trans c.in_ok-near.ensures.adds c.in_ok-far.ensures.adds)
+
+pub gap-returns-then-is_empty-clause-noted : goal.gap-returns-then-is_empty-clause-noted
+gap-returns-then-is_empty-clause-noted g t c = c.requires.noted
+
+pub gap-returns-then-is_empty-clause-adds : goal.gap-returns-then-is_empty-clause-adds
+gap-returns-then-is_empty-clause-adds g t c = adds_none _
+
+pub gap-returns-in-Some-clause-ok : goal.gap-returns-in-Some-clause-ok
+gap-returns-in-Some-clause-ok g t c = (c.requires.noted.gap c.args.sq c.in-Some.known.now (sym c.in-Some.ensures.value)).1
+
+pub gap-returns-in-Some-clause-noted : goal.gap-returns-in-Some-clause-noted
+gap-returns-in-Some-clause-noted g t c = c.requires.noted
+
+pub gap-returns-in-Some-clause-adds : goal.gap-returns-in-Some-clause-adds
+gap-returns-in-Some-clause-adds g t c = adds_none _
+
+pub gap-returns-in_err-whole-clause-noted : goal.gap-returns-in_err-whole-clause-noted
+gap-returns-in_err-whole-clause-noted g t c = c.in_err-whole.ensures.noted
+
+pub gap-returns-in_err-whole-clause-adds : goal.gap-returns-in_err-whole-clause-adds
+gap-returns-in_err-whole-clause-adds g t c = c.in_err-whole.ensures.adds
+
+pub gap-returns-in_err-insert-clause-adds : goal.gap-returns-in_err-insert-clause-adds
+gap-returns-in_err-insert-clause-adds g t c = c.in_ok-whole.ensures.adds
+
+pub gap-returns-clause-ok : goal.gap-returns-clause-ok
+gap-returns-clause-ok g t c = c.in_ok-whole.ensures.ok
+
+pub gap-returns-clause-adds : goal.gap-returns-clause-adds
+gap-returns-clause-adds g t c = c.in_ok-whole.ensures.adds
+
+pub half_gap-returns-in_err-first-clause-noted : goal.half_gap-returns-in_err-first-clause-noted
+half_gap-returns-in_err-first-clause-noted g t c = c.in_err-first.ensures.noted
+
+pub half_gap-returns-in_err-first-clause-adds : goal.half_gap-returns-in_err-first-clause-adds
+half_gap-returns-in_err-first-clause-adds g t c = c.in_err-first.ensures.adds
+
+pub half_gap-returns-in_err-second-clause-noted : goal.half_gap-returns-in_err-second-clause-noted
+half_gap-returns-in_err-second-clause-noted g t c = c.in_err-second.ensures.noted
+
+pub half_gap-returns-in_err-second-clause-adds : goal.half_gap-returns-in_err-second-clause-adds
+half_gap-returns-in_err-second-clause-adds g t c = adds_trans c.in_ok-first.ensures.adds c.in_err-second.ensures.adds
+
+pub half_gap-returns-clause-noted : goal.half_gap-returns-clause-noted
+half_gap-returns-clause-noted g t c = c.in_ok-second.ensures.noted
+
+pub half_gap-returns-clause-adds : goal.half_gap-returns-clause-adds
+half_gap-returns-clause-adds g t c = adds_trans c.in_ok-first.ensures.adds c.in_ok-second.ensures.adds
+
+pub quarters_gap-returns-then-is_some-clause-adds : goal.quarters_gap-returns-then-is_some-clause-adds
+quarters_gap-returns-then-is_some-clause-adds g t c = adds_trans c.quarters_of-quarters.ensures.adds c.in_ok-near.ensures.adds
+
+pub quarters_gap-returns-in_err-far-clause-adds : goal.quarters_gap-returns-in_err-far-clause-adds
+quarters_gap-returns-in_err-far-clause-adds g t c = adds_trans c.quarters_of-quarters.ensures.adds (adds_trans c.in_ok-near.ensures.adds c.in_err-far.ensures.adds)

@@ -1,4 +1,5 @@
-use Rattle.std.proofs.Common.{◌≡◌, Err, rules}
+use Rattle.std.proofs.Common.{◌≡◌, Err}
+use Rattle.std.proofs.result.Match.{err_is}
 use Rattle.batch_program.proofs.Endings.{finished_from, stopped_from}
 use Rattle.batch_program.proofs.application.LifebatchApplication.perform.Goals as goal
 
@@ -10,7 +11,7 @@ run_from-requires-clause-workers g c κs within = c.requires.asked.1.run.numbers
 
 pub returns-in_err-run_from-clause-stopped : goal.returns-in_err-run_from-clause-stopped
 returns-in_err-run_from-clause-stopped g c =
-    let is : c.from_residual-in_err-run_from.result ≡ Err c.in_err-run_from.field-0.0 = search rules in
+    let is : c.from_residual-in_err-run_from.result ≡ Err c.in_err-run_from.field-0.0 = err_is _ _ c.from_residual-in_err-run_from.ensures.1 in
     rw is (stopped_from _ _ _ _ _ c.new-output.ensures.failures c.in_err-run_from.ensures)
 
 pub returns-clause-done : goal.returns-clause-done

@@ -1,4 +1,5 @@
 use Rattle.std.proofs.Common.{◌≡◌, true, false, Ok, Err, rules, ◌∙◌, ap, inl}
+use Rattle.std.proofs.result.Match.{err_is}
 use Rattle.patterns.specs.Meaning.{is_macrocell, of_macrocell, of_rle, seen_as}
 use Rattle.macrocell_reader.specs.Meaning as macrocell
 use Rattle.rle_reader.specs.Meaning as rle
@@ -8,7 +9,7 @@ use Rattle.patterns.proofs.pattern_file.PatternFile.open.Goals as goal
 pub returns-in_err-open-clause-refused : goal.returns-in_err-open-clause-refused
 returns-in_err-open-clause-refused c =
     let is : is_macrocell c.args.bytes.now ≡ true = search rules in
-    let fault : c.from_residual.result ≡ Err c.in_err-open.field-0.0 = search rules in
+    let fault : c.from_residual.result ≡ Err c.in_err-open.field-0.0 = err_is _ _ c.from_residual.ensures.1 in
     rw fault (macrocell_refused c.args.bytes.now c.in_err-open.field-0.0 _ is c.in_err-open.ensures.refused)
 
 pub returns-then-begins_with-clause-accepted : goal.returns-then-begins_with-clause-accepted
@@ -20,7 +21,7 @@ returns-then-begins_with-clause-accepted c =
 pub returns-in_err-open-2-clause-refused : goal.returns-in_err-open-2-clause-refused
 returns-in_err-open-2-clause-refused c =
     let is : is_macrocell c.args.bytes.now ≡ false = search rules in
-    let fault : c.from_residual-in_err-open-2.result ≡ Err c.in_err-open-2.field-0.0 = search rules in
+    let fault : c.from_residual-in_err-open-2.result ≡ Err c.in_err-open-2.field-0.0 = err_is _ _ c.from_residual-in_err-open-2.ensures.1 in
     let refused : rle.judged c.args.bytes.now ≡ Err c.in_err-open-2.field-0.0 = search rules in
     rw fault (inl (judged_rle c.args.bytes.now is ∙ ap (seen_as of_rle) refused))
 

@@ -1,6 +1,7 @@
-use Rattle.std.proofs.Common.{◌≡◌, refl, rules}
+use Rattle.std.proofs.Common.{◌≡◌, refl}
 use Rattle.std.specs.Prelude.{Err}
 use Rattle.std.proofs.lemmas.Result.{IfErr-at_err, IfOk-at_ok}
+use Rattle.std.proofs.result.Match.{err_is}
 use Rattle.node_table.specs.Desks.{work_at}
 use Rattle.node_table.proofs.AtWork.{is_back}
 use Rattle.universe.proofs.Filling.{filled_up, full_book}
@@ -20,7 +21,7 @@ returns-clause-ok g c =
 
 pub returns-in_err-root-clause-full : goal.returns-in_err-root-clause-full
 returns-in_err-root-clause-full g c =
-    let is : c.from_residual-in_err-root.result ≡ Err c.in_err-root.field-0.0 = search rules in
+    let is : c.from_residual-in_err-root.result ≡ Err c.in_err-root.field-0.0 = err_is _ _ c.from_residual-in_err-root.ensures.1 in
     let ended = c.build-made.new.book in
     let fresh = c.in_ok-opened.opened in
     let back = is_back fresh.table fresh.desk c.leave.result _ _ c.at-at.ensures.book c.build-made.ensures.keeps c.leave.ensures.desk in

@@ -1,4 +1,5 @@
-use Rattle.std.proofs.Common.{◌≡◌, ◌≢◌, ◌+◌, ◌-◌, ◌^◌, ◌≤◌, arith, rules}
+use Rattle.std.proofs.Common.{◌≡◌, ◌≢◌, ◌+◌, ◌-◌, ◌^◌, ◌≤◌, arith}
+use Rattle.std.proofs.result.Match.{err_is}
 use Rattle.std.specs.Prelude.{Err}
 use Rattle.plane.specs.declared.refusal.Refusal.TheVariants.{NodesFull}
 use Rattle.universe.specs.Runs.{IsLater, IsStuck}
@@ -25,7 +26,7 @@ returns-in_err-middle-clause-full g t c =
     let half = 2 ^ (c.args.exponent - 1) in
     let whole = two_halves c.args.exponent some in
     let within : 0 + half ≤ 2 ^ c.args.exponent = omega (arith, whole) in
-    let is : c.from_residual.result ≡ Err c.in_err-middle.field-0.0 = search rules in
+    let is : c.from_residual.result ≡ Err c.in_err-middle.field-0.0 = err_is _ _ c.from_residual.ensures.1 in
     rw is (λ refusal. stuck_on (2 ^ c.args.exponent) 0 half (none_later (same_universe c.args.self)) within (c.in_err-middle.ensures.full refusal))
 
 pub returns-clause-ok : goal.returns-clause-ok

@@ -1,6 +1,7 @@
-use Rattle.std.proofs.Common.{◌≡◌, ◌+◌, ◌-◌, ◌^◌, ◌≤◌, ◌∙◌, subst, arith, rules}
+use Rattle.std.proofs.Common.{◌≡◌, ◌+◌, ◌-◌, ◌^◌, ◌≤◌, ◌∙◌, subst, arith}
 use Rattle.std.specs.Prelude.{Err}
 use Rattle.std.proofs.lemmas.Nat.{pow_pos}
+use Rattle.std.proofs.result.Match.{err_is}
 use Rattle.plane.specs.declared.refusal.Refusal.TheVariants.{NodesFull}
 use Rattle.universe.specs.Runs.{IsAttempt, IsFullAtLimit, IsLater, IsSameUniverse, IsStuck}
 use Rattle.universe.specs.declared.attempts.Attempt.{Attempt}
@@ -58,7 +59,7 @@ returns-in_err-middle-clause-full g t c =
     let half = 2 ^ (c.args.exponent - 1) in
     let whole = two_halves c.args.exponent c.if-exponent-eq0.false in
     let within : 0 + half ≤ steps = omega (arith, whole) in
-    let is : c.from_residual-in_err-middle.result ≡ Err c.in_err-middle.field-0.0 = search rules in
+    let is : c.from_residual-in_err-middle.result ≡ Err c.in_err-middle.field-0.0 = err_is _ _ c.from_residual-in_err-middle.ensures.1 in
     rw is (λ refusal. stuck_on steps 0 half (none_later same) within (c.in_err-middle.ensures.full refusal))
 
 pub returns-clause-full : goal.returns-clause-full

@@ -3,6 +3,7 @@ use Rattle.std.specs.Prelude.{Err, sum_by}
 use Rattle.std.proofs.lemmas.Bool.{false≢true}
 use Rattle.std.proofs.lemmas.List.{take_all}
 use Rattle.std.proofs.lemmas.List.Sums.{sum_by_more}
+use Rattle.std.proofs.result.Match.{err_is}
 use Rattle.rule_text.specs.CountRule.{IsRule}
 use Rattle.plane.specs.Square.{IsSame, empty}
 use Rattle.table_core.specs.declared.shape.Shape.{Shape}
@@ -66,5 +67,5 @@ returns-in_err-universe-clause-full g c =
     let steps = 2 ^ get_or exponents i 0 in
     let sum = ap (sum_by (λ exponent. 2 ^ exponent)) c.as_slice-exponent-items.ensures.value ∙ c.digits_from-digits.ensures in
     let within = next_within exponents c.args.generations i sum c.steps-test.true in
-    let is : c.from_residual.result ≡ Err c.in_err-universe.field-0.0 = search rules in
+    let is : c.from_residual.result ≡ Err c.in_err-universe.field-0.0 = err_is _ _ c.from_residual.ensures.1 in
     rw is (λ refusal. stuck_on c.args.generations done steps c.steps.invariant within (c.in_err-universe.ensures.full refusal))

@@ -1,6 +1,7 @@
 use Rattle.std.proofs.Common.{◌≡◌, ◌≤◌, ◌^◌, ◌∙◌, refl, ap, subst, arith, pow_mono, rules}
 use Rattle.std.specs.Prelude.{Option, IfSome, Result, Ok, Err, IfErr}
 use Rattle.std.proofs.lemmas.Result.{IfOk-at_ok}
+use Rattle.std.proofs.result.Match.{err_is}
 use Rattle.plane.specs.declared.refusal.Refusal.{Refusal}
 use Rattle.plane.specs.declared.refusal.Refusal.TheVariants.{NodesFull}
 use Rattle.squares.specs.declared.sq.Sq.{Sq}
@@ -26,6 +27,6 @@ returns-in_err-shape-clause-full g c =
     let least : c.new-limit.result.bits ≤ c.sizes.shape.bits = search rules in
     let most = c.sizes.invariant in
     let bits : c.sizes.shape.bits ≡ c.new-limit.result.bits = omega (arith, most, least) in
-    let is : c.from_residual-in_err-shape.result ≡ Err c.in_err-shape.field-0.0 = search rules in
+    let is : c.from_residual-in_err-shape.result ≡ Err c.in_err-shape.field-0.0 = err_is _ _ c.from_residual-in_err-shape.ensures.1 in
     let table = subst (λ (r : Result (OpenTable × Sq) Refusal). IfErr r (λ refusal. refusal ≡ NodesFull → HasFullTable c.args.rule.now (2 ^ c.sizes.shape.bits))) full c.of_source-made.ensures.full refl in
     rw is (λ refusal. subst (HasFullTable c.args.rule.now) (ap (λ n. 2 ^ n) bits ∙ c.new-limit.ensures) table)
