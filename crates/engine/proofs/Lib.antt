@@ -5,6 +5,7 @@ mod LastPatterns
 mod Onward
 pub mod OneRun
 pub mod OtherWorkers
+pub mod Pictures
 pub mod Reports
 pub mod ShownBoxes
 pub mod Steps

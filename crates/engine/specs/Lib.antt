@@ -6,6 +6,7 @@ pub mod Generations
 pub mod Judgement
 pub mod Last
 pub mod Pattern
+pub mod Pictures
 pub mod Report
 pub mod Room
 pub mod Run

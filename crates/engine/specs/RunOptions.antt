@@ -1,6 +1,8 @@
 -- What says which run it is, and runs that have neither a report nor a file.
 use Rattle.std.specs.Prelude.{None, true}
+pub use Rattle.run_options.specs.Workers.{IsWorkerCount}
 use Rattle.run_options.specs.declared.options.RunOptions.{RunOptions}
+pub use Rattle.table_core.specs.Sizes.{IsPairCount}
 use Rattle.engine.specs.declared.options.Options.{Options}
 
 -- the same run: it is quiet, and draws and writes nothing

@@ -19,6 +19,7 @@ pub use last::last_pattern;
 pub use laws::{every_number_of_workers, one_ending, one_judgement};
 pub use options::Options;
 pub use pattern::{Heading, Pattern};
+pub use pattern_picture::{Drawing, Scale};
 pub use plane::rule_refusal;
 pub use run_options::{MOST_WORKERS, RunOptions};
 pub use running::{Summary, run, run_from, run_gated};

@@ -1,4 +1,5 @@
 pub mod Floors
 pub mod OneScale
 pub mod RowsOfShades
+pub mod ShadeRows
 pub mod Shading

@@ -31,6 +31,10 @@ abbrev pub row_shades : Plane → Blocks → ℤ → List ℕ
 row_shades plane blocks j =
     map (shade_of blocks.exponent) (block_counts plane blocks.exponent j blocks.left blocks.width)
 
+-- the shades of each row of the blocks
+abbrev pub shade_rows : Plane → Blocks → List (List ℕ)
+shade_rows plane blocks = map (row_shades plane blocks) (coordinates blocks.top blocks.height)
+
 -- the shades of the blocks, row by row
 abbrev pub block_shades : Plane → Blocks → List ℕ
 block_shades plane blocks =

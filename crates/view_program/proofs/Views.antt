@@ -11,16 +11,15 @@ use Rattle.plane.specs.declared.refusal.Refusal.{Refusal}
 use Rattle.plane.specs.declared.refusal.Refusal.TheVariants.{NoMemory, WriteFailed}
 use Rattle.engine.specs.Accepted.{IsRefused}
 use Rattle.engine.specs.Last.{EndsWith}
+use Rattle.engine.specs.Pictures.{IsScale, Scale}
 use Rattle.engine.specs.Run.{IsAcceptedRun}
 use Rattle.engine.specs.RunOptions.{without_output}
 use Rattle.engine.specs.SummaryLine.{summary_line}
 use Rattle.engine.specs.declared.options.Options.{Options}
 use Rattle.engine.specs.declared.running.Summary.{Summary}
 use Rattle.engine.proofs.Endings.{begun_none}
+use Rattle.engine.proofs.Pictures.{one_scale_lem}
 use Rattle.png_writer.specs.Picture.{IsPngFile, Picture}
-use Rattle.pattern_picture.specs.Scale.{IsScale}
-use Rattle.pattern_picture.specs.declared.scale.Scale.{Scale}
-use Rattle.pattern_picture.proofs.OneScale.{one_scale_lem}
 use Rattle.view_program.specs.Drawn.{IsPictureOf}
 use Rattle.view_program.specs.PictureLine.{picture_line}
 use Rattle.view_program.specs.Shown.{rectangle_shown}

@@ -1,7 +1,7 @@
 -- The window that is asked for.
 use Rattle.std.proofs.Common.{ℕ, List, Option, None, Some, IfSome, sym, subst}
 use Rattle.plane.specs.declared.cell.Bounds.{Bounds}
-use Rattle.pattern_picture.specs.Scale.{IsShown}
+use Rattle.engine.specs.Pictures.{IsShown}
 use Rattle.program_parts.specs.WindowText.{AreNumbersOf, IsFitWindow, rectangle_of}
 use Rattle.program_parts.specs.declared.window_text.WindowNumbers.{WindowNumbers}
 use Rattle.view_program.specs.CommandLine.{IsAskedRectangle, IsRefusedWindow}

@@ -5,7 +5,7 @@ use Rattle.clap.specs.Words.{App, Rule, Text, fault_of, new_app, with_rule}
 use Rattle.clap.specs.declared.builder.value_parser.ValueParser.TheVariants as parser
 use Rattle.plane.specs.Window.{Rectangle}
 use Rattle.plane.specs.declared.cell.Bounds.{Bounds}
-use Rattle.pattern_picture.specs.Scale.{IsShown, IsSize}
+use Rattle.engine.specs.Pictures.{IsShown, IsSize}
 use Rattle.program_parts.specs.Asking.{CommandLine, text_in, value_in}
 use Rattle.program_parts.specs.OptionRules.{file_argument, generation_option, node_option, rule_option, valued, valued_in_short, window_option, worker_option}
 use Rattle.program_parts.specs.RunWords.{AreFitNumbers, AreUnfitNodes, AskForRun}

@@ -1,18 +1,10 @@
 -- The picture of a rectangle of a plane.
-use Rattle.std.specs.Prelude.{◌≡◌, ℕ, ◌*◌, List, map}
+use Rattle.std.specs.Prelude.{◌≡◌, ℕ, ◌*◌}
 use Rattle.plane.specs.declared.cell.Bounds.{Bounds}
 use Rattle.plane.specs.Plane.{Plane}
+use Rattle.engine.specs.Pictures.{IsScale, Scale, block_span, blocks_of, shade_rows}
 use Rattle.png_writer.specs.Picture.{Picture}
 use Rattle.png_writer.specs.Pixels.{zoomed}
-use Rattle.viewport.specs.declared.blocks.Blocks.{Blocks}
-use Rattle.viewport.specs.Picture.{coordinates}
-use Rattle.pattern_picture.specs.declared.scale.Scale.{Scale}
-use Rattle.pattern_picture.specs.Scale.{IsScale, block_span, blocks_of}
-use Rattle.pattern_picture.specs.Shades.{row_shades}
-
--- the shades of each row of blocks
-abbrev pub shade_rows : Plane → Blocks → List (List ℕ)
-shade_rows plane blocks = map (row_shades plane blocks) (coordinates blocks.top blocks.height)
 
 -- the picture shows the rectangle at the largest scale with at most so many pixels on each side
 pub record IsPictureOf (plane : Plane) (shown : Bounds) (size : ℕ)

@@ -1,11 +1,10 @@
 //! A run, and the picture of its last generation.
 
 ghost use Rattle.std.specs.Prelude.{◌≡◌, IfSome};
-ghost use Rattle.run_options.specs.Workers.{IsWorkerCount};
-ghost use Rattle.table_core.specs.Sizes.{IsPairCount};
 ghost use Rattle.engine.specs.Devices.{IsDoneWithAll, reading_of};
+ghost use Rattle.engine.specs.Pictures.{IsShown, IsSize};
+ghost use Rattle.engine.specs.RunOptions.{IsPairCount, IsWorkerCount};
 ghost use Rattle.plane.specs.SinkChange.{change_of};
-ghost use Rattle.pattern_picture.specs.Scale.{IsShown, IsSize};
 ghost use Rattle.view_program.specs.View.{IsView};
 
 use crate::picture_line::write_picture_line;

@@ -3,13 +3,12 @@
 ghost use Rattle.std.specs.Prelude.{◌≡◌, ◌≤◌, ◌+◌, ◌^◌, ◌++◌, OnOk, length};
 ghost use Rattle.std.specs.Io.KnownBytes.{Appends};
 ghost use Rattle.plane.specs.Device.{TellsFailure};
-ghost use Rattle.pattern_picture.specs.Scale.{IsScale, IsShown, IsSize, longer_side};
-ghost use Rattle.pattern_picture.specs.declared.scale.Scale.{Scale};
+ghost use Rattle.engine.specs.Pictures.{IsScale, IsShown, IsSize, Scale, longer_side};
 ghost use Rattle.view_program.specs.PictureLine.{picture_line, pixel_words, product_words, scale_words};
 
 use arrayvec::ArrayString;
+use engine::Scale;
 use itoa::Buffer;
-use pattern_picture::Scale;
 use plane::{Bounds, Refusal, Sink, write_all};
 
 // Room for four numbers of up to 40 digits and the words between them.

@@ -2,7 +2,7 @@
 
 ghost use Rattle.std.specs.Prelude.{◌≡◌, IfErr, IfOk};
 ghost use Rattle.std.specs.Option.{SomeIff};
-ghost use Rattle.pattern_picture.specs.Scale.{IsShown, IsShownSide};
+ghost use Rattle.engine.specs.Pictures.{IsShown, IsShownSide};
 ghost use Rattle.program_parts.specs.WindowText.{rectangle_of};
 ghost use Rattle.view_program.specs.Shown.{HasNoSides, IsSidesOf, last_of, rectangle_shown, sides_of};
 

@@ -1,4 +1,5 @@
 use Rattle.std.proofs.Common.{◌≡◌, ◌∙◌, Err, Some, codes, rules, sym, subst, ap}
+use Rattle.std.proofs.result.Match.{err_is}
 use Rattle.std.specs.Prelude.{IsTrue}
 use Rattle.program_parts.proofs.AskedWords.{text_by}
 use Rattle.view_program.specs.CommandLine.{IsFitName, command_form}
@@ -23,7 +24,7 @@ returns-then-not-is_fit_name-clause-faults c = λ words are. (
 pub returns-in_err-view-clause-faults : goal.returns-in_err-view-clause-faults
 returns-in_err-view-clause-faults c = λ words are.
     let text = text_by command_form words c.args.matches.now are in
-    let is : c.from_residual.result ≡ Err c.in_err-view.field-0.0 = search rules in
+    let is : c.from_residual.result ≡ Err c.in_err-view.field-0.0 = err_is _ _ c.from_residual.ensures.1 in
     let fits : IsTrue c.is_fit_name.result = search rules in
     rw is (c.in_err-view.ensures.faults words are (record {
       file = (c.in-Some.file.now, sym (text (codes "file")) ∙ sym c.in-Some.ensures);

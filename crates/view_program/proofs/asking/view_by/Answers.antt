@@ -1,4 +1,5 @@
-use Rattle.std.proofs.Common.{◌≡◌, ◌∙◌, Err, codes, rules, subst, sym}
+use Rattle.std.proofs.Common.{◌≡◌, ◌∙◌, Err, codes, subst, sym}
+use Rattle.std.proofs.result.Match.{err_is}
 use Rattle.program_parts.specs.WindowText.{IsFitWindow}
 use Rattle.program_parts.specs.declared.reason.WordsReason.TheVariants.{Refused}
 use Rattle.view_program.specs.CommandLine.{IsAskedRectangle, IsSizeNumber, command_form, command_line}
@@ -9,26 +10,26 @@ use Rattle.view_program.proofs.asking.view_by.Goals as goal
 
 pub returns-in_err-run-clause-faults : goal.returns-in_err-run-clause-faults
 returns-in_err-run-clause-faults c = λ words are files.
-    let is : c.from_residual.result ≡ Err c.in_err-run.field-0.0 = search rules in
+    let is : c.from_residual.result ≡ Err c.in_err-run.field-0.0 = err_is _ _ c.from_residual.ensures.1 in
     rw is (unfit_number command_line words _ are.0 (λ nodes. nodes) (λ other. other) (λ fit. fit.run) (c.in_err-run.ensures.err command_form words are))
 
 pub returns-in_err-size-clause-faults : goal.returns-in_err-size-clause-faults
 returns-in_err-size-clause-faults c = λ words are files.
     let value = value_by command_form words c.args.matches.now are in
-    let is : c.from_residual-in_err-size.result ≡ Err c.in_err-size.field-0.0 = search rules in
+    let is : c.from_residual-in_err-size.result ≡ Err c.in_err-size.field-0.0 = err_is _ _ c.from_residual-in_err-size.ensures.1 in
     rw (is, c.in_err-size.ensures.err.0) (are.0, λ fit. c.in_err-size.ensures.err.1 fit.size.0 (subst (λ given. IsSizeNumber given fit.size.0) (sym (value (codes "size"))) fit.size.1))
 
 pub returns-in_err-numbers-clause-faults : goal.returns-in_err-numbers-clause-faults
 returns-in_err-numbers-clause-faults c = λ words are files.
     let text = text_by command_form words c.args.matches.now are in
-    let is : c.from_residual-in_err-numbers.result ≡ Err c.in_err-numbers.field-0.0 = search rules in
+    let is : c.from_residual-in_err-numbers.result ≡ Err c.in_err-numbers.field-0.0 = err_is _ _ c.from_residual-in_err-numbers.ensures.1 in
     rw (is, c.in_err-numbers.ensures.err.0) (are.0, λ fit. c.in_err-numbers.ensures.err.1 (subst (IsFitWindow 64) (sym (c.get_str.ensures ∙ text (codes "window"))) fit))
 
 pub returns-in_err-rule-clause-faults : goal.returns-in_err-rule-clause-faults
 returns-in_err-rule-clause-faults c = λ words are files.
     let text = text_by command_form words c.args.matches.now are in
     let value = value_by command_form words c.args.matches.now are in
-    let is : c.from_residual-in_err-rule.result ≡ Err (Refused c.in_err-rule.field-0.0) = search rules in
+    let is : c.from_residual-in_err-rule.result ≡ Err (Refused c.in_err-rule.field-0.0) = err_is _ _ c.from_residual-in_err-rule.ensures.1 in
     rw is (refused_by_rule command_line words c.args.matches.now are _ c.get_str-2.ensures c.in_err-rule.field-0.0 c.in_err-rule.ensures.err (record {
       run = (c.in_ok-run.run', c.in_ok-run.ensures.ok command_form words are);
       file = files.file;
@@ -41,7 +42,7 @@ pub returns-in_err-window-clause-faults : goal.returns-in_err-window-clause-faul
 returns-in_err-window-clause-faults c = λ words are files.
     let text = text_by command_form words c.args.matches.now are in
     let value = value_by command_form words c.args.matches.now are in
-    let is : c.from_residual-in_err-window.result ≡ Err (Refused c.in_err-window.field-0.0) = search rules in
+    let is : c.from_residual-in_err-window.result ≡ Err (Refused c.in_err-window.field-0.0) = err_is _ _ c.from_residual-in_err-window.ensures.1 in
     let refused = refused_window _ c.in_ok-numbers.numbers c.in_ok-numbers.ensures.ok c.in_err-window.ensures.err.1 in
     rw is (refused_by_window command_line words c.args.matches.now are _ c.get_str-2.ensures c.in_ok-rule.rule _ c.in_err-window.field-0.0 c.in_ok-rule.ensures.ok c.get_str.ensures refused c.in_err-window.ensures.err.0 (record {
       run = (c.in_ok-run.run', c.in_ok-run.ensures.ok command_form words are);

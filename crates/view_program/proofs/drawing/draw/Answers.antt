@@ -1,16 +1,16 @@
 use Rattle.std.proofs.Common.{◌≡◌, Err, ap, length, rules, refl, sym, ◌∙◌, subst}
+use Rattle.std.proofs.result.Match.{err_is}
 use Rattle.std.specs.Io.KnownBytes.{Appends}
 use Rattle.plane.specs.Device.{HasFailed}
 use Rattle.plane.specs.Fault.{placeless}
 use Rattle.plane.specs.declared.cell.Bounds.{Bounds}
 use Rattle.plane.specs.declared.refusal.Refusal.TheVariants.{NoMemory}
 use Rattle.engine.specs.Pattern.{plane_of}
+use Rattle.engine.specs.Pictures.{IsScale, IsShown, Scale}
 use Rattle.engine.specs.RunOptions.{without_output}
-use Rattle.pattern_picture.specs.Scale.{IsScale, IsShown}
-use Rattle.pattern_picture.specs.declared.scale.Scale.{Scale}
+use Rattle.engine.proofs.ShownBoxes.{bounds_shown}
 use Rattle.view_program.specs.Drawn.{IsPictureOf}
 use Rattle.view_program.specs.PictureLine.{picture_line}
-use Rattle.view_program.specs.Shown.{rectangle_shown}
 use Rattle.view_program.proofs.RowsOfBlocks.{columns_fit, picture_drawn, rows_fit, shades-length}
 use Rattle.view_program.proofs.ShownBoxes.{can_be_shown}
 use Rattle.view_program.proofs.Views.{ends_well, file_failed, out_of_memory, refused_at_once, report_failed}
@@ -18,18 +18,18 @@ use Rattle.view_program.proofs.drawing.draw.Goals as goal
 
 pub returns-in_err-last : goal.returns-in_err-last
 returns-in_err-last g c =
-    let is : c.from_residual.result ≡ Err c.in_err-last.field-0.0 = search rules in
+    let is : c.from_residual.result ≡ Err c.in_err-last.field-0.0 = err_is _ _ c.from_residual.ensures.1 in
     rw is (refused_at_once c.args.bytes.now c.args.view.now c.args.name.now _ _ c.in_err-last.field-0.0 refl refl c.in_err-last.ensures.refused)
 
 pub picture-requires-clause-shown : goal.picture-requires-clause-shown
 picture-requires-clause-shown g c =
     subst IsShown (sym c.rectangle_shown-shown.ensures)
-    (can_be_shown c.in_ok-last.last c.args.view.now.window c.in_ok-last.summary.bounds c.requires.window c.in_ok-last.ensures.ok.summary.bounds)
+    (can_be_shown c.args.view.now.window c.in_ok-last.summary.bounds c.requires.window (bounds_shown c.in_ok-last.last c.in_ok-last.summary.bounds c.in_ok-last.ensures.ok.summary.bounds))
 
 pub write_picture_line-requires-clause-shown : goal.write_picture_line-requires-clause-shown
 write_picture_line-requires-clause-shown g c =
     subst IsShown (sym c.rectangle_shown-shown.ensures)
-    (can_be_shown c.in_ok-last.last c.args.view.now.window c.in_ok-last.summary.bounds c.requires.window c.in_ok-last.ensures.ok.summary.bounds)
+    (can_be_shown c.args.view.now.window c.in_ok-last.summary.bounds c.requires.window (bounds_shown c.in_ok-last.last c.in_ok-last.summary.bounds c.in_ok-last.ensures.ok.summary.bounds))
 
 pub returns-in_err-drawing : goal.returns-in_err-drawing
 returns-in_err-drawing g c =
@@ -58,14 +58,14 @@ returns-in_err-image g c =
 
 pub returns-in_err-write_summary : goal.returns-in_err-write_summary
 returns-in_err-write_summary g c =
-    let is : c.from_residual-in_err-write_summary.result ≡ Err (placeless c.in_err-write_summary.field-0.0) = search rules in
+    let is : c.from_residual-in_err-write_summary.result ≡ Err (placeless c.in_err-write_summary.field-0.0) = err_is _ _ c.from_residual-in_err-write_summary.ensures.1 in
     let ends = c.in_ok-last.ensures.ok in
     rw is (report_failed c.args.bytes.now c.args.view.now c.args.name.now _ _ c.in_err-write_summary.field-0.0 c.in_err-write_summary.ensures.failure.refused.0 (ends.start, ends.accepted)
     c.in_err-write_summary.ensures.failure.refused.1 refl)
 
 pub returns-in_err-write_picture_line : goal.returns-in_err-write_picture_line
 returns-in_err-write_picture_line g c =
-    let is : c.from_residual-in_err-write_picture_line.result ≡ Err (placeless c.in_err-write_picture_line.field-0.0) = search rules in
+    let is : c.from_residual-in_err-write_picture_line.result ≡ Err (placeless c.in_err-write_picture_line.field-0.0) = err_is _ _ c.from_residual-in_err-write_picture_line.ensures.1 in
     let ends = c.in_ok-last.ensures.ok in
     let refused = c.in_err-write_picture_line.ensures.failure.refused in
     let failed = subst (λ n. HasFailed n (g.W.Sink.failure_count c.write_picture_line.new.out)) c.in_ok-write_summary.ensures.failure.unfailed refused.1 in
@@ -82,7 +82,7 @@ returns-in_err-write g c =
     let shows = subst (λ (box : Bounds). IsPictureOf plane box view.size image) same drawn in
     let line = subst (λ (box : Bounds). (scale : Scale) × IsScale box view.size scale × Appends (g.W.Sink.taken c.write_summary.new.out) (g.W.Sink.taken c.write_picture_line.new.out) (picture_line c.args.name.now box scale)) same
     c.in_ok-write_picture_line.ensures.written in
-    let is : c.from_residual-in_err-write.result ≡ Err (placeless c.in_err-write.field-0.0) = search rules in
+    let is : c.from_residual-in_err-write.result ≡ Err (placeless c.in_err-write.field-0.0) = err_is _ _ c.from_residual-in_err-write.ensures.1 in
     rw is (file_failed c.args.bytes.now view c.args.name.now _ _ plane answer c.in_ok-last.ensures.ok image shows (g.W.Sink.taken c.write_summary.new.out) c.in_ok-write_summary.ensures.written line
     c.in_err-write.field-0.0 c.in_err-write.ensures.failure.refused.0 c.in_err-write.ensures.failure.refused.1)
 
