@@ -130,7 +130,7 @@ def other_program(it: Repository) -> bool:
     again = it.run("y", name="lifeview")
     return (
         (status, out) == (0, "ran: x\ninput")
-        and proved == {"view_program", "lifeview"}
+        and proved == {"png_writer", "view_program", "lifeview"}
         and "lifeview: proved and built" in err
         and again == (0, "ran: y\ninput", "")
         and it.logged() == []
