@@ -1,2 +1,2 @@
-mod Endings
+mod Runs
 pub mod WindowTexts

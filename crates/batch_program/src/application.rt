@@ -10,10 +10,9 @@ use crate::names::NAME;
 use crate::request::Asked;
 use clap::{ArgMatches, Command};
 use engine::run_from;
-use plane::{Fault, Sink};
-use program_parts::{Application, OutputFile, WordsReason, open_input};
+use plane::{Fault, Sink, Source};
+use program_parts::{Application, WordsReason};
 use std::alloc::{AllocError, Global};
-use std::rt::Files;
 use std::sync::Wait;
 use std::thread::Threads;
 
@@ -39,17 +38,24 @@ impl Application for Lifebatch {
         asked_by(alloc, matches)
     }
 
-    // Reads the file and runs it.
-    fn perform<R: Files + Input + Threads + Wait + Sync, O: Sink>(
+    fn input(asked: &Asked) -> &str {
+        asked.file.as_str()
+    }
+
+    fn output(asked: &Asked) -> Option<&str> {
+        asked.output.as_ref().map(|name| name.as_str())
+    }
+
+    // Reads the source and runs it.
+    fn perform<R: Threads + Wait + Sync, S: Source, O: Sink, V: Sink>(
         rt: &R,
         alloc: Global,
         asked: &Asked,
+        source: &mut S,
         out: &mut O,
+        file: &mut V,
     ) -> Result<(), Fault> {
-        let mut source = open_input(rt, asked.file.as_str())?;
-        let name = asked.output.as_ref().map_or("", |name| name.as_str());
-        let mut output = OutputFile::new(rt, name);
-        run_from(rt, alloc, &mut source, &asked.options, out, &mut output)?;
+        run_from(rt, alloc, source, &asked.options, out, file)?;
         Ok(())
     }
 

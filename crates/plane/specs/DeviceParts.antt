@@ -1,4 +1,4 @@
-use Rattle.std.specs.Prelude.{◌≡◌, ◌≢◌, ℕ, ◌-◌, IsErr, IsTrue, List, Result}
+use Rattle.std.specs.Prelude.{◌≡◌, ◌≢◌, ℕ, ◌-◌, Bool, IsErr, IsTrue, List, Result}
 use Rattle.plane.specs.declared.device.counted.Counted.{Counted}
 use Rattle.plane.specs.declared.device.fail_at.FailAt.{FailAt}
 use Rattle.plane.specs.declared.device.traits.Failed.{Failed}
@@ -16,9 +16,13 @@ counted_given device = device.given.bytes
 abbrev pub counted_taken : {T : Type 0} → Counted T → List ℕ
 counted_taken device = device.taken.bytes
 
+-- whether the last read that did not fail had room and gave no byte
+abbrev pub counted_ended : {T : Type 0} → Counted T → Bool
+counted_ended device = device.ended
+
 -- the last read that did not fail had room and gave no byte
 abbrev pub counted_has_ended : {T : Type 0} → Counted T → Type 0
-counted_has_ended device = IsTrue device.ended
+counted_has_ended device = IsTrue (counted_ended device)
 
 -- how many calls have failed
 abbrev pub counted_failures : {T : Type 0} → Counted T → ℕ

@@ -1,10 +1,10 @@
 -- Why a program stops whose words ask for no run.
-use Rattle.std.proofs.Common.{◌≡◌, ◌⊎◌, ℕ, List, Option, Result, refl, subst, inl, inr}
+use Rattle.std.proofs.Common.{◌≡◌, ◌⊎◌, ℕ, List, Result, refl, subst, inl, inr}
 use Rattle.std.specs.Prelude.{IfErr, OnOk}
-use Rattle.std.specs.Io.KnownBytes.{Appends}
 use Rattle.std.proofs.lemmas.Result.{IfErr-weaker, on_ok_weaker}
 use Rattle.clap.specs.Words.{Text, IsAmong, fault_of}
 use Rattle.plane.specs.Fault.{placeless}
+use Rattle.plane.specs.SinkChange.{SinkChange, Fails, Takes}
 use Rattle.plane.specs.declared.fault.Fault.{Fault}
 use Rattle.plane.specs.declared.refusal.Refusal.{Refusal as Name}
 use Rattle.plane.specs.declared.refusal.Refusal.TheVariants.{NoMemory, WriteFailed}
@@ -37,25 +37,23 @@ module _ (line : CommandLine) (words : List Text) where
   help_words (Refused refusal) refuses help = absurd help
 
   -- what a program refuses that stops by its words: they are refused, or the help can't be written
-  refused_words : (reason : WordsReason) (told : Fault) {unchanged failed : Type 0} → IsReasonOf line words reason → IsStopOf reason unchanged failed (stop.Refused told) →
-      ((refusal : Name) × Refuses line words refusal × (told ≡ placeless refusal) × unchanged) ⊎ (AsksForHelp line words × (told ≡ placeless WriteFailed) × failed)
-  refused_words reason told is (inl (refusal, refused, told_is, same)) = inl (refusal, subst (IsReasonOf line words) refused is, told_is, same)
-  refused_words reason told is (inr (inl (help, told_is, same))) = inl (NoMemory, inl refl, told_is, same)
-  refused_words reason told is (inr (inr (help, told_is, failed))) = inr (help_words reason is help, told_is, failed)
+  refused_words : {O : Type 0} (reason : WordsReason) (out : SinkChange O) (told : Fault) → IsReasonOf line words reason → IsStopOf reason out (stop.Refused told) →
+      ((refusal : Name) × Refuses line words refusal × (told ≡ placeless refusal) × (out.new ≡ out.old)) ⊎ (AsksForHelp line words × (told ≡ placeless WriteFailed) × Fails out)
+  refused_words reason out told is (inl (refusal, refused, told_is, same)) = inl (refusal, subst (IsReasonOf line words) refused is, told_is, same)
+  refused_words reason out told is (inr (inl (help, told_is, same))) = inl (NoMemory, inl refl, told_is, same)
+  refused_words reason out told is (inr (inr (help, told_is, failed))) = inr (help_words reason is help, told_is, failed)
 
-module _ {Asked : Type 0} (behaviour : Behaviour Asked) (words : List Text) (reason : WordsReason) (is : IsReasonOf behaviour.line words reason) (before after : Option (List ℕ)) where
-  stop_of_words : (unchanged failed : Type 0) (why : Stop) → ((misfit : Misfit) → behaviour.line.IsMisfit words misfit → behaviour.line.IsFit words → ⊥) →
-      IsStopOf reason unchanged failed why → IsStop behaviour words before after unchanged failed why
-  stop_of_words unchanged failed (stop.BadWords told) unfit (told_is, bad, same) = (bad_words behaviour.line words reason unfit is bad, same)
-  stop_of_words unchanged failed (stop.Refused told) unfit stops = inr (refused_words behaviour.line words reason told is stops)
+module _ {Asked O : Type 0} (behaviour : Behaviour Asked) (words : List Text) (reason : WordsReason) (is : IsReasonOf behaviour.line words reason) (out : SinkChange O) where
+  stop_of_words : (why : Stop) → ((misfit : Misfit) → behaviour.line.IsMisfit words misfit → behaviour.line.IsFit words → ⊥) → IsStopOf reason out why → IsStop behaviour words out why
+  stop_of_words (stop.BadWords told) unfit (told_is, bad, same) = (bad_words behaviour.line words reason unfit is bad, same)
+  stop_of_words (stop.Refused told) unfit stops = inr (refused_words behaviour.line words reason out told is stops)
 
   module _ {T : Type 0} (ended : Result T Stop) where
     -- where a help was shown, the words ask for it
-    pub done_by_words : OnOk ended (IsHelp reason × ((text : List ℕ) × Appends before after text)) → OnOk ended (IsDone behaviour words before after)
+    pub done_by_words : OnOk ended (IsHelp reason × ((text : List ℕ) × Takes out text)) → OnOk ended (IsDone behaviour words out)
     done_by_words = on_ok_weaker ended (λ shown. inl (help_words behaviour.line words reason is shown.0, shown.1))
 
     -- what a reason of the words stops with is why the program stops
-    pub stopped_by_words : (unchanged failed : Type 0) → ((misfit : Misfit) → behaviour.line.IsMisfit words misfit → behaviour.line.IsFit words → ⊥) →
-        IfErr ended (IsStopOf reason unchanged failed) → IfErr ended (IsStop behaviour words before after unchanged failed)
-    stopped_by_words unchanged failed unfit =
-        IfErr-weaker ended (IsStopOf reason unchanged failed) (IsStop behaviour words before after unchanged failed) (λ why stops. stop_of_words unchanged failed why unfit stops)
+    pub stopped_by_words : ((misfit : Misfit) → behaviour.line.IsMisfit words misfit → behaviour.line.IsFit words → ⊥) →
+        IfErr ended (IsStopOf reason out) → IfErr ended (IsStop behaviour words out)
+    stopped_by_words unfit = IfErr-weaker ended (IsStopOf reason out) (IsStop behaviour words out) (λ why stops. stop_of_words why unfit stops)

@@ -4,6 +4,7 @@ use Rattle.clap.specs.Words.{kind_of}
 use Rattle.clap.specs.declared.error.Error.{Error}
 use Rattle.clap.specs.declared.error.kind.ErrorKind.TheVariants as kind
 use Rattle.plane.specs.Fault.{placeless}
+use Rattle.plane.specs.SinkChange.{SinkChange, Fails}
 use Rattle.plane.specs.declared.refusal.Refusal.{Refusal}
 use Rattle.plane.specs.declared.refusal.Refusal.TheVariants.{NoMemory, WriteFailed}
 use Rattle.program_parts.specs.declared.stops.Stop.{Stop}
@@ -39,9 +40,11 @@ IsBad (Refused refusal) = ⊥
 
 -- why a program stopped whose words ask for no run by this reason: they are bad, or refused; or the
 -- help that they ask for had no room, or could not be written
-abbrev pub IsStopOf : WordsReason → Type 0 → Type 0 → Stop → Type 0
-IsStopOf reason unchanged failed (stop.BadWords told) = (told ≡ reason) × IsBad reason × unchanged
-IsStopOf reason unchanged failed (stop.Refused told) =
-    ((refusal : Refusal) × (reason ≡ Refused refusal) × (told ≡ placeless refusal) × unchanged)
-    ⊎ (IsHelp reason × (told ≡ placeless NoMemory) × unchanged)
-    ⊎ (IsHelp reason × (told ≡ placeless WriteFailed) × failed)
+abbrev pub IsStopOf : {O : Type 0} → WordsReason → SinkChange O → Stop → Type 0
+IsStopOf reason out (stop.BadWords told) =
+    (told ≡ reason) × IsBad reason × (out.new ≡ out.old)
+IsStopOf reason out (stop.Refused told) =
+    ((refusal : Refusal) × (reason ≡ Refused refusal) × (told ≡ placeless refusal)
+    × (out.new ≡ out.old))
+    ⊎ (IsHelp reason × (told ≡ placeless NoMemory) × (out.new ≡ out.old))
+    ⊎ (IsHelp reason × (told ≡ placeless WriteFailed) × Fails out)

@@ -1,9 +1,9 @@
 pub mod Asking
 pub mod Behaviour
 pub mod Faults
+pub mod Files
 pub mod Messages
 pub mod OptionRules
-pub mod OutputFile
 pub mod RunWords
 pub mod Values
 pub mod WindowText

@@ -1,19 +1,20 @@
 //! What makes a program: its command line, and what it does by it.
 
-ghost use Rattle.std.specs.Prelude.{◌≡◌, ◌≤◌, ◌⊎◌, ℕ, List, length, true, Err, IfErr, IfOk, OnOk};
+ghost use Rattle.std.specs.Option.{option_copied};
+ghost use Rattle.std.specs.Prelude.{◌≡◌, ◌≤◌, ◌⊎◌, ℕ, List, length, true, Err, IfErr, IfOk};
 ghost use Rattle.std.specs.Thread.{IsSync};
 ghost use Rattle.clap.specs.Words.{Text, app_of, is_simple, is_simple_and_free};
-ghost use Rattle.plane.specs.Device.{HasFailed};
 ghost use Rattle.plane.specs.Fault.{placeless};
+ghost use Rattle.plane.specs.SinkChange.{change_of};
+ghost use Rattle.plane.specs.SourceChange.{reading_of};
 ghost use Rattle.program_parts.specs.Asking.{AreMatchesIn, IsReasonOf};
 ghost use Rattle.program_parts.specs.Behaviour.{Behaviour};
 ghost use Rattle.program_parts.specs.declared.misfit.Misfit.{Misfit};
 
 use crate::reason::WordsReason;
 use clap::{ArgMatches, Command};
-use plane::{Fault, Refusal, Sink};
+use plane::{Fault, Refusal, Sink, Source};
 use std::alloc::{AllocError, Global};
-use std::rt::Files;
 use std::sync::Wait;
 use std::thread::Threads;
 
@@ -43,22 +44,32 @@ pub trait Application {
         ensures faults { (words : List Text) → AreMatchesIn behaviour.line.form words matches.now →
             IfErr result (IsReasonOf behaviour.line words) };
 
-    /// Does what some words ask for, and says of it to `out` what there is to say.
-    fn perform<R: Files + Input + Threads + Wait + Sync, O: Sink>(
+    /// The name of the file that is read.
+    fn input(asked: &Self::Asked) -> &str
+        ensures { result.now ≡ behaviour.input asked.now };
+
+    /// The name of the file that is written, if one is.
+    fn output(asked: &Self::Asked) -> Option<&str>
+        ensures { option_copied result ≡ behaviour.output asked.now };
+
+    /// Does what some words ask for: reads `source`, says to `out` what there is to say, and writes `file`, if there is
+    /// something to write. It has no other device.
+    fn perform<R: Threads + Wait + Sync, S: Source, O: Sink, V: Sink>(
         rt: &R,
         alloc: Global,
         asked: &Self::Asked,
+        source: &mut S,
         out: &mut O,
+        file: &mut V,
     ) -> Result<(), Fault>
         requires sync { IsSync R.row }
         requires asked { (words : List Text) × behaviour.AsksFor words asked.now }
-        ensures done { OnOk result
-            (behaviour.HasDone asked.now (O.taken out.old) (O.taken out.new)) }
+        ensures does { behaviour.Does asked.now
+            (reading_of S.remaining S.given S.has_ended S.failure_count source.old source.new)
+            (change_of O.taken O.failure_count out.old out.new)
+            (change_of V.taken V.failure_count file.old file.new) result }
         ensures unfailed { (result ≡ Err (placeless Refusal.WriteFailed))
-            ⊎ (O.failure_count out.new ≡ O.failure_count out.old) }
-        ensures stopped { IfErr result (λ fault. behaviour.HasStopped asked.now fault
-            (O.taken out.old) (O.taken out.new) (out.new ≡ out.old)
-            (HasFailed (O.failure_count out.old) (O.failure_count out.new))) };
+            ⊎ (O.failure_count out.new ≡ O.failure_count out.old) };
 
     ghost form_is_simple: { is_simple behaviour.line.form ≡ true };
 

@@ -1,14 +1,17 @@
 //! A whole program, over any standard output and standard error.
 
-ghost use Rattle.std.specs.Prelude.{◌≡◌, ◌⊎◌, Err, IfOk, OnOk, IfErr};
-ghost use Rattle.plane.specs.Device.{HasFailed};
+ghost use Rattle.std.specs.Prelude.{◌≡◌, ◌⊎◌, List, Err, IfOk, OnOk, IfErr};
+ghost use Rattle.std.specs.Thread.{IsSync};
+ghost use Rattle.clap.specs.Words.{Text};
 ghost use Rattle.plane.specs.Fault.{placeless};
 ghost use Rattle.plane.specs.SinkChange.{change_of};
 ghost use Rattle.program_parts.specs.Asking.{IsFaultOf, IsReasonOf, texts_of};
-ghost use Rattle.program_parts.specs.Behaviour.{EndsProgram, IsDone, IsStop};
+ghost use Rattle.program_parts.specs.Behaviour.{EndsProgram, IsDone, IsPerformed, IsStop};
 ghost use Rattle.program_parts.specs.declared.stops.Stop.TheVariants.{Refused};
 
 use crate::application::Application;
+use crate::input_file::InputFile;
+use crate::output_file::OutputFile;
 use crate::reason::WordsReason;
 use crate::stops::{Stop, end_of_words, tell_end};
 use crate::words::WordsFault;
@@ -69,16 +72,34 @@ fn perform_words<A: Application, R: Files + Input + Threads + Wait + Sync, O: Si
     words: &[&str],
     out: &mut O,
 ) -> Result<(), Stop>
-    ensures done { OnOk result
-        (IsDone A.behaviour (texts_of words.now) (O.taken out.old) (O.taken out.new)) }
+    ensures done { OnOk result (IsDone A.behaviour (texts_of words.now)
+        (change_of O.taken O.failure_count out.old out.new)) }
+    ensures stopped { IfErr result (IsStop A.behaviour (texts_of words.now)
+        (change_of O.taken O.failure_count out.old out.new)) }
     ensures unfailed { (result ≡ Err (Refused (placeless Refusal.WriteFailed)))
         ⊎ (O.failure_count out.new ≡ O.failure_count out.old) }
-    ensures stopped { IfErr result (IsStop A.behaviour (texts_of words.now)
-        (O.taken out.old) (O.taken out.new) (out.new ≡ out.old)
-        (HasFailed (O.failure_count out.old) (O.failure_count out.new))) }
 {
     match read_words::<A>(alloc, words) {
-        Ok(asked) => Ok(A::perform::<R, O>(rt, alloc, &asked, out)?),
+        Ok(asked) => Ok(perform::<A, R, O>(rt, alloc, &asked, out)?),
         Err(reason) => end_of_words(alloc, reason, out),
     }
+}
+
+// Does what some words ask for, with the files that they name.
+fn perform<A: Application, R: Files + Input + Threads + Wait + Sync, O: Sink>(
+    rt: &R,
+    alloc: Global,
+    asked: &A::Asked,
+    out: &mut O,
+) -> Result<(), Fault>
+    requires sync { IsSync R.row }
+    requires asked { (words : List Text) × A.behaviour.AsksFor words asked.now }
+    ensures performed { (words : List Text) → A.behaviour.AsksFor words asked.now →
+        IsPerformed A.behaviour words (change_of O.taken O.failure_count out.old out.new) result }
+    ensures unfailed { (result ≡ Err (placeless Refusal.WriteFailed))
+        ⊎ (O.failure_count out.new ≡ O.failure_count out.old) }
+{
+    let mut source = InputFile::open(rt, A::input(asked));
+    let mut file = OutputFile::new(rt, A::output(asked));
+    A::perform(rt, alloc, asked, &mut source, out, &mut file)
 }

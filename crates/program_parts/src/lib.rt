@@ -5,7 +5,7 @@
 mod application;
 mod command;
 mod entry;
-mod input;
+mod input_file;
 mod messages;
 mod misfit;
 mod numbers;
@@ -22,7 +22,7 @@ mod words;
 pub use application::Application;
 pub use command::command_with;
 pub use entry::{asked, program};
-pub use input::open_input;
+pub use input_file::InputFile;
 pub use misfit::Misfit;
 pub use numbers::{copied, number_for, rule_asked};
 pub use options::{

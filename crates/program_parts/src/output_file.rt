@@ -3,26 +3,41 @@
 ghost use Rattle.std.specs.Prelude.{◌≡◌, ◌<◌, Some, [], length, IfOk};
 ghost use Rattle.std.specs.Io.{WritesAtMost};
 ghost use Rattle.std.specs.Io.KnownBytes.{WriteAppends};
-ghost use Rattle.program_parts.specs.OutputFile.{taken_by};
+ghost use Rattle.std.specs.Option.{option_copied};
+ghost use Rattle.plane.specs.DeviceParts.{counted_taken};
+ghost use Rattle.program_parts.specs.Files.{IsUnwritten};
 
 use plane::{Counted, Failed, Sink};
 use std::fs;
+use std::marker::Model;
 use std::rt::Files;
 
-/// A file that is created, or emptied, when its first byte is written.
+/// A file that is created, or emptied, when its first byte is written. Without a name each write of some bytes fails.
 #[derive(Drop)]
 pub struct OutputFile<'a, R: Files> {
     runtime: &'a R,
-    path: &'a str,
+    path: Option<&'a str>,
     file: Option<Counted<R::File>>,
     failures: u64,
 }
 
+impl<'a, R: Files> Model for OutputFile<'a, R> {
+    ghost use Rattle.std.specs.Option.{option_copied};
+    ghost use Rattle.program_parts.specs.Files.{OutputState, taken_by};
+
+    ghost Value = { OutputState };
+
+    ghost view = { λ output. record {
+      path = option_copied output.path;
+      taken = taken_by output.file;
+      failures = output.failures;
+    } };
+}
+
 impl<'a, R: Files> OutputFile<'a, R> {
     /// The file of this name.
-    pub fn new(runtime: &'a R, path: &'a str) -> Self
-        ensures failures { result.failures ≡ 0 }
-        ensures taken { taken_by result.file ≡ [] }
+    pub fn new(runtime: &'a R, path: Option<&'a str>) -> Self
+        ensures { IsUnwritten (option_copied path.entry) result }
     {
         OutputFile {
             runtime,
@@ -36,29 +51,36 @@ impl<'a, R: Files> OutputFile<'a, R> {
     fn pass_on(&mut self, bytes: &[u8]) -> Result<usize, Failed>
         ensures bound { WritesAtMost result bytes.now }
         ensures progress { 0 < length bytes.now → IfOk result (λ count. 0 < count) }
-        ensures bytes { WriteAppends (Some (taken_by self.old.file)) (Some (taken_by self.new.file))
-            result bytes.now }
+        ensures bytes { WriteAppends (Some self.old.taken) (Some self.new.taken) result bytes.now }
         ensures failures { self.new.failures ≡ self.old.failures }
     {
         if bytes.is_empty() {
             return Ok(0);
         }
         if self.file.is_none() {
-            let Ok(file) = fs::create(self.runtime, self.path) else {
-                return Err(Failed);
-            };
-            self.file = Some(Counted::new(file));
+            self.file = Some(self.create()?);
         }
         match &mut self.file {
             Some(file) => file.write_some(bytes),
             None => Err(Failed),
         }
     }
+
+    // The file, created or emptied.
+    fn create(&self) -> Result<Counted<R::File>, Failed>
+        ensures { IfOk result (λ file. counted_taken file ≡ []) }
+    {
+        let path = self.path.ok_or(Failed)?;
+        match fs::create(self.runtime, path) {
+            Ok(file) => Ok(Counted::new(file)),
+            Err(_) => Err(Failed),
+        }
+    }
 }
 
 impl<'a, R: Files> Sink for OutputFile<'a, R> {
     // What the file took from the writes of this value.
-    ghost taken = { λ output. Some (taken_by output.file) };
+    ghost taken = { λ output. Some output.taken };
 
     ghost failure_count = { λ output. output.failures };
 

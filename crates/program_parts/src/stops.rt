@@ -4,6 +4,7 @@ ghost use Rattle.std.specs.Prelude.{◌≡◌, ◌≤◌, ◌⊎◌, ℕ, List, 
 ghost use Rattle.std.specs.Io.KnownBytes.{Appends};
 ghost use Rattle.plane.specs.Device.{HasFailed};
 ghost use Rattle.plane.specs.Fault.{placeless};
+ghost use Rattle.plane.specs.SinkChange.{change_of};
 ghost use Rattle.program_parts.specs.Faults.{IsHelp, IsStopOf};
 ghost use Rattle.program_parts.specs.Messages.{HasTold, status_of};
 ghost use Rattle.program_parts.specs.declared.stops.Stop.TheVariants.{Refused};
@@ -69,8 +70,8 @@ pub(crate) fn end_of_words<O: Sink>(
         × ((text : List ℕ) × Appends (O.taken out.old) (O.taken out.new) text)) }
     ensures unfailed { (result ≡ Err (Refused (placeless Refusal.WriteFailed)))
         ⊎ (O.failure_count out.new ≡ O.failure_count out.old) }
-    ensures stopped { IfErr result (IsStopOf reason (out.new ≡ out.old)
-        (HasFailed (O.failure_count out.old) (O.failure_count out.new))) }
+    ensures stopped { IfErr result
+        (IsStopOf reason (change_of O.taken O.failure_count out.old out.new)) }
 {
     match reason {
         WordsReason::Refused(refusal) => Err(Stop::Refused(Fault::from(refusal))),

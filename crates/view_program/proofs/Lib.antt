@@ -1,4 +1,3 @@
-mod Endings
 mod PictureLines
 mod RowsOfBlocks
 mod ShownBoxes

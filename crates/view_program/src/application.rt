@@ -10,10 +10,9 @@ use crate::drawing::draw_from;
 use crate::names::NAME;
 use crate::request::Asked;
 use clap::{ArgMatches, Command};
-use plane::{Fault, Sink};
-use program_parts::{Application, OutputFile, WordsReason, open_input};
+use plane::{Fault, Sink, Source};
+use program_parts::{Application, WordsReason};
 use std::alloc::{AllocError, Global};
-use std::rt::Files;
 use std::sync::Wait;
 use std::thread::Threads;
 
@@ -39,17 +38,25 @@ impl Application for Lifeview {
         asked_by(alloc, matches)
     }
 
-    // Reads the file, runs it, and writes its picture.
-    fn perform<R: Files + Input + Threads + Wait + Sync, O: Sink>(
+    fn input(asked: &Asked) -> &str {
+        asked.file.as_str()
+    }
+
+    fn output(asked: &Asked) -> Option<&str> {
+        Some(asked.output.as_str())
+    }
+
+    // Reads the source, runs it, and writes its picture.
+    fn perform<R: Threads + Wait + Sync, S: Source, O: Sink, V: Sink>(
         rt: &R,
         alloc: Global,
         asked: &Asked,
+        source: &mut S,
         out: &mut O,
+        file: &mut V,
     ) -> Result<(), Fault> {
-        let mut source = open_input(rt, asked.file.as_str())?;
         let name = asked.output.as_str();
-        let mut picture = OutputFile::new(rt, name);
-        draw_from(rt, alloc, &mut source, &asked.view, name, out, &mut picture)
+        draw_from(rt, alloc, source, &asked.view, name, out, file)
     }
 
     ghost form_is_simple = { form_is_simple };
