@@ -5,7 +5,8 @@
     checks/no_axioms.py --root FOLDER    the crates of another copy
 
 The script searches each .rt and .antt file of src/, specs/ and proofs/, including comments and texts, for the words that declare such a thing, and
-for holes, which are written ?, ?name or {! .. !}. It also looks for files of C. It reads no proof: `rt ci` shows that the rest is proved. The kit's
+for holes, which are written ?, ?name or {! .. !}. It also looks for `also_owns`, by which a type says of itself what it owns, in all files but the
+one of History, and for files of C. It reads no proof: `rt ci` shows that the rest is proved. The kit's
 own list of what the proofs of a crate take as written is `rt check --list-axioms`, in the crate's folder.
 """
 import pathlib
@@ -27,6 +28,9 @@ WORDS = {
     ".antt": re.compile(r"(\b[Aa]xioms?\b|(?:^|(?<=[\s(\[{,;=]))\?|\{!)"),
 }
 C_FILES = {".c", ".h", ".o", ".a", ".so"}
+OWNS = re.compile(r"\b(also_owns|also_shares)\b")
+# The bytes that only contracts read.
+OWNER = pathlib.PurePath("crates/plane/src/device/history.rt")
 
 
 def sources(root: pathlib.Path) -> list[pathlib.Path]:
@@ -35,15 +39,16 @@ def sources(root: pathlib.Path) -> list[pathlib.Path]:
     return sorted(it for it in files if "out" not in it.relative_to(root).parts)
 
 
-def findings(file: pathlib.Path) -> list[str]:
-    """What a file has that would be taken without proof, each with its line."""
+def findings(file: pathlib.Path, name: pathlib.PurePath) -> list[str]:
+    """What a file of this name has that would be taken without proof, each with its line."""
     if file.suffix in C_FILES:
         return ["a file of C"]
     words = WORDS.get(file.suffix)
     if words is None:
         return []
+    searched = [words] if name == OWNER else [words, OWNS]
     lines = enumerate(file.read_text(encoding="utf-8").splitlines(), 1)
-    return [f"line {number}: {found}" for number, line in lines for found in words.findall(line)]
+    return [f"line {number}: {found}" for number, line in lines for it in searched for found in it.findall(line)]
 
 
 def main() -> int:
@@ -53,7 +58,7 @@ def main() -> int:
     read, found = 0, 0
     for file in sources(root):
         read += file.suffix in WORDS
-        for it in findings(file):
+        for it in findings(file, file.relative_to(root)):
             found += 1
             print(f"differs: {file.relative_to(root)}, {it}")
     print(f"{read} files read, {found} words, holes or files that bring in something unproved")
