@@ -1,5 +1,8 @@
 //! Why a text is no rule.
 
+ghost use Rattle.std.specs.Prelude.{Some};
+ghost use Rattle.rule_text.specs.RuleFault.{rule_fault_text};
+
 use std::error::Error;
 use std::fmt;
 
@@ -13,6 +16,8 @@ pub enum RuleFault {
 }
 
 impl fmt::Display for RuleFault {
+    ghost output = { λ fault. Some (rule_fault_text fault) };
+
     fn fmt<W: fmt::Write>(&self, f: &mut fmt::Formatter<W>) -> fmt::Result {
         match self {
             RuleFault::BadRule => write!(f, "not a rule"),
