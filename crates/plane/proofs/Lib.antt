@@ -1,4 +1,5 @@
 pub mod Around
+pub mod Beginnings
 pub mod Blocks
 pub mod Borders
 pub mod Boxes

@@ -22,6 +22,12 @@ abbrev pub failures_after : {T E : Type 0} → Result T E → ℕ → ℕ
 failures_after (Ok value) count = count
 failures_after (Err error) count = min (count + 1) most_failures
 
+-- known bytes grow by the first bytes of the text, and not by all of them
+pub record AppendsBeginning (old new : Option (List ℕ)) (text : List ℕ) : Type 0 where
+  pub count : ℕ
+  pub short : count < length text
+  pub taken : Appends old new (take count text)
+
 -- some call failed between the two counts
 abbrev pub HasFailed : ℕ → ℕ → Type 0
 HasFailed before after = (before < after) ⊎ (after ≡ most_failures)

@@ -1,7 +1,7 @@
 -- What a call does to a sink.
 use Rattle.std.specs.Prelude.{◌≡◌, ℕ, List, Option}
 use Rattle.std.specs.Io.KnownBytes.{Appends}
-use Rattle.plane.specs.Device.{HasFailed}
+use Rattle.plane.specs.Device.{AppendsBeginning, HasFailed}
 
 -- a sink before and after a call, what it took until then, where that is known, and how often it
 -- had failed
@@ -23,6 +23,10 @@ change_of taken failure_count old new = record {
 -- the sink took this text
 abbrev pub Takes : {S : Type 0} → SinkChange S → List ℕ → Type 0
 Takes sink text = Appends (sink.taken sink.old) (sink.taken sink.new) text
+
+-- the sink took the first bytes of this text, and not all of them
+abbrev pub TakesBeginning : {S : Type 0} → SinkChange S → List ℕ → Type 0
+TakesBeginning sink text = AppendsBeginning (sink.taken sink.old) (sink.taken sink.new) text
 
 -- the sink failed
 abbrev pub Fails : {S : Type 0} → SinkChange S → Type 0

@@ -1,6 +1,7 @@
 //! Refusals with their places.
 
-ghost use Rattle.std.specs.Prelude.{◌≡◌, None};
+ghost use Rattle.std.specs.Prelude.{◌≡◌, None, Some};
+ghost use Rattle.plane.specs.Fault.{fault_text};
 
 use crate::refusal::Refusal;
 use std::error::Error;
@@ -15,6 +16,8 @@ pub struct Fault {
 }
 
 impl fmt::Display for Fault {
+    ghost output = { λ fault. Some (fault_text fault) };
+
     fn fmt<W: fmt::Write>(&self, f: &mut fmt::Formatter<W>) -> fmt::Result {
         let number = self.refusal.number();
         let name = self.refusal.name();

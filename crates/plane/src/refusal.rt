@@ -1,6 +1,6 @@
 //! The twenty refusals.
 
-ghost use Rattle.std.specs.Prelude.{◌≡◌};
+ghost use Rattle.std.specs.Prelude.{◌≡◌, Some};
 ghost use Rattle.plane.specs.declared.refusal.Refusal.TheVariants.{NoMemory};
 ghost use Rattle.plane.specs.Refusal.{name_of, number_of};
 
@@ -91,6 +91,8 @@ impl Refusal {
 }
 
 impl fmt::Display for Refusal {
+    ghost output = { λ refusal. Some (name_of refusal) };
+
     fn fmt<W: fmt::Write>(&self, f: &mut fmt::Formatter<W>) -> fmt::Result {
         f.write_str(self.name())
     }

@@ -1,6 +1,6 @@
 //! Readers and writers of the standard library as devices.
 
-ghost use Rattle.std.specs.Prelude.{◌≡◌, ◌+◌, ◌<◌, ◌↔◌, Some, [], length, min, IfOk};
+ghost use Rattle.std.specs.Prelude.{◌≡◌, ◌+◌, ◌<◌, ◌↔◌, Some, [], length, min, IfOk, OnErr};
 ghost use Rattle.std.specs.Io.{ReadsAtMost, WritesAtMost};
 ghost use Rattle.std.specs.Io.KnownBytes.{ReadConsumes, WriteAppends};
 ghost use Rattle.plane.specs.Device.{FindsEnd, ReadGives, failures_after, most_failures};
@@ -22,12 +22,13 @@ pub struct Counted<T> {
 }
 
 impl<T> Counted<T> {
-    /// The device, with no failure yet.
+    /// The device, with no failure and no end yet.
     pub fn new(inner: T) -> Self
         ensures inner { counted_inner result ≡ inner }
         ensures failures { counted_failures result ≡ 0 }
         ensures given { counted_given result ≡ [] }
         ensures taken { counted_taken result ≡ [] }
+        ensures ended { ¬ (counted_has_ended result) }
     {
         Counted {
             inner,
@@ -44,6 +45,7 @@ impl<T> Counted<T> {
             ≡ min (counted_failures self.old + 1) most_failures }
         ensures given { counted_given self.new ≡ counted_given self.old }
         ensures taken { counted_taken self.new ≡ counted_taken self.old }
+        ensures ended { self.new.ended ≡ self.old.ended }
     {
         self.failures = self.failures.saturating_add(1);
         Failed
@@ -71,6 +73,8 @@ impl<T: Read> Source for Counted<T> {
         // It finds an end nowhere else.
         ensures ended { IfOk result (λ count.
             counted_has_ended self.new ↔ FindsEnd result buffer.new) }
+        // A call that fails leaves that as it was.
+        ensures still { OnErr result (counted_has_ended self.new ↔ counted_has_ended self.old) }
     {
         match self.inner.read(buffer) {
             Ok(count) => {

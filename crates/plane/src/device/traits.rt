@@ -1,6 +1,6 @@
 //! What bytes are read from and written to.
 
-ghost use Rattle.std.specs.Prelude.{◌≡◌, ℕ, ◌<◌, List, None, Option, Result, length, IfOk};
+ghost use Rattle.std.specs.Prelude.{◌≡◌, ℕ, ◌<◌, List, None, Option, Result, Some, codes, length, IfOk};
 ghost use Rattle.std.specs.Io.{ReadsAtMost, WritesAtMost};
 ghost use Rattle.std.specs.Io.KnownBytes.{ReadConsumes, WriteAppends};
 ghost use Rattle.plane.specs.Device.{FindsEnd, ReadGives, failures_after};
@@ -14,6 +14,8 @@ use std::fmt;
 pub struct Failed;
 
 impl fmt::Display for Failed {
+    ghost output = { λ _. Some (codes "the device failed") };
+
     fn fmt<W: fmt::Write>(&self, f: &mut fmt::Formatter<W>) -> fmt::Result {
         f.write_str("the device failed")
     }
@@ -40,7 +42,8 @@ pub trait Source {
     ghost reads: { Self → List ℕ → Result ℕ Failed → Self → List ℕ → Type 0 } = { λ _ _ _ _ _. Unit {0} };
 
     /// Reads some bytes into the front of the buffer, and answers how many: none only at the
-    /// end, or where the buffer is empty. A call that fails takes none from the device.
+    /// end, or where the buffer is empty. A call that fails takes none from the device; what the
+    /// buffer holds then is not said.
     fn read_some(&mut self, buffer: &mut [u8]) -> Result<usize, Failed>
         ensures bound { ReadsAtMost result buffer.new }
         ensures bytes { ReadConsumes (remaining self.old) (remaining self.new) result buffer.new }
