@@ -2,7 +2,7 @@
 
 ghost use Rattle.std.specs.Prelude.{◌≤◌, IfErr, IfOk};
 ghost use Rattle.plane.specs.Plane.{Plane};
-ghost use Rattle.squares.specs.Book.{Keeps, LacksMemoryOr, MayRefuse};
+ghost use Rattle.squares.specs.Book.{AddsSquares, LacksMemoryOr, MayRefuse};
 ghost use Rattle.squares.specs.Rounds.{IsRound};
 
 use crate::book::Squares;
@@ -10,7 +10,8 @@ use crate::sq::Sq;
 use plane::Refusal;
 use std::alloc::Global;
 
-/// A source of live cells in the range. It can make their square in any book, more than once.
+/// A source of live cells in the range. It can make their square in any book, more than once. It adds squares
+/// to the book, and no result.
 pub trait Build {
     // The live cells.
     ghost live: { Self → Plane };
@@ -23,5 +24,5 @@ pub trait Build {
         ensures ok { IfOk result (IsRound (S.book book.new) (live self.now)) }
         ensures level { IfOk result (λ root. root.level ≤ 63) }
         ensures refusal { IfErr result (LacksMemoryOr (MayRefuse (S.book book.new))) }
-        ensures keeps { Keeps (S.book book.old) (S.book book.new) };
+        ensures adds { AddsSquares (S.book book.old) (S.book book.new) };
 }
