@@ -1,9 +1,8 @@
 -- Exit statuses, and what is told on standard error.
-use Rattle.std.specs.Prelude.{◌≡◌, ◌≢◌, ◌⊎◌, ℕ, Option, None, Some, Result, Ok, Err, List, [], ◌++◌, codes, decimal}
+use Rattle.std.specs.Prelude.{◌≡◌, ◌≢◌, ◌⊎◌, ℕ, Option, Result, Ok, Err, List, ◌++◌, codes}
 use Rattle.std.specs.Io.KnownBytes.{Appends}
 use Rattle.std.specs.List.{All}
-use Rattle.plane.specs.Fault.{placeless}
-use Rattle.plane.specs.Refusal.{name_of, number_of}
+use Rattle.plane.specs.Fault.{fault_text, placeless}
 use Rattle.plane.specs.SinkChange.{SinkChange, Fails}
 use Rattle.plane.specs.declared.fault.Fault.{Fault}
 use Rattle.plane.specs.declared.refusal.Refusal.{Refusal}
@@ -11,16 +10,9 @@ use Rattle.plane.specs.declared.refusal.Refusal.TheVariants.{NoMemory, ReadFaile
 use Rattle.program_parts.specs.declared.stops.Stop.{Stop}
 use Rattle.program_parts.specs.declared.stops.Stop.TheVariants.{BadWords, Refused}
 
--- the words that say a place, if there is one
-abbrev pub place_words : Option ℕ → List ℕ
-place_words None = []
-place_words (Some place) = codes " at " ++ decimal place
-
 -- the line by which a program says why a run was refused
 abbrev pub fault_line : List ℕ → Fault → List ℕ
-fault_line program fault =
-    program ++ codes ": refused " ++ decimal (number_of fault.refusal) ++ place_words fault.place
-    ++ codes ": " ++ name_of fault.refusal ++ codes "\n"
+fault_line program fault = program ++ codes ": " ++ fault_text fault ++ codes "\n"
 
 -- the message of a program that words are bad, and why
 abbrev pub bad_words_text : List ℕ → List ℕ → List ℕ

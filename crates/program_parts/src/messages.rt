@@ -38,7 +38,8 @@ fn fault_line(program: &str, fault: Fault) -> ArrayString<LINE_ROOM>
 {
     let mut line = ArrayString::new();
     line.push_str(program);
-    line.push_str(": refused ");
+    line.push_str(": ");
+    line.push_str("refused ");
     line.push_str(Buffer::new().format(fault.refusal.number()));
     if let Some(place) = fault.place {
         line.push_str(" at ");
