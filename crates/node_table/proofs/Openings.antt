@@ -1,6 +1,6 @@
 -- Opening a table, and closing it.
-use Rattle.std.proofs.Common.{◌≡◌, ℕ, zero, suc, ◌+◌, ◌<◌, List, [], ◌∷◌, length, sym, ◌∙◌, ap, subst, arith, refl, ⊎_elim}
-use Rattle.std.specs.Prelude.{slice_index, slice_index_or, slice_set}
+use Rattle.std.proofs.Common.{◌≡◌, ℕ, zero, suc, ◌+◌, ◌<◌, List, [], ◌∷◌, length, sym, ◌∙◌, ap, ◌≢◌, subst, arith, refl, inl, ⊎_elim}
+use Rattle.std.specs.Prelude.{◌↔◌, Any, slice_index, slice_index_or, slice_set}
 use Rattle.std.proofs.lemmas.List.{same_lists, get_or-set_same, get_or-set_other}
 use Rattle.table_core.proofs.Comparisons.{same_or_other}
 use mathlib.Core.Option as core
@@ -8,7 +8,10 @@ use lib.ListN.{get_elem?}
 use Rattle.atomic_table.specs.Table.{Final, Seen, opening}
 use Rattle.rule_text.specs.CountRule.{IsRule}
 use Rattle.table_core.specs.Good.{AreGoodWords}
-use Rattle.table_core.specs.Knowledge.{IsTrueOf}
+use Rattle.table_core.specs.Layout.{size}
+use Rattle.table_core.specs.Knowledge.{IsTrueOf, KnowsWord}
+use Rattle.table_core.proofs.Knowing.{seen_true}
+use Rattle.table_core.proofs.Learned.{known_word}
 use Rattle.table_core.specs.Laws.{KnowsAll}
 use Rattle.node_table.specs.GoodWords.{all_known}
 use Rattle.node_table.specs.declared.still.Still.{Still}
@@ -58,7 +61,39 @@ copied_on xs ys n v inside each is i less = ⊎_elim
     (λ other. get_or-set_other xs n i v 0 other ∙ each i (omega arith))
     (same_or_other i n)
 
+index_below : (xs : List ℕ) (i n : ℕ) → length xs ≡ n → slice_index xs i ≢ 0 → i < n
+index_below [] i n e some = absurd (some refl)
+index_below (x ∷ xs) zero n e some = omega arith
+index_below (x ∷ xs) (suc i) n e some = let less = index_below xs i (length xs) refl some in omega arith
+
+only : {X : Type 0} (P : X → Type 0) (x : X) → Any P (x ∷ []) → P x
+only P x t = go t.0 t.1 t.2 t.3 t.4
+  where
+    go : (k : ℕ) (y : _) → k < length (x ∷ []) → slice_index_or (x ∷ []) k y ≡ y → P y → P x
+    go zero y less e p = subst P (sym e) p
+    go (suc k) y less e p = absurd (omega arith)
+
 -- the rule holds of the words of a table that is opened
 pub opening_holds : {S : Type 0} (still : Still) (words : List ℕ) → words ≡ still.words → IsSoundState {S = S} still (opening words [] (opened still))
 opening_holds {S} still words e = subst (λ (ws : List ℕ). IsSoundState {S = S} still (opening ws [] (opened still))) (sym e)
-    (record { words = still.good; views = (record { tied = refl; known = (everything_known still).true_of }, tt) })
+    (record {
+      words = still.good;
+      views = (record { tied = refl; known = (everything_known still).true_of }, tt);
+      known = λ i some. (0, opened still, omega arith, refl, inl ((everything_known still).seen i (index_below still.words i (size still.key.shape.bits) still.good.long some) some));
+    })
+
+-- where the first desk is the only one, no other words stand there
+no_other_words : {S : Type 0} (still : Still) (begun : List ℕ) → IsSoundState {S = S} still (opening begun [] (opened still)) → begun ≡ still.words
+no_other_words still begun h =
+    let all : KnowsAll still.key.shape.bits (words_of still) (everything still) = everything_known still in
+    let of_begun : IsTrueOf still.key.shape.bits (slice_index begun) (everything still) = h.views.0.known in
+    copied begun still.words (size still.key.shape.bits) h.words.long still.good.long (λ i less. ⊎_elim
+    (λ none. ⊎_elim
+    (λ also. none ∙ sym also)
+    (λ some. (seen_true still.key.shape.bits (slice_index begun) (everything still) i (words_of still i) of_begun (all.seen i less some)).0)
+    (same_or_other (words_of still i) 0))
+    (λ some. let t = h.known i some in sym (known_word still.key.shape.bits (words_of still) (everything still) i (slice_index begun i) all.true_of (only (λ view. KnowsWord still.key.shape.bits view.known i (slice_index begun i)) (opened still) t)))
+    (same_or_other (slice_index begun i) 0))
+
+pub begins_with : {S : Type 0} (still : Still) (begun : List ℕ) → IsSoundState {S = S} still (opening begun [] (opened still)) ↔ (begun ≡ still.words)
+begins_with still begun = (no_other_words still begun, opening_holds still begun)

@@ -189,6 +189,7 @@ opens_from was now rule exponent table desk is starts =
       words = now.words;
       reopens = reopens;
       opening = every_reopening was.key table.key (words_of was) (words_of now) was.good.good reopens;
+      begins = starts.begins;
       known = subst (λ (k : Key). KnowsAll k.shape.bits (words_of now) desk.seat.me.0.known) (sym starts.key) starts.known;
       no_expansions = starts.no_expansions;
     }

@@ -1,6 +1,7 @@
 -- Each lawful event of a desk keeps the rule, and tells the desk what it learned.
 use Rattle.std.proofs.Common.{◌≡◌, ◌≢◌, ℕ, zero, suc, ◌<◌, List, [], ◌∷◌, sym, ◌∙◌, ap, subst, arith, refl, ⊎_elim}
-use Rattle.std.specs.Prelude.{Some, slice_index, slice_set}
+use Rattle.std.specs.Prelude.{Some, slice_get, slice_index, slice_set}
+use Rattle.std.proofs.lemmas.List.{get_or-set_other}
 use Rattle.std.specs.List.{AllByRecursion}
 use mathlib.Core.Option as core
 use lib.ListN.{get_elem?}
@@ -15,13 +16,15 @@ use Rattle.table_core.specs.Blocks.{Words, IsBlock, cells_of}
 use Rattle.rule_text.specs.CountRule.{IsRule}
 use Rattle.table_core.specs.Layout.{size}
 use Rattle.table_core.specs.Good.{IsGood, KeepsWords}
-use Rattle.table_core.specs.Knowledge.{IsTrueOf}
+use Rattle.table_core.specs.Knowledge.{IsTrueOf, KnowsWord, Grows, united}
 use Rattle.table_core.specs.Events.{index_of, word_after, words_after}
 use Rattle.table_core.specs.Lawful.{IsLawful}
 use Rattle.table_core.proofs.Blocks.{empty_cells}
+use Rattle.table_core.proofs.Comparisons.{same_or_other}
 use Rattle.table_core.proofs.Consistency.{every_truth_is_consistent}
-use Rattle.table_core.proofs.Knowing.{true_later, block_true, united_true, nothing_true}
-use Rattle.table_core.proofs.Lists.{all_set, all_append, all_weaker}
+use Rattle.table_core.proofs.Knowing.{true_later, block_true, united_true, united_first, united_second, nothing_true, grows_refl}
+use Rattle.table_core.proofs.Learned.{learns_word, word_grown}
+use Rattle.table_core.proofs.Lists.{all_set, all_append, all_weaker, any_of_get, get_of_any, any_before, get_set_same, get_set_other}
 use Rattle.table_core.proofs.Stepping.{DeskStep, desk_steps, word_there}
 use Rattle.node_table.specs.declared.desk.Desk.{Desk}
 use Rattle.node_table.specs.declared.still.Still.{Still}
@@ -29,7 +32,7 @@ use Rattle.node_table.specs.declared.table.NodeTable.{NodeTable}
 use Rattle.node_table.specs.declared.view.View.{View}
 use Rattle.node_table.specs.Books.{IsCoherent, IsSound, IsSoundFor}
 use Rattle.node_table.specs.Desks.{IsDeskOf}
-use Rattle.node_table.specs.Rule.{IsTrueView, IsSoundState, with_known, Met, HasMet, merged, spent}
+use Rattle.node_table.specs.Rule.{IsTrueView, IsKnownToSome, IsSoundState, with_known, Met, HasMet, merged, spent}
 use Rattle.node_table.proofs.Books.{sound_for}
 
 pub all_at : {X : Type 0} (P : X → Type 0) (xs : List X) (i : ℕ) (a : X) → AllByRecursion P xs → get_elem? xs i ≡ core.some a → P a
@@ -52,6 +55,61 @@ block_some bits words zero zero some b = absurd (some refl)
 block_some bits words zero (suc i) some b = b.1
 block_some bits words (suc rank) zero some b = absurd (some refl)
 block_some bits words (suc rank) (suc i) some b = b.1
+
+pub place_of : {X : Type 0} (xs : List X) (i : ℕ) (a : X) → get_elem? xs i ≡ core.some a → slice_get xs i ≡ Some a
+place_of [] i a e = let no : ⊥ = cc in absurd no
+place_of (x ∷ xs) zero a e = let same : x ≡ a = cc in ap (λ y. Some y) same
+place_of (x ∷ xs) (suc i) a e = place_of xs i a e
+
+same_view : (a b : View) → Some a ≡ Some b → a ≡ b
+same_view a b e = cc
+
+-- which words desks know, while one of them learns more
+module _ (key : Key) (index word : ℕ) (views : List View) (id : ℕ) (v : View) (at : slice_get views id ≡ Some v) where
+  abbrev knows : View → Type 0
+  knows view = KnowsWord key.shape.bits view.known index word
+
+  set_known : (w : View) → knows w → IsKnownToSome key (slice_set views id w) index word
+  set_known w k = any_of_get knows (slice_set views id w) id w (get_set_same views id v w at) k
+
+  pub still_known : (w : View) → Grows v.known w.known → IsKnownToSome key views index word → IsKnownToSome key (slice_set views id w) index word
+  still_known w grows any =
+      let t = get_of_any knows views any in
+      ⊎_elim
+      (λ e. set_known w (word_grown key.shape.bits v.known w.known index word grows (subst knows (same_view t.1 v (sym t.2 ∙ ap (slice_get views) e ∙ at)) t.3)))
+      (λ other. any_of_get knows (slice_set views id w) t.0 t.1 (get_set_other views t.0 id w other ∙ t.2) t.3)
+      (same_or_other t.0 id)
+
+  -- and while what another one knew becomes its own
+  pub joined_known : (other : ℕ) (u : View) → other ≢ id → slice_get views other ≡ Some u → IsKnownToSome key views index word →
+      IsKnownToSome key (slice_set (slice_set views id (merged v u)) other spent) index word
+  joined_known other u apart there any =
+      let t = get_of_any knows views any in
+      let place : slice_get (slice_set (slice_set views id (merged v u)) other spent) id ≡ Some (merged v u) =
+      get_set_other (slice_set views id (merged v u)) id other spent (λ e. apart (sym e)) ∙ get_set_same views id v (merged v u) at in
+      let here : knows (merged v u) → IsKnownToSome key (slice_set (slice_set views id (merged v u)) other spent) index word =
+      λ k. any_of_get knows (slice_set (slice_set views id (merged v u)) other spent) id (merged v u) place k in
+      ⊎_elim
+      (λ e. here (word_grown key.shape.bits u.known (united v.known u.known) index word (united_second v.known u.known) (subst knows (same_view t.1 u (sym t.2 ∙ ap (slice_get views) e ∙ there)) t.3)))
+      (λ not. ⊎_elim
+      (λ e. here (word_grown key.shape.bits v.known (united v.known u.known) index word (united_first v.known u.known) (subst knows (same_view t.1 v (sym t.2 ∙ ap (slice_get views) e ∙ at)) t.3)))
+      (λ third. any_of_get knows (slice_set (slice_set views id (merged v u)) other spent) t.0 t.1
+      (get_set_other (slice_set views id (merged v u)) t.0 other spent not ∙ get_set_other views t.0 id (merged v u) third ∙ t.2) t.3)
+      (same_or_other t.0 id))
+      (same_or_other t.0 other)
+
+-- each word is known to some desk after a step, where the one that made it has learned what stands there
+known_after : (key : Key) (words : List ℕ) (views : List View) (id index word : ℕ) (v w : View) → slice_get views id ≡ Some v → Grows v.known w.known →
+    (slice_index (slice_set words index word) index ≢ 0 → KnowsWord key.shape.bits w.known index (slice_index (slice_set words index word) index)) →
+    ((i : ℕ) → slice_index words i ≢ 0 → IsKnownToSome key views i (slice_index words i)) →
+    (i : ℕ) → slice_index (slice_set words index word) i ≢ 0 → IsKnownToSome key (slice_set views id w) i (slice_index (slice_set words index word) i)
+known_after key words views id index word v w at grows here known i some = ⊎_elim
+    (λ e. subst (λ j. IsKnownToSome key (slice_set views id w) j (slice_index (slice_set words index word) j)) (sym e)
+    (set_known key index (slice_index (slice_set words index word) index) views id v at w (here (λ z. some (ap (slice_index (slice_set words index word)) e ∙ z)))))
+    (λ other.
+    let same : slice_index (slice_set words index word) i ≡ slice_index words i = get_or-set_other words index i word 0 other in
+    subst (IsKnownToSome key (slice_set views id w) i) (sym same) (still_known key i (slice_index words i) views id v at w grows (known i (λ z. some (same ∙ z)))))
+    (same_or_other i index)
 
 -- each lawful event of a seat keeps the rule, and the seat has met it
 pub meets : {S : Type 0} (still : Still) (slots id : ℕ) (me : Me S View) (event : Event) → me.0.key ≡ Some still.key → IsLawful still.key me.0.known event →
@@ -81,6 +139,8 @@ meets {S} still slots id me event present lawful s h n at fits =
         views = all_set _ s.views id (with_known me.0 d.after)
             (all_weaker _ _ (λ view t. view_later still.key s.words (words_after event s.words) view d.stays.keeps t) s.views h.views)
             (record { tied = was.tied; known = d.true_of });
+        known = known_after still.key s.words s.views id (index_of event) (word_after event (slice_index s.words (index_of event))) me.0 (with_known me.0 d.after) (place_of s.views id me.0 at) d.grows
+            (λ some. subst (λ w. KnowsWord still.key.shape.bits d.after (index_of event) w) (sym there) (learns_word still.key me.0.known event (word_after event (slice_index s.words (index_of event))) d.after (λ z. some (there ∙ z)) d.learns)) h.known;
       },
       λ k e. subst (λ (a : Key). Met {S = S} a event me (word_after event (slice_index s.words (index_of event))) (with_known me.0 d.after, me.1)) (some_key still.key k (sym present ∙ e)) met,
     )
@@ -107,7 +167,11 @@ sound_after {S} key event before after word present sound met k e =
 pub splits : {S : Type 0} (still : Still) (id : ℕ) (v : View) → Splits (IsSoundState {S = S} still) id v v v
 splits still id v s h at =
     let one = all_at _ s.views id v h.views at in
-    record { words = h.words; views = all_append _ (slice_set s.views id v) (v ∷ []) (all_set _ s.views id v h.views one) (one, tt) }
+    record {
+      words = h.words;
+      views = all_append _ (slice_set s.views id v) (v ∷ []) (all_set _ s.views id v h.views one) (one, tt);
+      known = λ i some. any_before _ (slice_set s.views id v) (v ∷ []) (still_known still.key i (slice_index s.words i) s.views id v (place_of s.views id v at) v (grows_refl v.known) (h.known i some));
+    }
 
 pub joins : {S : Type 0} (still : Still) (id other : ℕ) (v w : View) → Joins (IsSoundState {S = S} still) id v other w (merged v w) spent
 joins still id other v w s h at apart at_other =
@@ -119,6 +183,7 @@ joins still id other v w s h at apart at_other =
       words = h.words;
       views = all_set _ (slice_set s.views id (merged v w)) other spent (all_set _ s.views id (merged v w) h.views both)
           (record { tied = tt; known = nothing_true still.key.shape.bits (slice_index s.words) });
+      known = λ i some. joined_known still.key i (slice_index s.words i) s.views id v (place_of s.views id v at) other w apart (place_of s.views other w whose) (h.known i some);
     }
 
 pub sound_by : (key : Key) (view : View) → IsRule key.rule → IsCoherent key.shape.bits view.known → view.key ≡ Some key → IsSound view

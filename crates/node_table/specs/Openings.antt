@@ -1,5 +1,6 @@
 -- What it means to open a table and to close it.
-use Rattle.std.specs.Prelude.{◌≡◌, ℕ, List, IsTrue, Contains, slice_index}
+use Rattle.std.specs.Prelude.{◌≡◌, ℕ, ◌↔◌, List, [], IsTrue, Contains, slice_index}
+use Rattle.atomic_table.specs.Table.{opening}
 use Rattle.plane.specs.Square.{IsSame}
 use Rattle.squares.specs.declared.sq.Sq.{Sq}
 use Rattle.squares.specs.Book.{Book}
@@ -11,10 +12,20 @@ use Rattle.node_table.specs.declared.desk.Desk.{Desk}
 use Rattle.node_table.specs.declared.still.Still.{Still}
 use Rattle.node_table.specs.declared.table.NodeTable.{NodeTable}
 use Rattle.node_table.specs.Desks.{IsDeskOf, book_at, expansions_of}
-use Rattle.node_table.specs.Stills.{words_of, book_in}
+use Rattle.node_table.specs.Rule.{IsSoundState}
+use Rattle.node_table.specs.Stills.{items_of, words_of, book_in}
 
--- a table begins with words under this rule and exponent: leaves and pairs stay, each result stays
--- where it is the same under both heads, and else goes; its first desk knows all that they say
+-- the table begins with these words: while this is its only desk, the rule of its words allows them
+-- and no others
+abbrev pub BeginsWith : NodeTable → Desk → List ℕ → Type 0
+BeginsWith table desk words =
+    (begun : List ℕ) →
+    IsSoundState {S = Unit {0}} table.table.shared.key (opening begun [] desk.seat.me.0)
+    ↔ (begun ≡ words)
+
+-- a table begins with words under this rule and exponent, and no others: leaves and pairs stay,
+-- each result stays where it is the same under both heads, and else goes; its first desk knows all
+-- that they say
 pub record Opens (still : Still) (rule : CountRule) (exponent : ℕ) (table : NodeTable)
     (desk : Desk) : Type 0 where
   pub of_table : IsDeskOf table desk
@@ -22,13 +33,16 @@ pub record Opens (still : Still) (rule : CountRule) (exponent : ℕ) (table : No
   pub words : List ℕ
   pub reopens : Reopens still.key table.key (words_of still) (slice_index words)
   pub opening : AreOpening still.key table.key (slice_index words)
+  pub begins : BeginsWith table desk words
   pub known : KnowsAll table.key.shape.bits (slice_index words) desk.seat.me.0.known
   pub no_expansions : expansions_of desk ≡ 0
 
--- a table begins with these words under their own head, and its first desk knows all that they say
+-- a table begins with these words under their own head, and no others, and its first desk knows all
+-- that they say
 pub record StartsFrom (still : Still) (table : NodeTable) (desk : Desk) : Type 0 where
   pub of_table : IsDeskOf table desk
   pub key : table.key ≡ still.key
+  pub begins : BeginsWith table desk (items_of still)
   pub known : KnowsAll still.key.shape.bits (words_of still) desk.seat.me.0.known
   pub no_expansions : expansions_of desk ≡ 0
 

@@ -1,5 +1,5 @@
 -- The rule of the words of a running table, and what each step tells its desk.
-use Rattle.std.specs.Prelude.{◌≡◌, ◌≢◌, ℕ, List, slice_index, Some, None, IfSome}
+use Rattle.std.specs.Prelude.{◌≡◌, ◌≢◌, ℕ, List, Any, slice_index, Some, None, IfSome}
 use Rattle.std.specs.List.{AllByRecursion}
 use Rattle.atomic_table.specs.Table.{State, Me, Step}
 use Rattle.plane.specs.Plane.{Plane}
@@ -9,7 +9,7 @@ use Rattle.table_core.specs.declared.machine.Event.{Event}
 use Rattle.table_core.specs.declared.machine.Event.TheVariants.{Look, Claim, Ask, Tell}
 use Rattle.table_core.specs.Layout.{second_part}
 use Rattle.table_core.specs.Good.{AreGoodWords}
-use Rattle.table_core.specs.Knowledge.{IsTrueOf, KnowsBlock, Grows, united, nothing}
+use Rattle.table_core.specs.Knowledge.{IsTrueOf, KnowsBlock, KnowsWord, Grows, united, nothing}
 use Rattle.table_core.specs.Learning.{LearnsFrom}
 use Rattle.table_core.specs.Events.{index_of, word_after}
 use Rattle.node_table.specs.GoodWords.{all_of}
@@ -22,10 +22,17 @@ pub record IsTrueView (key : Key) (words : List ℕ) (view : View) : Type 0 wher
   pub tied : IfSome view.key (λ k. k ≡ key)
   pub known : IsTrueOf key.shape.bits (slice_index words) view.known
 
--- the words are good, and what each desk knows is true of them
+-- some desk knows that this word stands at this index
+abbrev pub IsKnownToSome : Key → List View → ℕ → ℕ → Type 0
+IsKnownToSome key views index word =
+    Any (λ view. KnowsWord key.shape.bits view.known index word) views
+
+-- the words are good, what each desk knows is true of them, and some desk knows each that is not 0
 pub record IsSoundState {S : Type 0} (still : Still) (state : State S View) : Type 0 where
   pub words : AreGoodWords still.key state.words
   pub views : AllByRecursion (IsTrueView still.key state.words) state.views
+  pub known : (index : ℕ) → slice_index state.words index ≢ 0 →
+      IsKnownToSome still.key state.views index (slice_index state.words index)
 
 -- all that the words say
 abbrev pub everything : Still → Knowledge

@@ -6,7 +6,8 @@ use crate::still::Still;
 use crate::view::View;
 use atomic_table::{Join, Play, Split, TableRule};
 
-/// The rule of the words, between any two steps: they are good, and what each desk knows is true.
+/// The rule of the words, between any two steps: they are good, what each desk knows is true, and
+/// some desk knows each word that is not 0.
 pub struct TableInvariant;
 
 impl TableRule<(), View, Still> for TableInvariant {

@@ -28,7 +28,7 @@ pub struct NodeTable {
 impl NodeTable {
     ghost use Rattle.squares.specs.Book.{Keeps};
     ghost use Rattle.node_table.specs.Desks.{IsDeskOf, book_at, work_at, expansions_of};
-    ghost use Rattle.node_table.specs.DesksAtWork.{HasSeenAllOf, KnowsAllOf};
+    ghost use Rattle.node_table.specs.DesksAtWork.{KnowsAllOf};
     ghost use Rattle.node_table.specs.Openings.{Opens, Closes, StartsFrom};
 
     /// The shape, the rule and the exponent of the table.
@@ -38,10 +38,10 @@ impl NodeTable {
         &self.key
     }
 
-    /// A running table of these words under a rule and an exponent, and its first desk, which knows
-    /// all that the words then say. The results that are the same under both heads stay, and no
-    /// other. If an allocation fails, the words come back as they were. Words under the table's own
-    /// head stand in memory twice at most meanwhile, and others three times.
+    /// A running table of these words, and of no others, under a rule and an exponent, and its first
+    /// desk, which knows all that the words then say. The results that are the same under both heads
+    /// stay, and no other. If an allocation fails, the words come back as they were. Words under the
+    /// table's own head stand in memory twice at most meanwhile, and others three times.
     pub fn open(
         alloc: Global,
         still: Still,
@@ -161,7 +161,7 @@ impl NodeTable {
         ensures table { IsDeskOf self.now result }
         ensures first { Keeps (book_at self.now first) (book_at self.now result) }
         ensures second { Keeps (book_at self.now second) (book_at self.now result) }
-        ensures grows { KnowsAllOf first result × HasSeenAllOf second result }
+        ensures grows { KnowsAllOf first result × KnowsAllOf second result }
         ensures expansions { expansions_of result
             ≡ min u64.MAX (expansions_of first + expansions_of second) }
     {

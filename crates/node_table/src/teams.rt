@@ -2,7 +2,7 @@
 ghost use Rattle.std.specs.Prelude.{◌≡◌, ◌+◌, min};
 ghost use Rattle.squares.specs.Book.{Keeps};
 ghost use Rattle.node_table.specs.Desks.{IsDeskOf, book_at, expansions_of};
-ghost use Rattle.node_table.specs.DesksAtWork.{GoesOn, HasSeenAllOf, KnowsAllOf, book_here};
+ghost use Rattle.node_table.specs.DesksAtWork.{GoesOn, KnowsAllOf, book_here};
 ghost use Rattle.node_table.specs.Teams.{AreAtOneTable, at_place_of};
 
 use crate::at::At;
@@ -37,7 +37,7 @@ impl Desk {
         ensures table { IsDeskOf table.now self.new }
         ensures first { Keeps (book_at table.now self.old) (book_at table.now self.new) }
         ensures second { Keeps (book_at table.now other) (book_at table.now self.new) }
-        ensures grows { KnowsAllOf self.old self.new × HasSeenAllOf other self.new }
+        ensures grows { KnowsAllOf self.old self.new × KnowsAllOf other self.new }
         ensures expansions { expansions_of self.new
             ≡ min u64.MAX (expansions_of self.old + expansions_of other) }
     {
@@ -73,7 +73,7 @@ impl<'t> At<'t> {
         ensures own { Keeps (book_here self.old) (book_here self.new) }
         ensures other { Keeps (at_place_of (book_here self.old) (book_here other.entry))
             (book_here self.new) }
-        ensures grows { GoesOn self.old self.new × HasSeenAllOf other.entry.desk self.new.desk }
+        ensures grows { GoesOn self.old self.new × KnowsAllOf other.entry.desk self.new.desk }
     {
         let At {
             table: _,

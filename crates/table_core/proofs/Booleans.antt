@@ -22,3 +22,7 @@ or_right false b h = h
 pub and_both : (a b : Bool) → a ≡ true → b ≡ true → (a && b) ≡ true
 and_both true b h k = k
 and_both false b h k = absurd (false≢true h)
+
+pub and_cases : (a b : Bool) → (a && b) ≡ true → (a ≡ true) × (b ≡ true)
+and_cases true b h = (refl, h)
+and_cases false b h = absurd (false≢true h)

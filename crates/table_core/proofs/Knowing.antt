@@ -96,12 +96,12 @@ united_first one two = record {
   learned = omega arith;
 }
 
--- and what the second knew, where both are true
-pub united_second : (bits : ℕ) (words : Words) (one two : Knowledge) → IsTrueOf bits words one → IsTrueOf bits words two → Grows two (united one two)
-united_second bits words one two h k = record {
-  words = λ entry t. Contains-append_right one.words two.words entry t;
-  blocks = λ entry t. Contains-append_right one.blocks two.blocks entry t;
-  results = λ result t. joined_keeps_second bits words one.results two.results result h.results k.results t;
+-- and what the second knew
+pub united_second : (one two : Knowledge) → Grows two (united one two)
+united_second one two = record {
+  words = λ entry h. Contains-append_right one.words two.words entry h;
+  blocks = λ entry h. Contains-append_right one.blocks two.blocks entry h;
+  results = λ result h. joined_keeps_second one.results two.results result h;
   learned = omega arith;
 }
 
@@ -114,7 +114,7 @@ united_true bits words one two h k = record {
   squares = joined_all (KnowsSquareOf (united one two)) one.results two.results
       (squares_more one (united one two) one.results (λ entry t. Contains-append_left one.blocks two.blocks entry t) h.squares)
       (squares_more two (united one two) two.results (λ entry t. Contains-append_right one.blocks two.blocks entry t) k.squares);
-  once = joined_once one.results two.results h.once;
+  once = joined_once bits words one.results two.results h.results k.results h.once;
 }
 
 pub nothing_true : (bits : ℕ) (words : Words) → IsTrueOf bits words nothing

@@ -1,6 +1,6 @@
 -- What an event teaches is true, and no less is known after it.
-use Rattle.std.proofs.Common.{◌≡◌, ◌≢◌, ℕ, suc, ◌+◌, ◌-◌, ◌^◌, ◌<◌, [], ◌∷◌, sym, ◌∙◌, ap, subst, arith, refl, ⊎_elim}
-use Rattle.std.specs.Prelude.{Contains}
+use Rattle.std.proofs.Common.{◌≡◌, ◌≢◌, ℕ, suc, ◌+◌, ◌-◌, ◌^◌, ◌<◌, Bool, true, false, cond, [], ◌∷◌, sym, ◌∙◌, ap, subst, arith, refl, inl, inr, ⊎_elim}
+use Rattle.std.specs.Prelude.{Any, Contains}
 use Rattle.std.proofs.lemmas.List.Elements.{Contains-append_left, Contains-append_right}
 use Rattle.plane.specs.Plane.{Plane}
 use Rattle.plane.specs.Square.{bits_plane, future}
@@ -8,6 +8,7 @@ use Rattle.plane.specs.Listing.{plane_of}
 use Rattle.plane.proofs.Same.{same_sym}
 use Rattle.table_core.specs.declared.key.Key.{Key}
 use Rattle.table_core.specs.declared.knowledge.KnownBlock.{KnownBlock}
+use Rattle.table_core.specs.declared.knowledge.KnownResult.{KnownResult}
 use Rattle.table_core.specs.declared.knowledge.Knowledge.{Knowledge}
 use Rattle.table_core.specs.declared.machine.Event.{Event}
 use Rattle.table_core.specs.declared.machine.Event.TheVariants.{Look, Claim, Ask, Tell}
@@ -16,13 +17,13 @@ use Rattle.table_core.specs.Layout.{IsSlot, result_of, first_part, second_part}
 use Rattle.table_core.specs.Blocks.{Words, square_rank, IsBlock, ShowsBlock, paired}
 use Rattle.table_core.specs.Good.{IsGood}
 use Rattle.table_core.specs.Events.{index_of}
-use Rattle.table_core.specs.Knowledge.{Says, KnowsBlock, IsTrueOf, IsTrueResult, KnowsSquareOf, Grows}
+use Rattle.table_core.specs.Knowledge.{Says, KnowsBlock, IsTrueOf, IsTrueResult, KnowsSquareOf, KnowsWord, Grows, has_result}
 use Rattle.table_core.specs.Lawful.{MayAsk, IsLawful}
 use Rattle.table_core.specs.Learning.{KnowsWhole, Follows, as_leaf, as_pair, as_first_part, as_second_part, with_word, LearnsWord, with_future, LearnsFuture, MeetsWord, MeetsResult, LearnsFrom}
 use Rattle.table_core.proofs.Comparisons.{same_or_other}
-use Rattle.table_core.proofs.Lists.{all_weaker, all_append}
-use Rattle.table_core.proofs.Results.{with_result_keeps, with_result_all, with_result_once}
-use Rattle.table_core.proofs.Knowing.{shown_as, block_true, squares_more, knows_more, grows_refl}
+use Rattle.table_core.proofs.Lists.{all_contains, all_weaker, all_append, contains_here}
+use Rattle.table_core.proofs.Results.{found_result, with_result_keeps, with_result_all, with_result_once}
+use Rattle.table_core.proofs.Knowing.{shown_as, seen_true, block_true, squares_more, knows_more, grows_refl}
 use Rattle.table_core.proofs.Showing.{leaf_shows, pair_shows, parts_show, result_shows}
 
 word_grows : (key : Key) (known : Knowledge) (index word : ℕ) (after : Knowledge) → LearnsWord key known index word after → Grows known after
@@ -151,3 +152,44 @@ learns_grows key known (Look desk index) word after learns = met_word_grows key 
 learns_grows key known (Claim desk index claimed) word after learns = met_word_grows key known index word after learns
 learns_grows key known (Ask desk index) word after learns = met_result_grows key known 1 index word after learns
 learns_grows key known (Tell desk index number) word after learns = met_result_grows key known 0 index word after learns
+
+-- what is known of a word that is not 0 is that it stands there
+met_word_known : (key : Key) (known : Knowledge) (index word : ℕ) (after : Knowledge) → word ≢ 0 → MeetsWord key known index word after → KnowsWord key.shape.bits after index word
+met_word_known key known index word after some m =
+    let l : LearnsWord key known index word after = m.some some in
+    subst (λ (k : Knowledge). KnowsWord key.shape.bits k index word) (sym l.is) (inl (contains_here (index, word) known.words))
+
+result_known : (key : Key) (known : Knowledge) (count index word : ℕ) (after : Knowledge) → MeetsResult key known count index word after → (l : LearnsFuture key known count index word after) →
+    (had : Bool) → has_result known.results l.result.square ≡ had →
+    Any (λ (r : KnownResult). (index ≡ result_of key.shape.bits r.square) × (word ≡ 2 ^ 32 + r.future)) (cond had known.results (l.result ∷ known.results))
+result_known key known count index word after m l true e =
+    let t = found_result known.results l.result.square e in
+    let beside : index ≡ result_of key.shape.bits t.0.square = l.beside ∙ ap (result_of key.shape.bits) (sym t.2) in
+    let has = t.1 in (has.0, t.0, has.1, has.2, (beside, m.agrees t.0 t.1 beside))
+result_known key known count index word after m l false e = (0, l.result, omega arith, refl, (l.beside, l.told))
+
+met_result_known : (key : Key) (known : Knowledge) (count index word : ℕ) (after : Knowledge) → word ≢ 0 → MeetsResult key known count index word after →
+    KnowsWord key.shape.bits after index word
+met_result_known key known count index word after some m =
+    let l : LearnsFuture key known count index word after = m.some some in
+    subst (λ (k : Knowledge). KnowsWord key.shape.bits k index word) (sym l.is) (inr (result_known key known count index word after m l (has_result known.results l.result.square) refl))
+
+pub learns_word : (key : Key) (known : Knowledge) (event : Event) (word : ℕ) (after : Knowledge) → word ≢ 0 → LearnsFrom key event known word after →
+    KnowsWord key.shape.bits after (index_of event) word
+learns_word key known (Look desk index) word after some learns = met_word_known key known index word after some learns
+learns_word key known (Claim desk index claimed) word after some learns = met_word_known key known index word after some learns
+learns_word key known (Ask desk index) word after some learns = met_result_known key known 1 index word after some learns
+learns_word key known (Tell desk index number) word after some learns = met_result_known key known 0 index word after some learns
+
+-- a known word stands there
+pub known_word : (bits : ℕ) (words : Words) (known : Knowledge) (index word : ℕ) → IsTrueOf bits words known → KnowsWord bits known index word →
+    words index ≡ word
+known_word bits words known index word h = ⊎_elim
+    (λ seen. (seen_true bits words known index word h seen).0)
+    (λ t. let r = all_contains (IsTrueResult bits words) known.results t.1 h.results (t.0, t.2, t.3) in ap words t.4.0 ∙ r.told ∙ sym t.4.1)
+
+-- a known word stays known
+pub word_grown : (bits : ℕ) (old new : Knowledge) (index word : ℕ) → Grows old new → KnowsWord bits old index word → KnowsWord bits new index word
+word_grown bits old new index word grows = ⊎_elim
+    (λ seen. inl (grows.words (index, word) seen))
+    (λ t. let there = grows.results t.1 (t.0, t.2, t.3) in inr (there.0, t.1, there.1, there.2, t.4))

@@ -1,6 +1,6 @@
 -- Lists: what holds of each element, and of an element at a place.
-use Rattle.std.proofs.Common.{◌≡◌, ◌≢◌, ℕ, zero, suc, ◌<◌, List, [], ◌∷◌, ◌++◌, length, ap, subst, arith, refl}
-use Rattle.std.specs.Prelude.{Contains, slice_index_or, slice_set, slice_get, Some}
+use Rattle.std.proofs.Common.{◌≡◌, ◌≢◌, ℕ, zero, suc, ◌<◌, List, [], ◌∷◌, ◌++◌, length, ap, sym, subst, arith, refl}
+use Rattle.std.specs.Prelude.{Any, Contains, slice_index_or, slice_set, slice_get, Some}
 use Rattle.std.specs.List.{AllByRecursion}
 
 all_at : {X : Type 0} (P : X → Type 0) (xs : List X) (x : X) (k : ℕ) → AllByRecursion P xs → k < length xs → slice_index_or xs k x ≡ x → P x
@@ -53,3 +53,20 @@ get_append (x ∷ xs) ys (suc i) a e = get_append xs ys i a e
 
 pub contains_here : {X : Type 0} (x : X) (xs : List X) → Contains (x ∷ xs) x
 contains_here x xs = (0, omega arith, refl)
+
+-- an element that something holds of, and its place
+pub any_of_get : {X : Type 0} (P : X → Type 0) (xs : List X) (i : ℕ) (a : X) → slice_get xs i ≡ Some a → P a → Any P xs
+any_of_get P [] i a e one = let no : ⊥ = cc in absurd no
+any_of_get P (x ∷ xs) zero a e one = let same : x ≡ a = cc in (0, x, omega arith, refl, subst P (sym same) one)
+any_of_get P (x ∷ xs) (suc i) a e one = let t = any_of_get P xs i a e one in (suc t.0, t.1, omega arith, t.3, t.4)
+
+at_place : {X : Type 0} (xs : List X) (i : ℕ) (a : X) → i < length xs → slice_index_or xs i a ≡ a → slice_get xs i ≡ Some a
+at_place [] i a less e = absurd (omega arith)
+at_place (x ∷ xs) zero a less e = ap (λ y. Some y) e
+at_place (x ∷ xs) (suc i) a less e = at_place xs i a (omega arith) e
+
+pub get_of_any : {X : Type 0} (P : X → Type 0) (xs : List X) → Any P xs → (i : ℕ) × (a : X) × (slice_get xs i ≡ Some a) × P a
+get_of_any P xs t = (t.0, t.1, at_place xs t.0 t.1 t.2 t.3, t.4)
+
+pub any_before : {X : Type 0} (P : X → Type 0) (xs ys : List X) → Any P xs → Any P (xs ++ ys)
+any_before P xs ys any = let t = get_of_any P xs any in any_of_get P (xs ++ ys) t.0 t.1 (get_append xs ys t.0 t.1 t.2) t.3

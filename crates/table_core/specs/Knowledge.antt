@@ -1,5 +1,5 @@
 -- What a desk knows, and that it is true of the words.
-use Rattle.std.specs.Prelude.{◌≡◌, ◌≢◌, ℕ, suc, ◌+◌, ◌^◌, ◌<◌, ◌≤◌, ◌⊎◌, ◌==◌, Bool, false, if◌then◌else◌, List, [], ◌∷◌, ◌++◌, Contains}
+use Rattle.std.specs.Prelude.{◌≡◌, ◌≢◌, ℕ, suc, ◌+◌, ◌^◌, ◌<◌, ◌≤◌, ◌⊎◌, ◌==◌, Bool, false, ◌&&◌, if◌then◌else◌, List, [], ◌∷◌, ◌++◌, Any, Contains}
 use Rattle.std.specs.List.{AllByRecursion, list_any}
 use Rattle.plane.specs.Plane.{Plane}
 use Rattle.plane.specs.Square.{IsSame, empty}
@@ -89,6 +89,13 @@ pub record IsConsistent (bits : ℕ) (known : Knowledge) : Type 0 where
       × KnowsSquareOf known result) known.results
   pub once : HasEachOnce known.results
 
+-- it knows that this word stands at this index: it has seen it, or knows the result that it tells
+abbrev pub KnowsWord : ℕ → Knowledge → ℕ → ℕ → Type 0
+KnowsWord bits known index word =
+    HasSeen known index word
+    ⊎ Any (λ result. (index ≡ result_of bits result.square) × (word ≡ 2 ^ 32 + result.future))
+    known.results
+
 -- each word that the one has seen, the other has seen too
 abbrev pub HasSeenAll : Knowledge → Knowledge → Type 0
 HasSeenAll old new = (entry : ℕ × ℕ) → Contains old.words entry → Contains new.words entry
@@ -100,10 +107,20 @@ pub record Grows (old new : Knowledge) : Type 0 where
   pub results : (result : KnownResult) → Contains old.results result → Contains new.results result
   pub learned : old.learned ≤ new.learned
 
--- both lists of results, with none for a square that has one
+-- whether this very result is among them
+abbrev pub has_this : List KnownResult → KnownResult → Bool
+has_this results result =
+    list_any (λ other. (other.level == result.level) && (other.square == result.square)
+    && (other.future == result.future)) results
+
+-- the results and this one, unless it is among them
+abbrev pub with_this : List KnownResult → KnownResult → List KnownResult
+with_this results result = if has_this results result then results else result ∷ results
+
+-- all results of both lists
 abbrev pub joined_results : List KnownResult → List KnownResult → List KnownResult
 joined_results one [] = one
-joined_results one (result ∷ results) = with_result (joined_results one results) result
+joined_results one (result ∷ results) = with_this (joined_results one results) result
 
 -- what either knew
 abbrev pub united : Knowledge → Knowledge → Knowledge

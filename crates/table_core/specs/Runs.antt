@@ -1,12 +1,12 @@
 -- Runs of a table: events of its desks in any order, splits and joins.
-use Rattle.std.specs.Prelude.{◌≡◌, ◌≢◌, ℕ, ◌==◌, if◌then◌else◌, List, [], ◌∷◌, ◌++◌, slice_get, slice_index, slice_set, Some}
+use Rattle.std.specs.Prelude.{◌≡◌, ◌≢◌, ℕ, ◌==◌, if◌then◌else◌, List, [], ◌∷◌, ◌++◌, Any, slice_get, slice_index, slice_set, Some}
 use Rattle.std.specs.List.{AllByRecursion}
 use Rattle.plane.specs.Plane.{Plane}
 use Rattle.table_core.specs.declared.key.Key.{Key}
 use Rattle.table_core.specs.declared.knowledge.Knowledge.{Knowledge}
 use Rattle.table_core.specs.declared.machine.Event.{Event}
 use Rattle.table_core.specs.Good.{AreGoodWords, KeepsWords}
-use Rattle.table_core.specs.Knowledge.{IsTrueOf, KnowsBlock, Grows, united, nothing}
+use Rattle.table_core.specs.Knowledge.{IsTrueOf, KnowsBlock, KnowsWord, Grows, united, nothing}
 use Rattle.table_core.specs.Events.{desk_of, index_of, words_after}
 use Rattle.table_core.specs.Lawful.{IsLawful}
 use Rattle.table_core.specs.Learning.{LearnsFrom}
@@ -90,11 +90,18 @@ KeepsKnowledge actions old new =
     (desk : ℕ) (known : Knowledge) → slice_get old.desks desk ≡ Some known →
     (later : Knowledge) × (slice_get new.desks (heir actions desk) ≡ Some later) × Grows known later
 
+-- where 0 stood and does not any more, some desk knows the word that came
+abbrev pub NewWordsAreKnown : ℕ → Table → Table → Type 0
+NewWordsAreKnown bits old new =
+    (index : ℕ) → slice_index old.words index ≡ 0 → slice_index new.words index ≢ 0 →
+    Any (λ known. KnowsWord bits known index (slice_index new.words index)) new.desks
+
 -- what holds of a table after a run
 pub record IsKept (key : Key) (actions : List Action) (old new : Table) : Type 0 where
   pub holds : IsSoundTable key new
   pub words : KeepsWords (slice_index old.words) (slice_index new.words)
   pub knowledge : KeepsKnowledge actions old new
+  pub new_words : NewWordsAreKnown key.shape.bits old new
   pub one_number : OneNumber new
 
 abbrev pub EveryRun : Type 0

@@ -11,8 +11,8 @@ pub fn every_way()
 {}
 
 /// After every list of events, splits and joins: the words are good, no word that stood there has
-/// changed, what each desk knows is true and no less than before, and a block has one number,
-/// whichever desks know it.
+/// changed, some desk knows each word that came, what each desk knows is true and no less than
+/// before, and a block has one number, whichever desks know it.
 pub fn every_run()
     ensures { EveryRun }
 {}

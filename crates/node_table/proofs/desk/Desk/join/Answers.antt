@@ -2,12 +2,10 @@ use Rattle.std.proofs.Common.{◌∙◌, ap, sym, subst, Some}
 use Rattle.atomic_table.specs.Table.{Me}
 use Rattle.table_core.specs.declared.key.Key.{Key}
 use Rattle.table_core.specs.declared.machine.Event.TheVariants.{Look}
-use Rattle.table_core.specs.Knowledge.{Grows, united}
-use Rattle.table_core.proofs.Knowing.{grows_trans, united_first}
+use Rattle.table_core.specs.Knowledge.{Grows}
 use Rattle.node_table.specs.declared.view.View.{View}
 use Rattle.node_table.specs.Desks.{store_of}
-use Rattle.std.proofs.lemmas.List.Elements.{Contains-append_right}
-use Rattle.node_table.proofs.Joining.{first_kept, second_kept}
+use Rattle.node_table.proofs.Joining.{first_known, second_known, first_kept, second_kept}
 use Rattle.node_table.proofs.Steps.{meets, joins, sound_by, some_words}
 use Rattle.node_table.proofs.desk.Desk.join.Goals as goal
 
@@ -52,16 +50,16 @@ returns-clause-first c =
     let t = c.args.table.now in
     let after = c.load-self.new.seat.me.0.known in
     let met = c.load-self.ensures.2 t.key (ap (λ me. me.0.key) c.join_seat.ensures.2 ∙ c.requires.own.same_key) in
-    first_kept (store_of t) t.key c.args.self.now.seat.me.0.known c.args.other.seat.me.0.known after ∣ met.coherent ∣₁
-    (subst (λ (me : Me (Unit {0}) View). Grows me.0.known after) c.join_seat.ensures.2 met.grows)
+    first_kept c.args.self.now.seat.me.0.known c.args.other.seat.me.0.known after
+    (subst (λ (me : Me (Unit {0}) View). Grows me.0.known after) c.join_seat.ensures.2 met.grows) (store_of t) t.key ∣ met.coherent ∣₁
 
 pub returns-clause-second : goal.returns-clause-second
 returns-clause-second c =
     let t = c.args.table.now in
     let after = c.load-self.new.seat.me.0.known in
     let met = c.load-self.ensures.2 t.key (ap (λ me. me.0.key) c.join_seat.ensures.2 ∙ c.requires.own.same_key) in
-    second_kept (store_of t) t.key c.args.self.now.seat.me.0.known c.args.other.seat.me.0.known after ∣ met.coherent ∣₁
-    (subst (λ (me : Me (Unit {0}) View). Grows me.0.known after) c.join_seat.ensures.2 met.grows) ((c.args.other.sound t.key c.requires.other.same_key).book (store_of t))
+    second_kept c.args.self.now.seat.me.0.known c.args.other.seat.me.0.known after
+    (subst (λ (me : Me (Unit {0}) View). Grows me.0.known after) c.join_seat.ensures.2 met.grows) (store_of t) t.key ∣ met.coherent ∣₁
 
 pub returns-clause-grows : goal.returns-clause-grows
 returns-clause-grows c =
@@ -70,5 +68,5 @@ returns-clause-grows c =
     let two = c.args.other.seat.me.0.known in
     let after = c.load-self.new.seat.me.0.known in
     let met = c.load-self.ensures.2 t.key (ap (λ me. me.0.key) c.join_seat.ensures.2 ∙ c.requires.own.same_key) in
-    let grows : Grows (united one two) after = subst (λ (me : Me (Unit {0}) View). Grows me.0.known after) c.join_seat.ensures.2 met.grows in
-    (grows_trans one (united one two) after (united_first one two) grows, λ entry seen. grows.words entry (Contains-append_right one.words two.words entry seen))
+    let grows = subst (λ (me : Me (Unit {0}) View). Grows me.0.known after) c.join_seat.ensures.2 met.grows in
+    (first_known one two after grows, second_known one two after grows)

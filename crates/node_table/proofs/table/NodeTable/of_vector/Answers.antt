@@ -1,11 +1,15 @@
-use Rattle.std.proofs.Common.{ap, sym, subst, refl, rules}
+use Rattle.std.proofs.Common.{◌≡◌, [], ap, sym, subst, refl, rules}
+use Rattle.std.specs.Prelude.{◌↔◌}
+use Rattle.atomic_table.specs.Table.{opening}
 use Rattle.rule_text.specs.CountRule.{IsRule}
 use Rattle.table_core.specs.declared.knowledge.Knowledge.{Knowledge}
 use Rattle.table_core.specs.Laws.{KnowsAll}
+use Rattle.node_table.specs.declared.still.Still.{Still}
 use Rattle.node_table.specs.declared.view.View.{View}
 use Rattle.node_table.specs.Books.{IsSound}
+use Rattle.node_table.specs.Rule.{IsSoundState}
 use Rattle.node_table.specs.Stills.{words_of}
-use Rattle.node_table.proofs.Openings.{everything_known, opened_sound, opening_holds}
+use Rattle.node_table.proofs.Openings.{begins_with, everything_known, opened_sound, opening_holds}
 use Rattle.node_table.proofs.table.NodeTable.of_vector.Goals as goal
 
 pub invariant_of-result-2 : goal.invariant_of-result-2
@@ -24,6 +28,8 @@ returns c =
     record {
       of_table = record { same_table = told.2; same_key = ap (λ me. me.0.key) told.4 };
       key = refl;
+      begins = λ begun. subst (λ (at : Still × View). IsSoundState {S = Unit {0}} at.0 (opening begun [] at.1) ↔ (begun ≡ still.words))
+          (λ i. (sym told.5 i, sym (ap (λ me. me.0) told.4) i)) (begins_with still begun);
       known = subst (λ (k : Knowledge). KnowsAll still.key.shape.bits (words_of still) k) (sym (ap (λ me. me.0.known) told.4)) (everything_known still);
       no_expansions = refl;
     }
