@@ -1,20 +1,28 @@
 -- Tables that were opened and have become full.
-use Rattle.std.proofs.Common.{◌≡◌, ◌⊎◌, ◌∙◌, ℕ, ◌^◌, inl, inr, ap, sym, subst}
-use Rattle.std.specs.Prelude.{IsTrue, Result, Ok, Err, IfOk}
+use Rattle.std.proofs.Common.{◌≡◌, ◌⊎◌, ◌∙◌, ℕ, ◌^◌, List, [], ◌∷◌, inl, inr, refl, ap, sym, subst, arith}
+use Rattle.std.specs.Prelude.{IsTrue, Result, Ok, Err, IfOk, map, slice_index}
+use Rattle.std.specs.List.{AllByRecursion}
 use Rattle.rule_text.specs.CountRule.{CountRule}
 use Rattle.plane.specs.declared.refusal.Refusal.{Refusal}
 use Rattle.plane.specs.declared.refusal.Refusal.TheVariants.{NodesFull, NoMemory}
 use Rattle.plane.specs.Square.{IsSame}
 use Rattle.plane.proofs.Same.{same_sym, same_trans}
-use Rattle.squares.specs.Book.{Book, IsKnown, Keeps, MayRefuse}
+use Rattle.squares.specs.Book.{AddsSquares, Book, IsKnown, Keeps, MayRefuse}
 use Rattle.squares.specs.declared.sq.Sq.{Sq}
 use Rattle.table_core.specs.declared.key.Key.{Key}
+use Rattle.table_core.specs.declared.knowledge.KnownResult.{KnownResult}
 use Rattle.table_core.specs.declared.shape.Shape.{Shape}
+use Rattle.table_core.specs.Blocks.{Words}
+use Rattle.table_core.specs.Knowledge.{IsTrueResult}
+use Rattle.table_core.specs.Opening.{IsFresh, Reopens}
+use Rattle.node_table.specs.declared.desk.Desk.{Desk}
 use Rattle.node_table.specs.declared.still.Still.{Still}
 use Rattle.node_table.specs.declared.table.NodeTable.{NodeTable}
+use Rattle.node_table.specs.Books.{square_of}
 use Rattle.node_table.specs.Desks.{book_at}
 use Rattle.node_table.specs.Openings.{Opens}
-use Rattle.node_table.specs.Stills.{IsVacant, book_in, key_of}
+use Rattle.node_table.specs.Stills.{IsVacant, book_in, key_of, words_of}
+use Rattle.node_table.proofs.AtWork.{IsBack}
 use Rattle.node_sweep.specs.CopiedStills.{IsSwept}
 use Rattle.squares.specs.Rounds.{square_plane}
 use Rattle.universe.specs.Cells.{exponent_of, limit_of, live_cells, root_of, rule_of, still_of}
@@ -50,6 +58,26 @@ fresh_table still rule exponent slots pairs same vacant is = record {
   under = (ap (λ (k : Key). k.exponent) is.opens.key, ap (λ (k : Key). k.rule) is.opens.key);
   size = ap (λ (k : Key). 2 ^ k.shape.bits) is.opens.key ∙ vacant.pair_count ∙ same;
 }
+
+-- where a head alone was opened under another, no result is told
+no_result_told : (was key : Key) (old new : Words) (result : KnownResult) → IsFresh was old → Reopens was key old new → IsTrueResult key.shape.bits new result → ⊥
+no_result_told was key old new result fresh reopens told =
+    let here : IsTrueResult was.shape.bits new result = subst (λ (s : Shape). IsTrueResult s.bits new result) reopens.shape told in
+    let vacant = reopens.vacant result.square here.slot (fresh.vacant _ (λ zero. absurd (omega (arith, zero, here.slot.from)))) in
+    absurd (omega (arith, vacant, here.told))
+
+-- at a table that was opened without a square no result is known
+pub no_result_at_first : (still : Still) (rule : CountRule) (exponent pairs : ℕ) (table : NodeTable) (desk : Desk) → IsVacant still pairs → Opens still rule exponent table desk → (book_at table desk).results ≡ []
+no_result_at_first still rule exponent pairs table desk vacant opens = none desk.seat.me.0.known.results opens.known.true_of.results
+  where
+    none : (results : List KnownResult) → AllByRecursion (IsTrueResult table.key.shape.bits (slice_index opens.words)) results → map square_of results ≡ []
+    none [] told = refl
+    none (result ∷ results) told = absurd (no_result_told still.key table.key (words_of still) (slice_index opens.words) result vacant.fresh opens.reopens told.0)
+
+-- where squares alone were added at work, the desk that is back knows no result that it did not know
+pub no_result_back : {table : NodeTable} {desk back : Desk} {begun ended : Book} → IsBack table desk back ended → begun.results ≡ (book_at table desk).results → AddsSquares begun ended →
+    (book_at table desk).results ≡ [] → (book_at table back).results ≡ []
+no_result_back back same adds none = sym back.results ∙ adds.results.results ∙ same ∙ none
 
 -- a table that was opened from the words, and later is full
 pub filled_up : (still : Still) (rule : CountRule) (exponent : ℕ) {opened now : OpenTable} → IsOpened still rule exponent opened → StaysOpen opened now → IsTrue (known_at now).is_full → HasFilledUp still rule exponent now

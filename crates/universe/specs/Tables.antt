@@ -1,5 +1,5 @@
 -- What is known at open tables.
-use Rattle.std.specs.Prelude.{◌≡◌, ℕ, ◌≤◌, ◌^◌, IsTrue}
+use Rattle.std.specs.Prelude.{◌≡◌, ℕ, ◌≤◌, ◌^◌, IsTrue, []}
 use Rattle.rule_text.specs.CountRule.{CountRule}
 use Rattle.node_table.specs.declared.desk.Desk.{Desk}
 use Rattle.node_table.specs.declared.still.Still.{Still}
@@ -70,11 +70,13 @@ pub record HasFilledUp (still : Still) (rule : CountRule) (exponent : ℕ)
   pub keeps : Keeps (book_at table.table first) (known_at table)
   pub full : IsTrue (known_at table).is_full
 
--- a table of so many pair slots for single generations by this rule, which was opened without a
--- square, is full
+-- a table is full as building may leave it: it has so many pair slots, is for single generations by
+-- this rule, was opened without a square, and knows no result. Which squares fill it is not said:
+-- they may be any, of use for the cells or not
 pub record HasFullTable (rule : CountRule) (pairs : ℕ) : Type 0 where
   pub still : Still
   pub vacant : IsVacant still pairs
   pub table : OpenTable
   pub size : pairs_in table ≡ pairs
   pub filled : HasFilledUp still rule 0 table
+  pub no_result : (known_at table).results ≡ []
