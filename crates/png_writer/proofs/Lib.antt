@@ -1,8 +1,13 @@
 pub mod Bits
+pub mod BlocksRead
 pub mod Chunks
 pub mod Cuts
+pub mod FilesRead
+pub mod ItemsRead
+pub mod Parts
 pub mod Rows
 pub mod RowsOfCodes
 pub mod Sends
 pub mod Streams
+pub mod SymbolsRead
 pub mod Zooms

@@ -1,6 +1,6 @@
 //! Pictures of cells.
 
-ghost use Rattle.std.specs.Prelude.{◌≡◌, ◌*◌, IsTrue};
+ghost use Rattle.std.specs.Prelude.{◌≡◌, ◌≤◌, ◌*◌, length, IfOk, IsTrue};
 ghost use Rattle.pattern_picture.specs.Scale.{IsShown, IsSize};
 ghost use Rattle.png_writer.specs.Picture.{IsSide};
 
@@ -40,7 +40,9 @@ fn assert_drawn<R: Abort + AllocGlobal>(
 }
 
 // The pixels of a drawing.
-fn image_of<R: Abort + AllocGlobal>(rt: &R, drawing: &Drawing) -> Result<Image, Fail> {
+fn image_of<R: Abort + AllocGlobal>(rt: &R, drawing: &Drawing) -> Result<Image, Fail>
+    ensures { IfOk result (λ image. 1 ≤ length image.rows) }
+{
     let (zoom, width, height) = (
         drawing.scale.zoom,
         drawing.blocks.width,

@@ -1,12 +1,16 @@
 //! The files of pictures.
 
+ghost use Rattle.std.specs.Prelude.{◌≤◌, length};
+
 use plane::Memory;
 use png_writer::Image;
 use std::alloc::Global;
 use std::test::Fail;
 
 // The length of a picture's file, and the checksum of its last chunk of pixels.
-pub(crate) fn length_and_checksum(alloc: Global, image: &Image) -> Result<(usize, u32), Fail> {
+pub(crate) fn length_and_checksum(alloc: Global, image: &Image) -> Result<(usize, u32), Fail>
+    requires { 1 ≤ length image.now.rows }
+{
     let mut file = Memory::with_room(alloc, 140_000)?;
     image.write(&mut file)?;
     let Some(checksum) = checksum_of_pixels(file.bytes()) else {

@@ -23,6 +23,7 @@ fn row_at(alloc: Global, width: u32, y: u32) -> Result<Vec<u8>, AllocError>
 fn picture(alloc: Global, width: u32, height: u32) -> Result<Image, Refusal>
     requires width { IsSide width }
     requires height { IsSide height }
+    ensures { IfOk result (λ image. length image.rows ≡ height) }
 {
     let mut image = Image::with_room(alloc, width, height)?;
     for y in 0..height {
