@@ -1,10 +1,12 @@
 -- How a view ends.
 use Rattle.std.proofs.Common.{◌≡◌, ℕ, Option, List, ◌++◌, Ok, Err, refl, ap, subst, inl, inr}
 use Rattle.std.specs.Io.KnownBytes.{Appends}
+use Rattle.plane.specs.Device.{AppendsBeginning}
+use Rattle.plane.proofs.Beginnings.{beginning_of_more, text_and_beginning}
 use Rattle.std.proofs.KnownBytes.{Appends-trans}
 use Rattle.plane.specs.Fault.{placeless}
 use Rattle.plane.specs.Plane.{Plane}
-use Rattle.plane.specs.SinkChange.{SinkChange, Fails, IsUnfailed, Takes}
+use Rattle.plane.specs.SinkChange.{SinkChange, Fails, IsUnfailed, Takes, TakesBeginning}
 use Rattle.plane.specs.declared.cell.Bounds.{Bounds}
 use Rattle.plane.specs.declared.fault.Fault.{Fault}
 use Rattle.plane.specs.declared.refusal.Refusal.{Refusal}
@@ -12,7 +14,6 @@ use Rattle.plane.specs.declared.refusal.Refusal.TheVariants.{NoMemory, WriteFail
 use Rattle.engine.specs.Accepted.{IsRefused}
 use Rattle.engine.specs.Last.{EndsWith}
 use Rattle.engine.specs.Pictures.{IsScale, Scale}
-use Rattle.engine.specs.Run.{IsAcceptedRun}
 use Rattle.engine.specs.RunOptions.{without_output}
 use Rattle.engine.specs.SummaryLine.{summary_line}
 use Rattle.engine.specs.declared.options.Options.{Options}
@@ -41,15 +42,8 @@ module _ {W V : Type 0} (bytes : List ℕ) (view : View) (name : List ℕ) (repo
     refused = inl (refused, same, same_file);
   }
 
-  -- a view whose report failed
-  pub report_failed : (refusal : Refusal) → refusal ≡ WriteFailed → IsAcceptedRun bytes (without_output view.run) → Fails report → file.new ≡ file.old → IsView bytes view name report file (Err (placeless refusal))
-  report_failed refusal is accepted failed same_file =
-      let told = ap placeless is in record { finished = tt; unfailed = inl (ap Err told); refused = inr (inl (told, accepted, failed, same_file)) }
-
-  -- a view that has written its two lines
-  module _ (plane : Plane) (answer : Summary) (ends : EndsWith bytes (without_output view.run) plane answer) (picture : Picture) (shows : IsPictureOf plane (rectangle_shown view.window answer.bounds) view.size picture)
-      (between : Option (List ℕ)) (first : Appends (report.taken report.old) between (summary_line answer))
-      (second : (scale : Scale) × IsScale (rectangle_shown view.window answer.bounds) view.size scale × Appends between (report.taken report.new) (picture_line name (rectangle_shown view.window answer.bounds) scale)) where
+  -- a view that has its picture
+  module _ (plane : Plane) (answer : Summary) (ends : EndsWith bytes (without_output view.run) plane answer) (picture : Picture) (shows : IsPictureOf plane (rectangle_shown view.window answer.bounds) view.size picture) where
     abbrev shown : Bounds
     shown = rectangle_shown view.window answer.bounds
 
@@ -59,21 +53,42 @@ module _ {W V : Type 0} (bytes : List ℕ) (view : View) (name : List ℕ) (repo
     is_drawn : IsDrawn bytes view name lines picture
     is_drawn = record { plane = plane; answer = answer; ends = ends; shows = shows; lines = refl }
 
-    takes_lines : Takes report lines
-    takes_lines =
-        let one = one_scale_lem shown view.size second.0 shows.scale second.1 shows.scaled in
-        Appends-trans _ _ _ _ _ first (subst (λ scale. Appends between (report.taken report.new) (picture_line name shown scale)) one second.2)
-
-    -- and whose file failed
-    pub file_failed : (refusal : Refusal) → refusal ≡ WriteFailed → Fails file → IsView bytes view name report file (Err (placeless refusal))
-    file_failed refusal is failed =
+    report_failed : (refusal : Refusal) → refusal ≡ WriteFailed → Fails report → file.new ≡ file.old → TakesBeginning report lines → IsView bytes view name report file (Err (placeless refusal))
+    report_failed refusal is failed same_file begun =
         let told = ap placeless is in
-        record { finished = tt; unfailed = inl (ap Err told); refused = inr (inr (told, (lines, picture, is_drawn, takes_lines), failed)) }
+        record { finished = tt; unfailed = inl (ap Err told); refused = inr (inl (told, (lines, picture, is_drawn, begun), failed, same_file)) }
 
-    -- and the picture
-    pub ends_well : IsUnfailed report → IsUnfailed file → ((drawn : List ℕ) × IsPngFile picture.width picture.rows drawn × Takes file drawn) → IsView bytes view name report file (Ok tt)
-    ends_well unfailed file_unfailed takes = record {
-      finished = (lines, picture, is_drawn, takes_lines, takes);
-      unfailed = inr (file_unfailed, unfailed);
-      refused = tt;
-    }
+    -- and whose report failed in its first line
+    pub first_line_failed : (refusal : Refusal) → refusal ≡ WriteFailed → Fails report → file.new ≡ file.old → TakesBeginning report (summary_line answer) → IsView bytes view name report file (Err (placeless refusal))
+    first_line_failed refusal is failed same_file begun = report_failed refusal is failed same_file (beginning_of_more (picture_line name shown shows.scale) begun)
+
+    -- and has written its first line
+    module _ (between : Option (List ℕ)) (first : Appends (report.taken report.old) between (summary_line answer)) where
+      -- and whose report failed in its second
+      pub second_line_failed : (refusal : Refusal) → refusal ≡ WriteFailed → Fails report → file.new ≡ file.old →
+          ((scale : Scale) × IsScale shown view.size scale × AppendsBeginning between (report.taken report.new) (picture_line name shown scale)) → IsView bytes view name report file (Err (placeless refusal))
+      second_line_failed refusal is failed same_file second =
+          let one = one_scale_lem shown view.size second.0 shows.scale second.1 shows.scaled in
+          report_failed refusal is failed same_file
+          (text_and_beginning (summary_line answer) first (subst (λ scale. AppendsBeginning between (report.taken report.new) (picture_line name shown scale)) one second.2))
+
+      -- and has written both
+      module _ (second : (scale : Scale) × IsScale shown view.size scale × Appends between (report.taken report.new) (picture_line name shown scale)) (unfailed : IsUnfailed report) where
+        takes_lines : Takes report lines
+        takes_lines =
+            let one = one_scale_lem shown view.size second.0 shows.scale second.1 shows.scaled in
+            Appends-trans _ _ _ _ _ first (subst (λ scale. Appends between (report.taken report.new) (picture_line name shown scale)) one second.2)
+
+        -- and whose file failed
+        pub file_failed : (refusal : Refusal) → refusal ≡ WriteFailed → Fails file → IsView bytes view name report file (Err (placeless refusal))
+        file_failed refusal is failed =
+            let told = ap placeless is in
+            record { finished = tt; unfailed = inl (ap Err told); refused = inr (inr (told, (lines, picture, is_drawn, takes_lines), unfailed, failed)) }
+
+        -- and the picture
+        pub ends_well : IsUnfailed file → ((drawn : List ℕ) × IsPngFile picture.width picture.rows drawn × Takes file drawn) → IsView bytes view name report file (Ok tt)
+        ends_well file_unfailed takes = record {
+          finished = (lines, picture, is_drawn, takes_lines, takes);
+          unfailed = inr (file_unfailed, unfailed);
+          refused = tt;
+        }

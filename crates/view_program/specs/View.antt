@@ -2,12 +2,11 @@
 use Rattle.std.specs.Prelude.{◌≡◌, ◌⊎◌, ℕ, List, ◌++◌, Result, Err, IfErr, OnOk}
 use Rattle.plane.specs.Fault.{placeless}
 use Rattle.plane.specs.Plane.{Plane}
-use Rattle.plane.specs.SinkChange.{SinkChange, Fails, IsUnfailed, Takes}
+use Rattle.plane.specs.SinkChange.{SinkChange, Fails, IsUnfailed, Takes, TakesBeginning}
 use Rattle.plane.specs.declared.fault.Fault.{Fault}
 use Rattle.plane.specs.declared.refusal.Refusal.TheVariants.{WriteFailed}
 use Rattle.engine.specs.Accepted.{IsRefused}
 use Rattle.engine.specs.Last.{EndsWith}
-use Rattle.engine.specs.Run.{IsAcceptedRun}
 use Rattle.engine.specs.RunOptions.{without_output}
 use Rattle.engine.specs.SummaryLine.{summary_line}
 use Rattle.engine.specs.declared.running.Summary.{Summary}
@@ -35,20 +34,22 @@ HasDrawn bytes view name report file =
     (said : List ℕ) × (picture : Picture) × IsDrawn bytes view name said picture × Takes report said
     × ((drawn : List ℕ) × IsPngFile picture.width picture.rows drawn × Takes file drawn)
 
--- a view was refused: its run was, or memory ran out, and nothing was written; or the run is
--- accepted, and a sink failed: that of the report, and nothing was written to the file; or that of
--- the file, after the whole report
+-- a view was refused: its run was, or memory ran out, and nothing was written; or it can be drawn,
+-- and a sink failed: that of the report, which took a beginning of what is said, and nothing was
+-- written to the file; or that of the file, after the whole report
 abbrev pub HasNotDrawn : {W V : Type 0} → List ℕ → View → List ℕ → SinkChange W → SinkChange V →
     Fault → Type 0
 HasNotDrawn bytes view name report file fault =
     (IsRefused bytes (without_output view.run) fault × (report.new ≡ report.old)
     × (file.new ≡ file.old))
-    ⊎ ((fault ≡ placeless WriteFailed) × IsAcceptedRun bytes (without_output view.run)
+    ⊎ ((fault ≡ placeless WriteFailed)
+    × ((said : List ℕ) × (picture : Picture) × IsDrawn bytes view name said picture
+    × TakesBeginning report said)
     × Fails report × (file.new ≡ file.old))
     ⊎ ((fault ≡ placeless WriteFailed)
     × ((said : List ℕ) × (picture : Picture) × IsDrawn bytes view name said picture
     × Takes report said)
-    × Fails file)
+    × IsUnfailed report × Fails file)
 
 -- what a view of these bytes does to its report and to its file, and what it answers
 pub record IsView {W V : Type 0} (bytes : List ℕ) (view : View) (name : List ℕ)

@@ -1,8 +1,8 @@
 //! The line that says what a pixel is.
 
-ghost use Rattle.std.specs.Prelude.{◌≡◌, ◌≤◌, ◌+◌, ◌^◌, ◌++◌, OnOk, length};
+ghost use Rattle.std.specs.Prelude.{◌≡◌, ◌≤◌, ◌+◌, ◌^◌, ◌++◌, OnErr, OnOk, length};
 ghost use Rattle.std.specs.Io.KnownBytes.{Appends};
-ghost use Rattle.plane.specs.Device.{TellsFailure};
+ghost use Rattle.plane.specs.Device.{AppendsBeginning, TellsFailure};
 ghost use Rattle.engine.specs.Pictures.{IsScale, IsShown, IsSize, Scale, longer_side};
 ghost use Rattle.view_program.specs.PictureLine.{picture_line, pixel_words, product_words, scale_words};
 
@@ -26,6 +26,9 @@ pub(crate) fn write_picture_line<W: Sink>(
     requires size { IsSize size }
     ensures written { OnOk result ((scale : Scale) × IsScale shown size scale
         × Appends (W.taken out.old) (W.taken out.new) (picture_line name.now shown scale)) }
+    ensures beginning { OnErr result ((scale : Scale) × IsScale shown size scale
+        × AppendsBeginning (W.taken out.old) (W.taken out.new)
+            (picture_line name.now shown scale)) }
     ensures failure { TellsFailure (W.failure_count out.old) (W.failure_count out.new) result }
 {
     let line = scale_words(shown, Scale::of(shown, size));

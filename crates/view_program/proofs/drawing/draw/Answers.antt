@@ -1,7 +1,7 @@
-use Rattle.std.proofs.Common.{◌≡◌, Err, ap, length, rules, refl, sym, ◌∙◌, subst}
+use Rattle.std.proofs.Common.{◌≡◌, Err, ap, arith, length, rules, refl, sym, ◌∙◌, subst}
 use Rattle.std.proofs.result.Match.{err_is}
 use Rattle.std.specs.Io.KnownBytes.{Appends}
-use Rattle.plane.specs.Device.{HasFailed}
+use Rattle.plane.specs.Device.{AppendsBeginning, HasFailed}
 use Rattle.plane.specs.Fault.{placeless}
 use Rattle.plane.specs.declared.cell.Bounds.{Bounds}
 use Rattle.plane.specs.declared.refusal.Refusal.TheVariants.{NoMemory}
@@ -13,7 +13,7 @@ use Rattle.view_program.specs.Drawn.{IsPictureOf}
 use Rattle.view_program.specs.PictureLine.{picture_line}
 use Rattle.view_program.proofs.RowsOfBlocks.{columns_fit, picture_drawn, rows_fit, shades-length}
 use Rattle.view_program.proofs.ShownBoxes.{can_be_shown}
-use Rattle.view_program.proofs.Views.{ends_well, file_failed, out_of_memory, refused_at_once, report_failed}
+use Rattle.view_program.proofs.Views.{ends_well, file_failed, first_line_failed, out_of_memory, refused_at_once, second_line_failed}
 use Rattle.view_program.proofs.drawing.draw.Goals as goal
 
 pub returns-in_err-last : goal.returns-in_err-last
@@ -58,18 +58,32 @@ returns-in_err-image g c =
 
 pub returns-in_err-write_summary : goal.returns-in_err-write_summary
 returns-in_err-write_summary g c =
+    let view = c.args.view.now in
+    let plane = plane_of c.in_ok-last.last in
+    let answer = c.in_ok-last.summary in
+    let image = c.in_ok-image.image in
+    let drawn = picture_drawn plane _ view.size c.in_ok-drawing.drawing c.in_ok-drawing.ensures.drawn _ c.as_slice.ensures.value image c.in_ok-image.ensures.width c.in_ok-image.ensures.rows in
+    let shows = subst (λ (box : Bounds). IsPictureOf plane box view.size image) c.rectangle_shown-shown.ensures drawn in
     let is : c.from_residual-in_err-write_summary.result ≡ Err (placeless c.in_err-write_summary.field-0.0) = err_is _ _ c.from_residual-in_err-write_summary.ensures.1 in
-    let ends = c.in_ok-last.ensures.ok in
-    rw is (report_failed c.args.bytes.now c.args.view.now c.args.name.now _ _ c.in_err-write_summary.field-0.0 c.in_err-write_summary.ensures.failure.refused.0 (ends.start, ends.accepted)
-    c.in_err-write_summary.ensures.failure.refused.1 refl)
+    let refused = c.in_err-write_summary.ensures.failure.refused in
+    rw is (first_line_failed c.args.bytes.now view c.args.name.now _ _ plane answer c.in_ok-last.ensures.ok image shows c.in_err-write_summary.field-0.0 refused.0 refused.1 refl c.in_err-write_summary.ensures.beginning)
 
 pub returns-in_err-write_picture_line : goal.returns-in_err-write_picture_line
 returns-in_err-write_picture_line g c =
+    let view = c.args.view.now in
+    let plane = plane_of c.in_ok-last.last in
+    let answer = c.in_ok-last.summary in
+    let image = c.in_ok-image.image in
+    let same = c.rectangle_shown-shown.ensures in
+    let drawn = picture_drawn plane _ view.size c.in_ok-drawing.drawing c.in_ok-drawing.ensures.drawn _ c.as_slice.ensures.value image c.in_ok-image.ensures.width c.in_ok-image.ensures.rows in
+    let shows = subst (λ (box : Bounds). IsPictureOf plane box view.size image) same drawn in
     let is : c.from_residual-in_err-write_picture_line.result ≡ Err (placeless c.in_err-write_picture_line.field-0.0) = err_is _ _ c.from_residual-in_err-write_picture_line.ensures.1 in
-    let ends = c.in_ok-last.ensures.ok in
     let refused = c.in_err-write_picture_line.ensures.failure.refused in
     let failed = subst (λ n. HasFailed n (g.W.Sink.failure_count c.write_picture_line.new.out)) c.in_ok-write_summary.ensures.failure.unfailed refused.1 in
-    rw is (report_failed c.args.bytes.now c.args.view.now c.args.name.now _ _ c.in_err-write_picture_line.field-0.0 refused.0 (ends.start, ends.accepted) failed refl)
+    let begun = subst (λ (box : Bounds). (scale : Scale) × IsScale box view.size scale × AppendsBeginning (g.W.Sink.taken c.write_summary.new.out) (g.W.Sink.taken c.write_picture_line.new.out) (picture_line c.args.name.now box scale)) same
+    c.in_err-write_picture_line.ensures.beginning in
+    rw is (second_line_failed c.args.bytes.now view c.args.name.now _ _ plane answer c.in_ok-last.ensures.ok image shows (g.W.Sink.taken c.write_summary.new.out) c.in_ok-write_summary.ensures.written
+    c.in_err-write_picture_line.field-0.0 refused.0 failed refl begun)
 
 pub returns-in_err-write : goal.returns-in_err-write
 returns-in_err-write g c =
@@ -83,7 +97,8 @@ returns-in_err-write g c =
     let line = subst (λ (box : Bounds). (scale : Scale) × IsScale box view.size scale × Appends (g.W.Sink.taken c.write_summary.new.out) (g.W.Sink.taken c.write_picture_line.new.out) (picture_line c.args.name.now box scale)) same
     c.in_ok-write_picture_line.ensures.written in
     let is : c.from_residual-in_err-write.result ≡ Err (placeless c.in_err-write.field-0.0) = err_is _ _ c.from_residual-in_err-write.ensures.1 in
-    rw is (file_failed c.args.bytes.now view c.args.name.now _ _ plane answer c.in_ok-last.ensures.ok image shows (g.W.Sink.taken c.write_summary.new.out) c.in_ok-write_summary.ensures.written line
+    let unfailed = c.in_ok-write_picture_line.ensures.failure.unfailed ∙ c.in_ok-write_summary.ensures.failure.unfailed in
+    rw is (file_failed c.args.bytes.now view c.args.name.now _ _ plane answer c.in_ok-last.ensures.ok image shows (g.W.Sink.taken c.write_summary.new.out) c.in_ok-write_summary.ensures.written line unfailed
     c.in_err-write.field-0.0 c.in_err-write.ensures.failure.refused.0 c.in_err-write.ensures.failure.refused.1)
 
 pub returns : goal.returns
@@ -99,3 +114,8 @@ returns g c =
     c.in_ok-write_picture_line.ensures.written in
     ends_well c.args.bytes.now view c.args.name.now _ _ plane answer c.in_ok-last.ensures.ok image shows (g.W.Sink.taken c.write_summary.new.out) c.in_ok-write_summary.ensures.written line
     (c.in_ok-write_picture_line.ensures.failure.unfailed ∙ c.in_ok-write_summary.ensures.failure.unfailed) c.in_ok-write.ensures.failure.unfailed c.in_ok-write.ensures.written
+
+pub write-requires : goal.write-requires
+write-requires g c =
+    let fit = rows_fit (plane_of c.in_ok-last.last) _ c.args.view.now.size c.in_ok-drawing.drawing c.in_ok-drawing.ensures.drawn c.requires.size in
+    omega (arith, c.in_ok-image.ensures.height, fit.0)

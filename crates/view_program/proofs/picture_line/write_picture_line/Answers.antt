@@ -1,7 +1,10 @@
-use Rattle.std.proofs.Common.{◌≡◌, OnOk, rules, subst}
+use Rattle.std.proofs.Common.{◌≡◌, Err, OnOk, rules, subst}
 use Rattle.std.specs.Io.KnownBytes.{Appends}
 use Rattle.std.proofs.KnownBytes.{Appends-trans}
+use Rattle.std.specs.Prelude.{OnErr}
 use Rattle.std.proofs.lemmas.Result.{on_ok_weaker}
+use Rattle.plane.proofs.Beginnings.{beginning_of_more, text_and_beginning}
+use Rattle.plane.specs.Device.{AppendsBeginning}
 use Rattle.view_program.specs.PictureLine.{scale_words}
 use Rattle.view_program.proofs.picture_line.write_picture_line.Goals as goal
 
@@ -14,3 +17,9 @@ returns-clause-written g c =
     on_ok_weaker c.write_all-2.result
     (λ wrote. (scale, c.of.ensures, Appends-trans _ _ _ c.args.name.now (scale_words c.args.shown scale) first wrote))
     (subst (λ bytes. OnOk c.write_all-2.result (Appends (g.W.Sink.taken c.write_all.new.sink) (g.W.Sink.taken c.write_all-2.new.sink) bytes)) words c.write_all-2.ensures.written)
+
+pub returns-in_err-write_all-clause-beginning : goal.returns-in_err-write_all-clause-beginning
+returns-in_err-write_all-clause-beginning g c = ?
+
+pub returns-clause-beginning : goal.returns-clause-beginning
+returns-clause-beginning g c = ?
