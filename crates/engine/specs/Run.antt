@@ -90,9 +90,10 @@ abbrev pub IsBegun : List ℕ → Options → List ℕ → Type 0
 IsBegun bytes options said =
     ((is_macrocell bytes ≡ true) × (said ≡ [])) ⊎ HasBegun bytes options said
 
--- a run has said nothing, before its first line or since it is quiet, and may stand at any
--- generation. Its text and its rule are accepted. A table of as many pair slots as the options
--- allow, opened under this rule without a square, is full, whatever filled it
+-- a run has said nothing, and a table is full as building the file's squares may leave it: it has
+-- as many pair slots as the options allow, was opened under this rule without a square, and knows
+-- no result. The text and the rule are accepted. Which squares fill the table is not said: they may
+-- be any, of use for the cells or not
 pub record IsFullWithNothingSaid (bytes : List ℕ) (options : Options) (said : List ℕ) : Type 0 where
   pub meaning : Meaning
   pub rule : CountRule
@@ -109,7 +110,7 @@ pub record IsFullOnTheWay (bytes : List ℕ) (options : Options) (said : List �
   pub report : IsBeginning start.meaning start.rule options said
   pub stuck : IsStuckWithin start.rule start.meaning.live options.pairs options.gens
 
--- tables of as many pair slots as the options allow are full and nothing is said, or they are full
+-- a table is full as building may leave it, and nothing is said; or the run, quiet or not, is full
 -- on the way
 abbrev pub IsOutOfTables : List ℕ → Options → List ℕ → Type 0
 IsOutOfTables bytes options said =
