@@ -1,14 +1,14 @@
 -- Each move keeps the rule of a deque of jobs.
-use Rattle.std.proofs.Common.{◌≡◌, ◌≢◌, ◌<◌, ◌+◌, ℕ, zero, suc, true, false, true≢false, All, List, [], ◌∷◌, ◌++◌, length, set, sym, refl, ap, ◌∙◌, subst, ⊎_elim, append_assoc, arith, Option, Some, None, IfSome, MatchOption, ◌≤◌}
+use Rattle.std.proofs.Common.{◌≡◌, ◌≢◌, ◌+◌, ℕ, zero, suc, true, false, true≢false, All, List, [], ◌∷◌, ◌++◌, length, set, sym, refl, ap, ◌∙◌, subst, ⊎_elim, append_assoc, arith, get_or, ◌≤◌}
+use Rattle.std.specs.Prelude.{Contains}
 use mathlib.Core.Option.{some, some-ne-none}
 use lib.ListN.{get_elem?}
-use lib.Seq.{take-append_seam, drop-append_seam}
 use Rattle.std.proofs.lemmas.List.{length-set}
-use Rattle.std.proofs.lemmas.List.Elements.{All-take, All-drop}
-use Rattle.crossbeam_deque.specs.Tasks.{Pushes, Takes, Forks}
+use Rattle.std.proofs.lemmas.List.Elements.{All-contains_itself, Contains-append_left, Contains-append_right}
+use Rattle.crossbeam_deque.specs.Tasks.{Pushes, Takes, Finds, Forks}
 use Rattle.crossbeam_deque.proofs.Lists.{at_set, at_snoc}
 use Rattle.job_queues.specs.declared.queues.Seen.{Seen}
-use Rattle.job_queues.specs.Queues.{seen, IsPiece, Knows, HoldsEnd}
+use Rattle.job_queues.specs.Queues.{seen, IsEnd, Knows, AllKnow, AreTaken}
 use Rattle.job_queues.specs.Shares.{jobs_between}
 use Rattle.job_queues.proofs.Ranges.{one_more_job}
 
@@ -19,72 +19,97 @@ only_one (v ∷ []) zero (suc j) a b one at other = absurd (some-ne-none b (sym 
 only_one (v ∷ []) (suc i) j a b one at other = absurd (some-ne-none a (sym at))
 only_one (v ∷ w ∷ vs) i j a b one at other = absurd (omega (arith, one))
 
-pub begins : HoldsEnd [] (seen true [] ∷ [])
-begins =
-    let v = seen true [] in (
-      [],
-      λ j u e. ⊎_elim (λ (x : (j ≡ 0) × (v ≡ u)). subst (λ y. Knows [] (v ∷ []) y) x.1 (refl, λ _. refl))
-          (λ (x : (j ≢ 0) × (get_elem? (v ∷ []) j ≡ some u)). absurd (x.0 (only_one (v ∷ []) j 0 u v refl x.1 refl))) (at_set (v ∷ []) 0 j v u e),
-    )
+-- an end of what stands behind others is an end of the whole
+end_behind : (xs ys all : List ℕ) → IsEnd (xs ++ ys) all → IsEnd ys all
+end_behind xs ys all e = (e.0 ++ xs, e.1 ∙ sym (append_assoc e.0 xs ys))
 
-pub pushes : (port : ℕ) (v : Seen) (x : ℕ) → v.alone ≡ true → Pushes HoldsEnd port v (x ∷ []) (λ w. w ≡ seen true (v.pushed ++ x ∷ []))
+end_of_end : (xs ys all : List ℕ) → IsEnd xs ys → IsEnd ys all → IsEnd xs all
+end_of_end xs ys all e f = (f.0 ++ e.0, f.1 ∙ (ap (λ l. f.0 ++ l) e.1 ∙ sym (append_assoc f.0 e.0 xs)))
+
+end_more : (xs all more : List ℕ) → IsEnd xs all → IsEnd (xs ++ more) (all ++ more)
+end_more xs all more e = (e.0, ap (λ l. l ++ more) e.1 ∙ append_assoc e.0 xs more)
+
+-- the first jobs of an end are among all
+among_all : (xs ys all : List ℕ) → IsEnd (xs ++ ys) all → All (Contains all) xs
+among_all xs ys all e k d less =
+    let x = get_or xs k d in
+    subst (λ l. Contains l x) (sym e.1) (Contains-append_right e.0 (xs ++ ys) x (Contains-append_left xs ys x (All-contains_itself xs k d less)))
+
+pub begins : AllKnow [] (seen true [] [] ∷ [])
+begins =
+    let v = seen true [] [] in
+    let known : Knows [] (v ∷ []) v = record { share = ([], refl); left = ([], refl); alone = λ _. (refl, refl) } in
+    λ j u e. ⊎_elim (λ (x : (j ≡ 0) × (v ≡ u)). subst (λ y. Knows [] (v ∷ []) y) x.1 known)
+    (λ (x : (j ≢ 0) × (get_elem? (v ∷ []) j ≡ some u)). absurd (x.0 (only_one (v ∷ []) j 0 u v refl x.1 refl))) (at_set (v ∷ []) 0 j v u e)
+
+pub pushes : (port : ℕ) (v : Seen) (x : ℕ) → v.alone ≡ true → Pushes AllKnow port v (x ∷ []) (λ w. w ≡ seen true (v.share ++ x ∷ []) (v.left ++ x ∷ []))
 pushes port v x alone items views h at =
-    let w = seen true (v.pushed ++ x ∷ []) in
-    let mine = h.1 port v at in
-    let one = mine.1 alone in (
+    let w = seen true (v.share ++ x ∷ []) (v.left ++ x ∷ []) in
+    let mine = h port v at in
+    let one = mine.alone alone in
+    let known : Knows (items ++ x ∷ []) (set views port w) w = record {
+      share = end_more v.left v.share (x ∷ []) mine.share;
+      left = end_more items v.left (x ∷ []) mine.left;
+      alone = λ _. (length-set views port w ∙ one.0, ap (λ l. l ++ x ∷ []) one.1);
+    } in (
       w,
-      (
-        h.0,
-        λ j u e. ⊎_elim (λ (y : (j ≡ port) × (w ≡ u)). subst (λ z. Knows (h.0 ++ (items ++ x ∷ [])) (set views port w) z) y.1
-            (ap (λ l. l ++ x ∷ []) mine.0 ∙ append_assoc h.0 items (x ∷ []), λ _. length-set views port w ∙ one))
-            (λ (y : (j ≢ port) × (get_elem? views j ≡ some u)). absurd (y.0 (only_one views j port u v one y.1 at))) (at_set views port j w u e),
-      ),
+      λ j u e. ⊎_elim (λ (y : (j ≡ port) × (w ≡ u)). subst (λ z. Knows (items ++ x ∷ []) (set views port w) z) y.1 known)
+          (λ (y : (j ≢ port) × (get_elem? views j ≡ some u)). absurd (y.0 (only_one views j port u v one.0 y.1 at))) (at_set views port j w u e),
       refl,
     )
 
-pub takes : (port : ℕ) (v : Seen) → Takes HoldsEnd port v 1 (λ xs w. (w ≡ v) × IsPiece xs v.pushed)
+pub takes : (port : ℕ) (v : Seen) → Takes AllKnow port v 1 (AreTaken v)
 takes port v xs items views _ _ h at =
-    let mine = h.1 port v at in
-    let moved : (u : Seen) → Knows (h.0 ++ (xs ++ items)) views u → Knows ((h.0 ++ xs) ++ items) (set views port v) u = λ u k. (k.0 ∙ sym (append_assoc h.0 xs items), λ a. length-set views port v ∙ k.1 a) in (
-      v,
-      (
-        h.0 ++ xs,
-        λ j u e. ⊎_elim (λ (y : (j ≡ port) × (v ≡ u)). subst (λ z. Knows ((h.0 ++ xs) ++ items) (set views port v) z) y.1 (moved v mine))
-            (λ (y : (j ≢ port) × (get_elem? views j ≡ some u)). moved u (h.1 j u y.1)) (at_set views port j v u e),
-      ),
-      (refl, (h.0, items, mine.0)),
+    let w = seen v.alone v.share items in
+    let vs = set views port w in
+    let mine = h port v at in
+    let known : Knows items vs w = record {
+      share = end_behind xs items v.share (end_of_end (xs ++ items) v.left v.share mine.left mine.share);
+      left = ([], refl);
+      alone = λ a. (length-set views port w ∙ (mine.alone a).0, refl);
+    } in
+    let others : (j : ℕ) (u : Seen) → j ≢ port → get_elem? views j ≡ some u → Knows items vs u = λ j u other there.
+    let theirs = h j u there in
+    record {
+      share = theirs.share;
+      left = end_behind xs items u.left theirs.left;
+      alone = λ a. absurd (other (only_one views j port u v (theirs.alone a).0 there at));
+    } in (
+      w,
+      λ j u e. ⊎_elim (λ (y : (j ≡ port) × (w ≡ u)). subst (λ z. Knows items vs z) y.1 known)
+          (λ (y : (j ≢ port) × (get_elem? views j ≡ some u)). others j u y.0 y.1) (at_set views port j w u e),
+      record {
+        share = refl;
+        alone = refl;
+        of_share = among_all xs items v.share (end_of_end (xs ++ items) v.left v.share mine.left mine.share);
+        first = mine.left;
+        next = λ a. sym (mine.alone a).1;
+      },
     )
 
-pub forks : (port : ℕ) (v : Seen) → Forks HoldsEnd port v (seen false v.pushed) (seen false v.pushed)
+-- the only pass finds no job only if it knows that none is left
+pub finds : (port : ℕ) (v : Seen) → Finds AllKnow port v (v.alone ≡ true → v.left ≡ [])
+finds port v views h at alone = sym ((h port v at).alone alone).1
+
+pub forks : (port : ℕ) (v : Seen) → Forks AllKnow port v (seen false v.share v.left) (seen false v.share v.left)
 forks port v items views h at =
-    let l = seen false v.pushed in
+    let l = seen false v.share v.left in
     let vs = set views port l in
-    let mine = h.1 port v at in
-    let known : Knows (h.0 ++ items) (vs ++ l ∷ []) l = (mine.0, λ p. absurd (true≢false (sym p))) in (
-      h.0,
-      λ j u e. ⊎_elim (λ (x : get_elem? vs j ≡ some u). ⊎_elim (λ (y : (j ≡ port) × (l ≡ u)). subst (λ z. Knows (h.0 ++ items) (vs ++ l ∷ []) z) y.1 known)
-          (λ (y : (j ≢ port) × (get_elem? views j ≡ some u)). ((h.1 j u y.1).0, λ a. absurd (y.0 (only_one views j port u v ((h.1 j u y.1).1 a) y.1 at)))) (at_set views port j l u x))
-          (λ (is : l ≡ u). subst (λ z. Knows (h.0 ++ items) (vs ++ l ∷ []) z) is known) (at_snoc vs l u j e),
-    )
-
-pub of_piece : (P : ℕ → Type 0) (xs all : List ℕ) → IsPiece xs all → All P all → All P xs
-of_piece P xs all piece each =
-    let rest : List ℕ = xs ++ piece.1 in
-    let whole : All P (piece.0 ++ rest) = subst (All P) piece.2 each in
-    let back : All P rest = subst (All P) (drop-append_seam piece.0 rest) (All-drop P (length piece.0) (piece.0 ++ rest) whole) in
-    subst (All P) (take-append_seam xs piece.1) (All-take P (length xs) rest back)
-
--- the one element of a list
-sole : (P : ℕ → Type 0) (x : ℕ) → All P (x ∷ []) → P x
-sole P x each = each 0 0 (omega arith)
-
-pub taken_below : (found : Option ℕ) (v w : Seen) (n : ℕ) (none : Type 0) → All (λ x. x < n) v.pushed → MatchOption found none (λ x. (w ≡ v) × IsPiece (x ∷ []) v.pushed) → IfSome found (λ x. x < n)
-taken_below None v w n none each h = tt
-taken_below (Some x) v w n none each h = sole (λ y. y < n) x (of_piece (λ y. y < n) (x ∷ []) v.pushed h.1 each)
+    let mine = h port v at in
+    let known : Knows items (vs ++ l ∷ []) l = record { share = mine.share; left = mine.left; alone = λ p. absurd (true≢false (sym p)) } in
+    let others : (j : ℕ) (u : Seen) → j ≢ port → get_elem? views j ≡ some u → Knows items (vs ++ l ∷ []) u = λ j u other there.
+    let theirs = h j u there in
+    record { share = theirs.share; left = theirs.left; alone = λ a. absurd (other (only_one views j port u v (theirs.alone a).0 there at)) } in
+    λ j u e. ⊎_elim (λ (x : get_elem? vs j ≡ some u). ⊎_elim (λ (y : (j ≡ port) × (l ≡ u)). subst (λ z. Knows items (vs ++ l ∷ []) z) y.1 known)
+    (λ (y : (j ≢ port) × (get_elem? views j ≡ some u)). others j u y.0 y.1) (at_set views port j l u x))
+    (λ (is : l ≡ u). subst (λ z. Knows items (vs ++ l ∷ []) z) is known) (at_snoc vs l u j e)
 
 -- one job more was pushed
-pub next_push : (low job : ℕ) (v w : Seen) → low ≤ job → v.pushed ≡ jobs_between low job → w ≡ seen true (v.pushed ++ job ∷ []) → (w.alone ≡ true) × (w.pushed ≡ jobs_between low (job + 1))
-next_push low job v w le was is = (
-  ap (λ (s : Seen). s.alone) is,
-  ap (λ (s : Seen). s.pushed) is ∙ (ap (λ xs. xs ++ job ∷ []) was ∙ sym (one_more_job low job le)),
-)
+pub next_push : (low job : ℕ) (v w : Seen) → low ≤ job → v.share ≡ jobs_between low job → v.left ≡ jobs_between low job → w ≡ seen true (v.share ++ job ∷ []) (v.left ++ job ∷ []) →
+    (w.alone ≡ true) × (w.share ≡ jobs_between low (job + 1)) × (w.left ≡ jobs_between low (job + 1))
+next_push low job v w le share left is =
+    let more : (xs : List ℕ) → xs ≡ jobs_between low job → xs ++ job ∷ [] ≡ jobs_between low (job + 1) = λ xs was. ap (λ l. l ++ job ∷ []) was ∙ sym (one_more_job low job le) in (
+      ap (λ (s : Seen). s.alone) is,
+      ap (λ (s : Seen). s.share) is ∙ more v.share share,
+      ap (λ (s : Seen). s.left) is ∙ more v.left left,
+    )

@@ -1,5 +1,5 @@
 //! A worker's queue of jobs, and the ends of it from which the others steal.
-ghost use Rattle.std.specs.Prelude.{◌≡◌, ◌++◌, ◌<◌, ◌≤◌, All, IfOk, IfSome, true, false, []};
+ghost use Rattle.std.specs.Prelude.{◌≡◌, ◌++◌, ◌∷◌, ◌<◌, ◌≤◌, All, Contains, IfOk, IfSome, MatchOption, true, []};
 ghost use Rattle.crossbeam_deque.specs.Handles.{IsPassOf, view, stealer_deque, worker_flavor, worker_view};
 
 use crossbeam_deque::protocol::{Outcome, Protocol, Split};
@@ -8,25 +8,27 @@ use std::alloc::{AllocError, Global};
 use std::collections::LinkedList;
 use std::sync::Wait;
 
-/// What a pass knows of a deque: whether no other pass was made, and all that was ever pushed, in
-/// order. No value of it is ever made: contracts alone speak of it.
+/// What a pass knows of a deque: whether no other pass was made, all jobs that were ever pushed, in order,
+/// and an end of them that contains all jobs which are left. No value of it is ever made: contracts alone
+/// speak of it.
 pub struct Seen {
     pub alone: bool,
-    pub pushed: LinkedList<usize>,
+    pub share: LinkedList<usize>,
+    pub left: LinkedList<usize>,
 }
 
-/// The rule: what a deque holds is an end of what was pushed.
+/// The rule: what a deque holds is an end of what each pass knows to be left.
 pub struct InOrder;
 
 impl Protocol<usize, Seen> for InOrder {
     ghost use Rattle.std.specs.Prelude.{true, false, []};
-    ghost use Rattle.job_queues.specs.Queues.{seen, HoldsEnd};
+    ghost use Rattle.job_queues.specs.Queues.{seen, AllKnow};
 
-    ghost holds = { HoldsEnd };
+    ghost holds = { AllKnow };
 
-    ghost first = { seen true [] };
+    ghost first = { seen true [] [] };
 
-    ghost guest = { seen false [] };
+    ghost guest = { seen false [] [] };
 }
 
 /// A job is pushed behind the others.
@@ -35,16 +37,27 @@ pub(crate) struct Pushes;
 impl Outcome<usize, Seen> for Pushes {
     ghost use Rattle.job_queues.specs.Queues.{seen};
 
-    ghost then = { λ v xs w. w ≡ seen true (v.pushed ++ xs) };
+    ghost then = { λ v jobs w. w ≡ seen true (v.share ++ jobs) (v.left ++ jobs) };
 }
 
-/// What is taken is a piece of what was pushed.
+/// What is taken is the first that is left. An owner without thieves finds none only if all are taken.
 pub(crate) struct Takes;
 
 impl Outcome<usize, Seen> for Takes {
-    ghost use Rattle.job_queues.specs.Queues.{IsPiece};
+    ghost use Rattle.job_queues.specs.Queues.{AreTaken};
 
-    ghost then = { λ v xs w. (w ≡ v) × IsPiece xs v.pushed };
+    ghost then = { AreTaken };
+
+    ghost empty = { λ v. v.alone ≡ true → v.left ≡ [] };
+}
+
+/// What is stolen is the first that is left.
+pub(crate) struct Steals;
+
+impl Outcome<usize, Seen> for Steals {
+    ghost use Rattle.job_queues.specs.Queues.{AreTaken};
+
+    ghost then = { AreTaken };
 }
 
 /// Another pass knows the same.
@@ -54,9 +67,9 @@ impl Split<Seen> for SplitPass {
     ghost use Rattle.std.specs.Prelude.{false};
     ghost use Rattle.job_queues.specs.Queues.{seen};
 
-    ghost left = { λ v. seen false v.pushed };
+    ghost left = { λ v. seen false v.share v.left };
 
-    ghost right = { λ v. seen false v.pushed };
+    ghost right = { λ v. seen false v.share v.left };
 }
 
 /// The owner's end of a queue of jobs, whose numbers are below `count`.
@@ -65,7 +78,7 @@ pub struct JobQueue {
     deque: Worker<usize, Global, Seen, InOrder>,
     pub count: usize,
     ghost first_in_first_out: { worker_flavor deque ≡ 0 },
-    ghost below: { All (λ x. x < count) (worker_view deque).pushed },
+    ghost below: { All (λ job. job < count) (worker_view deque).share },
 }
 
 /// A thief's end of such a queue.
@@ -75,11 +88,12 @@ pub struct JobStealer {
     pass: Pass<usize, Seen>,
     pub count: usize,
     ghost fits: { IsPassOf (stealer_deque thief) pass },
-    ghost below: { All (λ x. x < count) (view pass).pushed },
+    ghost below: { All (λ job. job < count) (view pass).share },
 }
 
 impl JobQueue {
-    ghost use Rattle.job_queues.specs.Shares.{jobs_between, share_in};
+    ghost use Rattle.job_queues.specs.Queues.{IsEnd};
+    ghost use Rattle.job_queues.specs.Shares.{HasNoThief, jobs_between, left_in, left_of, share_in, share_of};
 
     /// A queue of the jobs from `low` to before `high` in order, first in, first out.
     pub fn with_share(
@@ -91,6 +105,8 @@ impl JobQueue {
         requires { (low ≤ high) × (high ≤ count) }
         ensures count { IfOk result (λ queue. queue.count ≡ count) }
         ensures share { IfOk result (λ queue. share_in queue ≡ jobs_between low high) }
+        ensures left { IfOk result (λ queue. left_in queue ≡ jobs_between low high) }
+        ensures alone { IfOk result HasNoThief }
     {
         let mut deque = Worker::<usize, Global, Seen, InOrder>::fifo_as(alloc, high - low)?;
         for job in low..high {
@@ -104,17 +120,29 @@ impl JobQueue {
 
     /// The first job that is left.
     pub fn take(&mut self) -> Option<usize>
-        ensures same { self.new.count ≡ self.old.count }
+        ensures count { self.new.count ≡ self.old.count }
+        ensures share { share_in self.new ≡ share_in self.old }
         ensures job { IfSome result (λ job. job < self.old.count) }
+        ensures of_share { IfSome result (Contains (share_in self.old)) }
+        // Those before it were stolen, and at most those behind it are left.
+        ensures first { MatchOption result (left_in self.new ≡ left_in self.old)
+            (λ job. IsEnd (job ∷ left_in self.new) (left_in self.old)) }
+        // Without thieves the jobs come one after the other, to the last.
+        ensures alone { HasNoThief self.old → HasNoThief self.new }
+        ensures next { HasNoThief self.old → MatchOption result (left_in self.old ≡ [])
+            (λ job. left_in self.old ≡ job ∷ left_in self.new) }
     {
         self.deque.pop_as::<Takes>()
     }
 
     /// Another worker's end of this queue.
     pub fn stealer(&mut self) -> Result<JobStealer, AllocError>
-        ensures same { self.new.count ≡ self.old.count }
+        ensures count { self.new.count ≡ self.old.count }
         ensures share { share_in self.new ≡ share_in self.old }
-        ensures stealer { IfOk result (λ stealer. stealer.count ≡ self.old.count) }
+        ensures left { left_in self.new ≡ left_in self.old }
+        ensures stealer_count { IfOk result (λ stealer. stealer.count ≡ self.old.count) }
+        ensures stealer_share { IfOk result (λ stealer. share_of stealer ≡ share_in self.old) }
+        ensures stealer_left { IfOk result (λ stealer. left_of stealer ≡ left_in self.old) }
     {
         let thief = self.deque.stealer()?;
         let pass = self.deque.another::<SplitPass>();
@@ -124,13 +152,21 @@ impl JobQueue {
 }
 
 impl JobStealer {
+    ghost use Rattle.job_queues.specs.Queues.{IsEnd};
+    ghost use Rattle.job_queues.specs.Shares.{left_of, share_of};
+
     /// The first job that another's queue still holds. A steal that lost is tried again.
     pub fn steal<R: Wait>(&mut self, runtime: &R) -> Option<usize>
-        ensures same { self.new.count ≡ self.old.count }
+        ensures count { self.new.count ≡ self.old.count }
+        ensures share { share_of self.new ≡ share_of self.old }
         ensures job { IfSome result (λ job. job < self.old.count) }
+        ensures of_share { IfSome result (Contains (share_of self.old)) }
+        // Those before it were taken, and at most those behind it are left.
+        ensures first { MatchOption result (left_of self.new ≡ left_of self.old)
+            (λ job. IsEnd (job ∷ left_of self.new) (left_of self.old)) }
     {
         for _ in runtime.forever() {
-            match self.thief.steal_as::<Takes>(&mut self.pass) {
+            match self.thief.steal_as::<Steals>(&mut self.pass) {
                 Steal::Success(job) => return Some(job),
                 Steal::Empty => return None,
                 Steal::Retry => {}

@@ -8,7 +8,7 @@ pub fifo_as-requires : goal.fifo_as-requires
 fifo_as-requires c = begins
 
 pub push_as-requires-clause-pushes : goal.push_as-requires-clause-pushes
-push_as-requires-clause-pushes c = pushes _ _ _ c.loop-job.invariant.1
+push_as-requires-clause-pushes c = pushes _ _ _ c.loop-job.invariant.alone
 
 pub loop-job-preserved : goal.loop-job-preserved
 loop-job-preserved c =
@@ -16,17 +16,24 @@ loop-job-preserved c =
     let same = c.push_as.ensures.same in
     let rule = c.in-Ok.ensures.rule in
     let le : c.args.low ≤ c.loop-job.job = search rules in
-    let next = next_push c.args.low c.loop-job.job (worker_view c.loop-job.deque) (worker_view c.push_as.new.self) le was.2 rule.0 in
+    let next = next_push c.args.low c.loop-job.job (worker_view c.loop-job.deque) (worker_view c.push_as.new.self) le was.share was.left rule.0 in
     let index = rule.1 in
-    let was_index = was.3 in
-    let room = was.4 in
+    let was_index = was.index in
+    let room = was.room in
     let more = same.3 in
-    (same.1 ∙ was.0, next.0, next.1, omega (arith, index, was_index, le), omega (arith, room, more))
+    record {
+      first_in_first_out = same.1 ∙ was.first_in_first_out;
+      alone = next.0;
+      share = next.1;
+      left = next.2;
+      index = omega (arith, index, was_index, le);
+      room = omega (arith, room, more);
+    }
 
 pub invariant_of-result : goal.invariant_of-result
 invariant_of-result c =
     let le : c.loop-job.job ≤ c.args.count = search rules in
     record {
-      first_in_first_out = c.loop-job.invariant.0;
-      below = subst (All (λ x. x < c.args.count)) (sym c.loop-job.invariant.2) (jobs_below c.args.low c.loop-job.job c.args.count le);
+      first_in_first_out = c.loop-job.invariant.first_in_first_out;
+      below = subst (All (λ job. job < c.args.count)) (sym c.loop-job.invariant.share) (jobs_below c.args.low c.loop-job.job c.args.count le);
     }

@@ -4,6 +4,11 @@ use Rattle.job_queues.specs.Shares.{jobs_between}
 use Rattle.job_queues.proofs.queues.JobQueue.with_share.Given as goal
 
 abbrev pub invariant-loop-job : goal.invariant-loop-job
-invariant-loop-job l =
-    (worker_flavor l.deque ≡ 0) × ((worker_view l.deque).alone ≡ true) × ((worker_view l.deque).pushed ≡ jobs_between l.low l.job)
-    × (worker_index l.deque ≡ l.job - l.low) × (l.high - l.low ≤ worker_capacity l.deque)
+invariant-loop-job l = record {
+  first_in_first_out : worker_flavor l.deque ≡ 0;
+  alone : (worker_view l.deque).alone ≡ true;
+  share : (worker_view l.deque).share ≡ jobs_between l.low l.job;
+  left : (worker_view l.deque).left ≡ jobs_between l.low l.job;
+  index : worker_index l.deque ≡ l.job - l.low;
+  room : l.high - l.low ≤ worker_capacity l.deque;
+}
