@@ -10,43 +10,55 @@ use squares::{Num, Squares};
 use std::test::Fail;
 use std::thread::{Threads, join};
 
-// Numbers the words 1 to 257, as far as they find room, rising or falling.
-fn number_all<S: Squares>(book: &mut S, rising: bool)
+// The numbers of the words 1 to 256, as far as they find room.
+type Numbers = [Option<Num>; 256];
+
+// Numbers the words, rising or falling.
+fn numbers_of<S: Squares>(book: &mut S, rising: bool) -> Numbers
     ensures { Keeps (S.book book.old) (S.book book.new) }
 {
-    for step in 0..257 {
-        let word = if rising { 1 + step } else { 257 - step };
-        let _ = book.leaf(word);
+    let mut numbers = [None; 256];
+    for step in 0..256usize {
+        let place = if rising { step } else { 255 - step };
+        numbers[place] = book.leaf(place as u64 + 1).ok().map(|sq| sq.num);
     }
+    numbers
 }
 
-fn numbered(table: &NodeTable, desk: Desk, rising: bool) -> Desk
+fn numbered(table: &NodeTable, desk: Desk, rising: bool) -> (Desk, Numbers)
     requires { IsDeskOf table.now desk }
-    ensures { IsDeskOf table.now result }
+    ensures { IsDeskOf table.now result.0 }
 {
     let mut at = table.at(desk);
-    number_all(&mut at, rising);
-    at.leave()
+    let numbers = numbers_of(&mut at, rising);
+    (at.leave(), numbers)
 }
 
-// Numbers the words by two desks, each in a thread of its own: one goes rising, the other falling.
-fn numbered_by_two<R: Threads + Sync>(rt: &R, table: &NodeTable, desk: Desk) -> Desk
+// Numbers the words by two desks, each in a thread of its own: one goes rising, the other falling. Answers the joined
+// desk, and the numbers that each thread got.
+fn numbered_by_two<R: Threads + Sync>(
+    rt: &R,
+    table: &NodeTable,
+    desk: Desk,
+) -> (Desk, Numbers, Numbers)
     requires { IsDeskOf table.now desk }
-    ensures { IsDeskOf table.now result }
+    ensures { IsDeskOf table.now result.0 }
 {
     let (first, second) = table.split(desk);
     let (first, second) = join(
         rt,
-        move || -> Desk
+        move || -> (Desk, Numbers)
             requires { IsDeskOf table.now first }
-            ensures { IsDeskOf table.entry.now result }
+            ensures { IsDeskOf table.entry.now result.0 }
         { numbered(table, first, true) },
-        move || -> Desk
+        move || -> (Desk, Numbers)
             requires { IsDeskOf table.now second }
-            ensures { IsDeskOf table.entry.now result }
+            ensures { IsDeskOf table.entry.now result.0 }
         { numbered(table, second, false) },
     );
-    table.join(first, second)
+    let (first, rising) = first;
+    let (second, falling) = second;
+    (table.join(first, second), rising, falling)
 }
 
 fn mark(seen: &mut [bool], index: usize) {
@@ -76,8 +88,11 @@ pub(crate) fn numbers_and_refusals<S: Squares>(book: &mut S) -> (usize, usize) {
 #[test]
 fn two_threads_give_one_number_each(rt: HostRuntime) -> Result<(), Fail> {
     let (table, desk) = empty_table(rt.alloc(), PAIRS, 0)?;
-    let joined = numbered_by_two(&rt, &table, desk);
-    assert_eq!(rt; numbers_and_refusals(&mut table.at(joined)), (256, 1));
+    let (joined, rising, falling) = numbered_by_two(&rt, &table, desk);
+    let mut at = table.at(joined);
+    let numbers = numbers_of(&mut at, true);
+    assert!(rt; rising == numbers && falling == numbers);
+    assert_eq!(rt; numbers_and_refusals(&mut at), (256, 1));
     Ok(())
 }
 

@@ -1,10 +1,15 @@
 //! Rounds of no job, of one job, and of as many as there are gates for.
 
+ghost use Rattle.std.specs.Prelude.{◌≤◌};
+
 use crate::tests::rounds::jobs_of_leaves::{jobs_at, leaves_of};
 use crate::tests::tables::{PAIRS, empty_table};
 use sample_patterns::BLINKER_LEAVES;
+use std::process::Abort;
+use std::sync::Wait;
 use std::sync::atomic::{AtomicU64, Ordering};
 use std::test::Fail;
+use std::thread::Threads;
 use worker_split::{Gate, OpenGate, round};
 
 #[test]
@@ -66,26 +71,53 @@ fn ones(counts: &[AtomicU64]) -> usize {
         .count()
 }
 
-const JOBS: usize = 10000;
-
-#[test]
-fn each_job_is_done_once(rt: HostRuntime) -> Result<(), Fail> {
-    let (table, desk) = empty_table(rt.alloc(), 262144, 0)?;
+// A round of so many jobs at a table of so many pair slots: the gate sees each job once.
+fn assert_each_done_once<R: Threads + Wait + Sync + Abort + AllocGlobal>(
+    rt: &R,
+    pairs: u32,
+    count: usize,
+    workers: usize,
+) -> Result<(), Fail>
+    requires { (1 ≤ workers) × (workers ≤ 64) }
+{
+    let (table, desk) = empty_table(rt.alloc(), pairs, 0)?;
     let gate = Counts {
-        begun: zeros(&rt, JOBS)?,
-        ended: zeros(&rt, JOBS)?,
+        begun: zeros(rt, count)?,
+        ended: zeros(rt, count)?,
     };
-    let leaves = leaves_of(rt.alloc(), JOBS as u64)?;
+    let leaves = leaves_of(rt.alloc(), count as u64)?;
     let (desk, jobs) = jobs_at(rt.alloc(), &table, desk, leaves.as_slice());
     let jobs = jobs?;
-    let (desk, futures) = round(&rt, rt.alloc(), &table, desk, jobs.as_slice(), 64, &gate);
-    assert_eq!(rt; futures?.len(), JOBS);
+    let (desk, futures) = round(
+        rt,
+        rt.alloc(),
+        &table,
+        desk,
+        jobs.as_slice(),
+        workers,
+        &gate,
+    );
+    assert_eq!(rt; futures?.len(), count);
     assert_eq!(rt;
         (ones(gate.begun.as_slice()), ones(gate.ended.as_slice())),
-        (JOBS, JOBS)
+        (count, count)
     );
     // A worker that helps may make again what another has in hand.
     let expansions = desk.expansions();
-    assert!(rt; expansions >= JOBS as u64 && expansions <= 64 * JOBS as u64);
+    let jobs = count as u64;
+    assert!(rt; expansions >= jobs && expansions <= jobs.saturating_mul(workers as u64));
     Ok(())
+}
+
+#[test]
+fn each_of_1000_jobs_is_done_once(rt: HostRuntime) -> Result<(), Fail> {
+    for workers in [1, 2, 64] {
+        assert_each_done_once(&rt, 32768, 1000, workers)?;
+    }
+    Ok(())
+}
+
+#[test]
+fn each_job_is_done_once(rt: HostRuntime) -> Result<(), Fail> {
+    assert_each_done_once(&rt, 262144, 10000, 64)
 }
