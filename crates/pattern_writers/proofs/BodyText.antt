@@ -4,7 +4,7 @@ use Rattle.std.proofs.Common.{arith}
 use Rattle.std.specs.Bool.{Decides}
 use Rattle.std.proofs.lemmas.Bool.{cond-true, cond-false, le-leb, lt-leb}
 use Rattle.std.proofs.lemmas.Bool.Decides.{Decides-int_eq}
-use Rattle.std.proofs.lemmas.List.{append-nil, drop_all, take_more, map-append}
+use Rattle.std.proofs.lemmas.List.{append-nil, drop_all, take_more, map-append, take-append-drop}
 use Rattle.plane.specs.declared.cell.Cell.{Cell}
 use Rattle.std.specs.Prelude.{ℤ, if◌then◌else◌, nat_le}
 use Rattle.std.specs.Ordering.{int_eq}
@@ -42,13 +42,22 @@ LaysOut-off line piece next long is = λ rest.
     cond-false (nat_le (length line + length piece) 70) _ _ (lt-leb (length line + length piece) 70 long)
     ∙ ap (λ l. line ++ codes "\n" ++ laid_out l rest) (sym is)
 
+-- what some items lay out stands before what the others do
+pub body_text-so_far : (items : List Item) (n : ℕ) (line out : List ℕ) → LaysOut [] (map item_text (take n items)) line out →
+    body_text items ≡ out ++ laid_out line (map item_text (drop n items) ++ codes "!" ∷ [])
+body_text-so_far items n line out so_far =
+    ap (λ l. laid_out [] (map item_text l ++ codes "!" ∷ [])) (sym (take-append-drop n items))
+    ∙ ap (λ l. laid_out [] (l ++ codes "!" ∷ [])) (map-append item_text (take n items) (drop n items))
+    ∙ ap (laid_out []) (append_assoc (map item_text (take n items)) (map item_text (drop n items)) (codes "!" ∷ []))
+    ∙ so_far (map item_text (drop n items) ++ codes "!" ∷ [])
+
 -- after all items and the `!` the last line is left
 pub body_text-ends : (items : List Item) (line last out more : List ℕ) → LaysOut [] (map item_text items) line out → LaysOut line (codes "!" ∷ []) last more
     → body_text items ≡ (out ++ more) ++ (last ++ codes "\n")
 body_text-ends items line last out more first second =
     first (codes "!" ∷ []) ∙ ap (λ l. out ++ l) (second []) ∙ sym (append_assoc out more (last ++ codes "\n"))
 
-drop_step : {X : Type 0} → (xs : List X) (i : ℕ) (d : X) → i < length xs → drop i xs ≡ get_or xs i d ∷ drop (i + 1) xs
+pub drop_step : {X : Type 0} → (xs : List X) (i : ℕ) (d : X) → i < length xs → drop i xs ≡ get_or xs i d ∷ drop (i + 1) xs
 drop_step xs i d h = rw (drop-cons xs i d h, add-one) refl
 
 -- the items of one run more

@@ -5,6 +5,7 @@ use Rattle.std.specs.List.{flat_map}
 use Rattle.rule_text.specs.CountRule.{CountRule}
 use Rattle.rule_text.specs.RuleText.{canonical_text}
 use Rattle.plane.specs.Centred.{IsSmallestLevel}
+use Rattle.plane.specs.Device.{AppendsBeginning}
 use Rattle.plane.specs.Laws.{moved}
 use Rattle.plane.specs.Plane.{Plane}
 use Rattle.pattern_writers.specs.LeafText.{leaf_text}
@@ -55,3 +56,10 @@ pub record WritesMc (plane : Plane) (comments : List (List ℕ)) (rule : CountRu
   pub level : ℕ
   pub smallest : IsSmallestLevel level plane
   pub appends : Appends before after (mc_text comments rule generation level plane)
+
+-- a beginning of this text is written between the two
+pub record BeginsMc (plane : Plane) (comments : List (List ℕ)) (rule : CountRule) (generation : ℕ)
+    (before after : Option (List ℕ)) : Type 0 where
+  pub level : ℕ
+  pub smallest : IsSmallestLevel level plane
+  pub beginning : AppendsBeginning before after (mc_text comments rule generation level plane)

@@ -1,8 +1,11 @@
 -- Output of which the last bytes wait in a block.
-use Rattle.std.specs.Prelude.{ℕ, List, Option}
-use Rattle.std.specs.Io.KnownBytes.{Appends, append_known}
+use Rattle.std.specs.Prelude.{◌≡◌, ℕ, List, ◌++◌, Option}
+use Rattle.std.specs.Io.KnownBytes.{Appends}
 
--- the text comes after the bytes that the sink took and those that wait
-abbrev pub AppendsBuffered : Option (List ℕ) → List ℕ → Option (List ℕ) → List ℕ → List ℕ → Type 0
-AppendsBuffered old old_block new new_block text =
-    Appends (append_known old old_block) (append_known new new_block) text
+-- the text comes after the bytes that waited: the sink took the first of them all, and the others
+-- wait now
+pub record AppendsBuffered (old : Option (List ℕ)) (old_block : List ℕ) (new : Option (List ℕ))
+    (new_block text : List ℕ) : Type 0 where
+  pub out : List ℕ
+  pub taken : Appends old new out
+  pub waiting : old_block ++ text ≡ out ++ new_block

@@ -5,6 +5,7 @@ use Rattle.std.specs.List.{flat_map}
 use Rattle.rule_text.specs.CountRule.{CountRule}
 use Rattle.rule_text.specs.RuleText.{canonical_text}
 use Rattle.plane.specs.Bounds.{bounds_of}
+use Rattle.plane.specs.Device.{AppendsBeginning}
 use Rattle.plane.specs.Listing.{IsListing}
 use Rattle.plane.specs.Plane.{Plane}
 use Rattle.plane.specs.declared.cell.Cell.{Cell}
@@ -44,11 +45,13 @@ pub record WritesRle (plane : Plane) (comments : List (List ℕ)) (rule : CountR
   pub fits : FitsRle (bounds_of cells)
   pub appends : Appends before after (rle_text comments rule generation cells)
 
--- the plane's cells have a text: both sides of their box are short enough
-pub record HasRleText (plane : Plane) : Type 0 where
+-- a beginning of the text of the plane's cells, which have one, is written between the two
+pub record BeginsRle (plane : Plane) (comments : List (List ℕ)) (rule : CountRule) (generation : ℕ)
+    (before after : Option (List ℕ)) : Type 0 where
   pub cells : List Cell
   pub listing : IsListing cells plane
   pub fits : FitsRle (bounds_of cells)
+  pub beginning : AppendsBeginning before after (rle_text comments rule generation cells)
 
 -- the plane's cells have no text: a side of their box is too long
 pub record IsTooLarge (plane : Plane) : Type 0 where

@@ -5,9 +5,9 @@ use Rattle.plane.specs.declared.refusal.Refusal.{Refusal}
 use Rattle.plane.specs.declared.refusal.Refusal.TheVariants.{BoxTooLarge, NoMemory}
 
 -- a refusal before the first byte, as the pattern is too large or memory ran out, or one of the
--- sink, for a pattern that fits
+-- sink, when the pattern's text was begun
 abbrev pub IsWriterRefusal : {V : Type 0} → (V → ℕ) → V → V → Type 0 → Type 0 → Refusal → Type 0
-IsWriterRefusal failure_count old new TooLarge Fits refusal =
+IsWriterRefusal failure_count old new TooLarge Begins refusal =
     ((refusal ≡ BoxTooLarge) × TooLarge × (new ≡ old))
     ⊎ ((refusal ≡ NoMemory) × (new ≡ old))
-    ⊎ (IsWriteRefusal (failure_count old) (failure_count new) refusal × Fits)
+    ⊎ (IsWriteRefusal (failure_count old) (failure_count new) refusal × Begins)

@@ -1,7 +1,7 @@
 //! The beginning of a text: some lines, and those of the comments.
 
-ghost use Rattle.std.specs.Prelude.{◌++◌, OnOk};
-ghost use Rattle.plane.specs.Device.{TellsFailure};
+ghost use Rattle.std.specs.Prelude.{◌++◌, OnErr, OnOk};
+ghost use Rattle.plane.specs.Device.{AppendsBeginning, TellsFailure};
 ghost use Rattle.pattern_writers.specs.OutputBlock.{AppendsBuffered};
 ghost use Rattle.pattern_writers.specs.RleText.{comment_lines};
 
@@ -18,6 +18,8 @@ pub(crate) fn begin<V: Sink>(
 ) -> Result<(), Refusal>
     ensures written { OnOk result (AppendsBuffered (V.taken file.old) block.old.items
         (V.taken file.new) block.new.items (opening.now ++ comment_lines comments.entry)) }
+    ensures beginning { OnErr result (AppendsBeginning (V.taken file.old) (V.taken file.new)
+        (block.old.items ++ (opening.now ++ comment_lines comments.entry))) }
     ensures failure { TellsFailure (V.failure_count file.old) (V.failure_count file.new) result }
 {
     put(file, block, opening.as_bytes())?;
@@ -32,6 +34,8 @@ fn write_comments<V: Sink>(
 ) -> Result<(), Refusal>
     ensures written { OnOk result (AppendsBuffered (V.taken file.old) block.old.items
         (V.taken file.new) block.new.items (comment_lines comments.entry)) }
+    ensures beginning { OnErr result (AppendsBeginning (V.taken file.old) (V.taken file.new)
+        (block.old.items ++ comment_lines comments.entry)) }
     ensures failure { TellsFailure (V.failure_count file.old) (V.failure_count file.new) result }
 {
     for comment in comments {

@@ -4,7 +4,7 @@ ghost use Rattle.std.specs.Prelude.{◌≡◌, ◌⊎◌, ◌≤◌, OnOk, IfErr
 ghost use Rattle.plane.specs.Device.{IsWriteRefusal};
 ghost use Rattle.squares.specs.Book.{IsKnown};
 ghost use Rattle.pattern_writers.specs.McReading.{IsReadBackFromMc};
-ghost use Rattle.pattern_writers.specs.McText.{WritesMc};
+ghost use Rattle.pattern_writers.specs.McText.{BeginsMc, WritesMc};
 ghost use Rattle.squares.specs.Rounds.{square_plane};
 ghost use Rattle.pattern_writers.specs.Taken.{IfTaken};
 
@@ -29,8 +29,8 @@ use whole::pattern_nodes;
 
 /// Writes the cells of a square of a level from 3 to 63, whose centre corner is (0,0), with the comments, the rule
 /// and the generation. The root in the file has the smallest level of at least 4 that covers the cells, whatever the
-/// square's level. It refuses `NoMemory` before the first byte, and `WriteFailed` where the sink failed. It is handed the
-/// runtime as the writer of RLE is, and starts no thread.
+/// square's level. It refuses `NoMemory` before the first byte, and `WriteFailed` where the sink failed, which took a
+/// beginning of the text then. It is handed the runtime as the writer of RLE is, and starts no thread.
 ///
 /// What the sink took is read as the same cells, rule and generation, and as the same comments where none ends with a
 /// CR, if the generation is at most 2^63, there are fewer than 2^32 nodes and each comment is a line that is kept.
@@ -53,7 +53,9 @@ pub fn write_mc<R: Threads + Sync, B: Look, V: Sink>(
     ensures unfailed { OnOk result (V.failure_count file.new ≡ V.failure_count file.old) }
     ensures refused { IfErr result (λ refusal.
         (refusal ≡ Refusal.NoMemory × file.new ≡ file.old)
-        ⊎ IsWriteRefusal (V.failure_count file.old) (V.failure_count file.new) refusal) }
+        ⊎ (IsWriteRefusal (V.failure_count file.old) (V.failure_count file.new) refusal
+        × BeginsMc (square_plane (B.book book.now) sq)
+        comments.entry rule.now generation (V.taken file.old) (V.taken file.new))) }
 {
     let nodes = pattern_nodes(alloc, book, sq, rule)?;
     let opening = opening_lines(rule.text().as_str(), generation);

@@ -1,7 +1,7 @@
 //! Output that is handed to a sink in blocks.
 
-ghost use Rattle.std.specs.Prelude.{OnOk};
-ghost use Rattle.plane.specs.Device.{TellsFailure};
+ghost use Rattle.std.specs.Prelude.{◌++◌, OnErr, OnOk};
+ghost use Rattle.plane.specs.Device.{AppendsBeginning, TellsFailure};
 ghost use Rattle.pattern_writers.specs.OutputBlock.{AppendsBuffered};
 
 use arrayvec::ArrayVec;
@@ -14,7 +14,8 @@ const BLOCK_LENGTH: usize = 4096;
 pub(crate) type OutputBlock = ArrayVec<u8, BLOCK_LENGTH>;
 
 /// Puts some bytes after those of the block. Where they find no room in it, the sink gets the block's bytes first,
-/// and a piece that is longer than a block itself.
+/// and a piece that is longer than a block itself. Where the sink failed, it took a beginning of what waited and the
+/// piece.
 pub(crate) fn put<V: Sink>(
     file: &mut V,
     block: &mut OutputBlock,
@@ -22,6 +23,8 @@ pub(crate) fn put<V: Sink>(
 ) -> Result<(), Refusal>
     ensures written { OnOk result (AppendsBuffered (V.taken file.old) block.old.items
         (V.taken file.new) block.new.items piece.now) }
+    ensures beginning { OnErr result (AppendsBeginning (V.taken file.old) (V.taken file.new)
+        (block.old.items ++ piece.now)) }
     ensures failure { TellsFailure (V.failure_count file.old) (V.failure_count file.new) result }
 {
     if block.try_extend_from_slice(piece).is_ok() {

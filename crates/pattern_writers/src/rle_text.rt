@@ -1,11 +1,11 @@
 //! The text of a pattern in RLE.
 
-ghost use Rattle.std.specs.Prelude.{◌≡◌, ◌≤◌, OnOk, IfErr};
-ghost use Rattle.plane.specs.Device.{TellsFailure};
+ghost use Rattle.std.specs.Prelude.{◌≡◌, ◌≤◌, OnErr, OnOk, IfErr};
+ghost use Rattle.plane.specs.Device.{AppendsBeginning, TellsFailure};
 ghost use Rattle.squares.specs.Book.{IsKnown};
 ghost use Rattle.std.specs.Io.KnownBytes.{Appends};
 ghost use Rattle.pattern_writers.specs.RleReading.{IsReadBackFromRle};
-ghost use Rattle.pattern_writers.specs.RleText.{HasRleText, IsTooLarge, WritesRle, items_text};
+ghost use Rattle.pattern_writers.specs.RleText.{BeginsRle, IsTooLarge, WritesRle, items_text};
 ghost use Rattle.squares.specs.Rounds.{square_plane};
 ghost use Rattle.pattern_writers.specs.Taken.{IfTaken};
 ghost use Rattle.pattern_writers.specs.WriterRefusal.{IsWriterRefusal};
@@ -35,8 +35,8 @@ use std::thread::Threads;
 
 /// Writes the cells of a square of a level up to 63, whose centre corner is (0,0), with the comments, the rule and
 /// the generation. It refuses `NoMemory`, or `BoxTooLarge` where a side of the cells' box is 2^31 or more, both
-/// before the first byte, and `WriteFailed` where the sink failed and no side was too long. The runs of the rows are found
-/// in threads.
+/// before the first byte, and `WriteFailed` where the sink failed; no side was too long then, and the sink took a
+/// beginning of the text. The runs of the rows are found in threads.
 ///
 /// What the sink took is read as the same cells, rule and generation, and as the same comments where none ends with a
 /// CR, if the generation is at most 2^63, there are at most 2^28 live cells and each comment is a line that is kept.
@@ -60,7 +60,8 @@ pub fn write_rle<R: Threads + Sync, B: Look + Sync, V: Sink>(
     ensures unfailed { OnOk result (V.failure_count file.new ≡ V.failure_count file.old) }
     ensures refused { IfErr result (IsWriterRefusal V.failure_count file.old file.new
         (IsTooLarge (square_plane (B.book book.now) sq))
-        (HasRleText (square_plane (B.book book.now) sq))) }
+        (BeginsRle (square_plane (B.book book.now) sq)
+        comments.entry rule.now generation (V.taken file.old) (V.taken file.new))) }
 {
     let (frame, items) = framed_items(rt, alloc, book, sq)?;
     write_items(file, frame, items.as_slice(), comments, rule, generation)
@@ -76,6 +77,8 @@ fn write_items<V: Sink>(
     generation: u64,
 ) -> Result<(), Refusal>
     ensures written { OnOk result (Appends (V.taken file.old) (V.taken file.new)
+        (items_text frame comments.entry rule.now generation items.now)) }
+    ensures beginning { OnErr result (AppendsBeginning (V.taken file.old) (V.taken file.new)
         (items_text frame comments.entry rule.now generation items.now)) }
     ensures failure { TellsFailure (V.failure_count file.old) (V.failure_count file.new) result }
 {

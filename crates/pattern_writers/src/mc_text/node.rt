@@ -1,9 +1,9 @@
 //! Nodes of a macrocell file, and their lines.
 
-ghost use Rattle.std.specs.Prelude.{◌≡◌, ◌+◌, ◌≤◌, ◌++◌, codes, decimal, OnOk};
+ghost use Rattle.std.specs.Prelude.{◌≡◌, ◌+◌, ◌≤◌, ◌++◌, codes, decimal, OnErr, OnOk};
 ghost use Rattle.arrayvec.specs.ArrayString.{array_string_len};
 ghost use Rattle.std.specs.List.{flat_map};
-ghost use Rattle.plane.specs.Device.{TellsFailure};
+ghost use Rattle.plane.specs.Device.{AppendsBeginning, TellsFailure};
 ghost use Rattle.pattern_writers.specs.NodeLines.{node_line};
 ghost use Rattle.pattern_writers.specs.OutputBlock.{AppendsBuffered};
 
@@ -81,6 +81,8 @@ pub(crate) fn write_nodes<V: Sink>(
 ) -> Result<(), Refusal>
     ensures written { OnOk result (AppendsBuffered (V.taken file.old) block.old.items
         (V.taken file.new) block.new.items (flat_map node_line nodes.now)) }
+    ensures beginning { OnErr result (AppendsBeginning (V.taken file.old) (V.taken file.new)
+        (block.old.items ++ flat_map node_line nodes.now)) }
     ensures failure { TellsFailure (V.failure_count file.old) (V.failure_count file.new) result }
 {
     for node in nodes {

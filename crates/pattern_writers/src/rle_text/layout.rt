@@ -1,8 +1,8 @@
 //! An RLE body in lines of at most 70 bytes.
 
-ghost use Rattle.std.specs.Prelude.{◌≡◌, ℕ, ◌≤◌, List, [], ◌∷◌, ◌++◌, codes, length, OnOk};
+ghost use Rattle.std.specs.Prelude.{◌≡◌, ℕ, ◌≤◌, List, [], ◌∷◌, ◌++◌, codes, length, OnErr, OnOk};
 ghost use Rattle.arrayvec.specs.ArrayString.{array_string_len};
-ghost use Rattle.plane.specs.Device.{TellsFailure};
+ghost use Rattle.plane.specs.Device.{AppendsBeginning, TellsFailure};
 ghost use Rattle.pattern_writers.specs.Layout.{body_text, LaysOut};
 ghost use Rattle.pattern_writers.specs.OutputBlock.{AppendsBuffered};
 
@@ -25,6 +25,8 @@ pub(crate) fn write_body<V: Sink>(
 ) -> Result<(), Refusal>
     ensures written { OnOk result (AppendsBuffered (V.taken file.old) block.old.items
         (V.taken file.new) block.new.items (body_text items.now)) }
+    ensures beginning { OnErr result (AppendsBeginning (V.taken file.old) (V.taken file.new)
+        (block.old.items ++ body_text items.now)) }
     ensures failure { TellsFailure (V.failure_count file.old) (V.failure_count file.new) result }
 {
     let mut line = ArrayString::new();
@@ -48,6 +50,9 @@ fn add_to_line<V: Sink>(
     ensures laid { OnOk result ((out : List ℕ)
         × AppendsBuffered (V.taken file.old) block.old.items (V.taken file.new) block.new.items out
         × LaysOut line.old.bytes (piece.now ∷ []) line.new.bytes out) }
+    ensures beginning { OnErr result ((out : List ℕ)
+        × AppendsBeginning (V.taken file.old) (V.taken file.new) (block.old.items ++ out)
+        × LaysOut line.old.bytes (piece.now ∷ []) piece.now out) }
     ensures failure { TellsFailure (V.failure_count file.old) (V.failure_count file.new) result }
 {
     if line.len() + piece.len() > LINE_LENGTH {
@@ -66,6 +71,8 @@ fn end_line<V: Sink>(
     requires { array_string_len line.old ≤ 70 }
     ensures written { OnOk result (AppendsBuffered (V.taken file.old) block.old.items
         (V.taken file.new) block.new.items (line.old.bytes ++ codes "\n")) }
+    ensures beginning { OnErr result (AppendsBeginning (V.taken file.old) (V.taken file.new)
+        (block.old.items ++ (line.old.bytes ++ codes "\n"))) }
     ensures emptied { OnOk result (line.new.bytes ≡ []) }
     ensures failure { TellsFailure (V.failure_count file.old) (V.failure_count file.new) result }
 {

@@ -1,6 +1,8 @@
 use Rattle.std.proofs.Common.{inr, rules, subst}
 use Rattle.std.specs.Io.KnownBytes.{Appends}
 use Rattle.std.proofs.lemmas.Result.{IfErr-weaker, on_ok_weaker}
+use Rattle.plane.proofs.Beginnings.{beginning_as}
+use Rattle.pattern_writers.proofs.BlocksOut.{both_err}
 use Rattle.pattern_writers.proofs.WholeText.{whole_text}
 use Rattle.pattern_writers.proofs.WrittenReadBack.{rle_written_read}
 use Rattle.pattern_writers.proofs.rle_text.write_rle.Goals as goal
@@ -26,4 +28,15 @@ returns-in_err-frame-clause-refused g c = search rules
 pub returns-clause-refused : goal.returns-clause-refused
 returns-clause-refused g c =
     let framed = c.in_ok-frame.ensures.ok in
-    IfErr-weaker c.write_items.result _ _ (λ refusal is. inr (inr (is, record { cells = framed.cells; listing = framed.listing; fits = framed.fits }))) c.write_items.ensures.failure.refused
+    let failed = both_err _ _ c.write_items.result c.write_items.ensures.failure.refused (rw c.as_slice.ensures.value at c.write_items.ensures.beginning) in
+    IfErr-weaker c.write_items.result _ _
+    (λ refusal told. inr (inr (
+      told.0,
+      record {
+        cells = framed.cells;
+        listing = framed.listing;
+        fits = framed.fits;
+        beginning = beginning_as (whole_text _ _ _ framed.cells _ _ framed.frame_is framed.items_is) told.1;
+      },
+    )))
+    failed
