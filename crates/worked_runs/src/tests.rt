@@ -11,6 +11,7 @@ mod macrocell;
 mod many_leaves;
 mod nodes;
 mod pictures;
+mod plans;
 mod refused;
 mod rows;
 mod short_writes;
