@@ -28,7 +28,7 @@ pub(crate) fn write_picture_line<W: Sink>(
         × Appends (W.taken out.old) (W.taken out.new) (picture_line name.now shown scale)) }
     ensures beginning { OnErr result ((scale : Scale) × IsScale shown size scale
         × AppendsBeginning (W.taken out.old) (W.taken out.new)
-            (picture_line name.now shown scale)) }
+        (picture_line name.now shown scale)) }
     ensures failure { TellsFailure (W.failure_count out.old) (W.failure_count out.new) result }
 {
     let line = scale_words(shown, Scale::of(shown, size));
