@@ -1,5 +1,5 @@
 -- What a desk knows and counts that comes back from its work.
-use Rattle.std.proofs.Common.{◌≡◌, [], ◌∷◌, ◌<◌, ◌≤◌, ℕ, ◌*◌, ◌-◌, ◌^◌, All, List, length, sym, ap, ◌∙◌, subst, arith, ⊎_elim, inl, inr, Ok, Err}
+use Rattle.std.proofs.Common.{◌≡◌, [], ◌∷◌, ◌<◌, ◌≤◌, ℕ, ◌*◌, ◌-◌, ◌^◌, List, length, sym, ap, ◌∙◌, subst, arith, Ok, Err}
 use Rattle.std.specs.Prelude.{IfErr, IsTrue}
 use Rattle.std.specs.declared.result.Result.{Result}
 use Rattle.std.specs.List.{AllZip}
@@ -12,8 +12,11 @@ use Rattle.squares.proofs.Kept.{keeps_none}
 use Rattle.node_table.specs.declared.desk.Desk.{Desk}
 use Rattle.node_table.specs.declared.table.NodeTable.{NodeTable}
 use Rattle.node_table.specs.Desks.{IsDeskOf, IsSameDesk, book_at, work_at, expansions_of}
+use Rattle.node_table.specs.DesksAtWork.{KnowsAllOf}
+use Rattle.node_table.specs.Refusals.{known_by}
 use Rattle.node_table.proofs.AtWork.{IsBack, back_round, is_back, known_at_work}
-use Rattle.worker_split.specs.Jobs.{ComesBack, HasFuture, IsJob, Refuses, RefusesFull}
+use Rattle.table_core.proofs.Knowing.{grows_refl}
+use Rattle.worker_split.specs.Jobs.{ComesBack, HasFuture, IsJob, RefusesFull}
 use Rattle.worker_split.specs.Work.{Leaves, Works}
 use Rattle.worker_split.proofs.Books.{desk_book, more_results, times_whole}
 
@@ -28,8 +31,8 @@ is_left {table} {desk} {left} {begun} {ended} begins keeps l = record { back = l
 
 -- what was counted at work was added to the number of the desk that came back
 pub comes_back : (table : NodeTable) (times made : ℕ) (desk left : Desk) (begun ended : Book) → IsDeskOf table desk → expansions_of desk < 2 ^ 64 → begun ≡ work_at (expansions_of desk) table desk →
-    Works times begun ended 0 made → Leaves ended made left → ComesBack table times desk left
-comes_back table times made desk left begun ended d fits begins works l =
+    Works times begun ended 0 made → Leaves ended made left → KnowsAllOf desk left → ComesBack table times desk left
+comes_back table times made desk left begun ended d fits begins works l grows =
     let is = is_back table desk l.back begun ended begins works.keeps l.returns in
     let keeps = subst (Keeps (book_at table desk)) (sym (l.same.same_book table)) is.keeps in
     let a = length (book_at table desk).results in
@@ -45,18 +48,16 @@ comes_back table times made desk left begun ended d fits begins works l =
     record {
       of_table = l.same.same_table table is.of_table;
       keeps = keeps;
+      grows = grows;
       rises = omega (arith, was, sum, fits);
       expansions = omega (arith, was, sum, most);
     }
 
 pub stays_back : (table : NodeTable) (times : ℕ) (desk : Desk) → IsDeskOf table desk → ComesBack table times desk desk
-stays_back table times desk d = record { of_table = d; keeps = keeps_none (book_at table desk); rises = omega arith; expansions = omega arith }
+stays_back table times desk d = record { of_table = d; keeps = keeps_none (book_at table desk); grows = grows_refl (known_by desk); rises = omega arith; expansions = omega arith }
 
 pub job_at_work : (table : NodeTable) (desk : Desk) (begun : Book) (sq : Sq) → begun ≡ work_at (expansions_of desk) table desk → IsJob (book_at table desk) sq → IsJob begun sq
 job_at_work table desk begun sq begins job = record { known = known_at_work table desk begun sq.level sq begins job.known; above = job.above }
-
-pub jobs_at_work : (table : NodeTable) (desk : Desk) (begun : Book) (jobs : List Sq) → begun ≡ work_at (expansions_of desk) table desk → All (IsJob (book_at table desk)) jobs → All (IsJob begun) jobs
-jobs_at_work table desk begun jobs begins all k d less = job_at_work table desk begun _ begins (all k d less)
 
 pub future_left : {table : NodeTable} {desk left : Desk} {book : Book} → IsLeft table desk left book → (sq future : Sq) → HasFuture book sq future → HasFuture (book_at table left) sq future
 future_left {table} l sq future h =
@@ -70,9 +71,6 @@ futures_left l (x ∷ xs) (y ∷ ys) h = (future_left l x y h.0, futures_left l 
 
 pub full_left : {table : NodeTable} {desk left : Desk} {book : Book} → IsLeft table desk left book → (refusal : Refusal) → RefusesFull book refusal → RefusesFull (book_at table left) refusal
 full_left {table} l refusal h = (h.0, subst (λ (b : Book). IsTrue b.is_full) (sym (l.same.same_book table)) (l.is.full h.1))
-
-pub refusal_left : {table : NodeTable} {desk left : Desk} {book : Book} → IsLeft table desk left book → (refusal : Refusal) → Refuses book refusal → Refuses (book_at table left) refusal
-refusal_left l refusal h = ⊎_elim (λ none. inl none) (λ full. inr (full_left l refusal full)) h
 
 pub round_left : {table : NodeTable} {desk left : Desk} {book : Book} → IsLeft table desk left book → (plane : Plane) (sq : Sq) → IsRound book plane sq → IsRound (book_at table left) plane sq
 round_left {table} l plane sq round =

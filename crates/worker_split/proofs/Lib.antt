@@ -2,6 +2,7 @@ mod Back
 mod Books
 mod Counting
 mod Cutting
+mod Joined
 mod Linking
 mod Places
 mod Slots

@@ -51,7 +51,7 @@ pub placed : (jobs : List Sq) (book : Book) (places : List (Option (Result Sq Re
 placed jobs book places place future a fit j y e = ⊎_elim (λ (h : (j ≡ place) × (Some future ≡ Some y)). subst (λ (p : ℕ × Result Sq Refusal). IsSettled jobs book p.0 p.1) (λ i. (sym h.0 i, ap (λ o. unwrap_or o future) h.1 i)) a)
     (λ (h : slice_get places j ≡ Some (Some y)). fit j y h) (get_set places place j (Some future) (Some y) e)
 
-zip_kept : (old new : Book) (xs ys : List Sq) → Keeps old new → All (IsJob old) xs → AllZip (HasFuture old) xs ys → AllZip (HasFuture new) xs ys
+pub zip_kept : (old new : Book) (xs ys : List Sq) → Keeps old new → All (IsJob old) xs → AllZip (HasFuture old) xs ys → AllZip (HasFuture new) xs ys
 zip_kept old new [] [] keeps all h = h
 zip_kept old new [] (y ∷ ys) keeps all h = h
 zip_kept old new (x ∷ xs) [] keeps all h = h

@@ -9,6 +9,7 @@ use Rattle.squares.specs.Book.{Book, IsKnown, IsFuture, HasResult, Keeps}
 use Rattle.node_table.specs.declared.desk.Desk.{Desk}
 use Rattle.node_table.specs.declared.table.NodeTable.{NodeTable}
 use Rattle.node_table.specs.Desks.{IsDeskOf, book_at, expansions_of}
+use Rattle.node_table.specs.DesksAtWork.{KnowsAllOf}
 
 -- known squares of this level
 abbrev pub AreKnown : Book → ℕ → List Sq → Type 0
@@ -33,11 +34,12 @@ abbrev pub new_results : Book → Book → ℕ
 new_results old new = length new.results - length old.results
 
 -- the desk that comes back from so many workers is one of the table and knows all that the other
--- knew; its number of expansions only rises, by at most the number of new results times that of
--- workers
+-- knew: its squares and results, and each word that it has seen; its number of expansions only
+-- rises, by at most the number of new results times that of workers
 pub record ComesBack (table : NodeTable) (workers : ℕ) (old new : Desk) : Type 0 where
   pub of_table : IsDeskOf table new
   pub keeps : Keeps (book_at table old) (book_at table new)
+  pub grows : KnowsAllOf old new
   pub rises : expansions_of old ≤ expansions_of new
   pub expansions : expansions_of new
       ≤ expansions_of old + workers * new_results (book_at table old) (book_at table new)

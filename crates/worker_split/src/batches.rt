@@ -8,10 +8,10 @@ ghost use Rattle.worker_split.specs.Work.{Continues};
 
 use crate::gate::Gate;
 use crate::jobs::future_of;
-use crate::leaving::leave;
 use crate::recruiting::room_for;
 use crate::rounds::carry_out;
 use crate::team::Team;
+use crate::working::{come_back, set_out};
 use hashlife_step::{Tally, replace_by_futures};
 use node_table::{At, Desk, NodeTable};
 use plane::Refusal;
@@ -177,8 +177,8 @@ pub fn batch_future<R: Threads + Wait + Sync, G: Gate>(
         workers,
         gate,
     };
-    let mut at = table.at(desk);
+    let (own, mut at) = set_out(table, desk);
     let mut tally = Tally { expansions: 0 };
     let made = team_future(&team, &mut at, sq, &mut tally);
-    (leave(at, &tally), made)
+    (come_back(own, at, &tally), made)
 }

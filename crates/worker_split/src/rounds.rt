@@ -13,11 +13,11 @@ use crate::gate::Gate;
 use crate::gathering::{gather, hand_out};
 use crate::helping::help;
 use crate::jobs::Shared;
-use crate::leaving::leave;
 use crate::members::Member;
 use crate::recruiting::{Room, room_for};
 use crate::serving::{other_shares, own_share};
 use crate::team::Team;
+use crate::working::{come_back, set_out};
 use hashlife_step::Tally;
 use node_table::{At, Desk, NodeTable};
 use plane::Refusal;
@@ -126,8 +126,8 @@ pub fn round<R: Threads + Wait + Sync, G: Gate>(
     let Ok(room) = room_for(alloc, jobs.len(), workers) else {
         return (desk, Err(Refusal::NoMemory));
     };
-    let mut at = table.at(desk);
+    let (own, mut at) = set_out(table, desk);
     let mut tally = Tally { expansions: 0 };
     let futures = carry_out(&team, &mut at, jobs, room, &mut tally);
-    (leave(at, &tally), futures)
+    (come_back(own, at, &tally), futures)
 }

@@ -9,8 +9,8 @@ ghost use Rattle.worker_split.specs.Work.{Continues};
 
 use crate::batches::team_future;
 use crate::gate::Gate;
-use crate::leaving::leave;
 use crate::team::Team;
+use crate::working::{come_back, set_out};
 use hashlife_step::{Tally, pad, trim};
 use node_table::{At, Desk, NodeTable};
 use plane::Refusal;
@@ -62,8 +62,8 @@ pub fn step<R: Threads + Wait + Sync, G: Gate>(
     // new results times that of workers.
     ensures desk { ComesBack table.now team.now.workers desk result.0 }
 {
-    let mut at = table.at(desk);
+    let (own, mut at) = set_out(table, desk);
     let mut tally = Tally { expansions: 0 };
     let next = advance(team, &mut at, root, &mut tally);
-    (leave(at, &tally), next)
+    (come_back(own, at, &tally), next)
 }

@@ -1,26 +1,36 @@
-use Rattle.std.proofs.Common.{rules, subst}
+use Rattle.std.proofs.Common.{◌<◌, ◌^◌, rules}
 use Rattle.std.proofs.lemmas.Result.{IfOk-weaker}
-use Rattle.squares.specs.Book.{Book}
-use Rattle.node_table.specs.DesksAtWork.{book_here}
-use Rattle.node_table.proofs.AtWork.{known_at_work}
-use Rattle.hashlife_step.specs.Round.{IsStepOf}
-use Rattle.worker_split.proofs.Back.{comes_back, is_left, on_err, refusal_left, round_left}
+use Rattle.node_table.specs.Desks.{expansions_of}
+use Rattle.worker_split.proofs.Back.{on_err}
+use Rattle.worker_split.proofs.Books.{here_book}
+use Rattle.worker_split.proofs.Joined.{at_one_table, known_set_out, refusal_brought, step_brought, work_comes_back}
 use Rattle.worker_split.proofs.steps.step.Goals as goal
 
 pub advance-next-requires-clause-known : goal.advance-next-requires-clause-known
-advance-next-requires-clause-known g c κs within = known_at_work c.args.table.now c.args.desk _ c.args.root.level c.args.root c.at-at.ensures.book c.requires.known
+advance-next-requires-clause-known g c κs within = known_set_out c.args.root.level c.args.root c.set_out-own.ensures c.requires.known
+
+pub come_back-requires : goal.come_back-requires
+come_back-requires g c = at_one_table c.advance-next.new.at c.set_out-own.ensures c.advance-next.ensures.continues.keeps
 
 pub returns-clause-ok : goal.returns-clause-ok
 returns-clause-ok g c =
-    let left = is_left {table = c.args.table.now} {desk = c.args.desk} c.at-at.ensures.book c.advance-next.ensures.continues.keeps c.leave.ensures in
     IfOk-weaker c.advance-next.result _ _
-    (λ next is. round_left left _ next (subst (λ (b : Book). IsStepOf b (book_here c.advance-next.new.at) c.args.root next) c.at-at.ensures.book is)) c.advance-next.ensures.ok
+    (λ next is. step_brought c.advance-next.new.at c.set_out-own.ensures c.advance-next.ensures.continues.keeps c.come_back.ensures.brings c.args.root next is)
+    c.advance-next.ensures.ok
 
 pub returns-clause-refusal : goal.returns-clause-refusal
 returns-clause-refusal g c =
-    let left = is_left {table = c.args.table.now} {desk = c.args.desk} c.at-at.ensures.book c.advance-next.ensures.continues.keeps c.leave.ensures in
-    on_err c.advance-next.result _ _ (λ refusal refuses. refusal_left left refusal refuses) c.advance-next.ensures.refusal
+    on_err c.advance-next.result _ _
+    (λ refusal refuses. refusal_brought c.advance-next.new.at c.set_out-own.ensures c.advance-next.ensures.continues.keeps c.come_back.ensures.brings refusal refuses)
+    c.advance-next.ensures.refusal
 
 pub returns-clause-desk : goal.returns-clause-desk
 returns-clause-desk g c =
-    comes_back c.args.table.now c.args.team.now.workers _ c.args.desk c.leave.result _ _ c.requires.desk (search rules) c.at-at.ensures.book c.advance-next.ensures.continues c.leave.ensures
+    let out = c.set_out-own.ensures in
+    let works = c.advance-next.ensures.continues in
+    let brings = c.come_back.ensures.brings in
+    let knows = c.come_back.ensures.knows in
+    let book = here_book c.advance-next.new.at in
+    let d = c.requires.desk in
+    let fits : expansions_of c.args.desk < 2 ^ 64 = search rules in
+    search (work_comes_back, out, works, brings, knows, book, d, fits)
