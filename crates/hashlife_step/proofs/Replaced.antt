@@ -1,11 +1,12 @@
 -- Squares that are replaced one after the other by what is made of them.
-use Rattle.std.proofs.Common.{◌≡◌, ◌≢◌, ℕ, ◌+◌, ◌-◌, ◌<◌, ◌≤◌, All, List, length, slice_set, arith, sym, ◌∙◌, subst, refl}
+use Rattle.std.proofs.Common.{◌≡◌, ◌≢◌, ℕ, ◌+◌, ◌-◌, ◌<◌, ◌≤◌, All, List, length, slice_set, arith, sym, ◌∙◌, subst, refl, inl, inr, ⊎_elim}
 use Rattle.plane.specs.Plane.{Plane}
 use borrow.Author.Count.{below_more}
+use Rattle.std.proofs.lemmas.Bool.{cases_lt}
 use Rattle.std.proofs.lemmas.List.{get_or-set_same, get_or-set_other, length-set}
 use Rattle.plane.specs.Square.{future}
 use Rattle.plane.proofs.Same.{plane_equal, same_sym}
-use Rattle.hashlife_step.specs.Futures.{AreFutures}
+use Rattle.hashlife_step.specs.Futures.{AreFutures, AreSameOrFutures, IsFutureAt}
 use Rattle.squares.specs.Book.{Book, IsFuture, IsKnown, Shows, Keeps, nth, numbered}
 use Rattle.squares.specs.declared.sq.Sq.{Sq}
 use Rattle.squares.proofs.Kept.{keeps_trans, known_kept, shows_kept}
@@ -55,15 +56,28 @@ next_made make old now new level i before squares next is inside known shown =
     let one : Shows new (level - 1) (make (now.cells (nth before i))) next = subst (λ sq. Shows new (level - 1) (make (now.cells sq)) next) (is.others i (omega arith)) shown in
     subst (λ plane. Shows new (level - 1) (make plane) next) (plane_equal _ _ (is.keeps.cells (nth before i) (known i (numbered 0 0) inside).known)) one
 
+-- what is made of a square by the rule of the old book is its future in the new one
+future_in_new : (old new : Book) (level : ℕ) (sq next : Sq) → Keeps old new → IsKnown old level sq → Shows new (level - 1) (future old.rule old.exponent level (old.cells sq)) next → IsFutureAt new level sq next
+future_in_new old new level sq next keeps known shown =
+    let one = subst (λ plane. Shows new (level - 1) (future old.rule old.exponent level plane) next) (plane_equal _ _ (same_sym (keeps.cells sq known.known))) shown in
+    let two = subst (λ rule. Shows new (level - 1) (future rule old.exponent level (new.cells sq)) next) (sym keeps.rule) one in
+    subst (λ exponent. Shows new (level - 1) (future new.rule exponent level (new.cells sq)) next) (sym keeps.exponent) two
+
 pub all_futures : (old new : Book) (level : ℕ) (before now : List Sq) → IsReplaced (future old.rule old.exponent level) old new level (length before) before now → All (IsKnown old level) before →
     AreFutures new level before now
-all_futures old new level before now is known = record {
-  each = λ k less.
-      let one = subst (λ plane. Shows new (level - 1) (future old.rule old.exponent level plane) (nth now k))
-      (plane_equal _ _ (same_sym (is.keeps.cells (nth before k) (known k (numbered 0 0) less).known))) (is.made k less less) in
-      let two = subst (λ rule. Shows new (level - 1) (future rule old.exponent level (new.cells (nth before k))) (nth now k)) (sym is.keeps.rule) one in
-      subst (λ exponent. Shows new (level - 1) (future new.rule exponent level (new.cells (nth before k))) (nth now k)) (sym is.keeps.exponent) two;
+all_futures old new level before now is known = record { each = λ k less. future_in_new old new level (nth before k) (nth now k) is.keeps (known k (numbered 0 0) less) (is.made k less less) }
+
+-- where it ends early, the others stand as they did
+pub some_futures : (old mid new : Book) (level done : ℕ) (before now : List Sq) → IsReplaced (future old.rule old.exponent level) old mid level done before now → Keeps mid new → All (IsKnown old level) before →
+    AreSameOrFutures new level before now
+some_futures old mid new level done before now is keeps known = record {
+  each = λ k less. ⊎_elim
+      (λ (short : k < done). inr (future_in_new old new level (nth before k) (nth now k) (keeps_trans is.keeps keeps) (known k (numbered 0 0) less) (shows_kept keeps (is.made k short less))))
+      (λ (above : done ≤ k). inl (is.others k above)) (cases_lt k done);
 }
+
+pub none_replaced : (book : Book) (level : ℕ) (squares : List Sq) → AreSameOrFutures book level squares squares
+none_replaced book level squares = record { each = λ k less. inl refl }
 
 -- a square's future, in the words of an older book
 pub future_shown : (old now new : Book) (level : ℕ) (sq next : Sq) → Keeps old now → Keeps now new → IsKnown now level sq → IsFuture new sq next →

@@ -1,9 +1,9 @@
 //! The recursion of HashLife: the future of a square from the futures of smaller ones. The book is
 //! the memo: it recalls the results that it knows and keeps those that are made.
-ghost use Rattle.std.specs.Prelude.{◌+◌, ◌-◌, ◌<◌, ◌≤◌, All, IfOk, IfErr, OnOk};
+ghost use Rattle.std.specs.Prelude.{◌+◌, ◌-◌, ◌<◌, ◌≤◌, All, IfOk, IfErr, OnErr, OnOk};
 ghost use Rattle.squares.specs.Book.{IsFuture, IsKnown, MayRefuse};
 ghost use Rattle.hashlife_step.specs.FoundFutures.{FindsFuture};
-ghost use Rattle.hashlife_step.specs.Futures.{AreFinished, AreFutures};
+ghost use Rattle.hashlife_step.specs.Futures.{AreFinished, AreFutures, AreSameOrFutures};
 ghost use Rattle.hashlife_step.specs.Tallies.{MakesResults};
 
 use crate::centres::four_centres;
@@ -103,7 +103,7 @@ fn finish<S: Squares>(
 }
 
 /// Puts its future in the place of each square of a level. With an order, they are first asked for
-/// in this order, as in [`future_in_order`].
+/// in this order, as in [`future_in_order`]. Where it refuses, each place has its square or its future.
 #[cycle(future)]
 pub fn replace_by_futures<S: Squares>(
     book: &mut S,
@@ -115,6 +115,7 @@ pub fn replace_by_futures<S: Squares>(
     requires known { All (IsKnown (S.book book.old) level) squares.old }
     requires low { 3 < level }
     ensures ok { OnOk result (AreFutures (S.book book.new) level squares.old squares.new) }
+    ensures err { OnErr result (AreSameOrFutures (S.book book.new) level squares.old squares.new) }
     ensures refusal { IfErr result (MayRefuse (S.book book.new)) }
     ensures makes { MakesResults (S.book book.old) (S.book book.new) level
         tally.old.expansions tally.new.expansions }

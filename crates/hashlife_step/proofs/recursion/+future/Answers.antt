@@ -11,7 +11,7 @@ use Rattle.hashlife_step.proofs.Counted.{made_and_kept, made_between, makes_at, 
 use Rattle.squares.proofs.FourKnown.{known_as}
 use Rattle.hashlife_step.proofs.LeafSquares.{future_later}
 use Rattle.hashlife_step.proofs.NineFutures.{finished_known, futures_known, made_known, nine_futures, subsquares_known, of_first, overlaps_finished}
-use Rattle.hashlife_step.proofs.Replaced.{IsReplaced, all_futures, future_shown, next_known, next_made, replaced_kept, replaced_more}
+use Rattle.hashlife_step.proofs.Replaced.{IsReplaced, all_futures, future_shown, next_known, next_made, none_replaced, replaced_kept, replaced_more, some_futures}
 use Rattle.hashlife_step.proofs.recursion.+future.Goals as goal
 
 pub future_in_order-returns-in-Some : goal.future_in_order-returns-in-Some
@@ -247,3 +247,14 @@ ask_ahead-returns-clause-makes g t c = c.loop-k.invariant
 
 pub ask_ahead-returns-in_default-clause-makes : goal.ask_ahead-returns-in_default-clause-makes
 ask_ahead-returns-in_default-clause-makes g t c = makes_none (adds_none _)
+
+pub replace_by_futures-returns-in_err-ask_ahead-clause-err : goal.replace_by_futures-returns-in_err-ask_ahead-clause-err
+replace_by_futures-returns-in_err-ask_ahead-clause-err g t c =
+    let is : c.from_residual.result ≡ Err c.in_err-ask_ahead.field-0.0 = err_is _ _ c.from_residual.ensures.1 in
+    rw is (none_replaced (g.S.Squares.book c.ask_ahead.new.book) c.args.level c.args.squares.now)
+
+pub replace_by_futures-returns-in_err-squares-clause-err : goal.replace_by_futures-returns-in_err-squares-clause-err
+replace_by_futures-returns-in_err-squares-clause-err g t c =
+    let is : c.from_residual-in_err-squares.result ≡ Err c.in_err-squares.field-0.0 = err_is _ _ c.from_residual-in_err-squares.ensures.1 in
+    rw is (some_futures (g.S.Squares.book c.args.book.now) (g.S.Squares.book c.loop-i.book) (g.S.Squares.book c.future_in_order.new.book) c.args.level c.loop-i.i c.args.squares.now c.loop-i.squares
+    c.loop-i.invariant.0 c.future_in_order.ensures.makes.keeps c.requires.known)
