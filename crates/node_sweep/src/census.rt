@@ -15,7 +15,8 @@ struct Census {
 }
 
 /// How many squares of each size had results when words were collected, and from which size on all
-/// of these were kept.
+/// of these were kept. No clause promises that the numbers are right: they only decide whether
+/// another collection is worth its time.
 #[derive(Clone, Copy)]
 pub struct Finished {
     results: [u32; 256],
@@ -110,7 +111,7 @@ impl Census {
     // The highest rank up to which there are at most so many pairs.
     fn low(&self, most: u64) -> u8 {
         let mut sum: u64 = 0;
-        for rank in 1..LARGEST_RANK {
+        for rank in 1..=LARGEST_RANK {
             sum = sum.saturating_add(u64::from(self.pairs[rank as usize]));
             if sum > most {
                 return rank - 1;
@@ -122,7 +123,7 @@ impl Census {
     // The lowest rank from which on there are at most so many pairs with results.
     fn high(&self, most: u64) -> u8 {
         let mut sum: u64 = 0;
-        for rank in (1..LARGEST_RANK).rev() {
+        for rank in (1..=LARGEST_RANK).rev() {
             sum = sum.saturating_add(u64::from(self.results[rank as usize]));
             if sum > most {
                 return rank + 1;
@@ -143,7 +144,8 @@ impl Census {
 
 impl Finished {
     /// Whether more large squares are finished than before an earlier collection, of those that it
-    /// kept all of: by one in so many at least.
+    /// kept all of: by one in so many at least. No clause promises the answer: it only decides how
+    /// fast a run is.
     pub fn is_beyond(&self, earlier: &Finished, one_in: u64) -> bool {
         let before = earlier.results_from(earlier.high);
         self.results_from(earlier.high) > before.saturating_add(before / one_in.max(1))
