@@ -13,7 +13,7 @@ use Rattle.table_core.proofs.Lists.{length_set}
 use Rattle.table_core.proofs.Ways.{not_head}
 use Rattle.node_sweep.specs.Copies.{IsLowBlock, IsSomeBlock}
 use Rattle.node_sweep.specs.Ends.{IsEndCopied, IsFinishedCopied, IsFinishedFrom, IsSmallCopied, IsUnfinished}
-use Rattle.node_sweep.specs.Marks.{AreMarks, ArePartsMarked, AreVisited, AreVisitedTo, GetsMarks, IsMarked, IsMarkSet, IsVisited, KeepsMarks}
+use Rattle.node_sweep.specs.Marks.{AreMarks, ArePartsMarked, AreVisited, GetsMarks, IsMarked, IsMarkSet, IsVisited, KeepsMarks}
 use Rattle.node_sweep.specs.Orders.{IsListed, IsOrderOf}
 use Rattle.node_sweep.specs.Reaching.{IsAny, IsFinished}
 use Rattle.node_sweep.specs.Ranks.{IsPart}
@@ -121,6 +121,12 @@ pub visited_above : (bits : ℕ) (words : Words) (low high rank pair : ℕ) (old
 visited_above bits words low high rank pair old new gets here positive h = record {
   above = λ other number less slot b. visited_still bits words low high rank pair other number old new gets here positive (omega arith) (not_head bits Pair number slot) b (h.above other number less slot b);
 }
+
+-- the pairs in these slots, at places from the one on to the other, were visited
+pub record AreVisitedTo (bits : ℕ) (words : Words) (low high : ℕ) (slots marks : List ℕ)
+    (from to : ℕ) : Type 0 where
+  pub here : (place : ℕ) → from ≤ place → place < to →
+      IsVisited bits words low high marks (start bits Pair + slice_index slots place)
 
 -- one more place
 pub visited_on : (bits : ℕ) (words : Words) (low high rank pair from place : ℕ) (slots old new : List ℕ) → GetsMarks bits words rank pair old new → IsVisited bits words low high new pair → rank ≢ 0 →

@@ -1,33 +1,26 @@
 -- The square that a sweep is given, and the one that it gives.
-use Rattle.std.proofs.Common.{◌≡◌, ◌≤◌, [], sym, subst, arith}
-use Rattle.plane.proofs.Same.{same_trans}
+use Rattle.std.proofs.Common.{◌≡◌, ◌≤◌, sym, subst, arith, refl}
+use Rattle.plane.proofs.Same.{same_refl, same_trans}
 use Rattle.squares.specs.declared.sq.Sq.{Sq}
 use Rattle.squares.specs.Book.{IsKnown, Shows}
 use Rattle.table_core.specs.Blocks.{IsBlock, square_rank, cells_of, ShowsBlock}
-use Rattle.table_core.proofs.Knowing.{block_true}
 use Rattle.node_table.specs.declared.still.Still.{Still}
-use Rattle.node_table.specs.Books.{known_cells}
-use Rattle.node_table.specs.GoodWords.{all_known}
-use Rattle.node_table.specs.Rule.{everything}
 use Rattle.node_table.specs.Stills.{key_of, words_of, book_in}
-use Rattle.node_table.proofs.Books.{shows_of}
-use Rattle.node_table.proofs.Entries.{block_of}
-use Rattle.node_table.proofs.Everything.{all_coherent}
+use Rattle.node_table.proofs.WordBooks.{square_there, there_square}
 use Rattle.node_sweep.specs.Copies.{IsCopy}
 
 -- a known square is a block
 pub known_shows : (still : Still) (root : Sq) → IsKnown (book_in still) root.level root →
     ShowsBlock (key_of still).shape.bits (words_of still) (square_rank root.level) root.num.0 ((book_in still).cells root)
-known_shows still root known =
-    block_true still.key.shape.bits (words_of still) (everything still) (square_rank root.level) root.num.0 (known_cells (everything still) root)
-    (all_known still.key still.words still.good).true_of (block_of (everything still) root known.known)
+known_shows still root known = record { stands = (square_there still.key.shape.bits (words_of still) root known.known).block; cells = same_refl ((book_in still).cells root) }
 
 -- a block of a square's rank is a known square
 pub block_shown : (still : Still) (sq : Sq) → 3 ≤ sq.level → sq.level ≤ 65 → IsBlock (key_of still).shape.bits (words_of still) (square_rank sq.level) sq.num.0 →
     Shows (book_in still) sq.level (cells_of (words_of still) (square_rank sq.level) sq.num.0) sq
-block_shown still sq low high b =
-    shows_of [] still.key (everything still) sq (cells_of (words_of still) (square_rank sq.level) sq.num.0) ∣ all_coherent still.key still.words still.good ∣₁ low high
-    ((all_known still.key still.words still.good).blocks (square_rank sq.level) sq.num.0 b)
+block_shown still sq low high b = record {
+  known = record { known = there_square still.key.shape.bits (words_of still) sq low high b; at_level = refl; low = low; high = high };
+  cells = same_refl ((book_in still).cells sq);
+}
 
 pub shown_as : (still : Still) (root copy : Sq) (now : Still) → IsKnown (book_in still) root.level root → copy.level ≡ root.level →
     IsCopy (key_of still).shape.bits (key_of now).shape.bits (words_of still) (words_of now) (square_rank root.level) root.num.0 copy.num.0 →

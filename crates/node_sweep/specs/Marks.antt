@@ -49,12 +49,6 @@ pub record AreVisited (bits : ℕ) (words : Words) (low high : ℕ) (marks : Lis
   pub above : (other pair : ℕ) → rank < other → IsSlot bits Pair pair →
       IsBlock bits words other pair → IsVisited bits words low high marks pair
 
--- and with the pairs of this rank at places from the one on to the other
-pub record AreVisitedTo (bits : ℕ) (words : Words) (low high : ℕ) (slots marks : List ℕ)
-    (from to : ℕ) : Type 0 where
-  pub here : (place : ℕ) → from ≤ place → place < to →
-      IsVisited bits words low high marks (start bits Pair + slice_index slots place)
-
 -- no mark is gone; a new one is that of the pair or of a block of a lower rank
 pub record GetsMarks (bits : ℕ) (words : Words) (rank pair : ℕ) (old new : List ℕ) : Type 0 where
   pub kept : (number : ℕ) → IsMarked old number → IsMarked new number

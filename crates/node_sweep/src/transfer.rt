@@ -2,7 +2,7 @@
 
 ghost use Rattle.std.specs.Prelude.{◌≡◌};
 ghost use Rattle.table_core.specs.Good.{AreGoodWords};
-ghost use Rattle.node_table.specs.GoodWords.{good_prop};
+ghost use Rattle.table_core.proofs.GoodWords.{good_prop};
 
 use crate::keep::Keep;
 use node_table::Held;

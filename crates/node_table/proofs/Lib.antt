@@ -1,4 +1,6 @@
 pub mod Books
+pub mod WordBooks
+pub mod Listings
 pub mod Entries
 pub mod Steps
 pub mod Searching
@@ -17,7 +19,7 @@ pub mod Vacant
 pub mod Ranks
 pub mod Reopening
 pub mod Openings
-pub mod Everything
+pub mod StillReading
 pub mod SameStill
 pub mod Closing
 mod Working

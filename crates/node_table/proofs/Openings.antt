@@ -13,22 +13,19 @@ use Rattle.table_core.specs.Knowledge.{IsTrueOf, KnowsWord}
 use Rattle.table_core.proofs.Knowing.{seen_true}
 use Rattle.table_core.proofs.Learned.{known_word}
 use Rattle.table_core.specs.Laws.{KnowsAll}
-use Rattle.node_table.specs.GoodWords.{all_known}
 use Rattle.node_table.specs.declared.still.Still.{Still}
 use Rattle.node_table.specs.declared.view.View.{View}
 use Rattle.node_table.specs.Books.{IsSound, IsCoherent}
-use Rattle.node_table.specs.Rule.{IsSoundState, IsTrueView, everything, opened}
+use Rattle.node_table.specs.Rule.{IsSoundState, IsTrueView, opened}
 use Rattle.node_table.specs.Stills.{words_of}
+use Rattle.table_core.proofs.Everything.{all_of, all_known}
 use Rattle.node_table.proofs.Steps.{all_at, is_coherent, sound_by}
 
-pub everything_known : (still : Still) → KnowsAll still.key.shape.bits (words_of still) (everything still)
-everything_known still = all_known still.key still.words still.good
-
-pub everything_coherent : (still : Still) → IsCoherent still.key.shape.bits (everything still)
-everything_coherent still = is_coherent still.key (words_of still) (everything still) still.good.good (everything_known still).true_of
+all_coherent : (still : Still) → IsCoherent still.key.shape.bits (all_of still.key still.words still.good)
+all_coherent still = is_coherent still.key (words_of still) (all_of still.key still.words still.good) still.good.good (all_known still.key still.words still.good).true_of
 
 pub opened_sound : (still : Still) → IsRule still.key.rule → IsSound (opened still)
-opened_sound still rule = sound_by still.key (opened still) rule (everything_coherent still) refl
+opened_sound still rule = sound_by still.key (opened still) rule (all_coherent still) refl
 
 any_default : {X : Type 0} (xs : List X) (k : ℕ) (d e : X) → k < length xs → slice_index_or xs k d ≡ slice_index_or xs k e
 any_default [] k d e less = absurd (omega arith)
@@ -78,21 +75,21 @@ pub opening_holds : {S : Type 0} (still : Still) (words : List ℕ) → words �
 opening_holds {S} still words e = subst (λ (ws : List ℕ). IsSoundState {S = S} still (opening ws [] (opened still))) (sym e)
     (record {
       words = still.good;
-      views = (record { tied = refl; known = (everything_known still).true_of }, tt);
-      known = λ i some. (0, opened still, omega arith, refl, inl ((everything_known still).seen i (index_below still.words i (size still.key.shape.bits) still.good.long some) some));
+      views = (record { tied = refl; known = (all_known still.key still.words still.good).true_of }, tt);
+      known = λ i some. (0, opened still, omega arith, refl, inl ((all_known still.key still.words still.good).seen i (index_below still.words i (size still.key.shape.bits) still.good.long some) some));
     })
 
 -- where the first desk is the only one, no other words stand there
 no_other_words : {S : Type 0} (still : Still) (begun : List ℕ) → IsSoundState {S = S} still (opening begun [] (opened still)) → begun ≡ still.words
 no_other_words still begun h =
-    let all : KnowsAll still.key.shape.bits (words_of still) (everything still) = everything_known still in
-    let of_begun : IsTrueOf still.key.shape.bits (slice_index begun) (everything still) = h.views.0.known in
+    let all : KnowsAll still.key.shape.bits (words_of still) (all_of still.key still.words still.good) = all_known still.key still.words still.good in
+    let of_begun : IsTrueOf still.key.shape.bits (slice_index begun) (all_of still.key still.words still.good) = h.views.0.known in
     copied begun still.words (size still.key.shape.bits) h.words.long still.good.long (λ i less. ⊎_elim
     (λ none. ⊎_elim
     (λ also. none ∙ sym also)
-    (λ some. (seen_true still.key.shape.bits (slice_index begun) (everything still) i (words_of still i) of_begun (all.seen i less some)).0)
+    (λ some. (seen_true still.key.shape.bits (slice_index begun) (all_of still.key still.words still.good) i (words_of still i) of_begun (all.seen i less some)).0)
     (same_or_other (words_of still i) 0))
-    (λ some. let t = h.known i some in sym (known_word still.key.shape.bits (words_of still) (everything still) i (slice_index begun i) all.true_of (only (λ view. KnowsWord still.key.shape.bits view.known i (slice_index begun i)) (opened still) t)))
+    (λ some. let t = h.known i some in sym (known_word still.key.shape.bits (words_of still) (all_of still.key still.words still.good) i (slice_index begun i) all.true_of (only (λ view. KnowsWord still.key.shape.bits view.known i (slice_index begun i)) (opened still) t)))
     (same_or_other (slice_index begun i) 0))
 
 pub begins_with : {S : Type 0} (still : Still) (begun : List ℕ) → IsSoundState {S = S} still (opening begun [] (opened still)) ↔ (begun ≡ still.words)

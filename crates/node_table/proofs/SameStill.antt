@@ -1,31 +1,25 @@
 -- Words in one owner's hands are told by their head and the words alone.
-use Rattle.std.proofs.Common.{◌≡◌, ℕ, List, [], ap}
+use Rattle.std.proofs.Common.{◌≡◌, ℕ, List, ap}
 use Rattle.std.proofs.Props.{props}
 use mathlib.Core.HLevel.{Σ_prop_path}
 use Rattle.squares.specs.Book.{Book, IsBook}
 use Rattle.table_core.specs.declared.key.Key.{Key}
 use Rattle.table_core.specs.Good.{AreGoodWords}
 use Rattle.node_table.specs.declared.still.Still.{Still}
-use Rattle.node_table.specs.Books.{book_of}
-use Rattle.node_table.specs.GoodWords.{all_of, good_prop}
+use Rattle.node_table.specs.StillBooks.{book_of_words}
+use Rattle.table_core.proofs.GoodWords.{good_prop}
 
 book_prop : (book : Book) → IsProp (IsBook book)
 book_prop book = hlevel props
 
 -- the words are good, and show a book
 abbrev ShowBook : Key × List ℕ → Type 0
-ShowBook told = (good : AreGoodWords told.0 told.1) × IsBook (book_of [] told.0 (all_of told.0 told.1 good))
+ShowBook told = (good : AreGoodWords told.0 told.1) × IsBook (book_of_words told.0 told.1)
 
 show_prop : (told : Key × List ℕ) → IsProp (ShowBook told)
-show_prop told a b = Σ_prop_path (λ good. book_prop (book_of [] told.0 (all_of told.0 told.1 good))) {u = a} {v = b} (good_prop told.0 told.1 a.0 b.0)
+show_prop told a b = Σ_prop_path (λ good. book_prop (book_of_words told.0 told.1)) {u = a} {v = b} (good_prop told.0 told.1 a.0 b.0)
 
 pub same_still : (one two : Still) → one.key ≡ two.key → one.words ≡ two.words → one ≡ two
 same_still one two key words =
     ap (λ (t : (told : Key × List ℕ) × ShowBook told). record { key = t.0.0; words = t.0.1; good = t.1.0; is_book = t.1.1 })
     (Σ_prop_path show_prop {u = ((one.key, one.words), (one.good, one.is_book))} {v = ((two.key, two.words), (two.good, two.is_book))} (λ i. (key i, words i)))
-
--- the same words show the same book
-pub same_book : (key : Key) (one two : List ℕ) (good_one : AreGoodWords key one) (good_two : AreGoodWords key two) → one ≡ two →
-    book_of [] key (all_of key one good_one) ≡ book_of [] key (all_of key two good_two)
-same_book key one two good_one good_two e =
-    ap (λ (t : (words : List ℕ) × AreGoodWords key words). book_of [] key (all_of key t.0 t.1)) (Σ_prop_path (good_prop key) {u = (one, good_one)} {v = (two, good_two)} e)

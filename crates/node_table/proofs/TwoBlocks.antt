@@ -30,7 +30,7 @@ both_cases true u v w h k = h
 both_cases false u v w h k = k
 
 -- two empty blocks are an empty one
-empty_paired : (rank : ℕ) → paired rank empty empty ≡ empty
+pub empty_paired : (rank : ℕ) → paired rank empty empty ≡ empty
 empty_paired rank = both_cases (rank % 2 == 0) (beside (width rank) empty empty) (below (height rank) empty empty) empty
     (λ i x y. both_cases (int_lt x (pos (width rank))) false false false refl refl i)
     (λ i x y. both_cases (int_lt y (pos (height rank))) false false false refl refl i)

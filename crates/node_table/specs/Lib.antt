@@ -1,13 +1,13 @@
 pub mod Books
 pub mod Desks
 pub mod DesksAtWork
-pub mod GoodWords
 pub mod Halves
 pub mod Held
 pub mod Numbers
 pub mod Rule
 pub mod Shared
 pub mod StillBooks
+pub mod StillWords
 pub mod Stills
 pub mod Teams
 pub mod Openings

@@ -12,7 +12,7 @@ use Rattle.table_core.specs.Good.{AreGoodWords}
 use Rattle.table_core.specs.Knowledge.{IsTrueOf, KnowsBlock, KnowsWord, Grows, united, nothing}
 use Rattle.table_core.specs.Learning.{LearnsFrom}
 use Rattle.table_core.specs.Events.{index_of, word_after}
-use Rattle.node_table.specs.GoodWords.{all_of}
+use Rattle.table_core.proofs.Everything.{all_of}
 use Rattle.node_table.specs.declared.still.Still.{Still}
 use Rattle.node_table.specs.declared.view.View.{View}
 use Rattle.node_table.specs.Books.{IsCoherent}
@@ -34,12 +34,9 @@ pub record IsSoundState {S : Type 0} (still : Still) (state : State S View) : Ty
   pub known : (index : ℕ) → slice_index state.words index ≢ 0 →
       IsKnownToSome still.key state.views index (slice_index state.words index)
 
--- all that the words say
-abbrev pub everything : Still → Knowledge
-everything still = all_of still.key still.words still.good
-
+-- a desk that knows all that the words say
 abbrev pub opened : Still → View
-opened still = record { key = Some still.key; known = everything still }
+opened still = record { key = Some still.key; known = all_of still.key still.words still.good }
 
 abbrev pub with_known : View → Knowledge → View
 with_known view known = record { key = view.key; known = known }

@@ -1,11 +1,10 @@
 -- Words in one owner's hands.
-use Rattle.std.specs.Prelude.{◌≡◌, ◌≢◌, ℕ, ◌^◌, ◌<◌, ◌≤◌, ◌↔◌, Bool, IsTrue, List, [], slice_index}
+use Rattle.std.specs.Prelude.{◌≡◌, ◌≢◌, ℕ, ◌^◌, ◌<◌, ◌≤◌, ◌↔◌, Bool, IsTrue, List, slice_index}
 use Rattle.table_core.specs.declared.key.Key.{Key}
 use Rattle.table_core.specs.Blocks.{Words, IsBlock, square_rank, largest_rank}
 use Rattle.table_core.specs.Opening.{IsFresh, KeepsResult, Reopens}
 use Rattle.squares.specs.Book.{Book}
-use Rattle.node_table.specs.Books.{book_of}
-use Rattle.node_table.specs.GoodWords.{all_of}
+use Rattle.node_table.specs.StillBooks.{book_of_words}
 use Rattle.node_table.specs.declared.still.Still.{Still}
 
 abbrev pub key_of : Still → Key
@@ -19,7 +18,7 @@ words_of still = slice_index still.words
 
 -- what the words show, as a book
 abbrev pub book_in : Still → Book
-book_in still = book_of [] still.key (all_of still.key still.words still.good)
+book_in still = book_of_words still.key still.words
 
 -- a table of so many pair slots without a square
 pub record IsVacant (still : Still) (pairs : ℕ) : Type 0 where

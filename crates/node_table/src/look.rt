@@ -2,9 +2,8 @@
 ghost use Rattle.std.specs.Prelude.{◌≡◌, ◌<◌, length, slice_index};
 ghost use Rattle.plane.specs.Square.{bits_plane};
 ghost use Rattle.squares.specs.Book.{AreQuarters, IsKnown, Shows};
-ghost use Rattle.node_table.specs.Numbers.{KnowsSomePair, KnowsPairOf};
 ghost use Rattle.node_table.specs.Shared.{book_shown};
-ghost use Rattle.node_table.specs.StillBooks.{GoodWords, book_of_words, known_in};
+ghost use Rattle.node_table.specs.StillWords.{AreParts, GoodWords, IsSomePair, book_of_good};
 ghost use Rattle.node_table.specs.Stills.{book_in};
 
 use crate::at::square;
@@ -42,9 +41,8 @@ impl StillWords for SharedStill {
 
 // The two blocks of a block that is no square of level 3.
 fn read_pair<W: StillWords>(still: &W, number: u32) -> (u32, u32)
-    requires { KnowsSomePair (known_in (W.good still.now)) number }
-    ensures { KnowsPairOf (known_in (W.good still.now)) (known_in (W.good still.now)) number
-        result.0 result.1 }
+    requires { IsSomePair (W.good still.now) number }
+    ensures { AreParts (W.good still.now) number result.0 result.1 }
 {
     if number == 0 {
         return (0, 0);
@@ -54,8 +52,8 @@ fn read_pair<W: StillWords>(still: &W, number: u32) -> (u32, u32)
 
 // The cells of a square of level 3.
 fn read_bits<W: StillWords>(still: &W, sq: Sq) -> u64
-    requires { IsKnown (book_of_words (W.good still.now)) 3 sq }
-    ensures { Shows (book_of_words (W.good still.now)) 3 (bits_plane result) sq }
+    requires { IsKnown (book_of_good (W.good still.now)) 3 sq }
+    ensures { Shows (book_of_good (W.good still.now)) 3 (bits_plane result) sq }
 {
     if sq.is_empty() {
         return 0;
@@ -65,10 +63,10 @@ fn read_bits<W: StillWords>(still: &W, sq: Sq) -> u64
 
 // The quarters of a square above level 3.
 fn read_parts<W: StillWords>(still: &W, sq: Sq) -> [Sq; 4]
-    requires known { IsKnown (book_of_words (W.good still.now)) sq.level sq }
+    requires known { IsKnown (book_of_good (W.good still.now)) sq.level sq }
     requires level { 3 < sq.level }
-    ensures { AreQuarters (book_of_words (W.good still.now)) sq.level
-        ((book_of_words (W.good still.now)).cells sq) result }
+    ensures { AreQuarters (book_of_good (W.good still.now)) sq.level
+        ((book_of_good (W.good still.now)).cells sq) result }
 {
     let level = sq.level - 1;
     let (upper, lower) = read_pair(still, sq.num.0);

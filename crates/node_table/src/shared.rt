@@ -1,10 +1,9 @@
 //! Words that several threads may read.
 
-ghost use Rattle.std.specs.Prelude.{[]};
 ghost use Rattle.squares.specs.Book.{IsBook};
 ghost use Rattle.table_core.specs.Good.{AreGoodWords};
-ghost use Rattle.node_table.specs.Books.{book_of};
-ghost use Rattle.node_table.specs.GoodWords.{all_of, good_prop};
+ghost use Rattle.node_table.specs.StillBooks.{book_of_words};
+ghost use Rattle.table_core.proofs.GoodWords.{good_prop};
 
 use table_core::Key;
 
@@ -14,5 +13,5 @@ pub struct SharedStill {
     pub(crate) key: Key,
     pub(crate) words: Vec<u64>,
     ghost good: { AreGoodWords key words.items } by { good_prop key words.items },
-    ghost is_book: { IsBook (book_of [] key (all_of key words.items good)) },
+    ghost is_book: { IsBook (book_of_words key words.items) },
 }

@@ -1,10 +1,10 @@
 //! The words of a table that no thread uses.
-ghost use Rattle.std.specs.Prelude.{◌≡◌, ◌≢◌, ◌<◌, ◌↔◌, [], IsTrue, IfOk, IsOkUnless};
+ghost use Rattle.std.specs.Prelude.{◌≡◌, ◌≢◌, ◌<◌, ◌↔◌, IsTrue, IfOk, IsOkUnless};
 ghost use Rattle.table_core.specs.Good.{AreGoodWords};
 ghost use Rattle.table_core.specs.Sizes.{IsPairCount};
 ghost use Rattle.squares.specs.Book.{IsBook};
-ghost use Rattle.node_table.specs.Books.{book_of};
-ghost use Rattle.node_table.specs.GoodWords.{all_of, good_prop};
+ghost use Rattle.node_table.specs.StillBooks.{book_of_words};
+ghost use Rattle.table_core.proofs.GoodWords.{good_prop};
 
 use crate::held::Held;
 use crate::shared::SharedStill;
@@ -19,7 +19,7 @@ pub struct Still {
     pub(crate) key: Key,
     pub(crate) words: Held,
     ghost good: { AreGoodWords key words } by { good_prop key words },
-    ghost is_book: { IsBook (book_of [] key (all_of key words good)) },
+    ghost is_book: { IsBook (book_of_words key words) },
 }
 
 // How many ranks there are, from that of a leaf on.

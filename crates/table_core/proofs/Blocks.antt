@@ -15,7 +15,7 @@ use Rattle.table_core.specs.declared.shape.Kind.TheVariants.{Leaf, Pair}
 use Rattle.table_core.specs.Layout.{IsSlot, first_part, second_part}
 use Rattle.table_core.specs.Blocks.{Words, width, height, paired, IsBlock, cells_of, ShowsBlock}
 use Rattle.table_core.specs.declared.key.Key.{Key}
-use Rattle.table_core.specs.Good.{IsGood, KeepsWords, KeepsSlots}
+use Rattle.table_core.specs.Good.{IsGood, KeepsWords}
 use Rattle.table_core.proofs.Ways.{one_kind}
 
 some_kind : Kind → Bool
@@ -148,6 +148,11 @@ one_number key words good (suc r) (suc i) (suc j) h k same =
     let one = one_number key words good r (first_part v) (first_part w) h.2 k.2 (paired_first r (cells_of words r (first_part v)) (cells_of words r (second_part v)) (cells_of words r (first_part w)) (cells_of words r (second_part w)) (cells_inside words r (first_part v)) (cells_inside words r (first_part w)) same) in
     let two = one_number key words good r (second_part v) (second_part w) h.3 k.3 (paired_second r (cells_of words r (first_part v)) (cells_of words r (second_part v)) (cells_of words r (first_part w)) (cells_of words r (second_part w)) (cells_inside words r (second_part v)) (cells_inside words r (second_part w)) same) in
     good.once Pair (suc i) (suc j) h.0 k.0 h.1 (parts_equal (words (suc i)) (words (suc j)) one two)
+
+-- no nonzero word of a leaf or a pair has changed
+pub record KeepsSlots (bits : ℕ) (old new : Words) : Type 0 where
+  pub kept : (kind : Kind) (index : ℕ) → IsSlot bits kind index → old index ≢ 0 →
+      new index ≡ old index
 
 -- what was shown stays shown, while no nonzero word of a slot changes
 pub block_stays : (bits : ℕ) (old new : Words) → KeepsSlots bits old new → (r n : ℕ) → IsBlock bits old r n → IsBlock bits new r n

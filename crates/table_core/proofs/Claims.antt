@@ -6,10 +6,28 @@ use Rattle.table_core.specs.declared.shape.Kind.TheVariants.{Pair}
 use Rattle.table_core.specs.Layout.{IsSlot, way, result_of, first_part, second_part}
 use Rattle.table_core.specs.Blocks.{Words, IsBlock, cells_of, square_rank, ShowsBlock, largest_rank}
 use Rattle.table_core.specs.declared.key.Key.{Key}
-use Rattle.table_core.specs.Good.{IsOnWay, IsFutureOf, IsGood, KeepsWords, Fills, PartsStand, MayStand}
+use Rattle.table_core.specs.Good.{IsOnWay, IsFutureOf, IsGood, KeepsWords, PartsStand}
 use Rattle.table_core.proofs.Ways.{one_kind, not_head, not_result, way_is_slot}
 use Rattle.table_core.proofs.Comparisons.{ordered, same_or_other}
 use Rattle.table_core.proofs.Blocks.{block_kept, cells_kept, shows_kept}
+
+-- the word comes to the index, where 0 stood, and nowhere else anything
+pub record Fills (old new : Words) (index word : ℕ) : Type 0 where
+  pub free : old index ≡ 0
+  pub now : new index ≡ word
+  pub others : (other : ℕ) → other ≢ index → new other ≡ old other
+
+-- the word may come to the index: at each earlier place of its way another word stands, and its
+-- parts are there
+pub record MayStand (bits : ℕ) (words : Words) (kind : Kind) (index word : ℕ) : Type 0 where
+  pub some : word ≢ 0
+  pub fits : word < 2 ^ 64
+  pub place : ℕ
+  pub short : place < 256
+  pub here : way bits kind word place ≡ index
+  pub before : (earlier : ℕ) → earlier < place →
+      (words (way bits kind word earlier) ≢ 0) × (words (way bits kind word earlier) ≢ word)
+  pub parts : PartsStand bits words kind word
 
 pub fills_keeps : (old new : Words) (index word : ℕ) → Fills old new index word → KeepsWords old new
 fills_keeps old new index word h = record {

@@ -1,6 +1,6 @@
 -- A desk may know all that good words say.
 use Rattle.std.proofs.Common.{◌≡◌, ◌≢◌, ℕ, zero, suc, ◌<◌, ◌⊎◌, [], ◌∷◌, ◌++◌, sym, ◌∙◌, ap, subst, arith, refl, inl, inr, ⊎_elim}
-use Rattle.std.specs.Prelude.{Contains}
+use Rattle.std.specs.Prelude.{Contains, List, slice_index}
 use Rattle.std.proofs.lemmas.List.Elements.{Contains-append_left, Contains-append_right}
 use Rattle.plane.specs.Listing.{plane_of}
 use Rattle.plane.proofs.Same.{same_sym, same_of}
@@ -11,9 +11,9 @@ use Rattle.table_core.specs.declared.knowledge.Knowledge.{Knowledge}
 use Rattle.table_core.specs.declared.shape.Kind.TheVariants.{Leaf, Pair}
 use Rattle.table_core.specs.Layout.{IsSlot, size, result_of}
 use Rattle.table_core.specs.Blocks.{Words, IsBlock, cells_of, square_rank, ShowsBlock}
-use Rattle.table_core.specs.Good.{IsGood}
+use Rattle.table_core.specs.Good.{IsGood, AreGoodWords}
 use Rattle.table_core.specs.Knowledge.{HasSeen, KnowsBlock, IsTrueResult, KnowsSquareOf, IsTrueOf, Grows, with_result, nothing}
-use Rattle.table_core.specs.Laws.{GoodWordsCanBeKnown}
+use Rattle.table_core.specs.Laws.{GoodWordsCanBeKnown, KnowsAll}
 use Rattle.table_core.proofs.Ways.{slot_below}
 use Rattle.table_core.proofs.Blocks.{one_rank, empty_cells, cells_inside}
 use Rattle.table_core.proofs.Comparisons.{same_or_other}
@@ -191,3 +191,11 @@ good_words_can_be_known key words good =
         results = λ result h. k.results result (slot_below key.shape.bits Pair result.square h.slot) h;
       },
     )
+
+-- all that good words say
+pub all_of : (key : Key) (words : List ℕ) → AreGoodWords key words → Knowledge
+all_of key words good = (good_words_can_be_known key (slice_index words) good.good).0
+
+pub all_known : (key : Key) (words : List ℕ) (good : AreGoodWords key words) → KnowsAll key.shape.bits (slice_index words) (all_of key words good)
+unfolding all_of
+all_known key words good = (good_words_can_be_known key (slice_index words) good.good).1

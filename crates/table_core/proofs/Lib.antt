@@ -5,6 +5,7 @@ pub mod Comparisons
 pub mod Consistency
 pub mod Entries
 pub mod Everything
+pub mod GoodWords
 pub mod FullShards
 pub mod FullWays
 pub mod Knowing

@@ -10,11 +10,11 @@ use Rattle.table_core.specs.declared.shape.Kind.{Kind}
 use Rattle.table_core.specs.declared.shape.Kind.TheVariants.{Pair}
 use Rattle.table_core.specs.Layout.{IsSlot, way, result_of}
 use Rattle.table_core.specs.Blocks.{Words, IsBlock, cells_of, square_rank, ShowsBlock}
-use Rattle.table_core.specs.Good.{IsOnWay, IsFutureOf, IsGood, KeepsSlots}
+use Rattle.table_core.specs.Good.{IsOnWay, IsFutureOf, IsGood}
 use Rattle.table_core.specs.Opening.{KeepsResult, AreOpening, Reopens, EveryFreshTable, EveryReopening}
 use Rattle.table_core.proofs.Ways.{not_head, way_is_slot}
 use Rattle.table_core.proofs.Comparisons.{same_or_other}
-use Rattle.table_core.proofs.Blocks.{one_rank, block_stays, cells_stay, shows_stay}
+use Rattle.table_core.proofs.Blocks.{KeepsSlots, one_rank, block_stays, cells_stay, shows_stay}
 
 pub every_fresh_table : EveryFreshTable
 every_fresh_table key words low fresh = record {

@@ -10,11 +10,12 @@ use Rattle.table_core.specs.declared.shape.Kind.{Kind}
 use Rattle.table_core.specs.declared.shape.Kind.TheVariants.{Leaf, Pair}
 use Rattle.table_core.specs.Layout.{IsSlot, way, result_of, first_part, second_part}
 use Rattle.table_core.specs.Blocks.{Words, paired, width, height, cells_of, square_rank, ShowsBlock}
-use Rattle.table_core.specs.Good.{IsFutureOf, IsGood, PartsStand, MayStand}
+use Rattle.table_core.specs.Good.{IsFutureOf, IsGood, PartsStand}
 use Rattle.table_core.specs.Knowledge.{IsTrueOf}
 use Rattle.table_core.specs.Lawful.{KnowsPartsFor, MayClaim, MayTell}
 use Rattle.table_core.proofs.Ways.{not_head}
 use Rattle.table_core.proofs.Blocks.{one_rank, cells_inside, paired_first, paired_second, paired_same}
+use Rattle.table_core.proofs.Claims.{MayStand}
 use Rattle.table_core.proofs.Results.{one_level}
 use Rattle.table_core.proofs.Knowing.{seen_true, block_true}
 

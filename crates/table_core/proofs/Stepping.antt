@@ -8,14 +8,14 @@ use Rattle.table_core.specs.declared.knowledge.Knowledge.{Knowledge}
 use Rattle.table_core.specs.declared.machine.Event.{Event}
 use Rattle.table_core.specs.declared.machine.Event.TheVariants.{Look, Claim, Ask, Tell}
 use Rattle.table_core.specs.Layout.{IsSlot}
-use Rattle.table_core.specs.Good.{AreGoodWords, KeepsWords, Fills}
+use Rattle.table_core.specs.Good.{AreGoodWords, KeepsWords}
 use Rattle.table_core.specs.Events.{index_of, word_after, words_after}
 use Rattle.table_core.specs.Knowledge.{IsTrueOf, IsConsistent, Grows}
 use Rattle.table_core.specs.Lawful.{MayClaim, MayTell, IsLawful}
 use Rattle.table_core.specs.Learning.{LearnsFrom}
 use Rattle.table_core.specs.Laws.{Teaches}
 use Rattle.table_core.proofs.Ways.{slot_below}
-use Rattle.table_core.proofs.Claims.{fills_keeps, slot_of, claim_good, tell_good}
+use Rattle.table_core.proofs.Claims.{Fills, fills_keeps, slot_of, claim_good, tell_good}
 use Rattle.table_core.proofs.Lists.{length_set}
 use Rattle.table_core.proofs.Knowing.{true_later}
 use Rattle.table_core.proofs.Showing.{claim_may, tell_is}

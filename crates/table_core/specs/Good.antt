@@ -1,4 +1,4 @@
--- Good words, and the words that may come.
+-- Good words, and the parts of their pairs.
 use Rattle.std.specs.Prelude.{◌≡◌, ◌≢◌, ℕ, suc, ◌+◌, ◌-◌, ◌*◌, ◌^◌, ◌<◌, List, slice_index, length}
 use Rattle.plane.specs.Square.{future}
 use Rattle.rule_text.specs.RuleCode.{code_of}
@@ -61,32 +61,9 @@ pub record AreGoodWords (key : Key) (words : List ℕ) : Type 0 where
 pub record KeepsWords (old new : Words) : Type 0 where
   pub kept : (index : ℕ) → old index ≢ 0 → new index ≡ old index
 
--- no nonzero word of a leaf or a pair has changed
-pub record KeepsSlots (bits : ℕ) (old new : Words) : Type 0 where
-  pub kept : (kind : Kind) (index : ℕ) → IsSlot bits kind index → old index ≢ 0 →
-      new index ≡ old index
-
--- the word comes to the index, where 0 stood, and nowhere else anything
-pub record Fills (old new : Words) (index word : ℕ) : Type 0 where
-  pub free : old index ≡ 0
-  pub now : new index ≡ word
-  pub others : (other : ℕ) → other ≢ index → new other ≡ old other
-
 -- the parts of a pair's word stand for blocks of one rank, that of less than a square of level 65
 abbrev pub PartsStand : ℕ → Words → Kind → ℕ → Type 0
 PartsStand bits words Leaf word = Unit {0}
 PartsStand bits words Pair word =
     (rank : ℕ) × (rank < largest_rank) × IsBlock bits words rank (first_part word)
     × IsBlock bits words rank (second_part word)
-
--- the word may come to the index: at each earlier place of its way another word stands, and its
--- parts are there
-pub record MayStand (bits : ℕ) (words : Words) (kind : Kind) (index word : ℕ) : Type 0 where
-  pub some : word ≢ 0
-  pub fits : word < 2 ^ 64
-  pub place : ℕ
-  pub short : place < 256
-  pub here : way bits kind word place ≡ index
-  pub before : (earlier : ℕ) → earlier < place →
-      (words (way bits kind word earlier) ≢ 0) × (words (way bits kind word earlier) ≢ word)
-  pub parts : PartsStand bits words kind word

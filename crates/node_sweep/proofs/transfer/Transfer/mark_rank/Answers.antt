@@ -3,9 +3,8 @@ use Rattle.std.specs.Prelude.{slice_index}
 use Rattle.table_core.specs.declared.shape.Kind.TheVariants.{Pair}
 use Rattle.table_core.specs.Layout.{start}
 use Rattle.node_sweep.specs.Reaching.{IsAny}
-use Rattle.node_sweep.specs.Marks.{AreVisitedTo}
 use Rattle.node_sweep.specs.Transfers.{old_bits, old_words}
-use Rattle.node_sweep.proofs.Marking.{marks_kept, pair_in_order, place_visited, rank_visited, visited_above}
+use Rattle.node_sweep.proofs.Marking.{AreVisitedTo, marks_kept, pair_in_order, place_visited, rank_visited, visited_above}
 use Rattle.node_sweep.proofs.transfer.Transfer.mark_rank.Goals as goal
 
 pub index-pair-requires : goal.index-pair-requires

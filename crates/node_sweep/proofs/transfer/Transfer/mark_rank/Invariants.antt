@@ -1,7 +1,8 @@
 use Rattle.std.proofs.Common.{◌+◌}
 use Rattle.std.specs.Prelude.{slice_index}
-use Rattle.node_sweep.specs.Marks.{AreMarks, AreVisited, AreVisitedTo, KeepsMarks}
+use Rattle.node_sweep.specs.Marks.{AreMarks, AreVisited, KeepsMarks}
 use Rattle.node_sweep.specs.Transfers.{old_bits, old_words}
+use Rattle.node_sweep.proofs.Marking.{AreVisitedTo}
 use Rattle.node_sweep.proofs.transfer.Transfer.mark_rank.Given as goal
 
 abbrev pub invariant-loop-place : goal.invariant-loop-place

@@ -9,7 +9,8 @@ use Rattle.node_table.specs.declared.view.View.{View}
 use Rattle.node_table.specs.Books.{IsSound}
 use Rattle.node_table.specs.Rule.{IsSoundState}
 use Rattle.node_table.specs.Stills.{words_of}
-use Rattle.node_table.proofs.Openings.{begins_with, everything_known, opened_sound, opening_holds}
+use Rattle.table_core.proofs.Everything.{all_known}
+use Rattle.node_table.proofs.Openings.{begins_with, opened_sound, opening_holds}
 use Rattle.node_table.proofs.table.NodeTable.of_vector.Goals as goal
 
 pub invariant_of-result-2 : goal.invariant_of-result-2
@@ -30,7 +31,7 @@ returns c =
       key = refl;
       begins = λ begun. subst (λ (at : Still × View). IsSoundState {S = Unit {0}} at.0 (opening begun [] at.1) ↔ (begun ≡ still.words))
           (λ i. (sym told.5 i, sym (ap (λ me. me.0) told.4) i)) (begins_with still begun);
-      known = subst (λ (k : Knowledge). KnowsAll still.key.shape.bits (words_of still) k) (sym (ap (λ me. me.0.known) told.4)) (everything_known still);
+      known = subst (λ (k : Knowledge). KnowsAll still.key.shape.bits (words_of still) k) (sym (ap (λ me. me.0.known) told.4)) (all_known still.key still.words still.good);
       no_expansions = refl;
     }
 

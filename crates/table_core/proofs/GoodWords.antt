@@ -6,9 +6,6 @@ use mathlib.Core.HLevel.{Σ_prop_path, Π_prop}
 use Rattle.plane.specs.Plane.{Plane}
 use Rattle.plane.specs.Square.{future}
 use Rattle.table_core.specs.declared.key.Key.{Key}
-use Rattle.table_core.specs.declared.knowledge.Knowledge.{Knowledge}
-use Rattle.table_core.specs.Laws.{KnowsAll}
-use Rattle.table_core.proofs.Everything.{good_words_can_be_known}
 use Rattle.table_core.specs.declared.shape.Kind.{Kind}
 use Rattle.table_core.specs.declared.shape.Kind.TheVariants.{Pair}
 use Rattle.table_core.specs.Layout.{IsSlot, way, result_of, first_part, second_part}
@@ -117,15 +114,6 @@ results_prop : (key : Key) (words : Words) →
     ((i : ℕ) → IsSlot key.shape.bits Pair i → words (result_of key.shape.bits i) ≢ 0 →
     TellsFuture key words i)
 results_prop key words = Π_prop (λ i. Π_prop (λ slot. Π_prop (λ some. has_prop key words i (slot_some key.shape.bits i slot))))
-
--- all that good words say
-pub all_of : (key : Key) (words : List ℕ) → AreGoodWords key words → Knowledge
-all_of key words good = (good_words_can_be_known key (slice_index words) good.good).0
-
-pub all_known : (key : Key) (words : List ℕ) (good : AreGoodWords key words) →
-    KnowsAll key.shape.bits (slice_index words) (all_of key words good)
-unfolding all_of
-all_known key words good = (good_words_can_be_known key (slice_index words) good.good).1
 
 pub good_prop : (key : Key) (words : List ℕ) → IsProp (AreGoodWords key words)
 good_prop key words = hlevel (props, ways_prop key (slice_index words), blocks_prop key (slice_index words), results_prop key (slice_index words))
