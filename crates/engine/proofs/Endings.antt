@@ -10,7 +10,7 @@ use Rattle.plane.specs.Fault.{placeless}
 use Rattle.plane.specs.Listing.{IsListing}
 use Rattle.plane.specs.Centred.{IsSmallestLevel}
 use Rattle.plane.specs.Plane.{Plane, after}
-use Rattle.plane.specs.SinkChange.{SinkChange, IsUnfailed, Takes}
+use Rattle.plane.specs.SinkChange.{SinkChange, IsUnfailed, Takes, TakesBeginning}
 use Rattle.plane.specs.Square.{IsSame}
 use Rattle.plane.specs.Range.{StaysWithin}
 use Rattle.plane.specs.declared.cell.Bounds.{Bounds}
@@ -19,23 +19,25 @@ use Rattle.plane.specs.declared.fault.Fault.{Fault}
 use Rattle.plane.specs.declared.refusal.Refusal.{Refusal}
 use Rattle.plane.specs.declared.refusal.Refusal.TheVariants.{BoxTooLarge, NodesFull, NoMemory, WriteFailed}
 use Rattle.patterns.specs.Meaning.{Meaning, judged}
-use Rattle.plane.specs.Device.{IsWriteRefusal}
+use Rattle.plane.specs.Device.{AppendsBeginning, IsWriteRefusal}
 use Rattle.plane.proofs.Uniqueness.{one_listing_lem}
-use Rattle.engine.specs.FileText.{HasText, IsFileText, Exceeds, Fits, Writes}
+use Rattle.engine.specs.FileText.{HasText, IsFileText, IsMcText, Begins, Exceeds, Writes}
 use Rattle.engine.specs.Accepted.{IsAccepted, SumsUp}
 use Rattle.engine.specs.Judgement.{Start, ReadsRule}
 use Rattle.engine.specs.Report.{AreLinesAfter, shown}
 use Rattle.engine.specs.Room.{IsStuckWithin}
 use Rattle.engine.specs.Drawing.{picture_of}
-use Rattle.engine.specs.Run.{CanBeWritten, IsBeginning, IsLast, IsReport, Finishes, HasBegun, HasFailedToWrite, HasFinished, HasEndedEarly, IsBegun, IsRun, IsStopped, IsOutOfRoom, last_generation}
+use Rattle.engine.specs.Run.{CanBeWritten, IsBeginning, IsLast, IsReport, Finishes, HasBegun, HasReport, HasFailedToWrite, HasFinished, HasEndedEarly, IsBegun, IsRun, IsStopped, IsOutOfRoom, last_generation}
 use Rattle.engine.specs.declared.running.Summary.{Summary}
 use Rattle.engine.specs.declared.format.Format.{Format}
 use Rattle.engine.specs.declared.format.Format.TheVariants.{Rle, Macrocell}
 use Rattle.pattern_writers.specs.McText.{mc_text}
 use Rattle.pattern_writers.specs.RleText.{rle_text}
 use Rattle.plane.specs.Listing.{plane_of}
-use Rattle.plane.proofs.Same.{plane_equal}
+use Rattle.plane.proofs.Beginnings.{beginning_of_more}
+use Rattle.plane.proofs.Same.{plane_equal, same_refl}
 use Rattle.engine.specs.declared.options.Options.{Options}
+use Rattle.engine.proofs.WholeReports.{all_lines}
 use Rattle.engine.proofs.Reports.{same_after, same_generation, same_shows, shows_none}
 use Rattle.universe.specs.Cells.{live_cells}
 
@@ -85,41 +87,50 @@ stays_as {box} {other} {start} {generation} {generations} boxes starts stays =
 
 -- ---- what is written
 
--- the cells and the text that a format writes
-pub record HasWritten (format : Option Format) (plane : Plane) (comments : List (List ℕ)) (rule : CountRule) (generation : ℕ) (old new : Option (List ℕ)) : Type 0 where
+-- the cells and their text in a format, of which this holds
+pub record HasFileText (format : Option Format) (plane : Plane) (comments : List (List ℕ)) (rule : CountRule) (generation : ℕ) (Holds : List ℕ → Type 0) : Type 0 where
   pub cells : List Cell
   pub text : List ℕ
   pub listing : IsListing cells plane
   pub fits : HasText format cells
   pub is : IsFileText format comments rule generation cells text
-  pub appends : Appends old new text
+  pub holds : Holds text
+
+-- the macrocell text of a plane is that of its cells
+mc_text_of : (plane : Plane) (cells : List Cell) (comments : List (List ℕ)) (rule : CountRule) (generation level : ℕ) → IsListing cells plane → IsSmallestLevel level plane →
+    IsMcText comments rule generation cells (mc_text comments rule generation level plane)
+mc_text_of plane cells comments rule generation level listing smallest =
+    let same : plane ≡ plane_of cells = sym (plane_equal (plane_of cells) plane (record { same = listing.live })) in
+    record { level = level; smallest = subst (IsSmallestLevel level) same smallest; is = ap (mc_text comments rule generation level) same }
 
 -- where a plane has a listing, what is written of it is the text of its cells
-pub has_written : (format : Option Format) (plane : Plane) (cells : List Cell) (comments : List (List ℕ)) (rule : CountRule) (generation : ℕ) (old new : Option (List ℕ)) → IsListing cells plane →
-    Writes format plane comments rule generation old new → HasWritten format plane comments rule generation old new
-has_written None plane cells comments rule generation old new listing writes = record { cells = cells; text = []; listing = listing; fits = tt; is = refl; appends = writes }
-has_written (Some Rle) plane cells comments rule generation old new listing writes = record {
-  cells = writes.cells;
-  text = rle_text comments rule generation writes.cells;
-  listing = writes.listing;
-  fits = writes.fits;
-  is = refl;
-  appends = writes.appends;
-}
-has_written (Some Macrocell) plane cells comments rule generation old new listing writes =
-    let same : plane ≡ plane_of cells = sym (plane_equal (plane_of cells) plane (record { same = listing.live })) in
-    record {
-      cells = cells;
-      text = mc_text comments rule generation writes.level plane;
-      listing = listing;
-      fits = tt;
-      is = record {
-        level = writes.level;
-        smallest = subst (IsSmallestLevel writes.level) same writes.smallest;
-        is = ap (mc_text comments rule generation writes.level) same;
-      };
-      appends = writes.appends;
-    }
+module _ (plane : Plane) (cells : List Cell) (comments : List (List ℕ)) (rule : CountRule) (generation : ℕ) (old new : Option (List ℕ)) (listing : IsListing cells plane) where
+  pub has_written : (format : Option Format) → Writes format plane comments rule generation old new → HasFileText format plane comments rule generation (Appends old new)
+  has_written None writes = record { cells = cells; text = []; listing = listing; fits = tt; is = refl; holds = writes }
+  has_written (Some Rle) writes =
+      record { cells = writes.cells; text = rle_text comments rule generation writes.cells; listing = writes.listing; fits = writes.fits; is = refl; holds = writes.appends }
+  has_written (Some Macrocell) writes = record {
+    cells = cells;
+    text = mc_text comments rule generation writes.level plane;
+    listing = listing;
+    fits = tt;
+    is = mc_text_of plane cells comments rule generation writes.level listing writes.smallest;
+    holds = writes.appends;
+  }
+
+  -- and so is what is begun
+  pub has_begun : (format : Option Format) → Begins format plane comments rule generation old new → HasFileText format plane comments rule generation (AppendsBeginning old new)
+  has_begun None begins = absurd begins
+  has_begun (Some Rle) begins =
+      record { cells = begins.cells; text = rle_text comments rule generation begins.cells; listing = begins.listing; fits = begins.fits; is = refl; holds = begins.beginning }
+  has_begun (Some Macrocell) begins = record {
+    cells = cells;
+    text = mc_text comments rule generation begins.level plane;
+    listing = listing;
+    fits = tt;
+    is = mc_text_of plane cells comments rule generation begins.level listing begins.smallest;
+    holds = begins.beginning;
+  }
 
 -- a run that comes to `last`
 module _ (bytes : List ℕ) (options : Options) (meaning : Meaning) (rule : CountRule) (here : Plane) (run : IsAccepted bytes options meaning rule here) where
@@ -157,6 +168,11 @@ module _ (bytes : List ℕ) (options : Options) (meaning : Meaning) (rule : Coun
         shows = same_shows rule here meaning.live run.same.same meaning.generation (shown options) lines shows;
         is = ap (λ plane. lines ++ picture_of options.window plane) last_is;
       }
+
+  -- what an accepted run says
+  pub has_report : (last : Plane) (lines : List ℕ) → IsSame last (after rule here options.gens) → AreLinesAfter rule here meaning.generation (shown options) lines →
+      HasReport bytes options (lines ++ picture_of options.window last)
+  has_report last lines is shows = record { start = start; accepted = run.accepted; report = whole_report last lines is shows }
 
   -- a run that has said all
   begun_whole : (last : Plane) (lines : List ℕ) → IsSame last (after rule here options.gens) → AreLinesAfter rule here meaning.generation (shown options) lines →
@@ -216,12 +232,17 @@ module _ (bytes : List ℕ) (options : Options) (meaning : Meaning) (rule : Coun
   pub refused_reporting : {W V : Type 0} (generation : ℕ) (refusal : Refusal) (report : SinkChange W) (file : SinkChange V) → file.new ≡ file.old → generation ≡ meaning.generation →
       (refusal ≡ NodesFull → IsStuckWithin rule here options.pairs options.gens) →
       (IsOutOfRoom refusal × IsUnfailed report × ((lines : ℕ) × (said : List ℕ) × AreLinesAfter rule here generation (take lines (shown options)) said × Takes report said))
-      ⊎ IsWriteRefusal (report.failure_count report.old) (report.failure_count report.new) refusal →
+      ⊎ (IsWriteRefusal (report.failure_count report.old) (report.failure_count report.new) refusal
+      × ((lines : ℕ) × (said : List ℕ) × AreLinesAfter rule here generation (take lines (shown options)) said × TakesBeginning report said)) →
       IsRun bytes options report file (Err (placeless refusal))
   refused_reporting generation refusal report file same is_start stuck (inl (no_room, unfailed, (lines, said, shows, appends))) =
       let shows_start = subst (λ n. AreLinesAfter rule here n (take lines (shown options)) said) is_start shows in
       stopped_early (λ _. same) (inr (unfailed_same file same, unfailed)) (inr (inr (inl (same, (said, stopped_by refusal lines said no_room shows_start stuck, appends)))))
-  refused_reporting generation refusal report file same is_start stuck (inr (is, failed)) = failed_early (λ _. same) is (inl (failed, same, (start, run.accepted)))
+  refused_reporting generation refusal report file same is_start stuck (inr ((is, failed), (lines, said, shows, begun))) =
+      let all = all_lines bytes options meaning rule here run lines said (subst (λ n. AreLinesAfter rule here n (take lines (shown options)) said) is_start shows) in
+      let last = after rule here options.gens in
+      let said_all = has_report last (said ++ all.0) (same_refl last) all.1 in
+      failed_early (λ _. same) is (inl (failed, same, inl ((said ++ all.0) ++ picture_of options.window last, said_all, beginning_of_more (picture_of options.window last) (beginning_of_more all.0 begun))))
 
   -- after the lines, which count from the generation of the file
   module _ {W V : Type 0} (report : SinkChange W) (file : SinkChange V) (from : ℕ) (last : Plane) (lines_taken : Option (List ℕ)) (is_from : from ≡ meaning.generation) (is : IsSame last (after rule here options.gens))
@@ -239,23 +260,21 @@ module _ (bytes : List ℕ) (options : Options) (meaning : Meaning) (rule : Coun
       said_all : Takes report (reported.0 ++ picture_of options.window last)
       said_all = Appends-trans _ _ _ reported.0 (picture_of options.window last) reported.2 draws
 
-      -- the format can hold the last cells, and all is said
-      can_be_written : (format : Option Format) (cells : List Cell) → options.format ≡ format → IsListing cells last → Fits format last → CanBeWritten bytes options (reported.0 ++ picture_of options.window last)
-      can_be_written None cells asked listing fits =
-          record { start = start; cells = cells; accepted = run.accepted; last = last_cells last cells is listing; report = whole_report last reported.0 is shows_all; fits = rw asked tt }
-      can_be_written (Some Macrocell) cells asked listing fits =
-          record { start = start; cells = cells; accepted = run.accepted; last = last_cells last cells is listing; report = whole_report last reported.0 is shows_all; fits = rw asked tt }
-      can_be_written (Some Rle) cells asked listing fits =
-          record { start = start; cells = fits.cells; accepted = run.accepted; last = last_cells last fits.cells is fits.listing; report = whole_report last reported.0 is shows_all; fits = rw asked fits.fits }
+      -- what the report says and what the file is to have
+      can_be_written : (answer : Summary) (Holds : List ℕ → Type 0) → SumsUp (last_generation start options) last answer →
+          (text : HasFileText options.format last meaning.comments rule (last_generation start options) Holds) → CanBeWritten bytes options (reported.0 ++ picture_of options.window last) text.text
+      can_be_written answer Holds sums text =
+          record { start = start; answer = answer; accepted = run.accepted; finishes = finishes last reported.0 text.cells text.text answer is shows_all text.listing text.fits text.is sums }
 
       -- the file was not written
-      pub refused_writing : (format : Option Format) (cells : List Cell) (refusal : Refusal) → options.format ≡ format → IsListing cells last → (options.format ≡ None → file.new ≡ file.old) → IsUnfailed report →
+      pub refused_writing : (format : Option Format) (comments : List (List ℕ)) (answer : Summary) (refusal : Refusal) → options.format ≡ format → comments ≡ meaning.comments → SumsUp (from + options.gens) last answer →
+          (options.format ≡ None → file.new ≡ file.old) → IsUnfailed report →
           ((refusal ≡ BoxTooLarge) × Exceeds format last × (file.new ≡ file.old)) ⊎ ((refusal ≡ NoMemory) × (file.new ≡ file.old))
-          ⊎ (IsWriteRefusal (file.failure_count file.old) (file.failure_count file.new) refusal × Fits format last) →
+          ⊎ (IsWriteRefusal (file.failure_count file.old) (file.failure_count file.new) refusal × Begins format last comments rule answer.generation (file.taken file.old) (file.taken file.new)) →
           IsRun bytes options report file (Err (placeless refusal))
-      refused_writing None cells refusal asked listing no_format unfailed (inl (large, unfit, unchanged)) = absurd unfit
-      refused_writing (Some Macrocell) cells refusal asked listing no_format unfailed (inl (large, unfit, unchanged)) = absurd unfit
-      refused_writing (Some Rle) cells refusal asked listing no_format unfailed (inl (large, unfit, unchanged)) =
+      refused_writing None comments answer refusal asked is_comments sum no_format unfailed (inl (large, unfit, unchanged)) = absurd unfit
+      refused_writing (Some Macrocell) comments answer refusal asked is_comments sum no_format unfailed (inl (large, unfit, unchanged)) = absurd unfit
+      refused_writing (Some Rle) comments answer refusal asked is_comments sum no_format unfailed (inl (large, unfit, unchanged)) =
           stopped_early no_format (inr (unfailed_same file unchanged, unfailed)) (inr (inl (
             ap placeless large,
             unchanged,
@@ -272,10 +291,15 @@ module _ (bytes : List ℕ) (options : Options) (meaning : Meaning) (rule : Coun
               said_all,
             ),
           )))
-      refused_writing format cells refusal asked listing no_format unfailed (inr (inl (memory, unchanged))) =
+      refused_writing format comments answer refusal asked is_comments sum no_format unfailed (inr (inl (memory, unchanged))) =
           stopped_early no_format (inr (unfailed_same file unchanged, unfailed)) (inr (inr (inl (unchanged, (reported.0 ++ picture_of options.window last, inl (ap placeless memory, begun_whole last reported.0 is shows_all), said_all)))))
-      refused_writing format cells refusal asked listing no_format unfailed (inr (inr ((failing, failed), fits))) =
-          failed_early no_format failing (inr (failed, (reported.0 ++ picture_of options.window last, can_be_written format cells asked listing fits, said_all)))
+      refused_writing format comments answer refusal asked is_comments sum no_format unfailed (inr (inr ((failing, failed), begins))) =
+          let sums : SumsUp (last_generation start options) last answer = subst (λ (n : ℕ). SumsUp (n + options.gens) last answer) is_from sum in
+          let text = has_begun last sum.bounds.cells meaning.comments rule (last_generation start options) (file.taken file.old) (file.taken file.new) sum.bounds.listing options.format
+          (subst (λ (asked_for : Option Format). Begins asked_for last meaning.comments rule (last_generation start options) (file.taken file.old) (file.taken file.new)) (sym asked)
+          (subst (λ (n : ℕ). Begins format last meaning.comments rule n (file.taken file.old) (file.taken file.new)) sums.last
+          (subst (λ (texts : List (List ℕ)). Begins format last texts rule answer.generation (file.taken file.old) (file.taken file.new)) is_comments begins))) in
+          failed_early no_format failing (inr (failed, unfailed, (reported.0 ++ picture_of options.window last, text.text, can_be_written answer _ sums text, said_all, text.holds)))
 
       -- what an accepted run that ends well writes and answers
       pub ends_well : (comments : List (List ℕ)) (answer : Summary) → comments ≡ meaning.comments → SumsUp (from + options.gens) last answer →
@@ -283,7 +307,7 @@ module _ (bytes : List ℕ) (options : Options) (meaning : Meaning) (rule : Coun
           IsRun bytes options report file (Ok answer)
       ends_well comments answer is_comments sum writes no_format unfailed_file unfailed_report =
           let sums : SumsUp (last_generation start options) last answer = subst (λ (n : ℕ). SumsUp (n + options.gens) last answer) is_from sum in
-          let text = has_written options.format last sum.bounds.cells meaning.comments rule (last_generation start options) (file.taken file.old) (file.taken file.new) sum.bounds.listing
+          let text = has_written last sum.bounds.cells meaning.comments rule (last_generation start options) (file.taken file.old) (file.taken file.new) sum.bounds.listing options.format
           (subst (λ (n : ℕ). Writes options.format last meaning.comments rule n (file.taken file.old) (file.taken file.new)) sums.last
           (subst (λ (texts : List (List ℕ)). Writes options.format last texts rule answer.generation (file.taken file.old) (file.taken file.new)) is_comments writes)) in
           let finished : HasFinished bytes options report file answer = (
@@ -293,6 +317,6 @@ module _ (bytes : List ℕ) (options : Options) (meaning : Meaning) (rule : Coun
             run.accepted,
             finishes last reported.0 text.cells text.text answer is shows_all text.listing text.fits text.is sums,
             said_all,
-            text.appends,
+            text.holds,
           ) in
           record { finished = finished; no_format = no_format; unfailed = inr (unfailed_file, unfailed_report); refused = tt }

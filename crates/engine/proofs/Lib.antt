@@ -9,3 +9,4 @@ pub mod Pictures
 pub mod Reports
 pub mod ShownBoxes
 pub mod Steps
+mod WholeReports

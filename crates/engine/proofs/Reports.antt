@@ -3,13 +3,14 @@ use Rattle.std.proofs.Common.{◌≡◌, ◌⊎◌, inl, inr, Option, ℕ, zero,
 use Rattle.std.specs.List.{AllZip, concat, range_with_len}
 use Rattle.rule_text.specs.CountRule.{CountRule}
 use Rattle.std.specs.Io.KnownBytes.{Appends}
-use Rattle.plane.specs.Device.{IsWriteRefusal}
+use Rattle.plane.specs.Device.{AppendsBeginning, IsWriteRefusal}
 use Rattle.plane.specs.Listing.{IsListing}
 use Rattle.plane.specs.Plane.{Plane, after}
 use Rattle.plane.specs.Square.{IsSame}
 use Rattle.plane.specs.declared.cell.Cell.{Cell}
 use Rattle.plane.specs.declared.refusal.Refusal.{Refusal}
 use Rattle.plane.specs.declared.refusal.Refusal.TheVariants.{NoMemory}
+use Rattle.plane.proofs.Beginnings.{text_and_beginning}
 use Rattle.plane.proofs.Cones.{light_cone_lem}
 use Rattle.engine.specs.Run.{IsOutOfRoom}
 use Rattle.engine.specs.Report.{report_line, is_shown, shown, shown_until, IsLineAfter, IsSaid, AreLinesAfter}
@@ -32,10 +33,10 @@ filter-append : (p : ℕ → Bool) (xs ys : List ℕ) → filter p (xs ++ ys) �
 filter-append p [] ys = refl
 filter-append p (x ∷ xs) ys = filter-cons p (p x) x xs ys refl (filter-append p xs ys)
 
-filtered_out : (p : ℕ → Bool) (x : ℕ) (xs : List ℕ) → p x ≡ false → filter p (x ∷ xs) ≡ filter p xs
+pub filtered_out : (p : ℕ → Bool) (x : ℕ) (xs : List ℕ) → p x ≡ false → filter p (x ∷ xs) ≡ filter p xs
 filtered_out p x xs fails = rw fails refl
 
-filtered_in : (p : ℕ → Bool) (x : ℕ) (xs : List ℕ) → p x ≡ true → filter p (x ∷ xs) ≡ x ∷ filter p xs
+pub filtered_in : (p : ℕ → Bool) (x : ℕ) (xs : List ℕ) → p x ≡ true → filter p (x ∷ xs) ≡ x ∷ filter p xs
 filtered_in p x xs holds = rw holds refl
 
 -- the last of some numbers in a row, where none before it passes
@@ -91,7 +92,7 @@ shown_first options done last within =
 -- ---- the lines
 
 module _ (rule : CountRule) (plane : Plane) (start : ℕ) where
-  AllZip-append : (ns ms : List ℕ) (xs ys : List (List ℕ)) → AllZip (IsLineAfter rule plane start) ns xs → AllZip (IsLineAfter rule plane start) ms ys →
+  pub AllZip-append : (ns ms : List ℕ) (xs ys : List (List ℕ)) → AllZip (IsLineAfter rule plane start) ns xs → AllZip (IsLineAfter rule plane start) ms ys →
       AllZip (IsLineAfter rule plane start) (ns ++ ms) (xs ++ ys)
   AllZip-append [] ms [] ys first second = second
   AllZip-append [] ms (x ∷ xs) ys first second = absurd first
@@ -144,16 +145,20 @@ pub first_lines : (rule : CountRule) (plane : Plane) (start : ℕ) (options : Op
     AreLinesAfter rule plane start (take (length (shown_until options done)) (shown options)) said
 first_lines rule plane start options done said within = subst (λ ns. AreLinesAfter rule plane start ns said) (sym (shown_first options done options.gens within))
 
--- where a line could not be said, what was said before stands, or the sink has failed
-pub stopped : {S : Type 0} (taken : S → Option (List ℕ)) (failures : S → ℕ) (start old new : S) (rule : CountRule) (plane : Plane) (generation : ℕ) (options : Options) (refusal : Refusal) (lines : ℕ) (said : List ℕ) →
+-- where a line could not be said, what was said before stands, or the sink has failed and took a beginning of both
+pub stopped : {S : Type 0} (taken : S → Option (List ℕ)) (failures : S → ℕ) (start old new : S) (rule : CountRule) (plane : Plane) (generation : ℕ) (options : Options) (refusal : Refusal) (IsNext : List ℕ → Type 0) (lines : ℕ) (said : List ℕ) →
     failures old ≡ failures start → AreLinesAfter rule plane generation (take lines (shown options)) said → Appends (taken start) (taken old) said →
-    ((refusal ≡ NoMemory) × (new ≡ old)) ⊎ IsWriteRefusal (failures old) (failures new) refusal →
+    ((next : List ℕ) → IsNext next → (more : ℕ) × AreLinesAfter rule plane generation (take more (shown options)) (said ++ next)) →
+    ((refusal ≡ NoMemory) × (new ≡ old))
+    ⊎ (IsWriteRefusal (failures old) (failures new) refusal × ((next : List ℕ) × IsNext next × AppendsBeginning (taken old) (taken new) next)) →
     (IsOutOfRoom refusal × (failures new ≡ failures start) × ((lines : ℕ) × (said : List ℕ) × AreLinesAfter rule plane generation (take lines (shown options)) said × Appends (taken start) (taken new) said))
-    ⊎ IsWriteRefusal (failures start) (failures new) refusal
-stopped taken failures start old new rule plane generation options refusal lines said unfailed shows appends (inl (memory, same)) =
+    ⊎ (IsWriteRefusal (failures start) (failures new) refusal
+    × ((lines : ℕ) × (said : List ℕ) × AreLinesAfter rule plane generation (take lines (shown options)) said × AppendsBeginning (taken start) (taken new) said))
+stopped taken failures start old new rule plane generation options refusal IsNext lines said unfailed shows appends with_next (inl (memory, same)) =
     inl (inl memory, ap failures same ∙ unfailed, (lines, said, shows, subst (λ s. Appends (taken start) (taken s) said) (sym same) appends))
-stopped taken failures start old new rule plane generation options refusal lines said unfailed shows appends (inr refused) =
-    inr (subst (λ n. IsWriteRefusal n (failures new) refusal) unfailed refused)
+stopped taken failures start old new rule plane generation options refusal IsNext lines said unfailed shows appends with_next (inr (refused, (next, is, begun))) =
+    let more = with_next next is in
+    inr (subst (λ n. IsWriteRefusal n (failures new) refusal) unfailed refused, (more.0, said ++ next, more.1, text_and_beginning said appends begun))
 
 -- ---- planes with the same cells
 

@@ -9,10 +9,10 @@ use Rattle.plane.specs.Plane.{Plane}
 use Rattle.plane.specs.declared.cell.Cell.{Cell}
 use Rattle.pattern_writers.specs.Frame.{FitsRle}
 use Rattle.pattern_writers.specs.McReading.{IsReadBackFromMc}
-use Rattle.pattern_writers.specs.McText.{WritesMc, mc_text}
+use Rattle.pattern_writers.specs.McText.{BeginsMc, WritesMc, mc_text}
 use Rattle.pattern_writers.specs.RleReading.{IsReadBackFromRle}
 use Rattle.pattern_writers.specs.RleText as writers
-use Rattle.pattern_writers.specs.RleText.{WritesRle, rle_text}
+use Rattle.pattern_writers.specs.RleText.{BeginsRle, WritesRle, rle_text}
 use Rattle.pattern_writers.specs.Taken.{IfTaken}
 use Rattle.engine.specs.declared.format.Format.{Format}
 use Rattle.engine.specs.declared.format.Format.TheVariants.{Rle, Macrocell}
@@ -48,6 +48,15 @@ Writes (Some Rle) plane comments rule generation before after =
 Writes (Some Macrocell) plane comments rule generation before after =
     WritesMc plane comments rule generation before after
 
+-- a beginning of that text is written between the two
+abbrev pub Begins : Option Format → Plane → List (List ℕ) → CountRule → ℕ → Option (List ℕ) →
+    Option (List ℕ) → Type 0
+Begins None plane comments rule generation before after = ⊥
+Begins (Some Rle) plane comments rule generation before after =
+    BeginsRle plane comments rule generation before after
+Begins (Some Macrocell) plane comments rule generation before after =
+    BeginsMc plane comments rule generation before after
+
 -- what was written between the two is read as the pattern, in the format, if its reader can read
 -- the pattern
 abbrev pub IsReadBack : Option Format → Plane → List (List ℕ) → CountRule → ℕ → Option (List ℕ) →
@@ -57,12 +66,6 @@ IsReadBack (Some Rle) plane comments rule generation before after =
     IfTaken before after (IsReadBackFromRle plane comments rule generation)
 IsReadBack (Some Macrocell) plane comments rule generation before after =
     IfTaken before after (IsReadBackFromMc plane comments rule generation)
-
--- the format can hold the plane's cells
-abbrev pub Fits : Option Format → Plane → Type 0
-Fits None plane = ⊤
-Fits (Some Rle) plane = writers.HasRleText plane
-Fits (Some Macrocell) plane = ⊤
 
 -- the format can't hold the plane's cells
 abbrev pub Exceeds : Option Format → Plane → Type 0

@@ -5,7 +5,7 @@ use Rattle.plane.specs.Bounds.{bounds_of}
 use Rattle.plane.specs.Fault.{placeless}
 use Rattle.plane.specs.Listing.{IsListing}
 use Rattle.plane.specs.Plane.{after}
-use Rattle.plane.specs.SinkChange.{SinkChange, Fails, IsUnfailed, Takes}
+use Rattle.plane.specs.SinkChange.{SinkChange, Fails, IsUnfailed, Takes, TakesBeginning}
 use Rattle.plane.specs.declared.cell.Cell.{Cell}
 use Rattle.plane.specs.declared.fault.Fault.{Fault}
 use Rattle.plane.specs.declared.refusal.Refusal.{Refusal}
@@ -135,22 +135,36 @@ HasFinished bytes options report file answer =
     × Finishes start options answer said written
     × Takes report said × Takes file written
 
--- the run is accepted, this is the whole of its report, and the format can hold its last cells
-pub record CanBeWritten (bytes : List ℕ) (options : Options) (said : List ℕ) : Type 0 where
+-- the run is accepted, and this is the whole of its report
+pub record HasReport (bytes : List ℕ) (options : Options) (said : List ℕ) : Type 0 where
   pub start : Start
-  pub cells : List Cell
   pub accepted : Judges bytes options (Ok start)
-  pub last : IsLast start options cells
   pub report : IsReport start.meaning start.rule options said
-  pub fits : HasText options.format cells
 
--- a sink of an accepted run failed. If it was that of the report, the file is unchanged. If it was
--- that of the file, the report took all that it says, and the format can hold the last cells
+-- the run is accepted, and it says this in its report and writes this to its file
+pub record CanBeWritten (bytes : List ℕ) (options : Options) (said written : List ℕ) : Type 0 where
+  pub start : Start
+  pub answer : Summary
+  pub accepted : Judges bytes options (Ok start)
+  pub finishes : Finishes start options answer said written
+
+-- the report took a beginning of what an accepted run says; or the run has a window, and what its
+-- picture left in the report is not said
+abbrev pub BreaksOff : {W : Type 0} → List ℕ → Options → SinkChange W → Type 0
+BreaksOff bytes options report =
+    ((said : List ℕ) × HasReport bytes options said × TakesBeginning report said)
+    ⊎ (IsAcceptedRun bytes options × (options.window ≡ None → ⊥))
+
+-- a sink of an accepted run failed. If it was that of the report, the report breaks off, and the
+-- file is unchanged. If it was that of the file, the file took a beginning of its text, and the
+-- report took all that it says and did not fail
 abbrev pub HasFailedToWrite : {W V : Type 0} → List ℕ → Options → SinkChange W → SinkChange V →
     Type 0
 HasFailedToWrite bytes options report file =
-    (Fails report × (file.new ≡ file.old) × IsAcceptedRun bytes options)
-    ⊎ (Fails file × ((said : List ℕ) × CanBeWritten bytes options said × Takes report said))
+    (Fails report × (file.new ≡ file.old) × BreaksOff bytes options report)
+    ⊎ (Fails file × IsUnfailed report
+    × ((said : List ℕ) × (written : List ℕ) × CanBeWritten bytes options said written
+    × Takes report said × TakesBeginning file written))
 
 -- a run of these bytes was refused, in one of four ways. The bytes are not accepted, and nothing is
 -- written. The format can't hold the last cells, and the report is whole. Memory ran out or the

@@ -1,6 +1,6 @@
 //! A pattern, as live cells at rest.
 
-ghost use Rattle.std.specs.Prelude.{◌≡◌, None, IfOk, IfErr, OnOk, IsOkUnless};
+ghost use Rattle.std.specs.Prelude.{◌≡◌, None, IfOk, IfErr, IsOk, OnOk, IsOkUnless};
 ghost use Rattle.plane.specs.Square.{IsSame};
 ghost use Rattle.universe.specs.Cells.{live_cells};
 ghost use Rattle.pattern_picture.specs.Drawings.{IsDrawingOf};
@@ -34,7 +34,7 @@ pub struct Heading<'a> {
 impl Pattern {
     ghost use Rattle.plane.specs.Device.{TellsFailure};
     ghost use Rattle.pattern_writers.specs.WriterRefusal.{IsWriterRefusal};
-    ghost use Rattle.engine.specs.FileText.{Exceeds, Fits, IsReadBack, Writes};
+    ghost use Rattle.engine.specs.FileText.{Begins, Exceeds, IsReadBack, Writes};
     ghost use Rattle.engine.specs.Pattern.{plane_of};
     ghost use Rattle.engine.specs.Drawing.{picture_of};
     ghost use Rattle.std.specs.Io.KnownBytes.{Appends};
@@ -72,6 +72,7 @@ impl Pattern {
     pub fn draw<W: Sink>(&self, window: Option<Window>, report: &mut W) -> Result<(), Refusal>
         ensures drawn { OnOk result (Appends (W.taken report.old) (W.taken report.new)
             (picture_of window (plane_of self.now))) }
+        ensures no_window { window ≡ None → IsOk result }
         ensures failure { TellsFailure
             (W.failure_count report.old) (W.failure_count report.new) result }
     {
@@ -85,7 +86,8 @@ impl Pattern {
 
     /// Writes the pattern in the format that is asked for, if one is, behind its heading. It
     /// refuses `BoxTooLarge` where RLE is asked for and a side of its box is 2^31 or more, and `NoMemory`, both before
-    /// the first byte, and `WriteFailed`, where the sink failed and the box fits. The runs of RLE's rows are found in threads.
+    /// the first byte, and `WriteFailed`, where the sink failed: the box fits then, and the sink took a beginning of the text.
+    /// The runs of RLE's rows are found in threads.
     /// What was written is read as the same cells, rule and generation, within the limits of the format's reader.
     pub fn write<R: Threads + Sync, V: Sink>(
         &self,
@@ -104,7 +106,9 @@ impl Pattern {
         ensures no_format { format ≡ None → file.new ≡ file.old }
         ensures unfailed { OnOk result (V.failure_count file.new ≡ V.failure_count file.old) }
         ensures refused { IfErr result (IsWriterRefusal V.failure_count file.old file.new
-            (Exceeds format (plane_of self.now)) (Fits format (plane_of self.now))) }
+            (Exceeds format (plane_of self.now)) (Begins format (plane_of self.now)
+            heading.entry.comments heading.entry.rule heading.entry.generation
+            (V.taken file.old) (V.taken file.new))) }
     {
         let (book, root) = (self.cells.still(), self.cells.root());
         let Heading {

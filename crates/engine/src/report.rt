@@ -1,8 +1,8 @@
 //! The lines of the report.
 
-ghost use Rattle.std.specs.Prelude.{◌≡◌, ◌⊎◌, ℕ, List, IfOk, OnOk, IfErr};
+ghost use Rattle.std.specs.Prelude.{◌≡◌, ◌⊎◌, ℕ, List, IfOk, OnErr, OnOk, IfErr};
 ghost use Rattle.std.specs.Io.KnownBytes.{Appends};
-ghost use Rattle.plane.specs.Device.{IsWriteRefusal, TellsFailure};
+ghost use Rattle.plane.specs.Device.{AppendsBeginning, IsWriteRefusal, TellsFailure};
 ghost use Rattle.universe.specs.Cells.{live_cells};
 ghost use Rattle.engine.specs.Generations.{IsSameRun};
 ghost use Rattle.engine.specs.Report.{IsSaid, report_line};
@@ -32,7 +32,9 @@ pub(crate) fn report_generation<W: Sink>(
     ensures unfailed { OnOk result (W.failure_count report.new ≡ W.failure_count report.old) }
     ensures refused { IfErr result (λ refusal.
         ((refusal ≡ Refusal.NoMemory) × (report.new ≡ report.old))
-        ⊎ IsWriteRefusal (W.failure_count report.old) (W.failure_count report.new) refusal) }
+        ⊎ (IsWriteRefusal (W.failure_count report.old) (W.failure_count report.new) refusal
+        × ((said : List ℕ) × IsSaid quiet generation (live_cells universe.old) said
+        × AppendsBeginning (W.taken report.old) (W.taken report.new) said))) }
 {
     if quiet {
         return Ok(());
@@ -48,6 +50,8 @@ fn write_report_line<W: Sink>(
     population: u128,
 ) -> Result<(), Refusal>
     ensures written { OnOk result (Appends (W.taken report.old) (W.taken report.new)
+        (report_line generation population)) }
+    ensures beginning { OnErr result (AppendsBeginning (W.taken report.old) (W.taken report.new)
         (report_line generation population)) }
     ensures failure { TellsFailure
         (W.failure_count report.old) (W.failure_count report.new) result }

@@ -6,7 +6,7 @@ ghost use Rattle.rule_text.specs.CountRule.{IsRule};
 ghost use Rattle.plane.specs.Plane.{after};
 ghost use Rattle.plane.specs.Square.{IsSame, empty};
 ghost use Rattle.plane.specs.declared.range.TheConstants.{GENERATION_LIMIT};
-ghost use Rattle.plane.specs.Device.{IsWriteRefusal};
+ghost use Rattle.plane.specs.Device.{AppendsBeginning, IsWriteRefusal};
 ghost use Rattle.universe.specs.Cells.{limit_of, live_cells, rule_of};
 ghost use Rattle.universe.specs.Held.{StaysHeld};
 ghost use Rattle.engine.specs.Report.{AreLinesAfter, is_shown, shown};
@@ -22,7 +22,7 @@ use universe::Universe;
 use worker_split::{Gate, Team};
 
 // Runs a universe of a generation, by a team, as many generations on as the options ask for, and reports generations on the
-// way. `NoMemory` and `NodesFull` come between two lines.
+// way. `NoMemory` and `NodesFull` come between two lines. Where the sink failed, it took a beginning of some lines.
 pub(crate) fn run_reported<R: Threads + Wait + Sync, G: Gate, W: Sink>(
     team: &Team<'_, R, G>,
     start: Universe,
@@ -46,7 +46,10 @@ pub(crate) fn run_reported<R: Threads + Wait + Sync, G: Gate, W: Sink>(
         × ((lines : ℕ) × (said : List ℕ)
         × AreLinesAfter (rule_of start) (live_cells start) generation (take lines (shown options.now)) said
         × Appends (W.taken report.old) (W.taken report.new) said))
-        ⊎ IsWriteRefusal (W.failure_count report.old) (W.failure_count report.new) refusal) }
+        ⊎ (IsWriteRefusal (W.failure_count report.old) (W.failure_count report.new) refusal
+        × ((lines : ℕ) × (said : List ℕ)
+        × AreLinesAfter (rule_of start) (live_cells start) generation (take lines (shown options.now)) said
+        × AppendsBeginning (W.taken report.old) (W.taken report.new) said))) }
     ensures full { IfErr result (λ refusal. refusal ≡ Refusal.NodesFull
         → IsStuckWithin (rule_of start) (live_cells start) (limit_of start) options.now.gens) }
 {

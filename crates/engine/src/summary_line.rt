@@ -1,8 +1,8 @@
 //! The line of a generation.
 
-ghost use Rattle.std.specs.Prelude.{◌≡◌, ◌≤◌, Some, OnOk, length};
+ghost use Rattle.std.specs.Prelude.{◌≡◌, ◌≤◌, Some, OnErr, OnOk, length};
 ghost use Rattle.std.specs.Io.KnownBytes.{Appends};
-ghost use Rattle.plane.specs.Device.{TellsFailure};
+ghost use Rattle.plane.specs.Device.{AppendsBeginning, TellsFailure};
 ghost use Rattle.engine.specs.SummaryLine.{bounds_text, summary_line};
 
 use crate::running::Summary;
@@ -16,9 +16,11 @@ const BOUNDS_ROOM: usize = 192;
 const LINE_ROOM: usize = 320;
 
 /// Writes one line with the generation, its population and its bounding box, as `4: 5 cells, x 0 to 2, y 1 to 3`.
-/// `WriteFailed` if the sink failed.
+/// `WriteFailed` if the sink failed, which took a beginning of the line then.
 pub fn write_summary<W: Sink>(out: &mut W, summary: &Summary) -> Result<(), Refusal>
     ensures written { OnOk result (Appends (W.taken out.old) (W.taken out.new)
+        (summary_line summary.now)) }
+    ensures beginning { OnErr result (AppendsBeginning (W.taken out.old) (W.taken out.new)
         (summary_line summary.now)) }
     ensures failure { TellsFailure (W.failure_count out.old) (W.failure_count out.new) result }
 {

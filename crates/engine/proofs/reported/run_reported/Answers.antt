@@ -1,4 +1,4 @@
-use Rattle.std.proofs.Common.{◌≡◌, ◌+◌, ◌-◌, ◌++◌, [], Err, length, refl, sym, ◌∙◌, subst, arith, inl}
+use Rattle.std.proofs.Common.{◌≡◌, ◌+◌, ◌-◌, ◌≤◌, ◌++◌, [], Err, length, refl, sym, ◌∙◌, subst, arith, inl}
 use Rattle.std.proofs.KnownBytes.{Appends-nil, Appends-trans}
 use Rattle.std.proofs.result.Match.{err_is}
 use Rattle.plane.specs.Plane.{after}
@@ -14,11 +14,21 @@ use Rattle.engine.proofs.reported.run_reported.Goals as goal
 
 pub returns-in_err-report_generation-clause-refused : goal.returns-in_err-report_generation-clause-refused
 returns-in_err-report_generation-clause-refused g c =
+    let options = c.args.options.now in
     let rule = rule_of c.args.start in
     let plane = live_cells c.args.start in
+    let start : c.args.generation ≡ c.args.generation + 0 = omega arith in
+    let none : 0 ≤ options.gens = omega arith in
     let is : c.from_residual.result ≡ Err c.in_err-report_generation.field-0.0 = err_is _ _ c.from_residual.ensures.1 in
-    rw is (stopped g.W.Sink.taken g.W.Sink.failure_count c.args.report.now c.args.report.now c.report_generation.new.report rule plane c.args.generation c.args.options.now
-    c.in_err-report_generation.field-0.0 0 [] refl (shows_none rule plane c.args.generation) (Appends-nil _) c.in_err-report_generation.ensures.refused)
+    rw is (stopped g.W.Sink.taken g.W.Sink.failure_count c.args.report.now c.args.report.now c.report_generation.new.report rule plane c.args.generation options
+    c.in_err-report_generation.field-0.0 (IsSaid options.quiet c.args.generation plane) 0 [] refl (shows_none rule plane c.args.generation) (Appends-nil _)
+    (λ line is_said. (
+      length (shown_until options 0),
+      first_lines rule plane c.args.generation options 0 line none
+          (shows_next rule plane c.args.generation options [] 0 plane [] line (shows_none rule plane c.args.generation) (same_refl plane)
+          (subst (λ n. IsSaid options.quiet n plane line) start is_said) (start_shown options)),
+    ))
+    c.in_err-report_generation.ensures.refused)
 
 pub loop-done-init : goal.loop-done-init
 loop-done-init g c =
@@ -76,11 +86,25 @@ returns-in_err-report_generation-2-clause-refused g c =
     let options = c.args.options.now in
     let rule = rule_of c.args.start in
     let plane = live_cells c.args.start in
+    let done = c.loop-done.done in
+    let next = c.next_shown-next.result in
+    let here = c.in_ok-universe.universe in
     let said = c.loop-done.invariant.said in
+    let sum : done + (next - done) ≡ next = omega (arith, c.next_shown-next.ensures.later) in
+    let step : IsRunOn c.loop-done.universe (next - done) here = record { cells = c.in_ok-universe.ensures.ok; rule = c.in_ok-universe.ensures.rule; limit = c.in_ok-universe.ensures.limit } in
+    let later = subst (λ n. IsRunOn c.args.start n here) sum (later_on done (next - done) c.loop-done.invariant.later step) in
+    let numbers = shown_next options done next c.next_shown-next.ensures.later c.next_shown-next.ensures.between in
     let is : c.from_residual-in_err-report_generation-2.result ≡ Err c.in_err-report_generation-2.field-0.0 = err_is _ _ c.from_residual-in_err-report_generation-2.ensures.1 in
     rw is (stopped g.W.Sink.taken g.W.Sink.failure_count c.args.report.now c.loop-done.report c.report_generation-in-loop-done.new.report rule plane c.args.generation options
-    c.in_err-report_generation-2.field-0.0 (length (shown_until options c.loop-done.done)) said.0 c.loop-done.invariant.unfailed
-    (first_lines rule plane c.args.generation options c.loop-done.done said.0 c.loop-done.invariant.within said.1) said.2 c.in_err-report_generation-2.ensures.refused)
+    c.in_err-report_generation-2.field-0.0 (IsSaid options.quiet (c.args.generation + next) (live_cells here)) (length (shown_until options done)) said.0 c.loop-done.invariant.unfailed
+    (first_lines rule plane c.args.generation options done said.0 c.loop-done.invariant.within said.1) said.2
+    (λ line is_said. (
+      length (shown_until options next),
+      first_lines rule plane c.args.generation options next (said.0 ++ line) c.next_shown-next.ensures.within
+          (subst (λ ns. AreLinesAfter rule plane c.args.generation ns (said.0 ++ line)) (sym numbers)
+          (shows_next rule plane c.args.generation options (shown_until options done) next (live_cells here) said.0 line said.1 later.cells is_said c.next_shown-next.ensures.shown)),
+    ))
+    c.in_err-report_generation-2.ensures.refused)
 
 pub loop-done-preserved : goal.loop-done-preserved
 loop-done-preserved g c =

@@ -1,4 +1,5 @@
-use Rattle.std.proofs.Common.{◌≡◌, ◌+◌, ◌≤◌, Err, rules, refl, sym, ◌∙◌, subst, inl}
+use Rattle.std.proofs.Common.{◌≡◌, ◌+◌, ◌≤◌, Err, None, rules, refl, sym, ◌∙◌, subst, inl, inr}
+use Rattle.std.proofs.lemmas.Bool.{false≢true}
 use Rattle.std.proofs.result.Match.{err_is}
 use Rattle.plane.specs.Fault.{placeless}
 use Rattle.plane.specs.declared.range.TheConstants.{GENERATION_LIMIT}
@@ -6,7 +7,8 @@ use Rattle.plane.specs.declared.refusal.Refusal.TheVariants.{NoMemory}
 use Rattle.plane.specs.Device.{HasFailed}
 use Rattle.rule_text.specs.CountRule.{CountRule}
 use Rattle.plane.proofs.Same.{same_trans}
-use Rattle.engine.specs.FileText.{Writes}
+use Rattle.pattern_writers.specs.WriterRefusal.{IsWriterRefusal}
+use Rattle.engine.specs.FileText.{Begins, Exceeds, Writes}
 use Rattle.engine.specs.Pattern.{plane_of}
 use Rattle.patterns.specs.PatternFile.{meaning_of}
 use Rattle.engine.proofs.Acceptance.{refused_at_once}
@@ -56,14 +58,20 @@ returns-in_err-draw g c =
     let is : c.from_residual-in_err-draw.result ≡ Err (placeless c.in_err-draw.field-0.0) = err_is _ _ c.from_residual-in_err-draw.ensures.1 in
     let refused = c.in_err-draw.ensures.failure.refused in
     let failed = subst (λ n. HasFailed n (g.W.Sink.failure_count c.draw.new.report)) c.in_ok-universe.ensures.unfailed refused.1 in
-    rw is (failed_early (λ _. refl) refused.0 (inl (failed, refl, (_, c.in_ok-begun.ensures.accepted.accepted))))
+    let asked = λ (none : c.args.options.now.window ≡ None). false≢true (c.in_err-draw.ensures.no_window none) in
+    rw is (failed_early (λ _. refl) refused.0 (inl (failed, refl, inr ((_, c.in_ok-begun.ensures.accepted.accepted), asked))))
 
 pub returns-in_err-write : goal.returns-in_err-write
 returns-in_err-write g c =
     let is : c.from_residual-in_err-write.result ≡ Err (placeless c.in_err-write.field-0.0) = err_is _ _ c.from_residual-in_err-write.ensures.1 in
     rw is (refused_writing c.args.bytes.now c.args.options.now (meaning_of c.in_ok-begun.begun.text) (rule_of c.in_ok-begun.begun.universe) (live_cells c.in_ok-begun.begun.universe) c.in_ok-begun.ensures.accepted
     _ _ c.generation-start.result (plane_of c.in_ok-last.last) _ c.generation-start.ensures (same_trans c.in_ok-last.ensures.same c.in_ok-universe.ensures.cells) c.in_ok-universe.ensures.reported c.in_ok-draw.ensures.drawn
-    c.args.options.now.format c.in_ok-last.ensures.ok.bounds.cells c.in_err-write.field-0.0 refl c.in_ok-last.ensures.ok.bounds.listing c.in_err-write.ensures.no_format (c.in_ok-draw.ensures.failure.unfailed ∙ c.in_ok-universe.ensures.unfailed) c.in_err-write.ensures.refused)
+    c.args.options.now.format c.comments.result c.in_ok-last.summary c.in_err-write.field-0.0 refl c.comments.ensures c.in_ok-last.ensures.ok
+    c.in_err-write.ensures.no_format (c.in_ok-draw.ensures.failure.unfailed ∙ c.in_ok-universe.ensures.unfailed)
+    (subst
+    (λ (r : CountRule). IsWriterRefusal g.V.Sink.failure_count c.args.file.now c.write.new.file (Exceeds c.args.options.now.format (plane_of c.in_ok-last.last))
+    (Begins c.args.options.now.format (plane_of c.in_ok-last.last) c.comments.result r c.in_ok-last.summary.generation (g.V.Sink.taken c.args.file.now) (g.V.Sink.taken c.write.new.file)) c.in_err-write.field-0.0)
+    (sym c.in_ok-begun.ensures.rule) c.in_err-write.ensures.refused))
 
 pub returns : goal.returns
 returns g c =

@@ -6,7 +6,7 @@ use Rattle.plane.specs.declared.refusal.Refusal.TheVariants.{BoxTooLarge, NoMemo
 use Rattle.pattern_writers.specs.McReading.{IsReadBackFromMc}
 use Rattle.pattern_writers.specs.McText.{WritesMc}
 use Rattle.pattern_writers.specs.RleReading.{IsReadBackFromRle}
-use Rattle.pattern_writers.specs.RleText.{HasRleText, IsTooLarge, WritesRle}
+use Rattle.pattern_writers.specs.RleText.{BeginsRle, IsTooLarge, WritesRle}
 use Rattle.pattern_writers.specs.Taken.{IfTaken}
 use Rattle.engine.proofs.CellsAtRest.{same_cells, shared_cells, shared_known}
 use Rattle.engine.specs.declared.format.Format.TheVariants.{Macrocell, Rle}
@@ -34,7 +34,8 @@ returns-in_ok-shared-in-Some-Rle-clause-refused g c =
     rw asked (subst (λ (p : Plane). IfErr c.write_rle.result (λ refusal.
     ((refusal ≡ BoxTooLarge) × IsTooLarge p × (c.write_rle.new.file ≡ c.args.file.now))
     ⊎ ((refusal ≡ NoMemory) × (c.write_rle.new.file ≡ c.args.file.now))
-    ⊎ (IsWriteRefusal (g.V.Sink.failure_count c.args.file.now) (g.V.Sink.failure_count c.write_rle.new.file) refusal × HasRleText p))) same c.write_rle.ensures.refused)
+    ⊎ (IsWriteRefusal (g.V.Sink.failure_count c.args.file.now) (g.V.Sink.failure_count c.write_rle.new.file) refusal
+    × BeginsRle p c.args.heading.comments c.args.heading.rule c.args.heading.generation (g.V.Sink.taken c.args.file.now) (g.V.Sink.taken c.write_rle.new.file)))) same c.write_rle.ensures.refused)
 
 pub write_rle-requires-clause-known : goal.write_rle-requires-clause-known
 write_rle-requires-clause-known g c =
