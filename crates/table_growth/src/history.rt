@@ -116,7 +116,8 @@ impl TableHistory {
     /// How many of so many workers take the next step: one, where the last one was short.
     pub fn workers_of_next_step(self, workers: usize) -> usize
         requires { 1 ≤ workers }
-        ensures { 1 ≤ result }
+        ensures least { 1 ≤ result }
+        ensures most { result ≤ workers }
     {
         match self.expansions {
             Some(expansions) if expansions <= FEW_EXPANSIONS => 1,

@@ -1,6 +1,7 @@
 //! The sizes of tables, from a small one on.
 
-ghost use Rattle.std.specs.Prelude.{◌≡◌, ◌<◌, ◌≤◌, ◌^◌, min, IfNone, IfSome};
+ghost use Rattle.std.specs.Prelude.{◌≡◌, ◌<◌, ◌≤◌, ◌⊎◌, ◌^◌, ℕ, min, IfNone, IfSome};
+ghost use Rattle.table_growth.specs.Sizes.{IsFirstSizeUpTo, IsGrownBy, bits_of};
 
 use table_core::{Kind, Shape};
 
@@ -35,7 +36,12 @@ pub enum GrowthFactor {
 /// The shape of a new table that is likely to need so many pair slots: the smallest that has them of 2^12, 2^16,
 /// 2^20 and each larger power of two, or the largest.
 pub fn expected_shape(pairs: u64, most: Shape) -> Shape
-    ensures { result.bits ≤ most.bits }
+    ensures within { result.bits ≤ most.bits }
+    ensures size { IsFirstSizeUpTo most.bits result.bits }
+    ensures enough { (pairs ≤ 2 ^ result.bits) ⊎ (result.bits ≡ most.bits) }
+    // Each smaller size has too few.
+    ensures least { (bits : ℕ) → IsFirstSizeUpTo most.bits bits → bits < result.bits
+        → 2 ^ bits < pairs }
 {
     let mut bits = smallest(most).bits;
     while bits < most.bits && (1u64 << bits) < pairs {
@@ -55,6 +61,11 @@ pub fn expected_shape(pairs: u64, most: Shape) -> Shape
 pub fn larger(shape: Shape, most: Shape, growth_factor: GrowthFactor) -> Option<Shape>
     ensures some { IfSome result (λ next. (shape.bits < next.bits) × (next.bits ≤ most.bits)) }
     ensures none { IfNone result (most.bits ≤ shape.bits) }
+    ensures small { shape.bits < 18
+        → IfSome result (IsGrownBy (bits_of growth_factor) shape most) }
+    ensures large { 18 ≤ shape.bits → (shape.bits < 20) ⊎ (most.bits ≤ 22)
+        → IfSome result (IsGrownBy 2 shape most) }
+    ensures largest { 20 ≤ shape.bits → 22 < most.bits → IfSome result (IsGrownBy 4 shape most) }
 {
     if shape.bits >= most.bits {
         return None;

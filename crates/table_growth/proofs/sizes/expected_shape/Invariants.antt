@@ -1,8 +1,14 @@
-use Rattle.std.proofs.Common.{◌-◌, ◌≤◌}
+use Rattle.std.proofs.Common.{ℕ, ◌-◌, ◌^◌, ◌<◌, ◌≤◌}
+use Rattle.table_growth.specs.Sizes.{IsFirstSizeUpTo}
 use Rattle.table_growth.proofs.sizes.expected_shape.Given as goal
 
 abbrev pub invariant-loop-bits : goal.invariant-loop-bits
-invariant-loop-bits l = record { low : 10 ≤ l.bits; high : l.bits ≤ l.most.bits }
+invariant-loop-bits l = record {
+  low : 10 ≤ l.bits;
+  high : l.bits ≤ l.most.bits;
+  size : IsFirstSizeUpTo l.most.bits l.bits;
+  least : (bits : ℕ) → IsFirstSizeUpTo l.most.bits bits → bits < l.bits → 2 ^ bits < l.pairs;
+}
 
 abbrev pub decreases-loop-bits : goal.decreases-loop-bits
 decreases-loop-bits l = l.most.bits - l.bits
