@@ -147,9 +147,8 @@ impl<'a> RleFile<'a> {
         LiveRuns::new(self.source, preamble.body, preamble.settings.pos)
     }
 
-    /// How far from 0 the coordinates of the live cells go: all live cells lie in the square of that half
-    /// side round (0, 0).
-    /// It is at most one more than the largest absolute value of a coordinate that the items reach.
+    /// How far from 0 the coordinates of the live cells go, at most: all live cells lie in the square of that
+    /// half side round (0, 0).
     #[tactic(auto, unfolding(crate::specs::Meaning::meaning_of))]
     pub fn reach(&self) -> u64
         ensures bound { result ≤ 2 ^ 62 }
