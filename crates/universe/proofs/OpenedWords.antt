@@ -10,9 +10,8 @@ use Rattle.squares.specs.Rounds.{IsRound}
 use Rattle.table_core.specs.declared.key.Key.{Key}
 use Rattle.table_core.specs.Layout.{IsSlot}
 use Rattle.table_core.specs.Blocks.{Words, cells_of, square_rank, ShowsBlock}
-use Rattle.table_core.specs.Good.{KeepsSlots}
 use Rattle.table_core.specs.Opening.{Reopens}
-use Rattle.table_core.proofs.Blocks.{shows_stay}
+use Rattle.table_core.proofs.Blocks.{KeepsSlots, shows_stay}
 use Rattle.node_table.specs.declared.desk.Desk.{Desk}
 use Rattle.node_table.specs.declared.still.Still.{Still}
 use Rattle.node_table.specs.declared.table.NodeTable.{NodeTable}
