@@ -1,7 +1,12 @@
 -- The census of a pattern.
-use Rattle.std.specs.Prelude.{◌≡◌, ℕ, zero, suc, ◌^◌, None, List, [], ◌++◌}
+use Rattle.std.specs.Prelude.{◌≡◌, ◌⊎◌, ℕ, zero, suc, ◌^◌, ◌<◌, None, List, [], ◌++◌, Result, IfErr, OnOk}
+use Rattle.plane.specs.Fault.{placeless}
 use Rattle.plane.specs.Plane.{Plane}
+use Rattle.plane.specs.SinkChange.{SinkChange, Fails, IsUnfailed, Takes}
+use Rattle.plane.specs.declared.fault.Fault.{Fault}
+use Rattle.plane.specs.declared.refusal.Refusal.TheVariants.{WriteFailed}
 use Rattle.run_options.specs.declared.options.RunOptions.{RunOptions}
+use Rattle.engine.specs.Accepted.{IsRefused}
 use Rattle.engine.specs.Last.{EndsWith}
 use Rattle.engine.specs.RunOptions.{without_output}
 use Rattle.engine.specs.SummaryLine.{summary_line}
@@ -23,3 +28,20 @@ IsCensus bytes zero text = text ≡ []
 IsCensus bytes (suc power) text =
     (before : List ℕ) × (summary : Summary) × IsCensus bytes power before
     × IsSummaryAfter bytes (2 ^ power) summary × (text ≡ before ++ summary_line summary)
+
+-- the sink took the text of so many lines, and did not fail
+abbrev pub TakesCensus : {W : Type 0} → List ℕ → ℕ → SinkChange W → Type 0
+TakesCensus bytes lines out =
+    ((text : List ℕ) × IsCensus bytes lines text × Takes out text) × IsUnfailed out
+
+-- what a census of so many lines does to its sink, and what it answers
+pub record IsCensusRun {W : Type 0} (bytes : List ℕ) (lines : ℕ) (out : SinkChange W)
+    (result : Result Unit Fault) : Type 0 where
+  -- it writes all lines
+  pub finished : OnOk result (TakesCensus bytes lines out)
+  -- it writes the lines before the first whose run is refused, which is the answer; or the sink
+  -- failed
+  pub refused : IfErr result (λ fault.
+      ((power : ℕ) × (power < lines) × TakesCensus bytes power out
+      × IsRefused bytes (without_output (run_of (2 ^ power))) fault)
+      ⊎ ((fault ≡ placeless WriteFailed) × Fails out))

@@ -1,8 +1,10 @@
 //! The census: its runs and its lines.
 
-ghost use Rattle.std.specs.Prelude.{◌≡◌, ◌<◌, ◌≤◌, ◌^◌, ℕ, List, IfOk, OnOk};
-ghost use Rattle.std.specs.Io.KnownBytes.{Appends};
-ghost use Rattle.example_census.specs.Census.{IsCensus, IsSummaryAfter};
+ghost use Rattle.std.specs.Prelude.{◌≡◌, ◌<◌, ◌≤◌, ◌^◌, IfErr, IfOk};
+ghost use Rattle.plane.specs.SinkChange.{change_of};
+ghost use Rattle.engine.specs.Accepted.{IsRefused};
+ghost use Rattle.engine.specs.RunOptions.{without_output};
+ghost use Rattle.example_census.specs.Census.{IsCensusRun, IsSummaryAfter, run_of};
 
 use engine::{RunOptions, Summary, last_pattern, write_summary};
 use plane::{Fault, Sink};
@@ -14,7 +16,7 @@ use std::thread::Threads;
 const PAIRS: u32 = 4194304;
 
 /// Writes `lines` lines, one each after 1, 2, 4, 8, .. generations: the generation, the population and the bounding
-/// box. Each run has two workers. It refuses what `last_pattern` refuses, and `WriteFailed`.
+/// box. Each run has two workers. It refuses what `last_pattern` refuses, behind the lines until then, and `WriteFailed`.
 pub(crate) fn census<R: Threads + Wait + Sync, W: Sink>(
     rt: &R,
     alloc: Global,
@@ -23,8 +25,8 @@ pub(crate) fn census<R: Threads + Wait + Sync, W: Sink>(
     out: &mut W,
 ) -> Result<(), Fault>
     requires { lines ≤ 64 }
-    ensures { OnOk result ((text : List ℕ) × IsCensus bytes.now lines text
-        × Appends (W.taken out.old) (W.taken out.new) text) }
+    ensures { IsCensusRun bytes.now lines
+        (change_of W.taken W.failure_count out.old out.new) result }
 {
     for power in 0..lines {
         let summary = summary_after(rt, alloc, bytes, power_of_two(power))?;
@@ -47,7 +49,8 @@ fn summary_after<R: Threads + Wait + Sync>(
     bytes: &[u8],
     generations: u64,
 ) -> Result<Summary, Fault>
-    ensures { IfOk result (IsSummaryAfter bytes.now generations) }
+    ensures summary { IfOk result (IsSummaryAfter bytes.now generations) }
+    ensures refused { IfErr result (IsRefused bytes.now (without_output (run_of generations))) }
 {
     let run = RunOptions {
         gens: generations,

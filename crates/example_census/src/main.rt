@@ -2,11 +2,16 @@
 //! An example of a program that stands on the library `engine`.
 #![tactic(auto)]
 
+ghost use Rattle.std.specs.Prelude.{◌≡◌};
+ghost use Rattle.plane.specs.SinkChange.{change_of};
+ghost use Rattle.engine.specs.Devices.{IsDoneWithAll, reading_of};
+ghost use Rattle.example_census.specs.Census.{IsCensusRun};
+
 mod census;
 
 use census::census;
 use engine::load;
-use plane::{Counted, Fault, Sink};
+use plane::{Counted, Fault, Sink, Source};
 use std::process::ExitCode;
 use std::sync::Wait;
 use std::thread::Threads;
@@ -15,7 +20,8 @@ use std::thread::Threads;
 const LINES: u8 = 12;
 
 fn main(rt: HostRuntime) -> ExitCode {
-    match census_of_input(&rt, &mut Counted::new(rt.stdout())) {
+    let mut input = Counted::new(rt.reader());
+    match census_of_input(&rt, &mut input, &mut Counted::new(rt.stdout())) {
         Ok(()) => ExitCode::SUCCESS,
         Err(fault) => {
             let _ = eprintln!(rt; "example_census: {fault}");
@@ -24,12 +30,19 @@ fn main(rt: HostRuntime) -> ExitCode {
     }
 }
 
-// Writes the census of the pattern on standard input.
-fn census_of_input<R: Input + AllocGlobal + Threads + Wait + Sync, W: Sink>(
+// Reads all bytes of a source, and writes the census of the pattern in them.
+fn census_of_input<R: AllocGlobal + Threads + Wait + Sync, S: Source, W: Sink>(
     rt: &R,
+    input: &mut S,
     out: &mut W,
-) -> Result<(), Fault> {
+) -> Result<(), Fault>
+    ensures { IsDoneWithAll
+        (reading_of S.remaining S.given S.has_ended S.failure_count input.old input.new)
+        (λ bytes. IsCensusRun bytes LINES
+        (change_of W.taken W.failure_count out.old out.new) result)
+        result (out.new ≡ out.old) }
+{
     let alloc = rt.alloc();
-    let bytes = load(alloc, &mut Counted::new(rt.reader()))?;
+    let bytes = load(alloc, input)?;
     census(rt, alloc, bytes.as_slice(), LINES, out)
 }
