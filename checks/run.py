@@ -26,6 +26,7 @@ NAMES = [
     "page_links",
     "no_axioms",
     "wrong_bodies",
+    "refusals",
     "reading_order",
     "faulty_programs",
     "failing_devices",
