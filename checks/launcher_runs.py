@@ -52,7 +52,7 @@ case $made in *.rlib) mkdir "$made" ;; *) : >"$made" ;; esac
 
 LINK = """#!/bin/sh
 while [ "$1" != -o ]; do shift; done
-printf '#!/bin/sh\\necho "ran: $*"; cat\\n' >"$2" && chmod +x "$2"
+printf '#!/bin/sh\\necho "ran: $*"; [ "$1" != where ] || pwd -P; cat\\n' >"$2" && chmod +x "$2"
 """
 
 
@@ -169,6 +169,62 @@ def newer(it: Repository) -> bool:
     return status == 0 and {"viewport", "universe", "lifebatch"} <= proved and not proved & {"squares", "node_table"}
 
 
+def of_tests_alone(it: Repository) -> bool:
+    for name in ("crates/worked_squares/src/lib.rt", "crates/viewport/proofs/Newer.antt"):
+        (it.folder / name).parent.mkdir(exist_ok=True)
+        with open(it.folder / name, "a") as file:
+            file.write("\n")
+    return it.run("x") == (0, "ran: x\ninput", "") and it.logged() == []
+
+
+def comes_and_goes(it: Repository) -> bool:
+    (it.folder / "crates" / "viewport" / "proofs").mkdir(exist_ok=True)
+    it.run()
+    it.logged()
+    seen = []
+    for name, crate in (("viewport/specs/Extra.antt", "viewport"), ("lifebatch/specs/Extra.antt", "lifebatch")):
+        file = it.folder / "crates" / name
+        file.parent.mkdir(exist_ok=True)
+        for change in (file.touch, file.unlink):
+            change()
+            status, _, _ = it.run()
+            proved = {line.split()[1] for line in it.logged()}
+            seen.append(status == 0 and crate in proved and it.run("x") == (0, "ran: x\ninput", ""))
+    return all(seen) and it.logged() == []
+
+
+def from_anywhere(it: Repository) -> bool:
+    it.run()
+    it.logged()
+    other = it.folder / "other folder"
+    other.mkdir()
+    (other / "absolute").symlink_to(it.folder / "lifebatch")
+    (other / "relative").symlink_to("../lifebatch")
+    (other / "second").symlink_to("relative")
+    (other / "linked").symlink_to("..")
+    path = f"{it.folder}:{it.environment()['PATH']}"
+    calls = [
+        ("./lifebatch where", it.folder),
+        ("sh lifebatch where", it.folder),
+        ("../lifebatch where", other),
+        ("./absolute where", other),
+        ("./relative where", other),
+        ("'other folder/second' where", it.folder),
+        ("linked/lifebatch where", other),
+        ("cd linked/launcher; ../lifebatch where", other),
+        ("lifebatch where", other),
+        ("CDPATH=/ launcher/../lifebatch where", it.folder),
+    ]
+    found = []
+    for words, folder in calls:
+        ran = subprocess.run(["sh", "-c", words], cwd=folder, stdin=subprocess.DEVNULL, env=it.environment(PATH=path), capture_output=True, text=True)
+        where = it.folder / "launcher" if "cd " in words else folder
+        found.append((ran.returncode, ran.stdout, ran.stderr) == (0, f"ran: where\n{where.resolve()}\n", ""))
+    gone = "mkdir gone; cd gone; rmdir ../gone; lifebatch x </dev/null"
+    ran = subprocess.run(["sh", "-c", gone], cwd=other, env=it.environment(PATH=path), capture_output=True, text=True)
+    return all(found) and (ran.returncode, ran.stdout) == (0, "ran: x\n") and it.logged() == []
+
+
 def changed_meanwhile(it: Repository) -> bool:
     # A proof of the other text is not kept, whatever the file contains afterwards.
     file = next((it.folder / "crates" / "viewport" / "src").glob("*.rt"))
@@ -229,6 +285,9 @@ GROUPS: list[list[tuple[str, Callable[[Repository], bool]]]] = [
         ("a crate that fails is named, and ends the call with status 2", failed),
         ("the next call resumes from the crates that are proved", goes_on),
         ("a newer file has its crate and those above it proved anew", newer),
+        ("a newer file that tests alone read, and a newer proof, build nothing", of_tests_alone),
+        ("a file, or a folder specs, that comes or goes has its crate proved anew", comes_and_goes),
+        ("the program runs in the caller's folder, by whichever name and link the launcher is called", from_anywhere),
         ("a file that changes during the build has its crate proved anew by the next call", changed_meanwhile),
     ],
     [
@@ -242,7 +301,7 @@ def main() -> int:
     CHECK.options(CHECK.parser())
     held = []
     for rows in GROUPS:
-        with tempfile.TemporaryDirectory() as name:
+        with tempfile.TemporaryDirectory(prefix="life batch ") as name:
             repository = Repository(pathlib.Path(name))
             for says, holds in rows:
                 held.append(holds(repository))

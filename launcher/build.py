@@ -16,6 +16,7 @@ import hashlib
 import os
 import pathlib
 import re
+import shlex
 import shutil
 import signal
 import subprocess
@@ -184,7 +185,7 @@ class Program:
 
     @property
     def began(self) -> pathlib.Path:
-        """A file with the time at which the last successful build began."""
+        """A file with the time at which the last successful build began, for launcher/start.sh."""
         return self.built.with_suffix(".built")
 
     def is_proved(self, crate: str) -> bool:
@@ -193,6 +194,14 @@ class Program:
 
     def tell(self, text: str, before: str = "") -> None:
         print(f"{before}{self.name}: {text}", file=sys.stderr, flush=True)
+
+
+def tests(program: Program, crates: Crates) -> str:
+    """A script that returns 0 if code or contracts below the program are newer than the build. A file that comes or goes changes its folder."""
+    lines = [[ROOT / "crates.txt"]]
+    lines += [[it, *sorted(it.glob("**/*"))] for name in crates for it in (folder(name) / "src", folder(name) / "specs")]
+    paths = [" ".join(shlex.quote(os.path.relpath(it, program.began.parent)) for it in line) for line in lines]
+    return "for file in \\\n" + " \\\n".join(paths) + f'\ndo\n    test "$file" -nt {program.began.name} && return 0\ndone\nreturn 1\n'
 
 
 def words_of_check(name: str, main: str, below: set[str], jobs: int) -> Words:
@@ -420,8 +429,10 @@ def build_program(program: Program) -> int:
     finally:
         build.close()
     if is_built:
-        program.began.touch()
-        os.utime(program.began, (began, began))
+        unfinished = program.began.with_suffix(".tests")
+        unfinished.write_text(tests(program, crates))
+        os.utime(unfinished, (began, began))
+        unfinished.rename(program.began)
     what = "build interrupted; the next run resumes it" if build.signal else "the build failed"
     build.progress.tell(f"proved and built in {build.progress.clock()}" if is_built else what)
     return 0 if is_built else 128 + build.signal if build.signal else 2

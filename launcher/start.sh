@@ -3,14 +3,23 @@
 # does not change a proved program. The scripts ./lifebatch and ./lifeview read this one, and set both names.
 set -u
 
-program=$root/crates/$name/out/$name
-# A file with the time at which the last build began.
-built=$program.built
+out=$root/crates/$name/out
+program=$out/$name
 
-needs_build() {
-    [ -x "$program" ] && [ -e "$built" ] || return 0
-    [ -n "$(find "$root/crates.txt" "$root"/crates/*/src "$root"/crates/*/specs -newer "$built" -print -quit)" ]
-}
+# NAME.built has the time at which the last build began. Read in its own folder, it returns 0 if code or contracts are newer.
+# It tests some 500 files, so no other process is started, and the paths are short.
+is_due=true
+here=${PWD-}
+if ! [ -x "$program" ] || ! [ -e "$program.built" ]; then
+    :
+elif [ . -ef "$here/." ]; then
+    CDPATH='' cd -P -- "$out" || exit 2
+    . "./$name.built" || is_due=false
+    CDPATH='' cd -P -- "$here" || exit 2
+else
+    # There is no way back to a folder that was removed.
+    (CDPATH='' cd -P -- "$out" && . "./$name.built") || is_due=false
+fi
 
 # The build gets no argument and no input of the caller's, and prints nothing to standard output.
 build() {
@@ -23,7 +32,7 @@ build() {
     python3 "$root/launcher/build.py" "$name" >&2 </dev/null
 }
 
-if needs_build; then
+if $is_due; then
     build || exit
 fi
 # Asks for large pages for the tables, and that vectors of a megabyte or more stand outside of the heap, so that the
