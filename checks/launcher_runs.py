@@ -19,8 +19,8 @@ import tempfile
 import time
 from collections.abc import Callable
 
-from common.check import PGREP, Check, end, sum_up
-from common.program import ROOT
+from common.check import PGREP, Check, can_run, end, sum_up
+from common.program import PROGRAM, ROOT, VIEW
 
 CHECK = Check(
     text=__doc__,
@@ -115,6 +115,40 @@ def has_wide_vectors() -> bool:
     """What the dynamic linker says of this machine."""
     said = subprocess.run(["/lib64/ld-linux-x86-64.so.2", "--help"], capture_output=True, text=True).stdout
     return "x86-64-v3 (supported" in said
+
+
+def helps(it: Repository) -> bool:
+    """The help before anything is built, at once and where the kit does not run."""
+    rt = it.folder / "bin" / "rt"
+    text_of_rt = rt.read_text()
+    rt.write_text("#!/bin/sh\nexit 1\n")
+    shown = []
+    for name in ("lifebatch", "lifeview"):
+        text = (it.folder / "launcher" / "help" / f"{name}.txt").read_text()
+        for word in ("-h", "--help"):
+            status, out, err = it.run(word, name=name)
+            shown.append((status, out) == (0, text) and err.count("\n") == 1 and err.startswith(f"{name}: the program is not built yet"))
+    with open("/dev/full", "w") as device:
+        full = subprocess.run([it.folder / "lifebatch", "-h"], env=it.environment(), stdout=device, stderr=subprocess.DEVNULL)
+    rt.write_text(text_of_rt)
+    return all(shown) and full.returncode == 3 and it.logged() == []
+
+
+def own_help(_: Repository) -> bool:
+    """Whether the texts are what the real programs show, if these are built."""
+    equal = []
+    for name, program in (("lifebatch", PROGRAM), ("lifeview", VIEW)):
+        if not can_run(program):
+            print(f"    {name} is not built here, so its help is not compared with launcher/help/{name}.txt")
+            continue
+        shown = [subprocess.run([program, word], capture_output=True) for word in ("-h", "--help")]
+        text = (ROOT / "launcher" / "help" / f"{name}.txt").read_bytes()
+        equal.append(all((it.returncode, it.stdout, it.stderr) == (0, text, b"") for it in shown))
+    return all(equal)
+
+
+def help_of_built(it: Repository) -> bool:
+    return it.run("--help") == (0, "ran: --help\ninput", "") and it.run("-h", "x")[1] == "ran: -h x\ninput" and it.logged() == []
 
 
 def second(it: Repository) -> bool:
@@ -274,8 +308,11 @@ def terminal(it: Repository) -> bool:
 # The rows of a group share a repository, and build on one another.
 GROUPS: list[list[tuple[str, Callable[[Repository], bool]]]] = [
     [
+        ("before a program is built, --help and -h alone show its help and say that it is not built", helps),
+        ("the help is that of the real programs, where these are built", own_help),
         ("the first call proves each crate once, builds the program for this processor and runs it", whole),
         ("a second call builds nothing", second),
+        ("a built program shows its help itself", help_of_built),
         ("the other program proves the crates that it alone uses", other_program),
         ("the build takes the name of a program alone", unknown_program),
         ("on a terminal there is one line that moves", terminal),

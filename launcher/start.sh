@@ -33,6 +33,14 @@ build() {
 }
 
 if $is_due; then
+    # The help is the program's own, which shows it itself once it is built.
+    case $#${1-} in
+    1-h | 1--help)
+        cat "$root/launcher/help/$name.txt" || exit 3
+        echo "$name: the program is not built yet; the first run proves and builds it, in 13 to 25 minutes on four cores" >&2
+        exit
+        ;;
+    esac
     build || exit
 fi
 # Asks for large pages for the tables, and that vectors of a megabyte or more stand outside of the heap, so that the
