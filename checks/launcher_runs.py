@@ -4,13 +4,17 @@
     checks/launcher_runs.py
 
 The script copies the launcher and the code of the crates, and puts its own rt, rattle and rattle-link on the PATH. It tests the order in which
-crates are proved, the processor that the program is compiled for, and what the launcher does if nothing is to be built, if a crate fails, if files
-are newer or change during the build, if a build is interrupted, if two calls run at once, and what one program leaves to prove for the other. It
-does not touch the programs of this repository.
+crates are proved, the processor that the program is compiled for, the help before that, and what the launcher does if nothing is to be built, if a
+crate fails, if files are newer, come, go or change during the build, if a build is interrupted, if two calls run at once, and what one program leaves
+to prove for the other. It compares the time that the launcher expects with what a build takes; only a build with the real kit shows whether that is
+so there too. It does not touch the programs of this repository.
 """
+import json
 import os
 import pathlib
 import pty
+import random
+import re
 import select
 import shutil
 import signal
@@ -20,83 +24,16 @@ import time
 from collections.abc import Callable
 
 from common.check import PGREP, Check, can_run, end, sum_up
+from common.fake_kit import Repository, printed
 from common.program import PROGRAM, ROOT, VIEW
+from common.simulated_builds import MACHINES, look_after
 
 CHECK = Check(
     text=__doc__,
     needs=(PGREP,),
-    takes="40 s",
+    takes="70 s",
     replay="run it again; the rows build on those before them.",
 )
-
-# How many seconds a call may take.
-SECONDS = 120
-
-# It fails where a library below is missing, or where BAD names the crate.
-RATTLE = """#!/bin/sh
-while [ $# -gt 0 ]; do
-    case $1 in
-    --crate-name) name=$2 ;;
-    --cpu) processor=" for $2" ;;
-    --extern) case ${2#*=} in */crates/*) [ -d "${2#*=}" ] || { echo "no $2"; exit 1; } ;; esac ;;
-    -o) made=$2 ;;
-    esac
-    shift
-done
-echo "fn $name::f: proved"
-echo "proves $name$processor" >>"$LOG"
-sleep "${SECONDS_EACH:-0.1}"
-[ "${BAD:-}" = "$name" ] && { echo "error: $name is bad"; exit 1; }
-case $made in *.rlib) mkdir "$made" ;; *) : >"$made" ;; esac
-"""
-
-LINK = """#!/bin/sh
-while [ "$1" != -o ]; do shift; done
-printf '#!/bin/sh\\necho "ran: $*"; [ "$1" != where ] || pwd -P; cat\\n' >"$2" && chmod +x "$2"
-"""
-
-
-class Repository:
-    """A copy of the launcher and of the crates' code, without anything built."""
-
-    def __init__(self, folder: pathlib.Path):
-        self.folder, self.log = folder, folder / "log"
-        for name in ("lifebatch", "lifeview", "crates.txt"):
-            shutil.copy(ROOT / name, folder)
-        for name in ("launcher", "crates"):
-            shutil.copytree(ROOT / name, folder / name, ignore=shutil.ignore_patterns("out", "proofs"))
-        (folder / "bin").mkdir()
-        (folder / "KIT-ID").touch()
-        for name, text in (("rt", f"#!/bin/sh\necho {folder}/START-HERE.md\n"), ("rattle", RATTLE), ("rattle-link", LINK)):
-            (folder / "bin" / name).write_text(text)
-            (folder / "bin" / name).chmod(0o755)
-
-    def environment(self, **settings: str) -> dict[str, str]:
-        return {**os.environ, "PATH": f"{self.folder / 'bin'}:{os.environ['PATH']}", "LOG": str(self.log), **settings}
-
-    def start(self, *words: str, name: str = "lifebatch", **settings: str) -> subprocess.Popen:
-        how = {"stdin": subprocess.PIPE, "stdout": subprocess.PIPE, "stderr": subprocess.PIPE, "text": True, "start_new_session": True}
-        return subprocess.Popen([self.folder / name, *words], env=self.environment(**settings), **how)
-
-    def run(self, *words: str, name: str = "lifebatch", **settings: str) -> tuple[int, str, str]:
-        ran = self.start(*words, name=name, **settings)
-        out, err = printed(ran, "input")
-        return ran.returncode, out, err
-
-    def logged(self) -> list[str]:
-        """The calls of the kit since the last look."""
-        lines = self.log.read_text().split("\n")[:-1] if self.log.exists() else []
-        self.log.unlink(missing_ok=True)
-        return lines
-
-
-def printed(ran: subprocess.Popen, given: str = "") -> tuple[str, str]:
-    """The output of a call, which is killed if it takes too long."""
-    try:
-        return ran.communicate(given, timeout=SECONDS)
-    except subprocess.TimeoutExpired:
-        os.killpg(ran.pid, signal.SIGKILL)
-        return ran.communicate()
 
 
 def whole(it: Repository) -> bool:
@@ -293,6 +230,48 @@ def two(it: Repository) -> bool:
     return outs == ["ran: one\n", "ran: two\n"] and len(proved) == len(set(proved)) > 0
 
 
+def time_left(it: Repository) -> bool:
+    """A build that takes 1.6 times the seconds that the launcher expects, here a sixtieth of those of a real one."""
+    file, sleeps, chance = it.folder / "launcher" / "seconds.json", it.folder / "sleeps", random.Random(1)
+    table = json.loads(file.read_text())
+    table["crates"] = {name: seconds / 60 for name, seconds in table["crates"].items()}
+    file.write_text(json.dumps(table))
+    sleeps.mkdir()
+    for name, seconds in table["crates"].items():
+        (sleeps / name).write_text(f"{1.6 * seconds * chance.uniform(0.85, 1.18):.2f}\n")
+    ran, said = it.start(SLEEPS=str(sleeps)), []
+    ran.stdin.close()
+    for line in ran.stderr:
+        words = re.search(r": (\d+) % after \d+:\d\d, about (\d+) s left; \d+ of \d+ crates proved, proving \w", line)
+        if words:
+            said.append((time.monotonic(), int(words[1]), int(words[2])))
+        elif "proved and built" in line:
+            ended = time.monotonic()
+    shares = [share for _, share, _ in said]
+    when, share, left = next(it for it in said if it[1] >= 20)
+    print(f"    with {share} % done {left} s were said to be left, and {ended - when:.1f} s were; the first estimate was {said[0][2]} s for {ended - said[0][0]:.1f}")
+    return ran.wait() == 0 and shares == sorted(shares) and abs(left - (ended - when)) <= (ended - when) / 4
+
+
+def simulated_machines(_: Repository) -> bool:
+    errors = sorted(look_after(0.2, name, machine).error() for name in ("lifebatch", "lifeview") for machine in MACHINES)
+    close = sum(it <= 0.25 for it in errors)
+    print(f"    {close} of {len(errors)} are; the error is {errors[len(errors) // 2]:.0%} in the median, and {errors[-1]:.0%} in the worst")
+    return close >= 0.95 * len(errors)
+
+
+def records(it: Repository) -> bool:
+    """The seconds of both programs' crates, once both are built."""
+    file, script = it.folder / "launcher" / "seconds.json", it.folder / "launcher" / "record_seconds.py"
+    before = file.read_text()
+    early = subprocess.run([script], capture_output=True, text=True)
+    is_kept = file.read_text() == before and "no build has recorded png_writer, view_program, lifeview" in early.stderr
+    it.run(name="lifeview")
+    late = subprocess.run([script], capture_output=True, text=True)
+    found = json.loads(file.read_text())
+    return (early.returncode, late.returncode) == (2, 0) and is_kept and {*found["crates"]} == {*json.loads(before)["crates"]}
+
+
 def terminal(it: Repository) -> bool:
     shutil.rmtree(it.folder / "crates" / "lifebatch" / "out")
     ours, theirs = pty.openpty()
@@ -302,7 +281,8 @@ def terminal(it: Repository) -> bool:
         while ran.poll() is None or select.select([ours], [], [], 0)[0]:
             if select.select([ours], [], [], 0.1)[0]:
                 said += os.read(ours, 1 << 16).decode()
-    return ran.returncode == 0 and "\r\x1b[K" in said and said.count("\n") == 3
+    bar = re.search(r"\r\x1b\[Klifebatch: \[#* *\] \d+ %, about \d+ s left; ", said)
+    return ran.returncode == 0 and bool(bar) and said.count("\n") == 3
 
 
 # The rows of a group share a repository, and build on one another.
@@ -330,6 +310,11 @@ GROUPS: list[list[tuple[str, Callable[[Repository], bool]]]] = [
     [
         ("an interrupted build leaves no process, and keeps what is proved", interrupted),
         ("two calls at once prove each crate once", two),
+    ],
+    [
+        ("after a fifth of the work the time that is said to be left is within a quarter of the truth", time_left),
+        ("after a fifth of the work it is so on 19 of 20 simulated machines too", simulated_machines),
+        ("each crate's seconds are recorded once both programs are built", records),
     ],
 ]
 

@@ -37,8 +37,8 @@ if $is_due; then
     case $#${1-} in
     1-h | 1--help)
         cat "$root/launcher/help/$name.txt" || exit 3
-        echo "$name: the program is not built yet; the first run proves and builds it, in 13 to 25 minutes on four cores" >&2
-        exit
+        python3 "$root/launcher/build.py" "$name" --about </dev/null || echo "$name: the program is not built yet" >&2
+        exit 0
         ;;
     esac
     build || exit

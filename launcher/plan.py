@@ -1,0 +1,123 @@
+"""In which order crates are proved, how many side by side, and how long each is expected to take.
+
+`seconds.json` has the processor seconds of each crate's check. `record_seconds.py` writes it, from the records that builds leave in `out/took.json`.
+"""
+import functools
+import json
+import pathlib
+import re
+import time
+from collections.abc import Iterable
+from dataclasses import dataclass
+
+from crates import ROOT, Crates, folder
+
+GIGABYTE = 10**9
+# The memory that a check takes with one job, and that each further job adds.
+MEMORY = 4 * GIGABYTE
+MEMORY_OF_JOB = 3 * GIGABYTE // 2
+MOST_JOBS = 4
+# A check of so many seconds is shorter with more jobs where cores are free, and a check of so many with a second job where none is.
+WITH_JOBS = 30
+LONG = 100
+# A chain of at least this share of the longest one counts as long too.
+SHARE = 0.6
+# How much lower the priority of a crate is for each crate with a longer chain that runs beside it.
+NICE = 5
+TABLE = ROOT / "launcher" / "seconds.json"
+
+
+@functools.cache
+def table() -> dict:
+    return json.loads(TABLE.read_text())
+
+
+def seconds_of(name: str) -> float:
+    """The processor seconds that the check of a crate is expected to take. One that is not listed counts by its lines."""
+    lines = sum(len(it.read_bytes().splitlines()) for it in folder(name).glob("src/**/*.rt"))
+    return table()["crates"].get(name, 12 + lines // 8)
+
+
+def sorting_seconds() -> float:
+    """The processor seconds in which this machine sorts some numbers: the least of several times, since it may do other work too."""
+    numbers, taken = [it * 7919 % 100003 / 7 for it in range(20000)], []
+    for _ in range(20):
+        began = time.process_time()
+        sorted(numbers)
+        taken.append(time.process_time() - began)
+    return min(taken)
+
+
+def record(name: str) -> pathlib.Path:
+    """What the last check of a crate took on this machine: `seconds` of processors, and `work`, which `Pace` counts."""
+    return folder(name) / "out" / "took.json"
+
+
+def machine_factor(names: Iterable[str]) -> float:
+    """How much longer than the table says checks take on this machine: by earlier builds, else by how fast it sorts."""
+    took = [(json.loads(record(it).read_text())["work"], seconds_of(it)) for it in names if record(it).exists()]
+    if took:
+        return sum(work for work, _ in took) / sum(expected for _, expected in took)
+    return min(max(sorting_seconds() / table()["sorting"], 1 / 4), 4)
+
+
+def free_memory() -> int:
+    """The free memory in bytes, within the limit of the control group."""
+    found = [1024 * int(re.search(r"MemAvailable:\s+(\d+)", pathlib.Path("/proc/meminfo").read_text())[1])]
+    group = pathlib.Path("/sys/fs/cgroup")
+    try:
+        found.append(int((group / "memory.max").read_text()) - int((group / "memory.current").read_text()))
+    except (OSError, ValueError):
+        pass
+    return min(found)
+
+
+@dataclass(frozen=True)
+class Share:
+    """What a check that runs has of the machine: its jobs, and how many crates with a longer chain began before it."""
+
+    jobs: int
+    behind: int
+
+    def memory(self) -> int:
+        return MEMORY + (self.jobs - 1) * MEMORY_OF_JOB
+
+
+# The checks that run.
+Running = dict[str, Share]
+
+
+class Plan:
+    def __init__(self, crates: Crates, cores: int, memory: int):
+        self.crates, self.cores, self.memory = crates, cores, memory
+        self.seconds = {name: seconds_of(name) for name in crates}
+        # For each crate the seconds of the longest chain of crates from it to the program.
+        self.chain: dict[str, float] = {}
+        for name in reversed(crates):
+            above = [self.chain[it] for it, below in crates.items() if name in below]
+            self.chain[name] = self.seconds[name] + max(above, default=0)
+
+    def ready(self, done: set[str], running: Running) -> list[str]:
+        """The crates that can be proved now, the one with the longest chain of crates above it first."""
+        left = [name for name in self.crates if name not in done and name not in running and done.issuperset(self.crates[name])]
+        return sorted(left, key=lambda name: -self.chain[name])
+
+    def jobs_for(self, name: str, ready: list[str], running: Running) -> int:
+        """How many jobs a crate that is ready gets: the cores that no other crate can use, and two for a long check on a long chain."""
+        seconds, others = self.seconds[name], running.keys() | set(ready) - {name}
+        is_on_long_chain = self.chain[name] >= SHARE * max(self.chain[it] for it in [name, *others])
+        free = self.cores - len(others) if seconds >= WITH_JOBS else 1
+        least = 2 if self.cores > 1 and seconds >= LONG and is_on_long_chain else 1
+        return max(min(free, MOST_JOBS), least)
+
+    def next_ones(self, done: set[str], running: Running) -> Running:
+        """The crates to start now: those that there is room for, beside those that run."""
+        ready, all_running = self.ready(done, running), dict(running)
+        for name in ready:
+            room = self.memory - sum(it.memory() for it in all_running.values())
+            if all_running and (room < MEMORY or len(all_running) == self.cores):
+                break
+            most = 1 + max(room - MEMORY, 0) // MEMORY_OF_JOB
+            behind = sum(self.chain[it] > self.chain[name] for it in all_running)
+            all_running[name] = Share(min(self.jobs_for(name, ready, all_running), most), behind)
+        return {name: it for name, it in all_running.items() if name not in running}

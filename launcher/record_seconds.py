@@ -1,0 +1,29 @@
+#!/usr/bin/env python3
+"""Writes to seconds.json how long each crate's check took in the last builds of both programs on this machine.
+
+    launcher/record_seconds.py
+
+Build both programs first, from nothing and on a machine that does nothing else. Builds plan by these seconds, and reckon from them how long they take.
+"""
+import json
+import sys
+
+from crates import PROGRAMS, crates_below
+from plan import TABLE, record, seconds_of, sorting_seconds
+
+
+def main() -> int:
+    names = list(dict.fromkeys(name for program in PROGRAMS for name in crates_below(program)))
+    missing = [it for it in names if not record(it).exists()]
+    if missing:
+        print(f"no build has recorded {', '.join(missing)}: build both programs first", file=sys.stderr)
+        return 2
+    took = {it: max(round(json.loads(record(it).read_text())["seconds"]), 1) for it in names}
+    for name, seconds in took.items():
+        print(f"{name:<18} {seconds:4} s, for {seconds_of(name):4} expected")
+    TABLE.write_text(json.dumps({"sorting": round(sorting_seconds(), 5), "crates": took}, indent=2) + "\n")
+    return 0
+
+
+if __name__ == "__main__":
+    sys.exit(main())
