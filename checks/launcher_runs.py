@@ -2,6 +2,7 @@
 """Tries the launchers ./lifebatch and ./lifeview with a kit that proves nothing and takes a moment.
 
     checks/launcher_runs.py
+    checks/launcher_runs.py --short     without the build of half a minute
 
 The script copies the launcher and the code of the crates, and puts its own rt, rattle and rattle-link on the PATH. It tests the order in which
 crates are proved, the processor that the program is compiled for, the help before that, and what the launcher does if nothing is to be built, if a
@@ -31,7 +32,9 @@ from common.simulated_builds import MACHINES, look_after
 CHECK = Check(
     text=__doc__,
     needs=(PGREP,),
-    takes="70 s",
+    takes="80 s",
+    quick=("--short",),
+    quickly="45 s",
     replay="run it again; the rows build on those before them.",
 )
 
@@ -232,7 +235,7 @@ def two(it: Repository) -> bool:
 
 def time_left(it: Repository) -> bool:
     """A build that takes 1.6 times the seconds that the launcher expects, here a sixtieth of those of a real one."""
-    file, sleeps, chance = it.folder / "launcher" / "seconds.json", it.folder / "sleeps", random.Random(1)
+    file, sleeps, chance = it.folder / "launcher" / "seconds.json", it.folder / "sleeps", random.Random(2)
     table = json.loads(file.read_text())
     table["crates"] = {name: seconds / 60 for name, seconds in table["crates"].items()}
     file.write_text(json.dumps(table))
@@ -262,6 +265,7 @@ def simulated_machines(_: Repository) -> bool:
 
 def records(it: Repository) -> bool:
     """The seconds of both programs' crates, once both are built."""
+    it.run()
     file, script = it.folder / "launcher" / "seconds.json", it.folder / "launcher" / "record_seconds.py"
     before = file.read_text()
     early = subprocess.run([script], capture_output=True, text=True)
@@ -320,12 +324,16 @@ GROUPS: list[list[tuple[str, Callable[[Repository], bool]]]] = [
 
 
 def main() -> int:
-    CHECK.options(CHECK.parser())
+    parser = CHECK.parser()
+    parser.add_argument("--short", action="store_true", help="leave out the build that shows the time that is left")
+    options = CHECK.options(parser)
     held = []
     for rows in GROUPS:
         with tempfile.TemporaryDirectory(prefix="life batch ") as name:
             repository = Repository(pathlib.Path(name))
             for says, holds in rows:
+                if options.short and holds is time_left:
+                    continue
                 held.append(holds(repository))
                 print(f"{'holds  ' if held[-1] else 'differs'}  {says}", flush=True)
     return sum_up(held, "rows")

@@ -70,7 +70,8 @@ def build_program(program: Program) -> int:
     _held = locked(progress, [ROOT / "launcher", *map(folder, crates)])
     progress.begin()
     pace = pace_of(program, proved_crates(program))
-    tell_needs(progress, pace)
+    if pace.done < crates.keys():
+        tell_needs(progress, pace)
     build = Build(program, pace, progress, sums={name: sum_of(name) for name in crates})
     for it in (signal.SIGINT, signal.SIGTERM, signal.SIGHUP):
         signal.signal(it, lambda number, _: setattr(build, "signal", number))

@@ -45,8 +45,8 @@ def has_patterns(options: argparse.Namespace) -> bool:
     return getattr(options, "folder", PATTERNS).is_dir()
 
 
-BUILT = Need("the built program", "./lifebatch --help builds it", lambda options: can_run(options.program))
-BUILT_VIEW = Need("the built program lifeview", "./lifeview --help builds it", lambda options: can_run(options.view))
+BUILT = Need("the built program", "launcher/build.py lifebatch builds it", lambda options: can_run(options.program))
+BUILT_VIEW = Need("the built program lifeview", "launcher/build.py lifeview builds it", lambda options: can_run(options.view))
 BGOLLY = tool("bgolly", "golly")
 GOLLY_PATTERNS = Need("the folder of Golly's patterns", "apt-get install golly brings it", has_patterns)
 GOLLY = Need("golly", "apt-get install golly brings it", lambda _: shutil.which("golly", path=games_path()) is not None)
