@@ -215,14 +215,16 @@ def changed_meanwhile(it: Repository) -> bool:
 
 
 def interrupted(it: Repository) -> bool:
-    ran = it.start(SECONDS_EACH="0.5")
-    time.sleep(2)
+    kept = it.folder / "crates" / "rule_text" / "out" / "library" / "sum"
+    ran, began = it.start(SECONDS_EACH="0.5"), time.monotonic()
+    while not kept.exists() and time.monotonic() - began < 60:
+        time.sleep(0.1)
+    time.sleep(0.2)
     build = subprocess.run(["pgrep", "-P", str(ran.pid)], capture_output=True, text=True).stdout.split()
     os.kill(int(build[0]), signal.SIGTERM)
     _, err = printed(ran)
     left = subprocess.run(["pgrep", "-f", str(it.folder / "bin")], capture_output=True).stdout
-    kept = (it.folder / "crates" / "rule_text" / "out" / "library" / "sum").exists()
-    return ran.returncode == 143 and "build interrupted" in err and not left and kept
+    return ran.returncode == 143 and "build interrupted" in err and not left and kept.exists()
 
 
 def two(it: Repository) -> bool:
@@ -234,7 +236,8 @@ def two(it: Repository) -> bool:
 
 
 def time_left(it: Repository) -> bool:
-    """A build that takes 1.6 times the seconds that the launcher expects, here a sixtieth of those of a real one."""
+    """A build that takes 1.6 times the seconds that the launcher expects, here a sixtieth of those of a real one. So the start of the processes
+    counts sixty times as much, and two seconds more are allowed."""
     file, sleeps, chance = it.folder / "launcher" / "seconds.json", it.folder / "sleeps", random.Random(2)
     table = json.loads(file.read_text())
     table["crates"] = {name: seconds / 60 for name, seconds in table["crates"].items()}
@@ -253,7 +256,7 @@ def time_left(it: Repository) -> bool:
     shares = [share for _, share, _ in said]
     when, share, left = next(it for it in said if it[1] >= 20)
     print(f"    with {share} % done {left} s were said to be left, and {ended - when:.1f} s were; the first estimate was {said[0][2]} s for {ended - said[0][0]:.1f}")
-    return ran.wait() == 0 and shares == sorted(shares) and abs(left - (ended - when)) <= (ended - when) / 4
+    return ran.wait() == 0 and shares == sorted(shares) and abs(left - (ended - when)) <= (ended - when) / 4 + 2
 
 
 def simulated_machines(_: Repository) -> bool:

@@ -87,8 +87,9 @@ def build_program(program: Program) -> int:
 
 
 def main() -> int:
-    # Until a check runs, Ctrl-C just ends this program.
+    # Until a check runs, Ctrl-C just ends this program. Where the caller ignores the end of processes, how checks end would be lost.
     signal.signal(signal.SIGINT, signal.SIG_DFL)
+    signal.signal(signal.SIGCHLD, signal.SIG_DFL)
     words = [it for it in sys.argv[1:] if it != "--about"]
     if words not in [[it] for it in PROGRAMS]:
         print(f"build.py takes the name of a program, one of {', '.join(PROGRAMS)}, and --about", file=sys.stderr)

@@ -49,15 +49,22 @@ def sorting_seconds() -> float:
 
 
 def record(name: str) -> pathlib.Path:
-    """What the last check of a crate took on this machine: `seconds` of processors, and `work`, which `Pace` counts."""
     return folder(name) / "out" / "took.json"
+
+
+def recorded(name: str) -> dict[str, float]:
+    """What the last check of a crate took on this machine: `seconds` of processors, `clock`, `jobs`, and `work`, which `Pace` counts."""
+    try:
+        return json.loads(record(name).read_text())
+    except (OSError, ValueError):
+        return {}
 
 
 def machine_factor(names: Iterable[str]) -> float:
     """How much longer than the table says checks take on this machine: by earlier builds, else by how fast it sorts."""
-    took = [(json.loads(record(it).read_text())["work"], seconds_of(it)) for it in names if record(it).exists()]
+    took = [(recorded(it)["work"], seconds_of(it)) for it in names if recorded(it)]
     if took:
-        return sum(work for work, _ in took) / sum(expected for _, expected in took)
+        return max(sum(work for work, _ in took) / sum(expected for _, expected in took), 1 / 100)
     return min(max(sorting_seconds() / table()["sorting"], 1 / 4), 4)
 
 

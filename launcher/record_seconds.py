@@ -9,18 +9,18 @@ import json
 import sys
 
 from crates import PROGRAMS, crates_below
-from plan import TABLE, record, seconds_of, sorting_seconds
+from plan import TABLE, recorded, seconds_of, sorting_seconds
 
 
 def main() -> int:
     names = list(dict.fromkeys(name for program in PROGRAMS for name in crates_below(program)))
-    missing = [it for it in names if not record(it).exists()]
+    missing = [it for it in names if not recorded(it)]
     if missing:
         print(f"no build has recorded {', '.join(missing)}: build both programs first", file=sys.stderr)
         return 2
-    took = {it: max(round(json.loads(record(it).read_text())["seconds"]), 1) for it in names}
+    took = {it: max(round(recorded(it)["seconds"]), 1) for it in names}
     for name, seconds in took.items():
-        print(f"{name:<18} {seconds:4} s, for {seconds_of(name):4} expected")
+        print(f"{name:<18} {seconds:4} s, for {seconds_of(name):4.0f} expected")
     TABLE.write_text(json.dumps({"sorting": round(sorting_seconds(), 5), "crates": took}, indent=2) + "\n")
     return 0
 

@@ -29,8 +29,8 @@ class Run:
         self.name, self.commands = name, commands
         # The crate's checksum when the build began.
         self.sum = sum_before
-        # The seconds of processors that its commands took.
-        self.seconds = 0.0
+        # When its commands began, and the seconds of processors that they took.
+        self.began, self.seconds = time.monotonic(), 0.0
         self.said = tempfile.TemporaryFile("w+", errors="replace")
         self.call()
 
@@ -54,7 +54,8 @@ class Run:
 
     def keep(self, work: float, jobs: int) -> None:
         """Records what it took. Keeps the result for later builds if no file has changed since this one began."""
-        took = {"seconds": round(self.seconds, 1), "work": round(work, 1), "jobs": jobs}
+        clock = time.monotonic() - self.began
+        took = {"seconds": round(self.seconds, 1), "clock": round(clock, 1), "jobs": jobs, "work": round(work, 1)}
         record(self.name).write_text(json.dumps(took) + "\n")
         sum_of.cache_clear()
         if sum_of(self.name) == self.sum:
