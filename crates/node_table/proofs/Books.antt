@@ -10,7 +10,7 @@ use Rattle.plane.specs.Block.{IsInside}
 use Rattle.plane.proofs.Same.{same_refl, same_sym, same_trans}
 use Rattle.rule_text.specs.CountRule.{IsRule}
 use Rattle.squares.specs.declared.sq.Sq.{Sq}
-use Rattle.squares.specs.Book.{IsBook, IsEmpty, Shows, Keeps, numbered}
+use Rattle.squares.specs.Book.{IsBook, IsEmpty, Shows, Keeps, Store, numbered}
 use Rattle.squares.proofs.SquareNumbers.{same_sq}
 use Rattle.table_core.specs.declared.key.Key.{Key}
 use Rattle.table_core.specs.declared.knowledge.KnownBlock.{KnownBlock}
@@ -46,7 +46,7 @@ pub zero_is_empty : (bits : ℕ) (known : Knowledge) (rank : ℕ) (plane : Plane
 zero_is_empty bits known rank plane h a = ∥∥₁_elim h (same_prop empty plane) (λ t. t.zero rank plane a)
 
 -- a square is shown as the block that the desk knows
-pub shows_of : (store : List ℕ) (key : Key) (known : Knowledge) (sq : Sq) (plane : Plane) → ∥ IsCoherent key.shape.bits known ∥₁ → 3 ≤ sq.level → sq.level ≤ 65 →
+pub shows_of : (store : Store) (key : Key) (known : Knowledge) (sq : Sq) (plane : Plane) → ∥ IsCoherent key.shape.bits known ∥₁ → 3 ≤ sq.level → sq.level ≤ 65 →
     KnowsBlock known (square_rank sq.level) sq.num.0 plane → Shows (book_of store key known) sq.level plane sq
 shows_of store key known sq plane h low high knows =
     let is = square_known known sq plane low high knows in
@@ -108,7 +108,7 @@ known_result key known result h t =
     (square_known known (square_of result) t.2.0 (omega arith) (low_level result.level above pair.1) t.2.1, above, t.1)
 
 -- what a desk knows is a book
-pub is_book : (store : List ℕ) (key : Key) (known : Knowledge) → IsRule key.rule → IsCoherent key.shape.bits known → IsBook (book_of store key known)
+pub is_book : (store : Store) (key : Key) (known : Knowledge) → IsRule key.rule → IsCoherent key.shape.bits known → IsBook (book_of store key known)
 is_book store key known rule h = record {
   rule = rule;
   levels = λ sq s. known_level known sq s;
@@ -132,7 +132,7 @@ pub sound_for : (key : Key) (known : Knowledge) → IsRule key.rule → IsCohere
 sound_for key known rule h = record { book = λ store. is_book store key known rule h; coherent = ∣ h ∣₁ }
 
 -- a book keeps all that another desk, or the same one before, knew: the words, the blocks and the squares whose results are known
-pub covers_keeps : (store : List ℕ) (key : Key) (old new : Knowledge) → ∥ IsCoherent key.shape.bits new ∥₁ →
+pub covers_keeps : (store : Store) (key : Key) (old new : Knowledge) → ∥ IsCoherent key.shape.bits new ∥₁ →
     ((entry : ℕ × ℕ) → Contains old.words entry → Contains new.words entry) → ((entry : KnownBlock) → Contains old.blocks entry → Contains new.blocks entry) →
     ((sq : Sq) → Contains (map square_of old.results) sq → Contains (map square_of new.results) sq) → Keeps (book_of store key old) (book_of store key new)
 covers_keeps store key old new h words blocks results = record {
@@ -153,7 +153,7 @@ covers_keeps store key old new h words blocks results = record {
 }
 
 -- a book keeps all while its desk learns
-pub grows_keeps : (store : List ℕ) (key : Key) (old new : Knowledge) → ∥ IsCoherent key.shape.bits new ∥₁ → Grows old new → Keeps (book_of store key old) (book_of store key new)
+pub grows_keeps : (store : Store) (key : Key) (old new : Knowledge) → ∥ IsCoherent key.shape.bits new ∥₁ → Grows old new → Keeps (book_of store key old) (book_of store key new)
 grows_keeps store key old new h grows = covers_keeps store key old new h grows.words grows.blocks (λ sq s.
     let t = result_there old.results sq s in
     subst (Contains (map square_of new.results)) t.2 (there_result new.results t.0 (grows.results t.0 t.1)))

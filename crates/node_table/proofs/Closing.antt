@@ -2,6 +2,7 @@
 use Rattle.std.proofs.Common.{ℕ, List, subst, refl}
 use Rattle.std.specs.Prelude.{IsTrue, Contains, slice_index}
 use Rattle.squares.specs.declared.sq.Sq.{Sq}
+use Rattle.squares.specs.Book.{Store}
 use Rattle.table_core.specs.declared.key.Key.{Key}
 use Rattle.table_core.specs.declared.knowledge.Knowledge.{Knowledge}
 use Rattle.table_core.specs.Good.{AreGoodWords}
@@ -16,7 +17,7 @@ use Rattle.node_table.proofs.Books.{result_there}
 use Rattle.node_table.proofs.Entries.{known_level, block_of}
 use Rattle.node_table.proofs.WordBooks.{result_told, there_square, there_told}
 
-module _ (store : List ℕ) (key : Key) (words : List ℕ) (good : AreGoodWords key words) (known : Knowledge) (h : IsTrueOf key.shape.bits (slice_index words) known) where
+module _ (store : Store) (key : Key) (words : List ℕ) (good : AreGoodWords key words) (known : Knowledge) (h : IsTrueOf key.shape.bits (slice_index words) known) where
   shown : (sq : Sq) → IsTrue (knows_in known sq) → ShowsBlock key.shape.bits (slice_index words) (square_rank sq.level) sq.num.0 (known_cells known sq)
   shown sq s = block_true key.shape.bits (slice_index words) known (square_rank sq.level) sq.num.0 (known_cells known sq) h (block_of known sq s)
 

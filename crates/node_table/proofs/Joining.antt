@@ -1,6 +1,5 @@
 -- A joined desk knows what either knew.
-use Rattle.std.proofs.Common.{ℕ, List}
-use Rattle.squares.specs.Book.{Keeps}
+use Rattle.squares.specs.Book.{Keeps, Store}
 use Rattle.table_core.specs.declared.key.Key.{Key}
 use Rattle.table_core.specs.declared.knowledge.Knowledge.{Knowledge}
 use Rattle.table_core.specs.Knowledge.{Grows, united}
@@ -15,7 +14,7 @@ module _ (one two after : Knowledge) (grows : Grows (united one two) after) wher
   pub second_known : Grows two after
   second_known = grows_trans two (united one two) after (united_second one two) grows
 
-  module _ (store : List ℕ) (key : Key) (h : ∥ IsCoherent key.shape.bits after ∥₁) where
+  module _ (store : Store) (key : Key) (h : ∥ IsCoherent key.shape.bits after ∥₁) where
     pub first_kept : Keeps (book_of store key one) (book_of store key after)
     first_kept = grows_keeps store key one after h first_known
 

@@ -4,7 +4,7 @@ use Rattle.std.specs.Prelude.{slice_index}
 use Rattle.std.proofs.Props.{props}
 use mathlib.Core.HLevel.{Σ_prop_path}
 use Rattle.atomic_table.specs.Seated.{TableId}
-use Rattle.squares.specs.Book.{Keeps}
+use Rattle.squares.specs.Book.{Keeps, Store}
 use Rattle.table_core.specs.declared.key.Key.{Key}
 use Rattle.table_core.specs.declared.shape.Shape.{Shape}
 use Rattle.node_table.specs.declared.desk.Desk.{Desk}
@@ -32,21 +32,21 @@ same_id m n a b e = λ i. record {
   slot_names = drop 7 (e i);
 }
 
--- a desk of one table is one of another that has the same rule, exponent and store, and knows there what it knows
+-- a desk of one table is one of another that has the same rule, exponent and numbers, and knows there what it knows
 pub same_table : (here table : NodeTable) (desk : Desk) → IsDeskOf here desk → here.key.rule ≡ table.key.rule → here.key.exponent ≡ table.key.exponent →
-    store_of here ≡ store_of table → IsDeskOf table desk × (table.key ≡ here.key)
-same_table here table desk d rule exponent store =
-    let bits : here.key.shape.bits ≡ table.key.shape.bits = ap (λ xs. slice_index xs 0) store in
+    (store_of here).numbers ≡ (store_of table).numbers → IsDeskOf table desk × (table.key ≡ here.key)
+same_table here table desk d rule exponent numbers =
+    let bits : here.key.shape.bits ≡ table.key.shape.bits = ap (λ xs. slice_index xs 0) numbers in
     let key : here.key ≡ table.key = same_key here.key table.key bits rule exponent in
-    let id : here.table.shared.table_id ≡ table.table.shared.table_id = same_id here.key.shape.bits table.key.shape.bits here.table.shared.table_id table.table.shared.table_id store in
+    let id : here.table.shared.table_id ≡ table.table.shared.table_id = same_id here.key.shape.bits table.key.shape.bits here.table.shared.table_id table.table.shared.table_id numbers in
     (record { same_table = d.same_table ∙ id; same_key = d.same_key ∙ ap (λ (k : Key). Some k) key }, sym key)
 
 -- so it is where it came with the same number of expansions
 moved : (number count : ℕ) (here table : NodeTable) (desk : Desk) → IsDeskOf here desk → here.key.rule ≡ table.key.rule → here.key.exponent ≡ table.key.exponent →
     work_store number here ≡ work_store count table → IsDeskOf table desk × (work_at count table desk ≡ work_at number here desk) × (number ≡ count)
 moved number count here table desk d rule exponent stores =
-    let t = same_table here table desk d rule exponent (ap (drop 1) stores) in
-    (t.0, λ i. book_of (sym stores i) (t.1 i) desk.seat.me.0.known, ap (λ xs. slice_index xs 0) stores)
+    let t = same_table here table desk d rule exponent (ap (λ (s : Store). s.numbers) stores) in
+    (t.0, λ i. book_of (sym stores i) (t.1 i) desk.seat.me.0.known, ap (λ (s : Store). s.expansions) stores)
 
 pub returned : (number : ℕ) (here table : NodeTable) (first desk : Desk) → IsDeskOf here desk → Keeps (work_at first.expansions table first) (work_at number here desk) →
     IsDeskOf table desk × (work_at first.expansions table desk ≡ work_at number here desk) × (number ≡ first.expansions)

@@ -5,7 +5,7 @@ use Rattle.plane.specs.Square.{IsSame, IsSquare, cut, subsquare}
 use Rattle.plane.proofs.Cuts.{joined_nw, joined_ne, joined_sw, joined_se}
 use Rattle.plane.proofs.Same.{plane_equal, same_refl}
 use Rattle.squares.specs.declared.sq.Sq.{Sq}
-use Rattle.squares.specs.Book.{Book, AreQuarters, IsBook, IsKnown, Shows, joined_squares, numbered}
+use Rattle.squares.specs.Book.{Book, AreQuarters, IsBook, IsKnown, Shows, joined_squares, numbered, own_store}
 use Rattle.squares.proofs.NineSquares.{MakeSubsquare}
 
 -- four squares of one level are the quarters of what they are together
@@ -35,7 +35,7 @@ showing plane book = record {
   learned = 0;
   is_full = false;
   takes_memory = false;
-  store = [];
+  store = own_store;
 }
 
 -- four squares that make one of the nine are its quarters

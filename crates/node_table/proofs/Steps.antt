@@ -14,6 +14,7 @@ use Rattle.table_core.specs.declared.knowledge.Knowledge.{Knowledge}
 use Rattle.table_core.specs.declared.machine.Event.{Event}
 use Rattle.table_core.specs.Blocks.{Words, IsBlock, cells_of}
 use Rattle.rule_text.specs.CountRule.{IsRule}
+use Rattle.squares.specs.Book.{own_store}
 use Rattle.table_core.specs.Layout.{size}
 use Rattle.table_core.specs.Good.{IsGood, KeepsWords}
 use Rattle.table_core.specs.Knowledge.{IsTrueOf, KnowsWord, Grows, united}
@@ -162,7 +163,7 @@ same_key a b e = cc
 pub sound_after : {S : Type 0} (key : Key) (event : Event) (before after : Me S View) (word : ℕ) → before.0.key ≡ Some key → IsSound before.0 →
     Met key event before word after → IsSound after.0
 sound_after {S} key event before after word present sound met k e =
-    subst (λ (a : Key). IsSoundFor a after.0.known) (same_key key k (sym present ∙ sym met.same_key ∙ e)) (sound_for key after.0.known ((sound key present).book []).rule met.coherent)
+    subst (λ (a : Key). IsSoundFor a after.0.known) (same_key key k (sym present ∙ sym met.same_key ∙ e)) (sound_for key after.0.known ((sound key present).book own_store).rule met.coherent)
 
 pub splits : {S : Type 0} (still : Still) (id : ℕ) (v : View) → Splits (IsSoundState {S = S} still) id v v v
 splits still id v s h at =

@@ -5,7 +5,7 @@ use Rattle.plane.specs.Plane.{Plane}
 use Rattle.plane.specs.Square.{IsSame, bits_plane, empty}
 use Rattle.plane.proofs.Same.{same_refl, same_sym, same_trans, same_of}
 use Rattle.squares.specs.declared.sq.Sq.{Sq}
-use Rattle.squares.specs.Book.{AreQuarters, Shows, IsKnown, numbered}
+use Rattle.squares.specs.Book.{AreQuarters, Shows, IsKnown, numbered, own_store}
 use Rattle.table_core.specs.declared.key.Key.{Key}
 use Rattle.table_core.specs.declared.knowledge.Knowledge.{Knowledge}
 use Rattle.table_core.specs.declared.shape.Kind.TheVariants.{Leaf, Pair}
@@ -99,7 +99,7 @@ module _ (s : GoodWords) where
         };
   }
 
-  shown_still : (level : ℕ) (plane : Plane) (sq : Sq) → Shows (book_of [] s.key all) level plane sq → Shows (book_of_good s) level plane sq
+  shown_still : (level : ℕ) (plane : Plane) (sq : Sq) → Shows (book_of own_store s.key all) level plane sq → Shows (book_of_good s) level plane sq
   shown_still level plane sq h =
       let is = block_true bits words all (square_rank sq.level) sq.num.0 _ knows_all.true_of (block_of all sq h.known.known) in
       let at = h.known.at_level in
@@ -113,7 +113,7 @@ module _ (s : GoodWords) where
   pub still_quarters : {upper lower nw ne sw se : ℕ} (sq : Sq) → 3 < sq.level → IsKnown (book_of_good s) sq.level sq → AreParts s sq.num.0 upper lower → AreParts s upper nw ne → AreParts s lower sw se →
       AreQuarters (book_of_good s) sq.level ((book_of_good s).cells sq) (numbered (sq.level - 1) nw ∷ numbered (sq.level - 1) ne ∷ numbered (sq.level - 1) sw ∷ numbered (sq.level - 1) se ∷ [])
   still_quarters {nw = nw} {ne} {sw} {se} sq above known whole top bottom =
-      let q = quarters_shown [] s.key sq.level (cells_of words (square_rank sq.level) sq.num.0) above known.high ∣ all_coherent s.key s.words s.good ∣₁
+      let q = quarters_shown own_store s.key sq.level (cells_of words (square_rank sq.level) sq.num.0) above known.high ∣ all_coherent s.key s.words s.good ∣₁
       (parts_known whole) (parts_known top) (parts_known bottom) (grows_refl all) (grows_refl all) (knows_all.blocks (square_rank sq.level) sq.num.0 (square_there bits words sq known.known).block) in
       record {
         nw = shown_still _ _ (numbered (sq.level - 1) nw) q.nw;

@@ -10,7 +10,7 @@ use Rattle.plane.specs.Square.{IsSame, empty, future}
 use Rattle.plane.proofs.Same.{same_sym, plane_equal}
 use Rattle.rule_text.specs.CountRule.{IsRule}
 use Rattle.squares.specs.declared.sq.Sq.{Sq}
-use Rattle.squares.specs.Book.{IsFuture, Shows, HasResult, Gains, Learns, AddsResult, numbered}
+use Rattle.squares.specs.Book.{IsFuture, Shows, HasResult, Gains, Learns, AddsResult, Store, numbered}
 use Rattle.squares.proofs.EmptyFutures.{future_empty}
 use Rattle.squares.proofs.SquareNumbers.{same_sq}
 use Rattle.table_core.specs.declared.key.Key.{Key}
@@ -199,7 +199,7 @@ module _ (at : At) (sq : Sq) {index : ℕ} (above : 3 < sq.level) (some : sq.num
         (shows_of (work_store at.expansions at.table.now) key new (numbered (sq.level - 1) l.result.future) (future key.rule key.exponent sq.level plane) coherent (omega arith) (omega arith) future_known)))
 
 -- the future of the empty square
-pub empty_future : (store : List ℕ) (key : Key) (known : Knowledge) (sq : Sq) → IsRule key.rule → ∥ IsCoherent key.shape.bits known ∥₁ → 3 < sq.level → sq.level ≤ 65 → sq.num.0 ≡ 0 →
+pub empty_future : (store : Store) (key : Key) (known : Knowledge) (sq : Sq) → IsRule key.rule → ∥ IsCoherent key.shape.bits known ∥₁ → 3 < sq.level → sq.level ≤ 65 → sq.num.0 ≡ 0 →
     KnowsBlock known (square_rank sq.level) sq.num.0 (known_cells known sq) → IsFuture (book_of store key known) sq (numbered (sq.level - 1) 0)
 empty_future store key known sq rule h above high e knows =
     let none : IsSame empty (known_cells known sq) = zero_is_empty key.shape.bits known (square_rank sq.level) (known_cells known sq) h (subst (λ n. KnowsBlock known (square_rank sq.level) n (known_cells known sq)) e knows) in

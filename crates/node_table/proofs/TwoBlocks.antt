@@ -1,6 +1,6 @@
 -- Two blocks as one.
 use Rattle.std.proofs.Common.{◌≡◌, ◌≢◌, ℕ, suc, ◌+◌, ◌-◌, ◌%◌, ◌^◌, ◌<◌, ◌≤◌, pos, Bool, true, false, cond, sym, subst, arith, refl, inl}
-use Rattle.std.specs.Prelude.{◌==◌, IsTrue, int_lt, List, [], ◌∷◌}
+use Rattle.std.specs.Prelude.{◌==◌, IsTrue, int_lt, [], ◌∷◌}
 use Rattle.plane.specs.Plane.{Plane}
 use Rattle.plane.specs.Square.{IsSame, IsSquare, empty, cut, joined}
 use Rattle.plane.specs.Block.{beside, below}
@@ -21,7 +21,7 @@ use Rattle.node_table.specs.Refusals.{IsHalf}
 use Rattle.std.proofs.Math.Logic.{∥∥₁_elim}
 use Rattle.std.proofs.Props.{props}
 use Rattle.squares.specs.declared.sq.Sq.{Sq}
-use Rattle.squares.specs.Book.{Book, AreQuarters, Shows, numbered}
+use Rattle.squares.specs.Book.{Book, AreQuarters, Shows, Store, numbered}
 use Rattle.node_table.proofs.Books.{zero_is_empty, inside_square, shows_of}
 use Rattle.node_table.proofs.Entries.{halved, quarter_rank}
 
@@ -104,7 +104,7 @@ known_square bits known level n plane h above knows =
     ∥∥₁_elim h (is_square_prop (2 ^ level) plane) (λ t. inside_square level plane above (t.consistent.inside (square_rank level) n plane knows))
 
 -- the quarters of a square whose halves and their parts were read
-module _ (store : List ℕ) (key : Key) {a b c d : Knowledge} (level : ℕ) {number upper lower nw ne sw se : ℕ} (plane : Plane) (low : 3 < level) (high : level ≤ 65) (h : ∥ IsCoherent key.shape.bits d ∥₁) (whole : KnowsPairOf a b number upper lower) (top : KnowsPairOf b c upper nw ne) (bottom : KnowsPairOf c d lower sw se) (grows : Grows b c) (more : Grows c d) (knows : KnowsBlock a (square_rank level) number plane) where
+module _ (store : Store) (key : Key) {a b c d : Knowledge} (level : ℕ) {number upper lower nw ne sw se : ℕ} (plane : Plane) (low : 3 < level) (high : level ≤ 65) (h : ∥ IsCoherent key.shape.bits d ∥₁) (whole : KnowsPairOf a b number upper lower) (top : KnowsPairOf b c upper nw ne) (bottom : KnowsPairOf c d lower sw se) (grows : Grows b c) (more : Grows c d) (knows : KnowsBlock a (square_rank level) number plane) where
   halves : ArePartsOf b (suc (square_rank (level - 1))) plane upper lower
   halves = whole.parts (suc (square_rank (level - 1))) plane (subst (λ r. KnowsBlock a r number plane) (quarter_rank level low) knows)
 

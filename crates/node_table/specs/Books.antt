@@ -4,7 +4,7 @@ use Rattle.plane.specs.Plane.{Plane}
 use Rattle.plane.specs.Square.{IsSame, empty}
 use Rattle.plane.specs.Listing.{plane_of}
 use Rattle.squares.specs.declared.sq.Sq.{Sq}
-use Rattle.squares.specs.Book.{Book, IsBook, numbered}
+use Rattle.squares.specs.Book.{Book, IsBook, Store, numbered}
 use Rattle.table_core.specs.declared.key.Key.{Key}
 use Rattle.table_core.specs.declared.knowledge.KnownBlock.{KnownBlock}
 use Rattle.table_core.specs.declared.knowledge.KnownResult.{KnownResult}
@@ -42,7 +42,7 @@ square_of result = numbered result.level result.square
 
 -- the squares of a store and the results that are known; it is full where a shard without a zero
 -- slot is known, and takes no memory
-abbrev pub book_of : List ℕ → Key → Knowledge → Book
+abbrev pub book_of : Store → Key → Knowledge → Book
 book_of store key known = record {
   rule = key.rule;
   exponent = key.exponent;
@@ -62,7 +62,7 @@ pub record IsCoherent (bits : ℕ) (known : Knowledge) : Type 0 where
 
 -- what a desk knows of a table with this key is a book, and agrees with itself
 pub record IsSoundFor (key : Key) (known : Knowledge) : Type 0 where
-  pub book : (store : List ℕ) → IsBook (book_of store key known)
+  pub book : (store : Store) → IsBook (book_of store key known)
   pub coherent : ∥ IsCoherent key.shape.bits known ∥₁
 
 abbrev pub IsSound : View → Type 0

@@ -1,6 +1,6 @@
 -- What a desk is to a table.
 use Rattle.std.specs.Prelude.{◌≡◌, ℕ, List, ◌∷◌, Some}
-use Rattle.squares.specs.Book.{Book, Keeps}
+use Rattle.squares.specs.Book.{Book, Keeps, Store}
 use Rattle.atomic_table.specs.Seated.{TableId}
 use Rattle.node_table.specs.declared.desk.Desk.{Desk}
 use Rattle.node_table.specs.declared.table.NodeTable.{NodeTable}
@@ -16,16 +16,20 @@ abbrev pub numbers_of : ℕ → TableId → List ℕ
 numbers_of bits id =
     bits ∷ id.words ∷ id.slots ∷ id.views_name ∷ id.atom ∷ id.block ∷ id.offset ∷ id.slot_names
 
-abbrev pub store_of : NodeTable → List ℕ
-store_of table = numbers_of table.key.shape.bits table.table.shared.table_id
+-- the store of a desk at work: the table, and the number of expansions with which the desk came
+abbrev pub work_store : ℕ → NodeTable → Store
+work_store expansions table = record {
+  numbers = numbers_of table.key.shape.bits table.table.shared.table_id;
+  expansions = expansions;
+}
+
+-- the store of a desk that is not at work
+abbrev pub store_of : NodeTable → Store
+store_of table = work_store 0 table
 
 -- what a desk of this table knows
 abbrev pub book_at : NodeTable → Desk → Book
 book_at table desk = book_of (store_of table) table.key desk.seat.me.0.known
-
--- the store of a desk at work: the table, and the number of expansions with which the desk came
-abbrev pub work_store : ℕ → NodeTable → List ℕ
-work_store expansions table = expansions ∷ store_of table
 
 -- what a desk at work at this table knows
 abbrev pub work_at : ℕ → NodeTable → Desk → Book

@@ -1,8 +1,8 @@
 -- What words show that nobody changes, as a book that is only read.
-use Rattle.std.specs.Prelude.{ℕ, zero, suc, ◌+◌, ◌^◌, ◌==◌, nat_le, nat_lt, Bool, true, false, not, ◌&&◌, List, [], map, filter, slice_index}
+use Rattle.std.specs.Prelude.{ℕ, zero, suc, ◌+◌, ◌^◌, ◌==◌, nat_le, nat_lt, Bool, true, false, not, ◌&&◌, List, map, filter, slice_index}
 use Rattle.std.specs.List.{flat_map, range_with_len}
 use Rattle.squares.specs.declared.sq.Sq.{Sq}
-use Rattle.squares.specs.Book.{Book, numbered}
+use Rattle.squares.specs.Book.{Book, numbered, own_store}
 use Rattle.table_core.specs.declared.key.Key.{Key}
 use Rattle.table_core.specs.declared.shape.Kind.{Kind}
 use Rattle.table_core.specs.declared.shape.Kind.TheVariants.{Leaf, Pair}
@@ -58,5 +58,5 @@ book_of_words key words = record {
   learned = 0;
   is_full = false;
   takes_memory = false;
-  store = [];
+  store = own_store;
 }

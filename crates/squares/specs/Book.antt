@@ -7,10 +7,20 @@ use Rattle.plane.specs.declared.refusal.Refusal.{Refusal}
 use Rattle.plane.specs.declared.refusal.Refusal.TheVariants.{NodesFull, NoMemory}
 use Rattle.squares.specs.declared.sq.Sq.{Sq}
 
+-- the store of a book's squares
+pub record Store : Type 0 where
+  -- what tells it from other stores, and none for the store of one book only
+  pub numbers : List ℕ
+  -- the number of expansions with which the book came to it
+  pub expansions : ℕ
+
+-- the store of one book only
+abbrev pub own_store : Store
+own_store = record { numbers = []; expansions = 0 }
+
 -- What a book knows: the rule and the exponent of its results; which squares it knows, and their
 -- cells; the nonempty squares whose result it knows, and how many of these somebody else told it;
--- whether it has no room for some square; whether it takes memory; and the store of its squares, as
--- numbers that tell it from others, and none for a book of its own.
+-- whether it has no room for some square; whether it takes memory; and the store of its squares.
 pub record Book : Type 0 where
   pub rule : CountRule
   pub exponent : ℕ
@@ -20,7 +30,7 @@ pub record Book : Type 0 where
   pub learned : ℕ
   pub is_full : Bool
   pub takes_memory : Bool
-  pub store : List ℕ
+  pub store : Store
 
 -- a known square of this level, which is from 3 to 65
 pub record IsKnown (book : Book) (level : ℕ) (sq : Sq) : Type 0 where

@@ -6,7 +6,7 @@ use Rattle.std.specs.declared.cmp.Ordering.{Ordering}
 use Rattle.plane.specs.Plane.{Plane}
 use Rattle.plane.specs.Square.{joined, empty, bits_plane}
 use Rattle.rule_text.specs.CountRule.{CountRule}
-use Rattle.squares.specs.Book.{Book, IsFuture, numbered}
+use Rattle.squares.specs.Book.{Book, IsFuture, numbered, own_store}
 use Rattle.squares.specs.declared.node.Node.{Node}
 use Rattle.squares.specs.declared.node.Node.TheVariants.{Leaf, Inner}
 use Rattle.squares.specs.declared.node.Quarters.{Quarters}
@@ -72,7 +72,7 @@ plain_book rule exponent records = record {
   learned = 0;
   is_full = false;
   takes_memory = true;
-  store = [];
+  store = own_store;
 }
 
 -- the quarters are known, and not all empty

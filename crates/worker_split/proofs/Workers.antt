@@ -1,7 +1,7 @@
 -- What a worker knows and counts, before and after its stretch.
-use Rattle.std.proofs.Common.{◌≡◌, All, List, [], drop, length, Option, Some, None, IfSome, ap, sym, ◌∙◌, subst, arith}
+use Rattle.std.proofs.Common.{◌≡◌, All, List, [], length, Option, Some, None, IfSome, ap, sym, ◌∙◌, subst, arith}
 use Rattle.squares.specs.declared.sq.Sq.{Sq}
-use Rattle.squares.specs.Book.{Book, Keeps}
+use Rattle.squares.specs.Book.{Book, Keeps, Store}
 use Rattle.squares.proofs.Kept.{keeps_none}
 use Rattle.node_table.specs.declared.at.At.{At}
 use Rattle.node_table.specs.DesksAtWork.{book_here}
@@ -50,7 +50,7 @@ received base jobs member at was is =
 
 -- desks that go on from one book are at one table
 pub one_table : {base one other : Book} → Keeps base one → Keeps base other → AreAtOneTable one other
-one_table h k = record { rule = k.rule ∙ sym h.rule; exponent = k.exponent ∙ sym h.exponent; table = ap (drop 1) (k.store ∙ sym h.store) }
+one_table h k = record { rule = k.rule ∙ sym h.rule; exponent = k.exponent ∙ sym h.exponent; table = ap (λ (s : Store). s.numbers) (k.store ∙ sym h.store) }
 
 -- what a desk knew that went on from the same book, the joined one knows
 pub joined_keeps : (base own theirs new : Book) → Keeps base own → Keeps base theirs → Keeps (at_place_of own theirs) new → Keeps theirs new

@@ -1,7 +1,7 @@
-use Rattle.std.proofs.Common.{[], ap, inl, map, refl, sym, subst}
+use Rattle.std.proofs.Common.{ap, inl, map, refl, sym, subst}
 use Rattle.std.specs.Prelude.{Some}
 use Rattle.squares.specs.declared.sq.Sq.{Sq}
-use Rattle.squares.specs.Book.{IsFuture}
+use Rattle.squares.specs.Book.{IsFuture, own_store}
 use Rattle.table_core.specs.declared.knowledge.Knowledge.{Knowledge}
 use Rattle.node_table.specs.Books.{square_of}
 use Rattle.node_table.specs.Desks.{work_store}
@@ -18,7 +18,7 @@ returns-then-is_empty-clause-some c =
     let known = at.desk.seat.me.0.known in
     let key = at.table.now.key in
     subst (λ (s : Sq). IsFuture (book_here at) c.args.sq s) (sym c.empty.ensures)
-    (empty_future (work_store at.expansions at.table.now) key known c.args.sq ((at.desk.sound key at.of_table.same_key).book []).rule (coherent_here at) c.requires.level c.requires.known.high (c.is_empty.ensures.0 c.if-is_empty.true) (block_of known c.args.sq c.requires.known.known))
+    (empty_future (work_store at.expansions at.table.now) key known c.args.sq ((at.desk.sound key at.of_table.same_key).book own_store).rule (coherent_here at) c.requires.level c.requires.known.high (c.is_empty.ensures.0 c.if-is_empty.true) (block_of known c.args.sq c.requires.known.known))
 
 pub result_index-index-requires : goal.result_index-index-requires
 result_index-index-requires c =
