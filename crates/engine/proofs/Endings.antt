@@ -10,7 +10,7 @@ use Rattle.plane.specs.Fault.{placeless}
 use Rattle.plane.specs.Listing.{IsListing}
 use Rattle.plane.specs.Centred.{IsSmallestLevel}
 use Rattle.plane.specs.Plane.{Plane, after}
-use Rattle.plane.specs.SinkChange.{SinkChange, IsUnfailed, Takes, TakesBeginning}
+use Rattle.plane.specs.SinkChange.{SinkChange, Fails, IsUnfailed, Takes, TakesBeginning}
 use Rattle.plane.specs.Square.{IsSame}
 use Rattle.plane.specs.Range.{StaysWithin}
 use Rattle.plane.specs.declared.cell.Bounds.{Bounds}
@@ -34,7 +34,7 @@ use Rattle.engine.specs.declared.format.Format.TheVariants.{Rle, Macrocell}
 use Rattle.pattern_writers.specs.McText.{mc_text}
 use Rattle.pattern_writers.specs.RleText.{rle_text}
 use Rattle.plane.specs.Listing.{plane_of}
-use Rattle.plane.proofs.Beginnings.{beginning_of_more}
+use Rattle.plane.proofs.Beginnings.{beginning_of_more, text_and_beginning}
 use Rattle.plane.proofs.Same.{plane_equal, same_refl}
 use Rattle.engine.specs.declared.options.Options.{Options}
 use Rattle.engine.proofs.WholeReports.{all_lines}
@@ -242,7 +242,7 @@ module _ (bytes : List ℕ) (options : Options) (meaning : Meaning) (rule : Coun
       let all = all_lines bytes options meaning rule here run lines said (subst (λ n. AreLinesAfter rule here n (take lines (shown options)) said) is_start shows) in
       let last = after rule here options.gens in
       let said_all = has_report last (said ++ all.0) (same_refl last) all.1 in
-      failed_early (λ _. same) is (inl (failed, same, inl ((said ++ all.0) ++ picture_of options.window last, said_all, beginning_of_more (picture_of options.window last) (beginning_of_more all.0 begun))))
+      failed_early (λ _. same) is (inl (failed, same, ((said ++ all.0) ++ picture_of options.window last, said_all, beginning_of_more (picture_of options.window last) (beginning_of_more all.0 begun))))
 
   -- after the lines, which count from the generation of the file
   module _ {W V : Type 0} (report : SinkChange W) (file : SinkChange V) (from : ℕ) (last : Plane) (lines_taken : Option (List ℕ)) (is_from : from ≡ meaning.generation) (is : IsSame last (after rule here options.gens))
@@ -255,6 +255,12 @@ module _ (bytes : List ℕ) (options : Options) (meaning : Meaning) (rule : Coun
     refused_counting taken same unfailed =
         let said_lines = subst (λ (bytes_taken : Option (List ℕ)). Appends (report.taken report.old) bytes_taken reported.0) taken reported.2 in
         stopped_early (λ _. same) (inr (unfailed_same file same, unfailed)) (inr (inr (inl (same, (reported.0, inl (refl, begun_all reported.0 shows_all), said_lines)))))
+
+    -- the sink failed at the picture
+    pub refused_drawing : (refusal : Refusal) → refusal ≡ WriteFailed → Fails report → file.new ≡ file.old → AppendsBeginning lines_taken (report.taken report.new) (picture_of options.window last) →
+        IsRun bytes options report file (Err (placeless refusal))
+    refused_drawing refusal is_failure failed same begun =
+        failed_early (λ _. same) is_failure (inl (failed, same, (reported.0 ++ picture_of options.window last, has_report last reported.0 is shows_all, text_and_beginning reported.0 reported.2 begun)))
 
     module _ (draws : Appends lines_taken (report.taken report.new) (picture_of options.window last)) where
       said_all : Takes report (reported.0 ++ picture_of options.window last)

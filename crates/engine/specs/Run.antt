@@ -148,12 +148,10 @@ pub record CanBeWritten (bytes : List ℕ) (options : Options) (said written : L
   pub accepted : Judges bytes options (Ok start)
   pub finishes : Finishes start options answer said written
 
--- the report took a beginning of what an accepted run says; or the run has a window, and what its
--- picture left in the report is not said
+-- the report took a beginning of what an accepted run says
 abbrev pub BreaksOff : {W : Type 0} → List ℕ → Options → SinkChange W → Type 0
 BreaksOff bytes options report =
-    ((said : List ℕ) × HasReport bytes options said × TakesBeginning report said)
-    ⊎ (IsAcceptedRun bytes options × (options.window ≡ None → ⊥))
+    (said : List ℕ) × HasReport bytes options said × TakesBeginning report said
 
 -- a sink of an accepted run failed. If it was that of the report, the report breaks off, and the
 -- file is unchanged. If it was that of the file, the file took a beginning of its text, and the

@@ -1,6 +1,6 @@
 //! A pattern, as live cells at rest.
 
-ghost use Rattle.std.specs.Prelude.{◌≡◌, None, IfOk, IfErr, IsOk, OnOk, IsOkUnless};
+ghost use Rattle.std.specs.Prelude.{◌≡◌, None, IfOk, IfErr, OnErr, OnOk, IsOkUnless};
 ghost use Rattle.plane.specs.Square.{IsSame};
 ghost use Rattle.universe.specs.Cells.{live_cells};
 ghost use Rattle.pattern_picture.specs.Drawings.{IsDrawingOf};
@@ -32,7 +32,7 @@ pub struct Heading<'a> {
 }
 
 impl Pattern {
-    ghost use Rattle.plane.specs.Device.{TellsFailure};
+    ghost use Rattle.plane.specs.Device.{AppendsBeginning, TellsFailure};
     ghost use Rattle.pattern_writers.specs.WriterRefusal.{IsWriterRefusal};
     ghost use Rattle.engine.specs.FileText.{Begins, Exceeds, IsReadBack, Writes};
     ghost use Rattle.engine.specs.Pattern.{plane_of};
@@ -68,11 +68,13 @@ impl Pattern {
         pattern_picture::picture(alloc, still, root, shown, size)
     }
 
-    /// Draws a window of the pattern, if one is asked for.
+    /// Draws a window of the pattern, if one is asked for. `WriteFailed` where the sink failed, which took a beginning
+    /// of the picture then.
     pub fn draw<W: Sink>(&self, window: Option<Window>, report: &mut W) -> Result<(), Refusal>
         ensures drawn { OnOk result (Appends (W.taken report.old) (W.taken report.new)
             (picture_of window (plane_of self.now))) }
-        ensures no_window { window ≡ None → IsOk result }
+        ensures beginning { OnErr result (AppendsBeginning (W.taken report.old) (W.taken report.new)
+            (picture_of window (plane_of self.now))) }
         ensures failure { TellsFailure
             (W.failure_count report.old) (W.failure_count report.new) result }
     {

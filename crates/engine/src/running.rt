@@ -43,7 +43,8 @@ pub struct Summary {
 /// would leave the range (`TooFar`). Until then nothing is written. `BoxTooLarge`, if a side of the last
 /// pattern's box is 2^31 or more, `NoMemory`, and `NodesFull`, if the cells of the file or those after a single
 /// generation have no room in the tables that the options allow, leave `file` as it was. `WriteFailed` comes if a
-/// sink failed, and whenever one did; nothing is written to `file` before the box is known to fit.
+/// sink failed, and whenever one did; that sink took a beginning of its text. Nothing is written to `file` before the
+/// box is known to fit.
 pub fn run<R: Threads + Wait + Sync, W: Sink, V: Sink>(
     rt: &R,
     alloc: Global,

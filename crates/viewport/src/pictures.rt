@@ -1,9 +1,9 @@
 //! The picture of a window on a square.
 
-ghost use Rattle.std.specs.Prelude.{◌≡◌, ◌≤◌, ◌<◌, ◌+◌, ◌^◌, [], ◌∷◌, pos, ◌+ℤ◌, length, OnOk};
+ghost use Rattle.std.specs.Prelude.{◌≡◌, ◌≤◌, ◌<◌, ◌+◌, ◌^◌, [], ◌∷◌, pos, ◌+ℤ◌, length, OnErr, OnOk};
 ghost use Rattle.std.specs.Io.KnownBytes.{Appends};
 ghost use Rattle.plane.specs.Centred.{centred};
-ghost use Rattle.plane.specs.Device.{TellsFailure};
+ghost use Rattle.plane.specs.Device.{AppendsBeginning, TellsFailure};
 ghost use Rattle.squares.specs.Book.{IsKnown};
 ghost use Rattle.viewport.specs.Picture.{mark_of, picture_text, row_text};
 
@@ -17,7 +17,7 @@ const LINE_ROOM: usize = WINDOW_SIDE_LIMIT as usize + 1;
 
 /// Draws the cells of a window that looks at a square of a level up to 63: a line for each row, with
 /// `*` for each live cell and `.` for each dead one. What lies outside the square is dead. It takes no
-/// memory. `WriteFailed` where the sink failed in this call; it may have taken some of the text then.
+/// memory. `WriteFailed` where the sink failed in this call, which took a beginning of the text then.
 pub fn picture<B: Look, W: Sink>(
     book: &B,
     sq: Sq,
@@ -27,6 +27,8 @@ pub fn picture<B: Look, W: Sink>(
     requires known { IsKnown (B.book book.now) sq.level sq }
     requires level { sq.level ≤ 63 }
     ensures drawn { OnOk result (Appends (W.taken sink.old) (W.taken sink.new)
+        (picture_text (centred sq.level ((B.book book.now).cells sq)) window.now)) }
+    ensures beginning { OnErr result (AppendsBeginning (W.taken sink.old) (W.taken sink.new)
         (picture_text (centred sq.level ((B.book book.now).cells sq)) window.now)) }
     ensures failure { TellsFailure (W.failure_count sink.old) (W.failure_count sink.new) result }
 {

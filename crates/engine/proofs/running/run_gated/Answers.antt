@@ -1,5 +1,4 @@
-use Rattle.std.proofs.Common.{◌≡◌, ◌+◌, ◌≤◌, Err, None, rules, refl, sym, ◌∙◌, subst, inl, inr}
-use Rattle.std.proofs.lemmas.Bool.{false≢true}
+use Rattle.std.proofs.Common.{◌≡◌, ◌+◌, ◌≤◌, Err, rules, refl, sym, ◌∙◌, subst}
 use Rattle.std.proofs.result.Match.{err_is}
 use Rattle.plane.specs.Fault.{placeless}
 use Rattle.plane.specs.declared.range.TheConstants.{GENERATION_LIMIT}
@@ -12,7 +11,7 @@ use Rattle.engine.specs.FileText.{Begins, Exceeds, Writes}
 use Rattle.engine.specs.Pattern.{plane_of}
 use Rattle.patterns.specs.PatternFile.{meaning_of}
 use Rattle.engine.proofs.Acceptance.{refused_at_once}
-use Rattle.engine.proofs.Endings.{ends_well, refused_counting, refused_reporting, refused_writing, failed_early}
+use Rattle.engine.proofs.Endings.{ends_well, refused_counting, refused_drawing, refused_reporting, refused_writing}
 use Rattle.universe.proofs.Held.{held, short_run}
 use Rattle.engine.specs.Room.{IsStuckWithin}
 use Rattle.universe.specs.Cells.{live_cells, rule_of}
@@ -58,8 +57,9 @@ returns-in_err-draw g c =
     let is : c.from_residual-in_err-draw.result ≡ Err (placeless c.in_err-draw.field-0.0) = err_is _ _ c.from_residual-in_err-draw.ensures.1 in
     let refused = c.in_err-draw.ensures.failure.refused in
     let failed = subst (λ n. HasFailed n (g.W.Sink.failure_count c.draw.new.report)) c.in_ok-universe.ensures.unfailed refused.1 in
-    let asked = λ (none : c.args.options.now.window ≡ None). false≢true (c.in_err-draw.ensures.no_window none) in
-    rw is (failed_early (λ _. refl) refused.0 (inl (failed, refl, inr ((_, c.in_ok-begun.ensures.accepted.accepted), asked))))
+    rw is (refused_drawing c.args.bytes.now c.args.options.now (meaning_of c.in_ok-begun.begun.text) (rule_of c.in_ok-begun.begun.universe) (live_cells c.in_ok-begun.begun.universe) c.in_ok-begun.ensures.accepted
+    _ _ c.generation-start.result (plane_of c.in_ok-last.last) _ c.generation-start.ensures (same_trans c.in_ok-last.ensures.same c.in_ok-universe.ensures.cells) c.in_ok-universe.ensures.reported
+    c.in_err-draw.field-0.0 refused.0 failed refl c.in_err-draw.ensures.beginning)
 
 pub returns-in_err-write : goal.returns-in_err-write
 returns-in_err-write g c =
