@@ -1,5 +1,5 @@
 -- A universe some generations on.
-use Rattle.std.proofs.Common.{ℕ, ◌+◌, ◌≤◌, ◌^◌, ◌∙◌, ap, sym, subst, arith}
+use Rattle.std.proofs.Common.{◌≡◌, ℕ, ◌+◌, ◌≤◌, ◌^◌, ◌∙◌, ap, sym, subst, arith}
 use Rattle.rule_text.specs.CountRule.{CountRule}
 use Rattle.plane.specs.Centred.{Holds}
 use Rattle.plane.specs.Plane.{after}
@@ -11,8 +11,14 @@ use Rattle.universe.specs.Held.{StaysHeld}
 use Rattle.universe.specs.Runs.{IsStuck}
 use Rattle.universe.specs.declared.universe.Universe.{Universe}
 use Rattle.universe.proofs.Later.{after_step, held_later}
-use Rattle.engine.specs.Generations.{IsRunOn, IsSameRun}
+use Rattle.engine.specs.Generations.{IsSameRun}
 use Rattle.engine.specs.Room.{IsStuckWithin}
+
+-- the cells after so many generations, under the same rule and limit
+pub record IsRunOn (old : Universe) (generations : ℕ) (new : Universe) : Type 0 where
+  pub cells : IsSame (live_cells new) (after (rule_of old) (live_cells old) generations)
+  pub rule : rule_of new ≡ rule_of old
+  pub limit : limit_of new ≡ limit_of old
 
 -- the same cells are those after no generation
 pub none_later : {first second : Universe} → IsSameRun first second → IsRunOn first 0 second

@@ -8,12 +8,11 @@ use Rattle.patterns.specs.PatternFile.{meaning_of}
 use Rattle.universe.proofs.Held.{held, short_run}
 use Rattle.universe.specs.Cells.{live_cells, rule_of}
 use Rattle.engine.specs.Accepted.{IsRefused}
-use Rattle.engine.specs.Generations.{IsRunOn}
 use Rattle.engine.specs.Last.{EndsWith}
 use Rattle.engine.specs.Room.{IsStuckWithin}
 use Rattle.engine.specs.declared.options.Options.{Options}
 use Rattle.engine.proofs.LastPatterns.{ends_with, stops}
-use Rattle.engine.proofs.Onward.{none_later, stuck_on}
+use Rattle.engine.proofs.Onward.{IsRunOn, none_later, stuck_on}
 use Rattle.engine.proofs.last.last_pattern.Goals as goal
 
 pub after-requires-clause-held : goal.after-requires-clause-held

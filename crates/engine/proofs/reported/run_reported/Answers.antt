@@ -5,10 +5,9 @@ use Rattle.plane.specs.Plane.{after}
 use Rattle.plane.specs.Square.{IsSame}
 use Rattle.plane.proofs.Same.{same_refl}
 use Rattle.universe.specs.Cells.{live_cells, rule_of}
-use Rattle.engine.specs.Generations.{IsRunOn}
 use Rattle.universe.proofs.Later.{empty_later}
 use Rattle.engine.specs.Report.{IsSaid, AreLinesAfter, shown_until}
-use Rattle.engine.proofs.Onward.{held_on, later_on, none_later, stuck_on, then_same}
+use Rattle.engine.proofs.Onward.{IsRunOn, held_on, later_on, none_later, stuck_on, then_same}
 use Rattle.engine.proofs.Reports.{first_lines, shown_next, shows_next, shows_none, start_shown, stopped}
 use Rattle.engine.proofs.reported.run_reported.Goals as goal
 

@@ -1,8 +1,8 @@
 use Rattle.std.proofs.Common.{◌≡◌, ◌≤◌, ℕ, ◌-◌, List}
 use Rattle.std.specs.Io.KnownBytes.{Appends}
 use Rattle.universe.specs.Cells.{live_cells, rule_of}
-use Rattle.engine.specs.Generations.{IsRunOn}
 use Rattle.engine.specs.Report.{AreLinesAfter, shown_until}
+use Rattle.engine.proofs.Onward.{IsRunOn}
 use Rattle.engine.proofs.reported.run_reported.Given as goal
 
 abbrev pub invariant-loop-done : goal.invariant-loop-done
