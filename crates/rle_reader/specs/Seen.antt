@@ -58,9 +58,6 @@ rule_at line = at_place line.place (header_rule line.text.now)
 abbrev pub run_seen : Run → ItemSlice
 run_seen run = record { text = run.text.now; place = run.place; count = run.count; tag = run.tag }
 
-abbrev pub seen_run : Result Run Fault → Result ItemSlice Fault
-seen_run found = result_map_both run_seen (λ fault. fault) found
-
 abbrev pub seen_next : Result (Option Run) Fault → Result (Option ItemSlice) Fault
 seen_next found = result_map_both (option_map run_seen) (λ fault. fault) found
 
