@@ -12,10 +12,14 @@ use Rattle.plane.specs.Laws.{moved}
 use Rattle.plane.specs.Listing.{reading_order, is_at, plane_of, IsListing}
 use Rattle.plane.specs.Plane.{Plane}
 use Rattle.plane.specs.Square.{empty, joined}
-use Rattle.plane.specs.Window.{row_places, places, cells_in, square_cells, moved_cell}
+use Rattle.plane.specs.Window.{row_places, places, cells_in, square_cells}
 use Rattle.plane.proofs.Cells.{at}
 use Rattle.plane.proofs.Cuts.{cond_true, cond_false}
 use Rattle.plane.proofs.Elements.{AllByRecursion-append}
+
+-- the cell, moved so far to the right and down
+abbrev pub moved_cell : ℤ → ℤ → Cell → Cell
+moved_cell right down cell = record { x = cell.x +ℤ right; y = cell.y +ℤ down }
 
 -- how many places are live
 count : Plane → List Cell → ℕ

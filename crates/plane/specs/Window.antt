@@ -54,7 +54,3 @@ square_cells side = cells_in (pos 0) (pos 0) side side
 pub record IsInWindow (left top : ℤ) (wide tall : ℕ) (plane : Plane) : Type 0 where
   pub dead : (x y : ℤ) → (spans wide (x -ℤ left) && spans tall (y -ℤ top)) ≡ false →
       plane x y ≡ false
-
--- the cell, moved so far to the right and down
-abbrev pub moved_cell : ℤ → ℤ → Cell → Cell
-moved_cell right down cell = record { x = cell.x +ℤ right; y = cell.y +ℤ down }

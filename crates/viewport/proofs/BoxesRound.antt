@@ -13,11 +13,12 @@ use Rattle.plane.specs.Laws.{moved, IsSmallest}
 use Rattle.plane.specs.Listing.{is_at, plane_of, IsListing}
 use Rattle.plane.specs.Plane.{Plane}
 use Rattle.plane.specs.Square.{IsSame, IsSquare, spans, empty}
-use Rattle.plane.specs.Window.{square_cells, moved_cell}
+use Rattle.plane.specs.Window.{square_cells}
 use Rattle.plane.proofs.Around.{live_cell}
 use Rattle.plane.proofs.Boxes.{smallest_box_lem, some_box, box_at}
 use Rattle.plane.proofs.Listings.{is_at-own}
 use Rattle.plane.proofs.Paddings.{centred_moved}
+use Rattle.plane.proofs.Populations.{moved_cell}
 use Rattle.plane.proofs.Same.{plane_equal, same_sym}
 use Rattle.viewport.specs.BoundingBox.{HasBounds, IsBoxOf, IsInSquare, IsLocalBox, FitsMoved, box_round, moved_box}
 use Rattle.viewport.proofs.Counts.{centred_listing}

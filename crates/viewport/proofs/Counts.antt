@@ -6,9 +6,9 @@ use Rattle.plane.specs.Centred.{centred}
 use Rattle.plane.specs.Plane.{Plane}
 use Rattle.plane.specs.Square.{IsSquare, IsSame, empty}
 use Rattle.plane.specs.Listing.{IsListing}
-use Rattle.plane.specs.Window.{square_cells, moved_cell}
+use Rattle.plane.specs.Window.{square_cells}
 use Rattle.plane.proofs.Paddings.{twice_half, centred_moved}
-use Rattle.plane.proofs.Populations.{joined_length, empty_cells, moved_listing}
+use Rattle.plane.proofs.Populations.{joined_length, empty_cells, moved_cell, moved_listing}
 use Rattle.plane.proofs.Same.{plane_equal, same_sym}
 use Rattle.plane.proofs.Windows.{square_listing}
 use Rattle.squares.specs.Book.{Book, IsBook, IsKnown, numbered}
