@@ -1,12 +1,12 @@
 #!/usr/bin/env python3
-"""Looks up each must-fail edit and each test that the table of wrong bodies in docs/testing.md names.
+"""Looks up each must-fail edit and each test that the list checks/wrong_bodies.txt names, and the rows of it that docs/testing.md shows.
 
     checks/wrong_bodies.py
-    checks/wrong_bodies.py --root FOLDER    the page and the crates of another copy
+    checks/wrong_bodies.py --root FOLDER    the list, the page and the crates of another copy
 
-A row of the table says which body is wrong, and names what refuses it: an edit as crate/file.edit, or a test as crate::module::test. The edit has to
-stand in crates/CRATE/must-fail, and the test in the module's file in crates/CRATE/src/tests. `rt ci` shows that the edits are refused and that the
-tests pass.
+A line of the list says which body is wrong, and names what refuses it: an edit as crate/file.edit, or a test as crate::module::test. The edit has to
+stand in crates/CRATE/must-fail, and the test in the module's file in crates/CRATE/src/tests. Each row of the page's table has to be a line of the
+list. `rt ci` shows that the edits are refused and that the tests pass.
 """
 import pathlib
 import re
@@ -22,6 +22,7 @@ CHECK = Check(
     replay="run it again; the row and the name are printed.",
 )
 
+LIST = pathlib.Path("checks") / "wrong_bodies.txt"
 PAGE = pathlib.Path("docs") / "testing.md"
 HEAD = "| Wrong body | Refused by |"
 NAME = re.compile(r"`([^`]+)`")
@@ -29,8 +30,14 @@ EDIT = re.compile(r"(\w+)/(\w+\.edit)")
 TEST = re.compile(r"(\w+)((?:::\w+)+)::(\w+)")
 
 
-def rows(page: pathlib.Path) -> Iterator[tuple[str, list[str]]]:
-    """The rows of the table: the wrong body, and what is named beside it."""
+def listed(file: pathlib.Path) -> dict[str, list[str]]:
+    """The lines of the list: each wrong body, and what is named behind it."""
+    lines = (it.rpartition(" | ") for it in file.read_text(encoding="utf-8").splitlines() if it[:1] not in ("", "#"))
+    return {body: names.split(", ") for body, _, names in lines}
+
+
+def shown(page: pathlib.Path) -> Iterator[tuple[str, list[str]]]:
+    """The rows of the page's table: the wrong body, and what is named beside it."""
     lines = iter(page.read_text(encoding="utf-8").splitlines())
     if HEAD not in lines:
         raise CannotRun(f"{page} has no table with the head {HEAD}")
@@ -60,17 +67,22 @@ def is_found(name: str, root: pathlib.Path) -> bool:
 
 def main() -> int:
     parser = CHECK.parser()
-    parser.add_argument("--root", type=pathlib.Path, default=ROOT, help="the folder of docs and crates (this repository)")
+    parser.add_argument("--root", type=pathlib.Path, default=ROOT, help="the folder of checks, docs and crates (this repository)")
     root = CHECK.options(parser).root.resolve()
-    count, missing = 0, 0
-    for body, names in rows(root / PAGE):
-        for name in names or ["nothing that is named"]:
+    bodies = listed(root / LIST)
+    count, missing, others = 0, 0, 0
+    for body, names in bodies.items():
+        for name in names:
             count += 1
             if not is_found(name, root):
                 missing += 1
                 print(f"differs: {body}: no {name}")
-    print(f"{count - missing} edits and tests of wrong bodies found, {missing} not")
-    return status_of(count, missing)
+    for body, names in shown(root / PAGE):
+        if bodies.get(body) != names:
+            others += 1
+            print(f"differs: {PAGE}: the list has no line for: {body}")
+    print(f"{count - missing} edits and tests of wrong bodies found, {missing} not; {others} rows of {PAGE} that the list has not")
+    return status_of(count, missing + others)
 
 
 if __name__ == "__main__":
