@@ -5,8 +5,8 @@
     checks/many_patterns.py --patterns 50    fewer patterns
 
 The script takes the commands from the page. It makes 200 patterns, of which one has a fault and one fills small tables, and runs each by itself.
-Then it runs the page's commands: it kills the first with all runs that it started, and repeats it. A script takes the place of ssh, and the
-array job of Slurm runs by its number alone. Each report and each pattern has to be the same as that of the plain run. The frames of a film have to
+Then it runs the page's commands: it kills the first with all runs that it started, and repeats it. For several machines it adds the page's words
+to that command, and a script takes the place of ssh. The array job of Slurm runs as a script with a number. Each report and each pattern has to be the same as that of the plain run. The frames of a film have to
 be the pictures of their generations, and the film has to have them all.
 """
 import os
@@ -153,7 +153,7 @@ def killed_in_the_middle(folder: Folder, block: str) -> bool:
 
 
 def page_blocks() -> list[str]:
-    """The commands of the page: for a folder, for failures, with larger tables, on several machines, for Slurm, for frames, and for their film."""
+    """The blocks of the page: for a folder, for failures, with larger tables, words for several machines, for Slurm, for frames, and for their film."""
     blocks = BLOCK.findall(PAGE.read_text())
     if len(blocks) != 7:
         raise CannotRun(f"{PAGE.name} has {len(blocks)} blocks of commands, not seven")
@@ -179,9 +179,10 @@ def try_film(folder: Folder, frames: str, film: str) -> None:
 
 
 def try_page(folder: Folder) -> None:
-    one_folder, failures, larger, machines, task, *film = page_blocks()
+    one_folder, failures, larger, words, task, *film = page_blocks()
     one_folder = in_place_of("GENERATIONS=1000 NODES=4194304", f"GENERATIONS={GENERATIONS} NODES={SMALL}", one_folder)
     larger = in_place_of("NODES=67108864", f"NODES={ENOUGH}", larger)
+    machines = in_place_of("parallel ", f"parallel {words.strip()} ", one_folder)
     plain, whole = folder.plain(SMALL), folder.plain(ENOUGH)
 
     folder.tell("the command for a folder is killed in the middle", killed_in_the_middle(folder, one_folder))
