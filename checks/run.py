@@ -2,7 +2,7 @@
 """Runs the checks of this folder.
 
     checks/run.py --list                         list the checks
-    checks/run.py --quick                        run all of them, each with a small load: three minutes
+    checks/run.py --quick                        run all of them, each with a small load: four minutes
     checks/run.py --all                          run all of them
     checks/run.py random_patterns page_links     run those that are named
     checks/run.py --quick hostile_files          run one of them with a small load
@@ -24,6 +24,7 @@ from common.check import BUILT, BUILT_VIEW, DIFFERS, HOLDS, NOT_RUN, STATUSES, C
 FOLDER = pathlib.Path(__file__).resolve().parent
 NAMES = [
     "page_links",
+    "page_counts",
     "no_axioms",
     "wrong_bodies",
     "refusals",
