@@ -4,7 +4,7 @@
     checks/page_links.py
     checks/page_links.py --root FOLDER    the pages of another copy
 
-A link has to name a file or a folder of the repository, relative to its page. An anchor has to be that of a heading, as GitHub makes them. Links in
+A link or an image has to name a file or a folder of the repository, relative to its page. An anchor has to be that of a heading, as GitHub makes them. Links in
 code and links to other sites are skipped. A script of checks/ or bench/ that a page names, also in code, has to exist and to be executable.
 """
 import os
@@ -30,6 +30,7 @@ HEADING = re.compile(r" {0,3}#{1,6}[ \t]+(.*?)(?:[ \t]+#+)?[ \t]*$")
 # A target stands in brackets behind a text, in "<>" or not, perhaps with a title; or behind a name at the start of a line.
 LINK = re.compile(r"\]\(\s*(?:<([^>]*)>|([^\s()]*(?:\([^\s()]*\)[^\s()]*)*))(?:\s+[\"'(][^\"')]*[\"')])?\s*\)")
 DEFINITION = re.compile(r"^ {0,3}\[[^\]]+\]:\s*<?([^\s>]+)>?")
+IMAGE = re.compile(r'<img\b[^>]*\bsrc="([^"]*)"')
 SCRIPT = re.compile(r"(?<![\w/.])(?:checks|bench)/\w+\.py\b")
 OUTSIDE = re.compile(r"[a-zA-Z][a-zA-Z0-9+.-]*:|//")
 
@@ -50,7 +51,7 @@ def targets(page: pathlib.Path) -> Iterator[tuple[int, str]]:
     for number, line in plain_lines(page):
         text = CODE.sub("", line)
         found = [link[1] if link[1] is not None else link[2] for link in LINK.finditer(text)]
-        found += DEFINITION.findall(text)[:1]
+        found += DEFINITION.findall(text)[:1] + IMAGE.findall(text)
         yield from ((number, it) for it in found if not OUTSIDE.match(it))
 
 
