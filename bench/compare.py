@@ -48,7 +48,7 @@ VIEW_IF_ASKED = Need(f"{BUILT_VIEW.name} (for --lifeview)", BUILT_VIEW.brings, l
 CHECK = Check(
     text=__doc__,
     needs=(BUILT, VIEW_IF_ASKED, BGOLLY),
-    takes="a minute for the sets runs and steps by one worker, and four minutes for a round of the set long, on a machine that does nothing else",
+    takes="a minute for the sets runs and steps with one worker, and four minutes for a round of the set long, on a machine that does nothing else",
     replay="give the name of the row, or a part of it, to --rows.",
 )
 
@@ -226,10 +226,10 @@ def chosen(options: argparse.Namespace) -> list[tuple[str, Row]]:
 
 
 def viewed(rows: Sequence[tuple[str, Row]], options: argparse.Namespace) -> list[Row]:
-    """The rows whose files lifeview draws: those of the set files that read alone, if it is asked for."""
-    found = [row for name, row in rows if options.lifeview and name == "files" and row.reads_alone()]
+    """The rows whose files lifeview draws: those of the set files that are only read, if it is asked for."""
+    found = [row for name, row in rows if options.lifeview and name == "files" and row.only_reads()]
     if options.lifeview and not found:
-        raise CannotRun("--lifeview needs a row of the set files that reads alone")
+        raise CannotRun("--lifeview needs a row of the set files that is only read")
     return found
 
 
@@ -243,7 +243,7 @@ def parsed() -> argparse.Namespace:
     parser.add_argument("--nodes", type=int, metavar="N", help="limit the node tables of lifebatch to N slots in total (its default)")
     parser.add_argument("--golly-memory", type=int, metavar="M", help="limit the memory of bgolly to M megabytes (its default)")
     parser.add_argument("--words", default="", help="more options for lifebatch, as '--window=0,0,64,64'")
-    parser.add_argument("--lifeview", action="store_true", help="time lifeview on the files of the set files that are read alone")
+    parser.add_argument("--lifeview", action="store_true", help="time lifeview on the files of the set files that are only read")
     parser.add_argument("--processors", type=int, help="how many processors both may use (all)")
     parser.add_argument("--aims", action="store_true", help="show the aims in brackets")
     parser.add_argument("--json", type=pathlib.Path, metavar="FILE", help="write the table as JSON")

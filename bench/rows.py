@@ -37,7 +37,7 @@ class Row:
         words += ["-o", self.output] if self.output else []
         return [*words, str(path)]
 
-    def reads_alone(self) -> bool:
+    def only_reads(self) -> bool:
         """Whether it runs no generation and writes no file."""
         return self.generations == 0 and not self.output
 
@@ -46,7 +46,7 @@ class Row:
         return f"{self.generations}, every {self.step}" if self.step else str(self.generations)
 
     def label(self) -> str:
-        """The name and the generations in words, for a chart, or the name alone if no generation is run."""
+        """The name and the generations in words, for a chart, or only the name if no generation is run."""
         if self.generations == 0:
             return self.name
         reports = f", a report every {self.step}" if self.step else ""

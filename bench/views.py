@@ -1,4 +1,4 @@
-"""The table of lifeview beside lifebatch, which reads the same files alone."""
+"""The table of lifeview beside lifebatch, which only reads the same files."""
 import argparse
 import pathlib
 from collections.abc import Iterator, Sequence
@@ -8,7 +8,7 @@ from commands import lifebatch, lifeview, pattern_file
 from rows import Row
 from timing import Found, Run, best_of_rounds
 
-HEAD = "\n| File | lifebatch, reading alone | lifeview | Last population |\n|---|---|---|---|"
+HEAD = "\n| File | lifebatch, only reading | lifeview | Last population |\n|---|---|---|---|"
 
 
 @dataclass(frozen=True)

@@ -108,7 +108,7 @@ ROWS = [
     Row("a report to a full device", RUN, UNSAID, out="/dev/full"),
     Row("a report to a full device, and an output file", WRITE, UNSAID, out="/dev/full"),
     Row("a report to a closed pipe", RUN, UNSAID, out="closed pipe"),
-    Row("a report to a closed pipe, by two workers", ["--workers", "2", *WRITE], UNSAID, out="closed pipe"),
+    Row("a report to a closed pipe, with two workers", ["--workers", "2", *WRITE], UNSAID, out="closed pipe"),
     Row("a report to a device that is closed", WRITE, UNSAID, out="closed"),
     Row("no report to a device that is closed", ["-q", *WRITE], (0, "", ""), out="closed", output=UPRIGHT),
     Row("help to a full device", ["--help"], UNSAID, out="/dev/full"),
@@ -198,8 +198,8 @@ def difference(program: str, row: Row, folder: pathlib.Path) -> str | None:
     output = folder / "out.rle"
     holds = output.read_text(errors="backslashreplace") if output.is_file() and not output.is_symlink() else None
     if told != row.told:
-        return f"{told} in place of {row.told}"
-    return None if holds == row.output else f"the output file has {holds!r} in place of {row.output!r}"
+        return f"{told} instead of {row.told}"
+    return None if holds == row.output else f"the output file has {holds!r} instead of {row.output!r}"
 
 
 def main() -> int:

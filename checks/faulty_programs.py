@@ -48,7 +48,7 @@ PAGES = {
     "names no heading": "# One\n\n[a heading](#two)\n",
     "leaves the repository": "[a page](../nowhere.md)\n",
     "names no script": "`checks/nowhere.py --all`\n",
-    "is in code alone": "`[a page](nowhere.md)`\n",
+    "is only in code": "`[a page](nowhere.md)`\n",
 }
 
 
@@ -117,8 +117,8 @@ ROWS = [
     Row("refused_memory", "--only help --number 1", "prints nothing", DIFFERS),
     Row("refused_memory", "--only help --number 100000", RIGHT, NOT_RUN),
     Row("refused_memory", "--only no-such-name", RIGHT, NOT_RUN),
-    *(Row("page_links", "", it, DIFFERS) for it in PAGES if it != "is in code alone"),
-    Row("page_links", "", "is in code alone", NOT_RUN),
+    *(Row("page_links", "", it, DIFFERS) for it in PAGES if it != "is only in code"),
+    Row("page_links", "", "is only in code", NOT_RUN),
     Row("../bench/compare", "--rounds 1 --rows replicator", RIGHT, HOLDS),
     *(Row("../bench/compare", "--rounds 1 --rows replicator", it, DIFFERS) for it in ("crashes", "prints another population")),
     Row("../bench/compare", "--rounds 1 --rows replicator", "is missing", NOT_RUN),

@@ -68,7 +68,7 @@ def ours(path: pathlib.Path, options: argparse.Namespace, folder: pathlib.Path, 
     (folder / output).unlink(missing_ok=True)
     words = [str(options.program.resolve()), *options.words.split(), "-m", str(options.generations), "-o", output]
     ended = run([*words, "--workers", str(workers), str(path)], folder, PATIENCE * options.seconds)
-    by = f"by --workers {workers}"
+    by = f"with --workers {workers}"
     if ended.status is None:
         raise Different(f"lifebatch takes more than {PATIENCE * options.seconds:g} s {by}")
     is_written = (folder / output).exists()
@@ -116,7 +116,7 @@ def last(report: str) -> tuple[int, int] | None:
 
 
 def compare(path: pathlib.Path, options: argparse.Namespace, folder: pathlib.Path) -> None:
-    """Runs a pattern by each number of workers and by bgolly."""
+    """Runs a pattern with each number of workers, and with bgolly."""
     answer = one_answer(path, options, folder)
     if answer.refusal:
         raise Skipped(answer.refusal)

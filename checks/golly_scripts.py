@@ -23,7 +23,7 @@ from dataclasses import dataclass
 from common import cells as plain
 from common.check import BUILT, BUILT_VIEW, GOLLY, XVFB, CannotRun, Check, end, sum_up
 from common.program import ROOT, games_path
-from pictures import picture_in, reckoned
+from pictures import picture_in, calculated
 
 CHECK = Check(
     text=__doc__,
@@ -225,7 +225,7 @@ class Screen:
             return it.words if it else "it was not tried"
         if line[1] != str(self.folder / file):
             return f"it wrote {line[1]}"
-        return "" if picture_in((self.folder / file).read_bytes()) == reckoned(cells, shown, SIZE) else "other pixels"
+        return "" if picture_in((self.folder / file).read_bytes()) == calculated(cells, shown, SIZE) else "other pixels"
 
     def has_no_program(self) -> str:
         it = self.found.get("drawn-without-program", Found(True, "it was not tried", True, True, ""))

@@ -143,7 +143,7 @@ def newer(it: Repository) -> bool:
     return status == 0 and {"viewport", "universe", "lifebatch"} <= proved and not proved & {"squares", "node_table"}
 
 
-def of_tests_alone(it: Repository) -> bool:
+def of_tests_only(it: Repository) -> bool:
     for name in ("crates/worked_squares/src/lib.rt", "crates/viewport/proofs/Newer.antt"):
         (it.folder / name).parent.mkdir(exist_ok=True)
         with open(it.folder / name, "a") as file:
@@ -295,13 +295,13 @@ def terminal(it: Repository) -> bool:
 # The rows of a group share a repository, and build on one another.
 GROUPS: list[list[tuple[str, Callable[[Repository], bool]]]] = [
     [
-        ("before a program is built, --help and -h alone show its help and say that it is not built", helps),
+        ("before a program is built, --help and -h by themselves show its help and say that it is not built", helps),
         ("the help is that of the real programs, where these are built", own_help),
         ("the first call proves each crate once, builds the program for this processor and runs it", whole),
         ("a second call builds nothing", second),
         ("a built program shows its help itself", help_of_built),
-        ("the other program proves the crates that it alone uses", other_program),
-        ("the build takes the name of a program alone", unknown_program),
+        ("the other program proves the crates that only it uses", other_program),
+        ("the build takes only the name of a program", unknown_program),
         ("on a terminal there is one line that moves", terminal),
     ],
     [
@@ -309,7 +309,7 @@ GROUPS: list[list[tuple[str, Callable[[Repository], bool]]]] = [
         ("a crate that fails is named, and ends the call with status 2", failed),
         ("the next call resumes from the crates that are proved", goes_on),
         ("a newer file has its crate and those above it proved anew", newer),
-        ("a newer file that tests alone read, and a newer proof, build nothing", of_tests_alone),
+        ("a newer file that only tests read, and a newer proof, build nothing", of_tests_only),
         ("a file, or a folder specs, that comes or goes has its crate proved anew", comes_and_goes),
         ("the program runs in the caller's folder, by whichever name and link the launcher is called", from_anywhere),
         ("a file that changes during the build has its crate proved anew by the next call", changed_meanwhile),

@@ -24,7 +24,7 @@ CHECK = Check(
 
 WORDS = {
     ".rt": re.compile(r"\b(unsafe|extern|no_mangle|sorry)\b"),
-    # A `?` within a name, as in get_elem?, is no hole.
+    # A `?` within a name, as in get_elem?, is not a hole.
     ".antt": re.compile(r"(\b[Aa]xioms?\b|(?:^|(?<=[\s(\[{,;=]))\?|\{!)"),
 }
 C_FILES = {".c", ".h", ".o", ".a", ".so"}

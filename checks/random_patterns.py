@@ -2,7 +2,7 @@
 """Compares lifebatch with a program that goes cell by cell, on random patterns.
 
     checks/random_patterns.py --count 500 --seed 7
-    checks/random_patterns.py --seed 7 --only 31    pattern 31 of seed 7 alone
+    checks/random_patterns.py --seed 7 --only 31    only pattern 31 of seed 7
 
 Each run has a random pattern, a rule in one of the three neighbourhoods, generations, a step, perhaps a window, a limit of
 slots, a number of workers, an output file in one of the two formats, and an input file in one of them, in odd spellings and
@@ -209,7 +209,7 @@ def parsed() -> argparse.Namespace:
     parser = CHECK.parser()
     parser.add_argument("--count", type=int, default=200, help="how many patterns (200)")
     parser.add_argument("--seed", type=int, default=1, help="where the patterns come from (1)")
-    parser.add_argument("--only", type=int, metavar="NUMBER", help="the pattern of this number alone, from 0 on")
+    parser.add_argument("--only", type=int, metavar="NUMBER", help="only the pattern of this number, from 0 on")
     parser.add_argument("--workers", type=int, nargs="+", default=[1, 2, 4, 64], help="numbers of workers to choose from (1 2 4 64)")
     parser.add_argument("--seconds", type=float, default=120, help="how long a run may take (120)")
     return CHECK.options(parser)

@@ -12,7 +12,7 @@ functions that are not proved with an edit, and the goals that are open there. A
 
     CRATE/EDIT: FUNCTION, GOAL, GOAL; FUNCTION, GOAL -- REASON
 
-The clause of a contract is a goal whose name begins with `returns`. An edit should be refused at one. Behind an edit that is refused elsewhere alone, the
+The clause of a contract is a goal whose name begins with `returns`. An edit should be refused at one. Behind an edit that is refused only elsewhere, the
 list says why. --write keeps these reasons, and puts a question mark where there is none yet; the line then differs until someone writes the reason.
 """
 import argparse
@@ -58,7 +58,7 @@ GONE = "by a name that is gone"
 # A goal that is open at a place of the code. Its name stands in the last brackets.
 OPEN = re.compile(r"note: (src/\S+\.rt):(\d+):\d+: it is not proved that .*\(`([^`]+)`\)")
 UNPROVED = re.compile(r"(?:fn|struct|enum|trait|impl) (\S+): (?:not proved|no proof)(?:[:;] )?(.*)")
-# Why something is not proved that waits for another proof alone.
+# Why something is not proved that only waits for another proof.
 WAITS = re.compile(r"it calls `|it waits for the proof of|.*: a call of `")
 UNCOVERED = "the borrow checker does not cover this function"
 FUNCTION = re.compile(r"^[^/]*?\bfn (\w+)")
@@ -196,7 +196,7 @@ class Crate:
         return {path: texts[path] if path in texts else file.read_text(encoding="utf-8") for path, file in files.items()}
 
     def check(self, texts: dict[str, str], kept: str) -> tuple[int, list[str]]:
-        """Checks the crate with these texts in place of its own. Returns the status and what is printed."""
+        """Checks the crate with these texts instead of its own. Returns the status and what is printed."""
         ran = self.rt.checked(self.crate, texts, ["--jobs", "1"], kept)
         return ran.returncode, ran.stdout.rstrip("\n").split("\n")
 

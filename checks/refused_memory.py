@@ -3,9 +3,9 @@
 
     checks/refused_memory.py
     checks/refused_memory.py --only help               the runs with "help" in their names
-    checks/refused_memory.py --only help --number 17   their 17th growth, or thread, alone
+    checks/refused_memory.py --only help --number 17   only their 17th growth, or thread
 
-The script compiles a small library (common/refuse.c), which is loaded before the C library and refuses the Nth growth: alone, as if memory were
+The script compiles a small library (common/refuse.c), which is loaded before the C library and refuses the Nth growth: by itself, as if memory were
 short for a moment, and with all later ones, as if none were left. N goes from 1 up to the first run that asks for fewer. Each run has to end like
 the run in which nothing is refused, or with status 1, "lifebatch: refused 18: NoMemory", the first lines of the report and no output file. The
 message of a usage error may also be shorter. Threads are refused in the same way, which must change nothing.
@@ -79,8 +79,8 @@ RUNS = [
     Run("a glider with a comment, to macrocell", COMMENTED, ["-m", "4", "-o", "out.mc", "in"]),
     Run("the R-pentomino for 1103 generations", R_PENTOMINO, ["-m", "1103", "-o", "out.rle", "in"]),
     Run("the R-pentomino in few slots", R_PENTOMINO, ["-m", "1103", "-i", "100", "--nodes", "4096", "-o", "out.mc", "in"]),
-    Run("the replicator by two workers", REPLICATOR, ["-m", "256", "--workers", "2", "-o", "out.rle", "in"]),
-    Run("the R-pentomino by two workers", R_PENTOMINO, ["-m", "1103", "--workers", "2", "-o", "out.rle", "in"]),
+    Run("the replicator with two workers", REPLICATOR, ["-m", "256", "--workers", "2", "-o", "out.rle", "in"]),
+    Run("the R-pentomino with two workers", R_PENTOMINO, ["-m", "1103", "--workers", "2", "-o", "out.rle", "in"]),
     Run("the help", BLINKER, ["--help"]),
     Run("words that are bad", BLINKER, ["-m", "x", "in"], status=2),
 ]
@@ -157,7 +157,7 @@ def numbers(kind: str, options: argparse.Namespace) -> Iterator[int]:
 
 
 def refused_in_turn(machine: Machine, run: Run, plain: Told, kind: str, is_all: bool, options: argparse.Namespace) -> Counter:
-    """The results of refusing each one in turn, alone or with all later ones, up to the runs that ask for fewer."""
+    """The results of refusing each one in turn, by itself or with all later ones, up to the runs that ask for fewer."""
     counts, missed = Counter(), 0
     for number in numbers(kind, options):
         told, is_refused = machine.ended(run, kind, number, sys.maxsize if is_all else number)
@@ -192,7 +192,7 @@ def tried(machine: Machine, run: Run, options: argparse.Namespace) -> Counter:
 def main() -> int:
     parser = CHECK.parser()
     parser.add_argument("--stride", type=int, default=1, help="refuse every Nth growth, from the first on (1)")
-    parser.add_argument("--number", type=int, help="refuse the growth, or the thread, of this number alone, from 1 on")
+    parser.add_argument("--number", type=int, help="refuse only the growth, or the thread, of this number, from 1 on")
     parser.add_argument("--only", default="", help="only the runs with this text in their names")
     options = CHECK.options(parser)
     counts = Counter()

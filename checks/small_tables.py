@@ -2,11 +2,11 @@
 """Compares runs in small tables with the same runs in tables of the usual size, on random soups.
 
     checks/small_tables.py --count 40 --seed 7
-    checks/small_tables.py --seed 7 --only 31    soup 31 of seed 7 alone
+    checks/small_tables.py --seed 7 --only 31    only soup 31 of seed 7
 
 Each soup has a random rule in one of the three neighbourhoods, a size, a density, a number of generations, a step and an output
-format. It is run with the usual limit of slots by one worker, and then with each limit from 1024 slots up to the usual one by
-one worker and by several. In small tables nearly all squares are collected or computed again. Report, message, status and
+format. It is run with the usual limit of slots and one worker, and then with each limit from 1024 slots up to the usual one, with
+one worker and with several. In small tables nearly all squares are collected or computed again. Report, message, status and
 output file have to be the same to the byte; or the small run is refused as NodesFull, its report is the first lines of the right
 one, and there is no file. The script counts such a run as full.
 """
@@ -111,7 +111,7 @@ def parsed() -> argparse.Namespace:
     parser = CHECK.parser()
     parser.add_argument("--count", type=int, default=100, help="how many soups (100)")
     parser.add_argument("--seed", type=int, default=1, help="where the soups come from (1)")
-    parser.add_argument("--only", type=int, metavar="NUMBER", help="the soup of this number alone, from 0 on")
+    parser.add_argument("--only", type=int, metavar="NUMBER", help="only the soup of this number, from 0 on")
     parser.add_argument("--workers", type=int, nargs="+", default=[1, 4], help="numbers of workers (1 4)")
     parser.add_argument("--seconds", type=float, default=120, help="how long a run may take (120)")
     return CHECK.options(parser)

@@ -24,7 +24,7 @@ end
 
 local answer = g.getstring(PROMPT, remembered(), "lifebatch")
 local count, slots = answer:gsub(",", ""):match("^%s*(%d+)%s*(%d*)%s*$")
-if not count then g.exit(("\"%s\" is no number of generations."):format(answer)) end
+if not count then g.exit(("\"%s\" is not a number of generations."):format(answer)) end
 remember(answer)
 local is_done, words = pcall(shared.run_generations, count, slots ~= "" and slots or nil)
 if not is_done then g.exit(words) end

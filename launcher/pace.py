@@ -6,7 +6,7 @@ from dataclasses import dataclass, field
 
 from plan import NICE, Plan, Running, Share
 
-# The part of a check that one core does alone, however many jobs it has.
+# The part of a check that only one core does, however many jobs it has.
 SERIAL = 0.2
 # How much more of a core a process gets for each step of its priority.
 STEP = 1.25

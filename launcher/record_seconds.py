@@ -3,7 +3,7 @@
 
     launcher/record_seconds.py
 
-Build both programs first, from nothing and on a machine that does nothing else. Builds plan by these seconds, and reckon from them how long they take.
+Build both programs first, from nothing and on a machine that does nothing else. Builds plan with these seconds, and calculate from them how long they take.
 """
 import json
 import sys

@@ -219,7 +219,7 @@ LINES = [
         lambda ours, theirs: ours.last() == ("4", "8") and theirs.status == 10,
     ),
     Line(
-        "a value may follow an option directly, or after =; there after a blank alone",
+        "a value may follow an option directly, or after =; there only after a blank",
         "-m=4 -i4 pentomino.rle",
         "-m=4 -i4 -h pentomino.rle",
         lambda ours, theirs: ours.last() == ("4", "8") and theirs.status == 10,
@@ -284,7 +284,7 @@ LINES = [
         lambda ours, theirs: ours.report()[:1] == theirs.report()[:1] == [("0", "64")],
     ),
     Line(
-        "a macrocell file is written with the generation in both, with comments here alone",
+        "a macrocell file is written with the generation in both, with comments only here",
         "-m 0 -o out.mc pentomino.mc",
         "-h -m 100 -o out.mc pentomino.mc",
         lambda ours, theirs: "#G 100" in ours.file and "#G 100" in theirs.file and "#C Five" in ours.file and "#C" not in theirs.file,

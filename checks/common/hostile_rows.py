@@ -118,7 +118,7 @@ RLE_ROWS = [
     Row("one #C line, written again", b"#C", b"y", b"\n" + HEAD + b"3o!", THREE, words=OUTPUT,
         written=(b"#CXRLE Pos=0,0 Gen=0\n#C", b"\n" + THREE_WRITTEN)),
     Row("#C lines in a count", HEAD + b"0\n", b"#C\n", b"3o!", THREE),
-    Row("a line that is no header", b"x", b"x", refusal=NO_HEADER, place=0),
+    Row("a line that is not a header", b"x", b"x", refusal=NO_HEADER, place=0),
     Row("row ends", HEAD, b"$", b"3o!", THREE),
     Row("row ends and dead cells", HEAD, b"b$", b"3o!", THREE),
     Row("dead cells on one line", HEAD, b"b", b"3o!", THREE),

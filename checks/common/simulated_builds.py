@@ -1,4 +1,4 @@
-"""Builds on machines that exist as numbers alone: whether the time that the launcher expects comes true."""
+"""Builds on machines that exist only as numbers: whether the time that the launcher expects comes true."""
 import random
 import sys
 from collections.abc import Iterator
