@@ -5,7 +5,7 @@
     checks/page_links.py --root FOLDER    the pages of another copy
 
 A link or an image has to name a file or a folder of the repository, relative to its page. An anchor has to be that of a heading, as GitHub makes them. Links in
-code and links to other sites are skipped. A script of checks/ or bench/ that a page names, also in code, has to exist and to be executable.
+code and links to other sites are skipped. A script of checks/, bench/ or launcher/ that a page names, also in code, has to exist and to be executable.
 """
 import os
 import pathlib
@@ -31,7 +31,7 @@ HEADING = re.compile(r" {0,3}#{1,6}[ \t]+(.*?)(?:[ \t]+#+)?[ \t]*$")
 LINK = re.compile(r"\]\(\s*(?:<([^>]*)>|([^\s()]*(?:\([^\s()]*\)[^\s()]*)*))(?:\s+[\"'(][^\"')]*[\"')])?\s*\)")
 DEFINITION = re.compile(r"^ {0,3}\[[^\]]+\]:\s*<?([^\s>]+)>?")
 IMAGE = re.compile(r'<img\b[^>]*\bsrc="([^"]*)"')
-SCRIPT = re.compile(r"(?<![\w/.])(?:checks|bench)/\w+\.py\b")
+SCRIPT = re.compile(r"(?<![\w/.])(?:checks|bench|launcher)/\w+\.py\b")
 OUTSIDE = re.compile(r"[a-zA-Z][a-zA-Z0-9+.-]*:|//")
 
 
