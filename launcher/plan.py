@@ -9,6 +9,7 @@ import re
 import time
 from collections.abc import Iterable
 from dataclasses import dataclass
+from typing import Optional
 
 from crates import ROOT, Crates, folder
 
@@ -25,6 +26,13 @@ SHARE = 0.6
 # How much lower the priority of a crate is for each crate with a longer chain that runs beside it.
 NICE = 5
 TABLE = ROOT / "launcher" / "seconds.json"
+GROUPS = pathlib.Path("/sys/fs/cgroup")
+# For each controller that /proc/self/cgroup may name, the second version having no name: the files of the limit and of what is used, and the line of
+# memory.stat with the pages of files.
+GROUP_FILES = {
+    "": ("memory.max", "memory.current", "inactive_file"),
+    "memory": ("memory.limit_in_bytes", "memory.usage_in_bytes", "total_inactive_file"),
+}
 
 
 @functools.cache
@@ -68,15 +76,33 @@ def machine_factor(names: Iterable[str]) -> float:
     return min(max(sorting_seconds() / table()["sorting"], 1 / 4), 4)
 
 
-def free_memory() -> int:
-    """The free memory in bytes, within the limit of the control group."""
-    found = [1024 * int(re.search(r"MemAvailable:\s+(\d+)", pathlib.Path("/proc/meminfo").read_text())[1])]
-    group = pathlib.Path("/sys/fs/cgroup")
+def free_in(group: pathlib.Path, limit: str, used: str, cache: str) -> Optional[int]:
+    """The bytes that a control group leaves free, with the pages of files that it can give back, if it has a limit."""
     try:
-        found.append(int((group / "memory.max").read_text()) - int((group / "memory.current").read_text()))
-    except (OSError, ValueError):
-        pass
-    return min(found)
+        pages = re.search(rf"^{cache} (\d+)$", (group / "memory.stat").read_text(), re.MULTILINE)
+        return int((group / limit).read_text()) - int((group / used).read_text()) + int(pages[1])
+    except (OSError, TypeError, ValueError):
+        return None
+
+
+def free_in_groups() -> list[int]:
+    """What the control groups that this process is in leave free, by the files of both versions of Linux's control groups."""
+    found: list[Optional[int]] = []
+    try:
+        lines = pathlib.Path("/proc/self/cgroup").read_text().splitlines()
+    except OSError:
+        return []
+    for _, controllers, own in (it.split(":", 2) for it in lines):
+        if controllers in GROUP_FILES:
+            top = GROUPS / controllers
+            folders = [top / own.lstrip("/"), *(top / own.lstrip("/")).parents]
+            found += [free_in(it, *GROUP_FILES[controllers]) for it in folders if it == top or top in it.parents]
+    return [it for it in found if it is not None]
+
+
+def free_memory() -> int:
+    """The free memory in bytes, within the limits of control groups."""
+    return min([1024 * int(re.search(r"MemAvailable:\s+(\d+)", pathlib.Path("/proc/meminfo").read_text())[1]), *free_in_groups()])
 
 
 @dataclass(frozen=True)
