@@ -80,10 +80,11 @@ module _ {W V : Type 0} (bytes : List ℕ) (view : View) (name : List ℕ) (repo
             Appends-trans _ _ _ _ _ first (subst (λ scale. Appends between (report.taken report.new) (picture_line name shown scale)) one second.2)
 
         -- and whose file failed
-        pub file_failed : (refusal : Refusal) → refusal ≡ WriteFailed → Fails file → IsView bytes view name report file (Err (placeless refusal))
-        file_failed refusal is failed =
+        pub file_failed : (refusal : Refusal) → refusal ≡ WriteFailed → Fails file → ((drawn : List ℕ) × IsPngFile picture.width picture.rows drawn × TakesBeginning file drawn) →
+            IsView bytes view name report file (Err (placeless refusal))
+        file_failed refusal is failed begun =
             let told = ap placeless is in
-            record { finished = tt; unfailed = inl (ap Err told); refused = inr (inr (told, (lines, picture, is_drawn, takes_lines), unfailed, failed)) }
+            record { finished = tt; unfailed = inl (ap Err told); refused = inr (inr (told, (lines, picture, is_drawn, takes_lines, begun), unfailed, failed)) }
 
         -- and the picture
         pub ends_well : IsUnfailed file → ((drawn : List ℕ) × IsPngFile picture.width picture.rows drawn × Takes file drawn) → IsView bytes view name report file (Ok tt)

@@ -36,7 +36,8 @@ HasDrawn bytes view name report file =
 
 -- a view was refused: its run was, or memory ran out, and nothing was written; or it can be drawn,
 -- and a sink failed: that of the report, which took a beginning of what is said, and nothing was
--- written to the file; or that of the file, after the whole report
+-- written to the file; or that of the file, after the whole report, which took a beginning of a PNG
+-- file of the picture
 abbrev pub HasNotDrawn : {W V : Type 0} → List ℕ → View → List ℕ → SinkChange W → SinkChange V →
     Fault → Type 0
 HasNotDrawn bytes view name report file fault =
@@ -48,7 +49,8 @@ HasNotDrawn bytes view name report file fault =
     × Fails report × (file.new ≡ file.old))
     ⊎ ((fault ≡ placeless WriteFailed)
     × ((said : List ℕ) × (picture : Picture) × IsDrawn bytes view name said picture
-    × Takes report said)
+    × Takes report said
+    × ((drawn : List ℕ) × IsPngFile picture.width picture.rows drawn × TakesBeginning file drawn))
     × IsUnfailed report × Fails file)
 
 -- what a view of these bytes does to its report and to its file, and what it answers

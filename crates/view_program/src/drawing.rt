@@ -8,10 +8,11 @@ ghost use Rattle.plane.specs.SinkChange.{change_of};
 ghost use Rattle.view_program.specs.View.{IsView};
 
 use crate::picture_line::write_picture_line;
+use crate::png_text::png_text;
 use crate::request::View;
 use crate::shown::rectangle_shown;
 use engine::{last_pattern, load, write_summary};
-use plane::{Fault, Sink, Source};
+use plane::{Fault, Sink, Source, write_all};
 use png_writer::Image;
 use std::alloc::Global;
 use std::sync::Wait;
@@ -19,13 +20,13 @@ use std::thread::Threads;
 
 /// Runs the pattern in a file's bytes, and draws its last generation as a PNG file. It writes two lines to `report`: the
 /// generation, the population and the bounding box; and the name of the picture, its size and what a pixel is. Then it
-/// writes the picture to `file`.
+/// writes the picture to `file`, whose bytes are all in memory by then.
 ///
 /// It refuses, in this order, a text that is no pattern file, by its first fault; the file's rule (`BadRule`,
 /// `BirthOnZero`), unless another one is given; and a run that would leave the range (`TooFar`). `NoMemory`, and
 /// `NodesFull`, if the cells of the file or those after a single generation have no room in the tables that the run may
-/// have, come before anything is written. `WriteFailed` comes if a sink failed, and whenever one did; nothing is written
-/// to `file` where the report failed.
+/// have, come before anything is written. `WriteFailed` comes if a sink failed, and whenever one did; that sink took a
+/// beginning of its text. Nothing is written to `file` where the report failed.
 pub fn draw<R: Threads + Wait + Sync, W: Sink, V: Sink>(
     rt: &R,
     alloc: Global,
@@ -53,9 +54,10 @@ pub fn draw<R: Threads + Wait + Sync, W: Sink, V: Sink>(
         drawing.blocks.height,
         drawing.scale.zoom,
     )?;
+    let text = png_text(alloc, &image)?;
     write_summary(report, &summary)?;
     write_picture_line(report, name, shown, view.size)?;
-    image.write(file)?;
+    write_all(file, text.as_slice())?;
     Ok(())
 }
 

@@ -9,6 +9,7 @@ mod drawing;
 mod entry;
 mod names;
 mod picture_line;
+mod png_text;
 mod request;
 mod shown;
 

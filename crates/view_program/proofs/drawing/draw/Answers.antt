@@ -56,6 +56,12 @@ returns-in_err-image g c =
     rw is (refused_at_once c.args.bytes.now c.args.view.now c.args.name.now _ _ (placeless NoMemory) refl refl
     (out_of_memory c.args.bytes.now (without_output c.args.view.now.run) (plane_of c.in_ok-last.last) c.in_ok-last.summary c.in_ok-last.ensures.ok))
 
+pub returns-in_err-text : goal.returns-in_err-text
+returns-in_err-text g c =
+    let is : c.from_residual-in_err-text.result ≡ Err (placeless NoMemory) = search rules in
+    rw is (refused_at_once c.args.bytes.now c.args.view.now c.args.name.now _ _ (placeless NoMemory) refl refl
+    (out_of_memory c.args.bytes.now (without_output c.args.view.now.run) (plane_of c.in_ok-last.last) c.in_ok-last.summary c.in_ok-last.ensures.ok))
+
 pub returns-in_err-write_summary : goal.returns-in_err-write_summary
 returns-in_err-write_summary g c =
     let view = c.args.view.now in
@@ -85,8 +91,8 @@ returns-in_err-write_picture_line g c =
     rw is (second_line_failed c.args.bytes.now view c.args.name.now _ _ plane answer c.in_ok-last.ensures.ok image shows (g.W.Sink.taken c.write_summary.new.out) c.in_ok-write_summary.ensures.written
     c.in_err-write_picture_line.field-0.0 refused.0 failed refl begun)
 
-pub returns-in_err-write : goal.returns-in_err-write
-returns-in_err-write g c =
+pub returns-in_err-write_all : goal.returns-in_err-write_all
+returns-in_err-write_all g c =
     let view = c.args.view.now in
     let plane = plane_of c.in_ok-last.last in
     let answer = c.in_ok-last.summary in
@@ -96,10 +102,12 @@ returns-in_err-write g c =
     let shows = subst (λ (box : Bounds). IsPictureOf plane box view.size image) same drawn in
     let line = subst (λ (box : Bounds). (scale : Scale) × IsScale box view.size scale × Appends (g.W.Sink.taken c.write_summary.new.out) (g.W.Sink.taken c.write_picture_line.new.out) (picture_line c.args.name.now box scale)) same
     c.in_ok-write_picture_line.ensures.written in
-    let is : c.from_residual-in_err-write.result ≡ Err (placeless c.in_err-write.field-0.0) = err_is _ _ c.from_residual-in_err-write.ensures.1 in
+    let is : c.from_residual-in_err-write_all.result ≡ Err (placeless c.in_err-write_all.field-0.0) = err_is _ _ c.from_residual-in_err-write_all.ensures.1 in
+    let text = c.in_ok-text.text.items in
+    let begun = subst (AppendsBeginning (g.V.Sink.taken c.args.file.now) (g.V.Sink.taken c.write_all.new.sink)) c.as_slice-2.ensures.value c.in_err-write_all.ensures.beginning in
     let unfailed = c.in_ok-write_picture_line.ensures.failure.unfailed ∙ c.in_ok-write_summary.ensures.failure.unfailed in
     rw is (file_failed c.args.bytes.now view c.args.name.now _ _ plane answer c.in_ok-last.ensures.ok image shows (g.W.Sink.taken c.write_summary.new.out) c.in_ok-write_summary.ensures.written line unfailed
-    c.in_err-write.field-0.0 c.in_err-write.ensures.failure.refused.0 c.in_err-write.ensures.failure.refused.1)
+    c.in_err-write_all.field-0.0 c.in_err-write_all.ensures.failure.refused.0 c.in_err-write_all.ensures.failure.refused.1 (text, c.in_ok-text.ensures.ok, begun))
 
 pub returns : goal.returns
 returns g c =
@@ -113,9 +121,10 @@ returns g c =
     let line = subst (λ (box : Bounds). (scale : Scale) × IsScale box view.size scale × Appends (g.W.Sink.taken c.write_summary.new.out) (g.W.Sink.taken c.write_picture_line.new.out) (picture_line c.args.name.now box scale)) same
     c.in_ok-write_picture_line.ensures.written in
     ends_well c.args.bytes.now view c.args.name.now _ _ plane answer c.in_ok-last.ensures.ok image shows (g.W.Sink.taken c.write_summary.new.out) c.in_ok-write_summary.ensures.written line
-    (c.in_ok-write_picture_line.ensures.failure.unfailed ∙ c.in_ok-write_summary.ensures.failure.unfailed) c.in_ok-write.ensures.failure.unfailed c.in_ok-write.ensures.written
+    (c.in_ok-write_picture_line.ensures.failure.unfailed ∙ c.in_ok-write_summary.ensures.failure.unfailed) c.in_ok-write_all.ensures.failure.unfailed
+    (c.in_ok-text.text.items, c.in_ok-text.ensures.ok, subst (Appends (g.V.Sink.taken c.args.file.now) (g.V.Sink.taken c.write_all.new.sink)) c.as_slice-2.ensures.value c.in_ok-write_all.ensures.written)
 
-pub write-requires : goal.write-requires
-write-requires g c =
+pub png_text-requires : goal.png_text-requires
+png_text-requires g c =
     let fit = rows_fit (plane_of c.in_ok-last.last) _ c.args.view.now.size c.in_ok-drawing.drawing c.in_ok-drawing.ensures.drawn c.requires.size in
     omega (arith, c.in_ok-image.ensures.height, fit.0)
