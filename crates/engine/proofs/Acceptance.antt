@@ -1,7 +1,5 @@
 -- How a run is accepted, and how it is refused before its first line.
-use Rattle.std.proofs.Common.{◌≡◌, ◌⊎◌, ℕ, true, List, [], Option, Some, Ok, Err, refl, sym, ap, subst, inl, inr}
-use Rattle.std.specs.Io.KnownBytes.{Appends}
-use Rattle.std.proofs.KnownBytes.{Appends-nil}
+use Rattle.std.proofs.Common.{◌≡◌, ◌⊎◌, ℕ, true, List, Option, Some, Ok, Err, sym, ap, subst, inl, inr}
 use Rattle.rule_text.specs.CountRule.{CountRule, IsRule}
 use Rattle.rule_text.specs.declared.fault.RuleFault.{RuleFault}
 use Rattle.plane.specs.Fault.{placeless}
@@ -16,12 +14,15 @@ use Rattle.plane.specs.declared.refusal.Refusal.{Refusal}
 use Rattle.plane.specs.declared.refusal.Refusal.TheVariants.{NodesFull, NoMemory, TooFar}
 use Rattle.universe.specs.Tables.{HasFullTable}
 use Rattle.viewport.specs.BoundingBox.{HasBounds}
-use Rattle.engine.specs.Accepted.{KeepsToRange, IsAccepted, IsRefused, LeavesRange}
+use Rattle.run_options.specs.declared.options.RunOptions.{RunOptions}
+use Rattle.engine.specs.Accepted.{KeepsToRange, IsAccepted, LeavesRange}
 use Rattle.engine.specs.Judgement.{ReadsRule}
 use Rattle.patterns.specs.Meaning.{Meaning, is_macrocell, judged}
+use Rattle.engine.specs.Refused.{HasRule, IsRefused}
 use Rattle.engine.specs.Run.{IsOutOfRoom, IsRun}
+use Rattle.engine.specs.RunOptions.{run_of}
 use Rattle.engine.specs.declared.options.Options.{Options}
-use Rattle.engine.proofs.Endings.{begun_none, listing_as, stays_as, stopped_early, unfailed_same}
+use Rattle.engine.proofs.Endings.{listing_as, stays_as, stopped_early, unfailed_same}
 
 -- ---- the range
 
@@ -42,24 +43,27 @@ module _ (meaning : Meaning) (generations : ℕ) (here : Plane) (box : Option Bo
 -- ---- the judgement
 
 -- the text is refused, or memory ran out while it was read
-pub text_refused : (bytes : List ℕ) (options : Options) (fault : Fault) → (judged bytes ≡ Err fault) ⊎ ((is_macrocell bytes ≡ true) × (fault ≡ placeless NoMemory)) →
-    IsRefused bytes options fault
+pub text_refused : (bytes : List ℕ) (run : RunOptions) (fault : Fault) → (judged bytes ≡ Err fault) ⊎ ((is_macrocell bytes ≡ true) × (fault ≡ placeless NoMemory)) →
+    IsRefused bytes run fault
 unfolding IsRefused
-text_refused bytes options fault (inl refused) = inl (inl refused)
-text_refused bytes options fault (inr (macrocell, memory)) = inr (inl (memory, inl (macrocell, refl)))
+text_refused bytes run fault (inl refused) = inl (inl refused)
+text_refused bytes run fault (inr (macrocell, memory)) = inr (inl (memory, inl macrocell))
 
-module _ (bytes : List ℕ) (options : Options) (meaning : Meaning) (text : judged bytes ≡ Ok meaning) where
-  pub rule_refused : (fault : Fault) → ((rule_fault : RuleFault) × ReadsRule options.rule meaning (Err rule_fault) × (fault ≡ record { refusal = rule_refusal rule_fault; place = Some meaning.rule_place })) →
-      IsRefused bytes options fault
+module _ (bytes : List ℕ) (run : RunOptions) (meaning : Meaning) (text : judged bytes ≡ Ok meaning) where
+  pub rule_refused : (fault : Fault) → ((rule_fault : RuleFault) × ReadsRule run.rule meaning (Err rule_fault) × (fault ≡ record { refusal = rule_refusal rule_fault; place = Some meaning.rule_place })) →
+      IsRefused bytes run fault
   unfolding IsRefused
   rule_refused fault (rule_fault, read, is) = inl (inr (inl (record { meaning = meaning; rule_fault = rule_fault; text = text; rule = read; is = is })))
 
-  module _ (rule : CountRule) (read : ReadsRule options.rule meaning (Ok rule)) where
-    pub range_refused : (refusal : Refusal) → IsOutOfRoom refusal ⊎ ((refusal ≡ TooFar) × LeavesRange meaning options.gens) →
-        (refusal ≡ NodesFull → HasFullTable rule options.pairs) → IsRefused bytes options (placeless refusal)
+  module _ (rule : CountRule) (read : ReadsRule run.rule meaning (Ok rule)) where
+    has_rule : HasRule bytes run rule
+    has_rule = record { meaning = meaning; text = text; read = read }
+
+    pub range_refused : (refusal : Refusal) → IsOutOfRoom refusal ⊎ ((refusal ≡ TooFar) × LeavesRange meaning run.gens) →
+        (refusal ≡ NodesFull → HasFullTable rule run.pairs) → IsRefused bytes run (placeless refusal)
     unfolding IsRefused
-    range_refused refusal (inl (inl memory)) full = inr (inl (ap placeless memory, inr (begun_none bytes options meaning rule text read)))
-    range_refused refusal (inl (inr is)) full = inr (inr (ap placeless is, inl (record { meaning = meaning; rule = rule; text = text; read = read; silent = refl; full = full is })))
+    range_refused refusal (inl (inl memory)) full = inr (inl (ap placeless memory, inr (rule, has_rule)))
+    range_refused refusal (inl (inr is)) full = inr (inr (ap placeless is, inl (rule, has_rule, full is)))
     range_refused refusal (inr (far, leaves)) full = inl (inr (inr (record {
       start = record { meaning = meaning; rule = rule; cells = leaves.cells };
       accepted = record { text = text; rule = read; cells = leaves.listing };
@@ -67,7 +71,7 @@ module _ (bytes : List ℕ) (options : Options) (meaning : Meaning) (text : judg
       is = ap placeless far;
     })))
 
-    pub accepted : (here : Plane) → IsRule rule → KeepsToRange meaning options.gens here → IsAccepted bytes options meaning rule here
+    pub accepted : (here : Plane) → IsRule rule → KeepsToRange meaning run.gens here → IsAccepted bytes run meaning rule here
     accepted here lawful room = record {
       cells = room.cells;
       listing = room.listing;
@@ -76,11 +80,13 @@ module _ (bytes : List ℕ) (options : Options) (meaning : Meaning) (text : judg
       accepted = (record { text = text; rule = read; cells = listing_as room.same room.listing }, room.stays);
     }
 
+-- what is accepted as one run is so as each that is the same
+pub accepted_as : {bytes : List ℕ} {run other : RunOptions} {meaning : Meaning} {rule : CountRule} {here : Plane} → run ≡ other → IsAccepted bytes run meaning rule here →
+    IsAccepted bytes other meaning rule here
+accepted_as {bytes} {run} {other} {meaning} {rule} {here} same = subst (λ (r : RunOptions). IsAccepted bytes r meaning rule here) same
+
 -- a run that is refused before its first line has written nothing
 pub refused_at_once : {W V : Type 0} (bytes : List ℕ) (options : Options) (fault : Fault) (report : SinkChange W) (file : SinkChange V) → report.new ≡ report.old → file.new ≡ file.old →
-    IsRefused bytes options fault → IsRun bytes options report file (Err fault)
-unfolding IsRefused
-refused_at_once bytes options fault report file same same_file (inl refused) = stopped_early (λ _. same_file) (inr (unfailed_same file same_file, unfailed_same report same)) (inl (refused, same, same_file))
-refused_at_once bytes options fault report file same same_file (inr stopped) =
-    let nothing = subst (λ sink. Appends (report.taken report.old) (report.taken sink) []) (sym same) (Appends-nil _) in
-    stopped_early (λ _. same_file) (inr (unfailed_same file same_file, unfailed_same report same)) (inr (inr (inl (same_file, ([], stopped, nothing)))))
+    IsRefused bytes (run_of options) fault → IsRun bytes options report file (Err fault)
+refused_at_once bytes options fault report file same same_file refused =
+    stopped_early (λ _. same_file) (inr (unfailed_same file same_file, unfailed_same report same)) (inl (refused, same, same_file))

@@ -18,16 +18,17 @@ use Rattle.plane.specs.declared.cell.Cell.{Cell}
 use Rattle.plane.specs.declared.fault.Fault.{Fault}
 use Rattle.plane.specs.declared.refusal.Refusal.{Refusal}
 use Rattle.plane.specs.declared.refusal.Refusal.TheVariants.{BoxTooLarge, NodesFull, NoMemory, WriteFailed}
-use Rattle.patterns.specs.Meaning.{Meaning, judged}
+use Rattle.patterns.specs.Meaning.{Meaning}
 use Rattle.plane.specs.Device.{AppendsBeginning, IsWriteRefusal}
 use Rattle.plane.proofs.Uniqueness.{one_listing_lem}
 use Rattle.engine.specs.FileText.{HasText, IsFileText, IsMcText, Begins, Exceeds, Writes}
 use Rattle.engine.specs.Accepted.{IsAccepted, SumsUp}
-use Rattle.engine.specs.Judgement.{Start, ReadsRule}
+use Rattle.engine.specs.Judgement.{Start, last_generation}
 use Rattle.engine.specs.Report.{AreLinesAfter, shown}
 use Rattle.engine.specs.Room.{IsStuckWithin}
 use Rattle.engine.specs.Drawing.{picture_of}
-use Rattle.engine.specs.Run.{CanBeWritten, IsBeginning, IsLast, IsReport, Finishes, HasBegun, HasReport, HasFailedToWrite, HasFinished, HasEndedEarly, IsBegun, IsRun, IsStopped, IsOutOfRoom, last_generation}
+use Rattle.engine.specs.Run.{CanBeWritten, IsBeginning, IsLast, IsReport, Finishes, HasReport, HasFailedToWrite, HasFinished, HasEndedEarly, IsRun, IsStopped, IsOutOfRoom}
+use Rattle.engine.specs.RunOptions.{run_of}
 use Rattle.engine.specs.declared.running.Summary.{Summary}
 use Rattle.engine.specs.declared.format.Format.{Format}
 use Rattle.engine.specs.declared.format.Format.TheVariants.{Rle, Macrocell}
@@ -37,25 +38,14 @@ use Rattle.plane.specs.Listing.{plane_of}
 use Rattle.plane.proofs.Beginnings.{beginning_of_more, text_and_beginning}
 use Rattle.plane.proofs.Same.{plane_equal, same_refl}
 use Rattle.engine.specs.declared.options.Options.{Options}
+use Rattle.engine.proofs.Onward.{stuck_from}
 use Rattle.engine.proofs.WholeReports.{all_lines}
-use Rattle.engine.proofs.Reports.{same_after, same_generation, same_shows, shows_none}
-use Rattle.universe.specs.Cells.{live_cells}
+use Rattle.engine.proofs.Reports.{same_after, same_generation, same_shows}
 
 -- the bytes of the slice, or else of another
 pub copied_or : (slice : Option (Bor (List ℕ))) (other : Bor (List ℕ)) → (unwrap_or slice other).now ≡ unwrap_or (option_copied slice) other.now
 copied_or None other = refl
 copied_or (Some slice) other = refl
-
--- a run that has said nothing yet
-pub begun_none : (bytes : List ℕ) (options : Options) (meaning : Meaning) (rule : CountRule) → judged bytes ≡ Ok meaning → ReadsRule options.rule meaning (Ok rule) → HasBegun bytes options []
-begun_none bytes options meaning rule text read = record {
-  meaning = meaning;
-  rule = rule;
-  text = text;
-  read = read;
-  accepted = inl refl;
-  report = inl (0, shows_none rule meaning.live meaning.generation);
-}
 
 -- a sink that is as it was has not failed
 pub unfailed_same : {S : Type 0} (sink : SinkChange S) → sink.new ≡ sink.old → IsUnfailed sink
@@ -133,7 +123,7 @@ module _ (plane : Plane) (cells : List Cell) (comments : List (List ℕ)) (rule 
   }
 
 -- a run that comes to `last`
-module _ (bytes : List ℕ) (options : Options) (meaning : Meaning) (rule : CountRule) (here : Plane) (run : IsAccepted bytes options meaning rule here) where
+module _ (bytes : List ℕ) (options : Options) (meaning : Meaning) (rule : CountRule) (here : Plane) (run : IsAccepted bytes (run_of options) meaning rule here) where
   abbrev pub start : Start
   start = record { meaning = meaning; rule = rule; cells = run.cells }
 
@@ -141,22 +131,15 @@ module _ (bytes : List ℕ) (options : Options) (meaning : Meaning) (rule : Coun
   pub first_said : (lines : ℕ) (said : List ℕ) → AreLinesAfter rule here meaning.generation (take lines (shown options)) said → IsBeginning meaning rule options said
   first_said lines said shows = (lines, same_shows rule here meaning.live run.same.same meaning.generation (take lines (shown options)) said shows)
 
-  -- a run that has said some lines
-  pub begun_some : (lines : ℕ) (said : List ℕ) → AreLinesAfter rule here meaning.generation (take lines (shown options)) said → IsBegun bytes options said
-  begun_some lines said shows = inr (record {
-    meaning = meaning;
-    rule = rule;
-    text = run.accepted.0.text;
-    read = run.accepted.0.rule;
-    accepted = inr (start, run.accepted);
-    report = inl (first_said lines said shows);
-  })
-
-  -- a run that has said all lines
-  pub begun_all : (said : List ℕ) → AreLinesAfter rule here meaning.generation (shown options) said → IsBegun bytes options said
-  begun_all said shows =
+  -- all lines are the first ones
+  all_said : (said : List ℕ) → AreLinesAfter rule here meaning.generation (shown options) said → IsBeginning meaning rule options said
+  all_said said shows =
       let all : take (length (shown options)) (shown options) ≡ shown options = take_all (length (shown options)) (shown options) (omega arith) in
-      begun_some (length (shown options)) said (subst (λ ns. AreLinesAfter rule here meaning.generation ns said) (sym all) shows)
+      first_said (length (shown options)) said (subst (λ ns. AreLinesAfter rule here meaning.generation ns said) (sym all) shows)
+
+  -- memory ran out behind the first lines, or behind the whole report
+  memory_out : (fault : Fault) (said : List ℕ) → fault ≡ placeless NoMemory → IsBeginning meaning rule options said ⊎ IsReport meaning rule options said → IsStopped bytes options fault said
+  memory_out fault said is report = record { start = start; accepted = run.accepted; why = inl (is, report) }
 
   -- the lines and the picture of the last cells
   pub whole_report : (last : Plane) (lines : List ℕ) → IsSame last (after rule here options.gens) → AreLinesAfter rule here meaning.generation (shown options) lines →
@@ -174,25 +157,13 @@ module _ (bytes : List ℕ) (options : Options) (meaning : Meaning) (rule : Coun
       HasReport bytes options (lines ++ picture_of options.window last)
   has_report last lines is shows = record { start = start; accepted = run.accepted; report = whole_report last lines is shows }
 
-  -- a run that has said all
-  begun_whole : (last : Plane) (lines : List ℕ) → IsSame last (after rule here options.gens) → AreLinesAfter rule here meaning.generation (shown options) lines →
-      IsBegun bytes options (lines ++ picture_of options.window last)
-  begun_whole last lines is shows = inr (record {
-    meaning = meaning;
-    rule = rule;
-    text = run.accepted.0.text;
-    read = run.accepted.0.rule;
-    accepted = inr (start, run.accepted);
-    report = inr (whole_report last lines is shows);
-  })
-
-  pub last_cells : (last : Plane) (cells : List Cell) → IsSame last (after rule here options.gens) → IsListing cells last → IsLast start options cells
+  pub last_cells : (last : Plane) (cells : List Cell) → IsSame last (after rule here options.gens) → IsListing cells last → IsLast start (run_of options) cells
   last_cells last cells is listing = same_after rule here meaning.live run.same.same options.gens cells (listing_as is listing)
 
   -- what an accepted run that ends well writes and answers
   pub finishes : (last : Plane) (lines : List ℕ) (cells : List Cell) (written : List ℕ) (answer : Summary) → IsSame last (after rule here options.gens) →
       AreLinesAfter rule here meaning.generation (shown options) lines → IsListing cells last → HasText options.format cells →
-      IsFileText options.format meaning.comments rule (last_generation start options) cells written → SumsUp (last_generation start options) last answer →
+      IsFileText options.format meaning.comments rule (last_generation start (run_of options)) cells written → SumsUp (last_generation start (run_of options)) last answer →
       Finishes start options answer (lines ++ picture_of options.window last) written
   finishes last lines cells written answer is shows listing fits file sum = record {
     cells = cells;
@@ -202,31 +173,18 @@ module _ (bytes : List ℕ) (options : Options) (meaning : Meaning) (rule : Coun
     file = file;
     summary =
         ap (λ g. record { generation = g; population = answer.population; bounds = answer.bounds }) sum.last
-        ∙ ap (λ n. record { generation = last_generation start options; population = n; bounds = answer.bounds }) (sum.population.count ∙ ap length (one_listing_lem last sum.population.cells cells sum.population.listing listing))
-        ∙ ap (λ b. record { generation = last_generation start options; population = length cells; bounds = b }) (sum.bounds.bounds ∙ ap bounds_of (one_listing_lem last sum.bounds.cells cells sum.bounds.listing listing));
+        ∙ ap (λ n. record { generation = last_generation start (run_of options); population = n; bounds = answer.bounds }) (sum.population.count ∙ ap length (one_listing_lem last sum.population.cells cells sum.population.listing listing))
+        ∙ ap (λ b. record { generation = last_generation start (run_of options); population = length cells; bounds = b }) (sum.bounds.bounds ∙ ap bounds_of (one_listing_lem last sum.bounds.cells cells sum.bounds.listing listing));
   }
 
   -- ---- how a run is refused once its report has begun
 
-  -- where the cells at the start are stuck, those of the file are
-  stuck_from : IsStuckWithin rule here options.pairs options.gens → IsStuckWithin rule meaning.live options.pairs options.gens
-  stuck_from stuck = record {
-    done = stuck.done;
-    before = stuck.before;
-    there = stuck.there;
-    cells = same_generation rule here meaning.live run.same.same stuck.done (live_cells stuck.there) stuck.cells;
-    rule = stuck.rule;
-    limit = stuck.limit;
-    one = stuck.one;
-    exhausted = stuck.exhausted;
-  }
-
   -- a run that has said some lines was stopped
   pub stopped_by : (refusal : Refusal) (lines : ℕ) (said : List ℕ) → IsOutOfRoom refusal → AreLinesAfter rule here meaning.generation (take lines (shown options)) said →
       (refusal ≡ NodesFull → IsStuckWithin rule here options.pairs options.gens) → IsStopped bytes options (placeless refusal) said
-  stopped_by refusal lines said (inl memory) shows stuck = inl (ap placeless memory, begun_some lines said shows)
+  stopped_by refusal lines said (inl memory) shows stuck = memory_out (placeless refusal) said (ap placeless memory) (inl (first_said lines said shows))
   stopped_by refusal lines said (inr is) shows stuck =
-      inr (ap placeless is, inr (record { start = start; accepted = run.accepted; report = first_said lines said shows; stuck = stuck_from (stuck is) }))
+      record { start = start; accepted = run.accepted; why = inr (ap placeless is, first_said lines said shows, stuck_from run.same (stuck is)) }
 
   -- in the middle of the report
   pub refused_reporting : {W V : Type 0} (generation : ℕ) (refusal : Refusal) (report : SinkChange W) (file : SinkChange V) → file.new ≡ file.old → generation ≡ meaning.generation →
@@ -254,7 +212,7 @@ module _ (bytes : List ℕ) (options : Options) (meaning : Meaning) (rule : Coun
     pub refused_counting : lines_taken ≡ report.taken report.new → file.new ≡ file.old → IsUnfailed report → IsRun bytes options report file (Err (placeless NoMemory))
     refused_counting taken same unfailed =
         let said_lines = subst (λ (bytes_taken : Option (List ℕ)). Appends (report.taken report.old) bytes_taken reported.0) taken reported.2 in
-        stopped_early (λ _. same) (inr (unfailed_same file same, unfailed)) (inr (inr (inl (same, (reported.0, inl (refl, begun_all reported.0 shows_all), said_lines)))))
+        stopped_early (λ _. same) (inr (unfailed_same file same, unfailed)) (inr (inr (inl (same, (reported.0, memory_out (placeless NoMemory) reported.0 refl (inl (all_said reported.0 shows_all)), said_lines)))))
 
     -- the sink failed at the picture
     pub refused_drawing : (refusal : Refusal) → refusal ≡ WriteFailed → Fails report → file.new ≡ file.old → AppendsBeginning lines_taken (report.taken report.new) (picture_of options.window last) →
@@ -267,8 +225,8 @@ module _ (bytes : List ℕ) (options : Options) (meaning : Meaning) (rule : Coun
       said_all = Appends-trans _ _ _ reported.0 (picture_of options.window last) reported.2 draws
 
       -- what the report says and what the file is to have
-      can_be_written : (answer : Summary) (Holds : List ℕ → Type 0) → SumsUp (last_generation start options) last answer →
-          (text : HasFileText options.format last meaning.comments rule (last_generation start options) Holds) → CanBeWritten bytes options (reported.0 ++ picture_of options.window last) text.text
+      can_be_written : (answer : Summary) (Holds : List ℕ → Type 0) → SumsUp (last_generation start (run_of options)) last answer →
+          (text : HasFileText options.format last meaning.comments rule (last_generation start (run_of options)) Holds) → CanBeWritten bytes options (reported.0 ++ picture_of options.window last) text.text
       can_be_written answer Holds sums text =
           record { start = start; answer = answer; accepted = run.accepted; finishes = finishes last reported.0 text.cells text.text answer is shows_all text.listing text.fits text.is sums }
 
@@ -298,11 +256,11 @@ module _ (bytes : List ℕ) (options : Options) (meaning : Meaning) (rule : Coun
             ),
           )))
       refused_writing format comments answer refusal asked is_comments sum no_format unfailed (inr (inl (memory, unchanged))) =
-          stopped_early no_format (inr (unfailed_same file unchanged, unfailed)) (inr (inr (inl (unchanged, (reported.0 ++ picture_of options.window last, inl (ap placeless memory, begun_whole last reported.0 is shows_all), said_all)))))
+          stopped_early no_format (inr (unfailed_same file unchanged, unfailed)) (inr (inr (inl (unchanged, (reported.0 ++ picture_of options.window last, memory_out (placeless refusal) _ (ap placeless memory) (inr (whole_report last reported.0 is shows_all)), said_all)))))
       refused_writing format comments answer refusal asked is_comments sum no_format unfailed (inr (inr ((failing, failed), begins))) =
-          let sums : SumsUp (last_generation start options) last answer = subst (λ (n : ℕ). SumsUp (n + options.gens) last answer) is_from sum in
-          let text = has_begun last sum.bounds.cells meaning.comments rule (last_generation start options) (file.taken file.old) (file.taken file.new) sum.bounds.listing options.format
-          (subst (λ (asked_for : Option Format). Begins asked_for last meaning.comments rule (last_generation start options) (file.taken file.old) (file.taken file.new)) (sym asked)
+          let sums : SumsUp (last_generation start (run_of options)) last answer = subst (λ (n : ℕ). SumsUp (n + options.gens) last answer) is_from sum in
+          let text = has_begun last sum.bounds.cells meaning.comments rule (last_generation start (run_of options)) (file.taken file.old) (file.taken file.new) sum.bounds.listing options.format
+          (subst (λ (asked_for : Option Format). Begins asked_for last meaning.comments rule (last_generation start (run_of options)) (file.taken file.old) (file.taken file.new)) (sym asked)
           (subst (λ (n : ℕ). Begins format last meaning.comments rule n (file.taken file.old) (file.taken file.new)) sums.last
           (subst (λ (texts : List (List ℕ)). Begins format last texts rule answer.generation (file.taken file.old) (file.taken file.new)) is_comments begins))) in
           failed_early no_format failing (inr (failed, unfailed, (reported.0 ++ picture_of options.window last, text.text, can_be_written answer _ sums text, said_all, text.holds)))
@@ -312,8 +270,8 @@ module _ (bytes : List ℕ) (options : Options) (meaning : Meaning) (rule : Coun
           Writes options.format last comments rule answer.generation (file.taken file.old) (file.taken file.new) → (options.format ≡ None → file.new ≡ file.old) → IsUnfailed file → IsUnfailed report →
           IsRun bytes options report file (Ok answer)
       ends_well comments answer is_comments sum writes no_format unfailed_file unfailed_report =
-          let sums : SumsUp (last_generation start options) last answer = subst (λ (n : ℕ). SumsUp (n + options.gens) last answer) is_from sum in
-          let text = has_written last sum.bounds.cells meaning.comments rule (last_generation start options) (file.taken file.old) (file.taken file.new) sum.bounds.listing options.format
+          let sums : SumsUp (last_generation start (run_of options)) last answer = subst (λ (n : ℕ). SumsUp (n + options.gens) last answer) is_from sum in
+          let text = has_written last sum.bounds.cells meaning.comments rule (last_generation start (run_of options)) (file.taken file.old) (file.taken file.new) sum.bounds.listing options.format
           (subst (λ (n : ℕ). Writes options.format last meaning.comments rule n (file.taken file.old) (file.taken file.new)) sums.last
           (subst (λ (texts : List (List ℕ)). Writes options.format last texts rule answer.generation (file.taken file.old) (file.taken file.new)) is_comments writes)) in
           let finished : HasFinished bytes options report file answer = (

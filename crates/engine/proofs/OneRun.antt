@@ -10,15 +10,17 @@ use Rattle.plane.specs.declared.cell.Cell.{Cell}
 use Rattle.plane.specs.declared.fault.Fault.{Fault}
 use Rattle.plane.proofs.Uniqueness.{one_listing_lem}
 use Rattle.patterns.specs.Meaning.{Meaning, judged}
+use Rattle.run_options.specs.declared.options.RunOptions.{RunOptions}
 use Rattle.engine.specs.FileText.{IsFileText}
 use Rattle.engine.specs.declared.format.Format.{Format}
 use Rattle.engine.specs.declared.format.Format.TheVariants.{Rle, Macrocell}
 use Rattle.pattern_writers.specs.McText.{mc_text}
 use Rattle.pattern_writers.proofs.WrittenReadBack.{one_smallest_level}
-use Rattle.engine.specs.Judgement.{Start, IsStart, Judges, StaysInRange, RefusesRange, RefusesRule, ReadsRule, rule_text_of}
+use Rattle.engine.specs.Judgement.{Start, IsStart, Judges, StaysInRange, RefusesRange, RefusesRule, ReadsRule, last_generation, rule_text_of}
 use Rattle.engine.specs.Report.{IsLineAfter, AreLinesAfter, report_line, shown}
 use Rattle.engine.specs.Drawing.{picture_of}
-use Rattle.engine.specs.Run.{Finishes, IsReport, last_generation}
+use Rattle.engine.specs.Run.{Finishes, IsReport}
+use Rattle.engine.specs.RunOptions.{run_of}
 use Rattle.engine.specs.declared.running.Summary.{Summary}
 use Rattle.engine.specs.declared.options.Options.{Options}
 
@@ -29,14 +31,14 @@ one_rule : (given : Option CountRule) (meaning : Meaning) (read other : Result C
 one_rule (Some rule) meaning read other is is_other = is ∙ sym is_other
 one_rule None meaning read other reads others = one_reading (rule_text_of meaning) read other reads others
 
-module _ (bytes : List ℕ) (options : Options) where
+module _ (bytes : List ℕ) (run : RunOptions) where
   one_meaning : (a b : Meaning) → judged bytes ≡ Ok a → judged bytes ≡ Ok b → a ≡ b
   one_meaning a b is_a is_b = cc
 
   -- a text is read as one rule or refused
-  one_rule_reading : (a b : Meaning) (read other : Result CountRule RuleFault) → judged bytes ≡ Ok a → judged bytes ≡ Ok b → ReadsRule options.rule a read → ReadsRule options.rule b other → read ≡ other
+  one_rule_reading : (a b : Meaning) (read other : Result CountRule RuleFault) → judged bytes ≡ Ok a → judged bytes ≡ Ok b → ReadsRule run.rule a read → ReadsRule run.rule b other → read ≡ other
   one_rule_reading a b read other is_a is_b reads others =
-      one_rule options.rule b read other (subst (λ m. ReadsRule options.rule m read) (one_meaning a b is_a is_b) reads) others
+      one_rule run.rule b read other (subst (λ m. ReadsRule run.rule m read) (one_meaning a b is_a is_b) reads) others
 
   same_start : (a b : Start) → a.meaning ≡ b.meaning → a.rule ≡ b.rule → a.cells ≡ b.cells → a ≡ b
   same_start a b meaning rule cells =
@@ -44,32 +46,32 @@ module _ (bytes : List ℕ) (options : Options) where
       ∙ ap (λ r. record { meaning = b.meaning; rule = r; cells = a.cells }) rule
       ∙ ap (λ c. record { meaning = b.meaning; rule = b.rule; cells = c }) cells
 
-  one_start : (a b : Start) → IsStart bytes options a → IsStart bytes options b → a ≡ b
+  one_start : (a b : Start) → IsStart bytes run a → IsStart bytes run b → a ≡ b
   one_start a b is_a is_b =
       let meaning = one_meaning a.meaning b.meaning is_a.text is_b.text in
       let rule : a.rule ≡ b.rule = let same = one_rule_reading a.meaning b.meaning (Ok a.rule) (Ok b.rule) is_a.text is_b.text is_a.rule is_b.rule in cc in
       let cells = one_listing_lem b.meaning.live a.cells b.cells (subst (λ m. IsListing a.cells m.live) meaning is_a.cells) is_b.cells in
       same_start a b meaning rule cells
 
-  not_both : (start : Start) (fault : Fault) → Judges bytes options (Ok start) → Judges bytes options (Err fault) → ⊥
+  not_both : (start : Start) (fault : Fault) → Judges bytes run (Ok start) → Judges bytes run (Err fault) → ⊥
   not_both start fault accepted (inl text) = let is = accepted.0.text in cc
   not_both start fault accepted (inr (inl rule)) =
       let same = one_rule_reading start.meaning rule.meaning (Ok start.rule) (Err rule.rule_fault) accepted.0.text rule.text accepted.0.rule rule.rule in cc
   not_both start fault accepted (inr (inr range)) =
-      range.outside (subst (StaysInRange options) (one_start start range.start accepted.0 range.accepted) accepted.1)
+      range.outside (subst (StaysInRange run) (one_start start range.start accepted.0 range.accepted) accepted.1)
 
-  one_rule_fault : (a b : Fault) → RefusesRule bytes options a → RefusesRule bytes options b → a ≡ b
+  one_rule_fault : (a b : Fault) → RefusesRule bytes run a → RefusesRule bytes run b → a ≡ b
   one_rule_fault a b refused other =
       let meaning = one_meaning refused.meaning other.meaning refused.text other.text in
       let fault : refused.rule_fault ≡ other.rule_fault =
       let same = one_rule_reading refused.meaning other.meaning (Err refused.rule_fault) (Err other.rule_fault) refused.text other.text refused.rule other.rule in cc in
       refused.is ∙ rw (meaning, fault) refl ∙ sym other.is
 
-  not_rule_and_range : (a b : Fault) → RefusesRule bytes options a → RefusesRange bytes options b → ⊥
+  not_rule_and_range : (a b : Fault) → RefusesRule bytes run a → RefusesRange bytes run b → ⊥
   not_rule_and_range a b rule range =
       let same = one_rule_reading range.start.meaning rule.meaning (Ok range.start.rule) (Err rule.rule_fault) range.accepted.text rule.text range.accepted.rule rule.rule in cc
 
-  one_fault : (a b : Fault) → Judges bytes options (Err a) → Judges bytes options (Err b) → a ≡ b
+  one_fault : (a b : Fault) → Judges bytes run (Err a) → Judges bytes run (Err b) → a ≡ b
   one_fault a b (inl text) (inl other) = cc
   one_fault a b (inl text) (inr (inl rule)) = let is = rule.text in cc
   one_fault a b (inl text) (inr (inr range)) = let is = range.accepted.text in cc
@@ -80,11 +82,11 @@ module _ (bytes : List ℕ) (options : Options) where
   one_fault a b (inr (inr range)) (inr (inl rule)) = absurd (not_rule_and_range b a rule range)
   one_fault a b (inr (inr range)) (inr (inr other)) = range.is ∙ sym other.is
 
-pub one_judgement_lem : (bytes : List ℕ) (options : Options) (a b : Result Start Fault) → Judges bytes options a → Judges bytes options b → a ≡ b
-one_judgement_lem bytes options (Ok a) (Ok b) accepted other = ap Ok (one_start bytes options a b accepted.0 other.0)
-one_judgement_lem bytes options (Ok a) (Err b) accepted refused = absurd (not_both bytes options a b accepted refused)
-one_judgement_lem bytes options (Err a) (Ok b) refused accepted = absurd (not_both bytes options b a accepted refused)
-one_judgement_lem bytes options (Err a) (Err b) refused other = ap Err (one_fault bytes options a b refused other)
+pub one_judgement_lem : (bytes : List ℕ) (run : RunOptions) (a b : Result Start Fault) → Judges bytes run a → Judges bytes run b → a ≡ b
+one_judgement_lem bytes run (Ok a) (Ok b) accepted other = ap Ok (one_start bytes run a b accepted.0 other.0)
+one_judgement_lem bytes run (Ok a) (Err b) accepted refused = absurd (not_both bytes run a b accepted refused)
+one_judgement_lem bytes run (Err a) (Ok b) refused accepted = absurd (not_both bytes run b a accepted refused)
+one_judgement_lem bytes run (Err a) (Err b) refused other = ap Err (one_fault bytes run a b refused other)
 
 -- ---- one ending
 
@@ -125,6 +127,6 @@ one_ending_lem start options a b said others written other finishes also =
     let cells = one_listing_lem (after start.rule start.meaning.live options.gens) finishes.cells also.cells finishes.last also.last in (
       finishes.summary ∙ rw cells refl ∙ sym also.summary,
       one_report start.meaning start.rule options said others finishes.report also.report,
-      one_file_text options.format start.meaning.comments start.rule (last_generation start options) also.cells written other
-          (subst (λ (c : List Cell). IsFileText options.format start.meaning.comments start.rule (last_generation start options) c written) cells finishes.file) also.file,
+      one_file_text options.format start.meaning.comments start.rule (last_generation start (run_of options)) also.cells written other
+          (subst (λ (c : List Cell). IsFileText options.format start.meaning.comments start.rule (last_generation start (run_of options)) c written) cells finishes.file) also.file,
     )

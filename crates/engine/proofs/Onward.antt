@@ -2,7 +2,7 @@
 use Rattle.std.proofs.Common.{◌≡◌, ℕ, ◌+◌, ◌≤◌, ◌^◌, ◌∙◌, ap, sym, subst, arith}
 use Rattle.rule_text.specs.CountRule.{CountRule}
 use Rattle.plane.specs.Centred.{Holds}
-use Rattle.plane.specs.Plane.{after}
+use Rattle.plane.specs.Plane.{Plane, after}
 use Rattle.plane.specs.Square.{IsSame}
 use Rattle.plane.proofs.Same.{same_trans}
 use Rattle.table_core.specs.declared.shape.Shape.{Shape}
@@ -13,6 +13,7 @@ use Rattle.universe.specs.declared.universe.Universe.{Universe}
 use Rattle.universe.proofs.Later.{after_step, held_later}
 use Rattle.engine.specs.Generations.{IsSameRun}
 use Rattle.engine.specs.Room.{IsStuckWithin}
+use Rattle.engine.proofs.Reports.{same_generation}
 
 -- the cells after so many generations, under the same rule and limit
 pub record IsRunOn (old : Universe) (generations : ℕ) (new : Universe) : Type 0 where
@@ -47,6 +48,19 @@ stuck_on {first} {second} generations done more before within stuck = record {
       (subst (λ (r : CountRule). IsSame (live_cells stuck.there) (after r (live_cells second) stuck.done)) before.rule stuck.later.cells);
   rule = stuck.later.rule ∙ before.rule;
   limit = ap (λ (s : Shape). 2 ^ s.bits) stuck.later.limit ∙ before.limit;
+  one = stuck.one;
+  exhausted = stuck.exhausted;
+}
+
+-- where a plane is stuck, each with the same cells is
+pub stuck_from : {rule : CountRule} {plane other : Plane} {pairs generations : ℕ} → IsSame plane other → IsStuckWithin rule plane pairs generations → IsStuckWithin rule other pairs generations
+stuck_from {rule} {plane} {other} same stuck = record {
+  done = stuck.done;
+  before = stuck.before;
+  there = stuck.there;
+  cells = same_generation rule plane other same.same stuck.done (live_cells stuck.there) stuck.cells;
+  rule = stuck.rule;
+  limit = stuck.limit;
   one = stuck.one;
   exhausted = stuck.exhausted;
 }

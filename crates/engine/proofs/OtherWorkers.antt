@@ -3,14 +3,15 @@ use Rattle.std.proofs.Common.{ℕ, List, Result, Ok, Err, inl, inr}
 use Rattle.plane.specs.declared.fault.Fault.{Fault}
 use Rattle.engine.specs.Judgement.{Start, IsStart, Judges}
 use Rattle.engine.specs.Run.{Finishes}
+use Rattle.engine.specs.RunOptions.{run_of}
 use Rattle.engine.specs.Workers.{with_workers}
 use Rattle.engine.specs.declared.options.Options.{Options}
 use Rattle.engine.specs.declared.running.Summary.{Summary}
 
-start_as : (bytes : List ℕ) (options : Options) (workers pairs : ℕ) (start : Start) → IsStart bytes (with_workers workers pairs options) start → IsStart bytes options start
+start_as : (bytes : List ℕ) (options : Options) (workers pairs : ℕ) (start : Start) → IsStart bytes (run_of (with_workers workers pairs options)) start → IsStart bytes (run_of options) start
 start_as bytes options workers pairs start is = record { text = is.text; rule = is.rule; cells = is.cells }
 
-pub judged_as : (bytes : List ℕ) (options : Options) (workers pairs : ℕ) (a : Result Start Fault) → Judges bytes (with_workers workers pairs options) a → Judges bytes options a
+pub judged_as : (bytes : List ℕ) (options : Options) (workers pairs : ℕ) (a : Result Start Fault) → Judges bytes (run_of (with_workers workers pairs options)) a → Judges bytes (run_of options) a
 judged_as bytes options workers pairs (Ok start) judges = (start_as bytes options workers pairs start judges.0, judges.1)
 judged_as bytes options workers pairs (Err fault) (inl text) = inl text
 judged_as bytes options workers pairs (Err fault) (inr (inl rule)) =

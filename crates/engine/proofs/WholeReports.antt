@@ -16,6 +16,7 @@ use Rattle.universe.proofs.Held.{held}
 use Rattle.patterns.specs.Meaning.{Meaning}
 use Rattle.engine.specs.Accepted.{IsAccepted}
 use Rattle.engine.specs.Report.{report_line, is_shown, shown, AreLinesAfter}
+use Rattle.engine.specs.RunOptions.{run_of}
 use Rattle.engine.specs.declared.options.Options.{Options}
 use Rattle.engine.proofs.Reports.{AllZip-append, filtered_in, filtered_out}
 
@@ -81,7 +82,7 @@ module _ (rule : CountRule) (plane : Plane) (start last : ℕ) (listed : (n : �
 
 -- ---- the report of an accepted run
 
-module _ (bytes : List ℕ) (options : Options) (meaning : Meaning) (rule : CountRule) (here : Plane) (run : IsAccepted bytes options meaning rule here) where
+module _ (bytes : List ℕ) (options : Options) (meaning : Meaning) (rule : CountRule) (here : Plane) (run : IsAccepted bytes (run_of options) meaning rule here) where
   listed : (n : ℕ) → n ≤ options.gens → (cells : List Cell) × IsListing cells (after rule here n)
   listed n within = held_listing 63 (after rule here n) (held rule run.lawful.no_birth_on_zero run.cells here options.gens n run.listing run.accepted.1.coordinates within)
 

@@ -1,5 +1,5 @@
 -- What stands between the parts of a run.
-use Rattle.std.specs.Prelude.{◌≡◌, ◌⊎◌, ℕ, List, [], Ok, Err}
+use Rattle.std.specs.Prelude.{◌≡◌, ℕ, List, Ok}
 use Rattle.rule_text.specs.CountRule.{CountRule, IsRule}
 use Rattle.plane.specs.Bounds.{bounds_of}
 use Rattle.plane.specs.Listing.{IsListing}
@@ -9,11 +9,9 @@ use Rattle.plane.specs.Square.{IsSame}
 use Rattle.plane.specs.declared.cell.Cell.{Cell}
 use Rattle.viewport.specs.BoundingBox.{HasBounds}
 use Rattle.viewport.specs.Population.{HasPopulation}
-use Rattle.plane.specs.declared.fault.Fault.{Fault}
 use Rattle.engine.specs.Judgement.{Judges}
 use Rattle.patterns.specs.Meaning.{Meaning}
-use Rattle.engine.specs.Run.{IsStopped}
-use Rattle.engine.specs.declared.options.Options.{Options}
+use Rattle.run_options.specs.declared.options.RunOptions.{RunOptions}
 use Rattle.engine.specs.declared.running.Summary.{Summary}
 
 -- the plane has the cells of the file, and from there so many generations stay in the range
@@ -31,18 +29,14 @@ pub record LeavesRange (meaning : Meaning) (generations : ℕ) : Type 0 where
 
 -- the run is accepted, by this rule and of a file that means this, and the plane has the cells of
 -- the file
-pub record IsAccepted (bytes : List ℕ) (options : Options) (meaning : Meaning) (rule : CountRule)
+pub record IsAccepted (bytes : List ℕ) (run : RunOptions) (meaning : Meaning) (rule : CountRule)
     (here : Plane) : Type 0 where
   pub cells : List Cell
   pub listing : IsListing cells here
   pub same : IsSame here meaning.live
   pub lawful : IsRule rule
-  pub accepted : Judges bytes options
+  pub accepted : Judges bytes run
       (Ok (record { meaning = meaning; rule = rule; cells = cells }))
-
--- the run is refused before its first line: by its judgement, or since there was no room
-unfoldable pub IsRefused : List ℕ → Options → Fault → Type 0
-IsRefused bytes options fault = Judges bytes options (Err fault) ⊎ IsStopped bytes options fault []
 
 -- the answer of a run whose last generation has this number and these cells
 pub record SumsUp (generation : ℕ) (plane : Plane) (answer : Summary) : Type 0 where

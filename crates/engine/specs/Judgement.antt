@@ -1,5 +1,5 @@
 -- Which runs are accepted, and how the others are refused.
-use Rattle.std.specs.Prelude.{◌≡◌, ◌⊎◌, ℕ, List, codes, Option, Result, Ok, Err, Some, None}
+use Rattle.std.specs.Prelude.{◌≡◌, ◌⊎◌, ℕ, ◌+◌, List, codes, Option, Result, Ok, Err, Some, None}
 use Rattle.std.specs.Option.{unwrap_or}
 use Rattle.rule_text.specs.CountRule.{CountRule}
 use Rattle.rule_text.specs.RuleText.{Reads}
@@ -13,7 +13,7 @@ use Rattle.plane.specs.declared.cell.Cell.{Cell}
 use Rattle.plane.specs.declared.fault.Fault.{Fault}
 use Rattle.plane.specs.declared.refusal.Refusal.TheVariants.{TooFar}
 use Rattle.patterns.specs.Meaning.{Meaning, judged}
-use Rattle.engine.specs.declared.options.Options.{Options}
+use Rattle.run_options.specs.declared.options.RunOptions.{RunOptions}
 
 -- the text of the file's rule: that of Life where it names none
 abbrev pub rule_text_of : Meaning → List ℕ
@@ -30,34 +30,37 @@ pub record Start : Type 0 where
   pub rule : CountRule
   pub cells : List Cell
 
+-- the number of the last generation
+abbrev pub last_generation : Start → RunOptions → ℕ
+last_generation start run = start.meaning.generation + run.gens
+
 -- the file's text and the rule are accepted
-pub record IsStart (bytes : List ℕ) (options : Options) (start : Start) : Type 0 where
+pub record IsStart (bytes : List ℕ) (run : RunOptions) (start : Start) : Type 0 where
   pub text : judged bytes ≡ Ok start.meaning
-  pub rule : ReadsRule options.rule start.meaning (Ok start.rule)
+  pub rule : ReadsRule run.rule start.meaning (Ok start.rule)
   pub cells : IsListing start.cells start.meaning.live
 
 -- the run stays within the range and the last generation
-abbrev pub StaysInRange : Options → Start → Type 0
-StaysInRange options start =
-    StaysWithin (bounds_of start.cells) start.meaning.generation options.gens
+abbrev pub StaysInRange : RunOptions → Start → Type 0
+StaysInRange run start = StaysWithin (bounds_of start.cells) start.meaning.generation run.gens
 
 -- the text is accepted, and its rule is refused, at the place of the header
-pub record RefusesRule (bytes : List ℕ) (options : Options) (fault : Fault) : Type 0 where
+pub record RefusesRule (bytes : List ℕ) (run : RunOptions) (fault : Fault) : Type 0 where
   pub meaning : Meaning
   pub rule_fault : RuleFault
   pub text : judged bytes ≡ Ok meaning
-  pub rule : ReadsRule options.rule meaning (Err rule_fault)
+  pub rule : ReadsRule run.rule meaning (Err rule_fault)
   pub is : fault ≡ record { refusal = rule_refusal rule_fault; place = Some meaning.rule_place }
 
 -- text and rule are accepted, and the run is too far
-pub record RefusesRange (bytes : List ℕ) (options : Options) (fault : Fault) : Type 0 where
+pub record RefusesRange (bytes : List ℕ) (run : RunOptions) (fault : Fault) : Type 0 where
   pub start : Start
-  pub accepted : IsStart bytes options start
-  pub outside : StaysInRange options start → ⊥
+  pub accepted : IsStart bytes run start
+  pub outside : StaysInRange run start → ⊥
   pub is : fault ≡ placeless TooFar
 
 -- the judgements of a run, in their order: its text, then the rule, then the range
-abbrev pub Judges : List ℕ → Options → Result Start Fault → Type 0
-Judges bytes options (Ok start) = IsStart bytes options start × StaysInRange options start
-Judges bytes options (Err fault) =
-    (judged bytes ≡ Err fault) ⊎ RefusesRule bytes options fault ⊎ RefusesRange bytes options fault
+abbrev pub Judges : List ℕ → RunOptions → Result Start Fault → Type 0
+Judges bytes run (Ok start) = IsStart bytes run start × StaysInRange run start
+Judges bytes run (Err fault) =
+    (judged bytes ≡ Err fault) ⊎ RefusesRule bytes run fault ⊎ RefusesRange bytes run fault

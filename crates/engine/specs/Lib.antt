@@ -7,6 +7,7 @@ pub mod Judgement
 pub mod Last
 pub mod Pattern
 pub mod Pictures
+pub mod Refused
 pub mod Report
 pub mod Room
 pub mod Run

@@ -1,5 +1,5 @@
 -- What a run writes and answers.
-use Rattle.std.specs.Prelude.{◌≡◌, ◌⊎◌, ℕ, ◌+◌, true, List, [], ◌++◌, length, take, None, Result, Ok, Err, IfOk, IfErr}
+use Rattle.std.specs.Prelude.{◌≡◌, ◌⊎◌, ℕ, List, ◌++◌, length, take, None, Result, Ok, Err, IfOk, IfErr}
 use Rattle.rule_text.specs.CountRule.{CountRule}
 use Rattle.plane.specs.Bounds.{bounds_of}
 use Rattle.plane.specs.Fault.{placeless}
@@ -10,23 +10,20 @@ use Rattle.plane.specs.declared.cell.Cell.{Cell}
 use Rattle.plane.specs.declared.fault.Fault.{Fault}
 use Rattle.plane.specs.declared.refusal.Refusal.{Refusal}
 use Rattle.plane.specs.declared.refusal.Refusal.TheVariants.{BoxTooLarge, NodesFull, NoMemory, WriteFailed}
-use Rattle.patterns.specs.Meaning.{Meaning, is_macrocell, judged}
+use Rattle.patterns.specs.Meaning.{Meaning}
 use Rattle.engine.specs.FileText.{HasText, IsFileText}
-use Rattle.engine.specs.Judgement.{Start, Judges, ReadsRule}
+use Rattle.engine.specs.Judgement.{Start, Judges, last_generation}
+use Rattle.engine.specs.Refused.{IsFullOnTheWay, IsRefused}
 use Rattle.engine.specs.Report.{AreLinesAfter, shown}
-use Rattle.engine.specs.Room.{IsStuckWithin}
+use Rattle.engine.specs.RunOptions.{run_of}
 use Rattle.engine.specs.Drawing.{picture_of}
-use Rattle.universe.specs.Tables.{HasFullTable}
+use Rattle.run_options.specs.declared.options.RunOptions.{RunOptions}
 use Rattle.engine.specs.declared.running.Summary.{Summary}
 use Rattle.engine.specs.declared.options.Options.{Options}
 
--- the number of the last generation
-abbrev pub last_generation : Start → Options → ℕ
-last_generation start options = start.meaning.generation + options.gens
-
 -- the cells are those of the last generation
-abbrev pub IsLast : Start → Options → List Cell → Type 0
-IsLast start options cells = IsListing cells (after start.rule start.meaning.live options.gens)
+abbrev pub IsLast : Start → RunOptions → List Cell → Type 0
+IsLast start run cells = IsListing cells (after start.rule start.meaning.live run.gens)
 
 -- the text is the whole report of a file that is run by the rule: its lines, and then the picture
 -- of the last cells
@@ -46,13 +43,13 @@ IsBeginning meaning rule options text =
 pub record Finishes (start : Start) (options : Options) (answer : Summary)
     (said written : List ℕ) : Type 0 where
   pub cells : List Cell
-  pub last : IsLast start options cells
+  pub last : IsLast start (run_of options) cells
   pub report : IsReport start.meaning start.rule options said
   pub fits : HasText options.format cells
   pub file : IsFileText options.format start.meaning.comments start.rule
-      (last_generation start options) cells written
+      (last_generation start (run_of options)) cells written
   pub summary : answer ≡ record {
-    generation = last_generation start options;
+    generation = last_generation start (run_of options);
     population = length cells;
     bounds = bounds_of cells;
   }
@@ -61,91 +58,47 @@ pub record Finishes (start : Start) (options : Options) (answer : Summary)
 pub record IsTooLarge (bytes : List ℕ) (options : Options) (said : List ℕ) : Type 0 where
   pub start : Start
   pub cells : List Cell
-  pub accepted : Judges bytes options (Ok start)
-  pub last : IsLast start options cells
+  pub accepted : Judges bytes (run_of options) (Ok start)
+  pub last : IsLast start (run_of options) cells
   pub report : IsReport start.meaning start.rule options said
   pub unfit : HasText options.format cells → ⊥
-
--- the run is accepted
-abbrev pub IsAcceptedRun : List ℕ → Options → Type 0
-IsAcceptedRun bytes options = (start : Start) × Judges bytes options (Ok start)
-
--- where a run has said anything, it is accepted
-abbrev pub IsSilentOrAccepted : List ℕ → Options → List ℕ → Type 0
-IsSilentOrAccepted bytes options said = (said ≡ []) ⊎ IsAcceptedRun bytes options
-
--- the run's text and rule are accepted, and its range where it has said anything; and this is the
--- whole of its report, or its first lines, or none
-pub record HasBegun (bytes : List ℕ) (options : Options) (said : List ℕ) : Type 0 where
-  pub meaning : Meaning
-  pub rule : CountRule
-  pub text : judged bytes ≡ Ok meaning
-  pub read : ReadsRule options.rule meaning (Ok rule)
-  pub accepted : IsSilentOrAccepted bytes options said
-  pub report : IsBeginning meaning rule options said ⊎ IsReport meaning rule options said
-
--- a run is about to read a macrocell file, which takes memory, and has said nothing; or it has
--- begun
-abbrev pub IsBegun : List ℕ → Options → List ℕ → Type 0
-IsBegun bytes options said =
-    ((is_macrocell bytes ≡ true) × (said ≡ [])) ⊎ HasBegun bytes options said
-
--- a run has said nothing, and a table is full as building the file's squares may leave it: it has
--- as many pair slots as the options allow, was opened under this rule without a square, and knows
--- no result. The text and the rule are accepted. Which squares fill the table is not said: they may
--- be any, of use for the cells or not
-pub record IsFullWithNothingSaid (bytes : List ℕ) (options : Options) (said : List ℕ) : Type 0 where
-  pub meaning : Meaning
-  pub rule : CountRule
-  pub text : judged bytes ≡ Ok meaning
-  pub read : ReadsRule options.rule meaning (Ok rule)
-  pub silent : said ≡ []
-  pub full : HasFullTable rule options.pairs
-
--- a run is accepted, and these are the first lines of its report, or none; and the tables that the
--- options allow are too small for a generation before its last
-pub record IsFullOnTheWay (bytes : List ℕ) (options : Options) (said : List ℕ) : Type 0 where
-  pub start : Start
-  pub accepted : Judges bytes options (Ok start)
-  pub report : IsBeginning start.meaning start.rule options said
-  pub stuck : IsStuckWithin start.rule start.meaning.live options.pairs options.gens
-
--- a table is full as building may leave it, and nothing is said; or the run, quiet or not, is full
--- on the way
-abbrev pub IsOutOfTables : List ℕ → Options → List ℕ → Type 0
-IsOutOfTables bytes options said =
-    IsFullWithNothingSaid bytes options said ⊎ IsFullOnTheWay bytes options said
 
 -- memory ran out, or the tables of squares are full
 abbrev pub IsOutOfRoom : Refusal → Type 0
 IsOutOfRoom refusal = (refusal ≡ NoMemory) ⊎ (refusal ≡ NodesFull)
 
--- a run that has said this was stopped: memory ran out, or the tables that the options allow were
--- full
-abbrev pub IsStopped : List ℕ → Options → Fault → List ℕ → Type 0
-IsStopped bytes options fault said =
-    ((fault ≡ placeless NoMemory) × IsBegun bytes options said)
-    ⊎ ((fault ≡ placeless NodesFull) × IsOutOfTables bytes options said)
+-- an accepted run that has said this was stopped on its way. Memory ran out, after the first lines
+-- of its report, or none, or the whole; or the tables that the options allow were full, after the
+-- first lines, or none
+pub record IsStopped (bytes : List ℕ) (options : Options) (fault : Fault)
+    (said : List ℕ) : Type 0 where
+  pub start : Start
+  pub accepted : Judges bytes (run_of options) (Ok start)
+  pub why : ((fault ≡ placeless NoMemory)
+      × (IsBeginning start.meaning start.rule options said
+      ⊎ IsReport start.meaning start.rule options said))
+      ⊎ ((fault ≡ placeless NodesFull) × IsBeginning start.meaning start.rule options said
+      × IsFullOnTheWay start (run_of options))
 
 -- a run of these bytes ended well: its report and its file took what it says and writes
 abbrev pub HasFinished : {W V : Type 0} → List ℕ → Options → SinkChange W → SinkChange V → Summary →
     Type 0
 HasFinished bytes options report file answer =
-    (start : Start) × (said : List ℕ) × (written : List ℕ) × Judges bytes options (Ok start)
+    (start : Start) × (said : List ℕ) × (written : List ℕ) × Judges bytes (run_of options) (Ok start)
     × Finishes start options answer said written
     × Takes report said × Takes file written
 
 -- the run is accepted, and this is the whole of its report
 pub record HasReport (bytes : List ℕ) (options : Options) (said : List ℕ) : Type 0 where
   pub start : Start
-  pub accepted : Judges bytes options (Ok start)
+  pub accepted : Judges bytes (run_of options) (Ok start)
   pub report : IsReport start.meaning start.rule options said
 
 -- the run is accepted, and it says this in its report and writes this to its file
 pub record CanBeWritten (bytes : List ℕ) (options : Options) (said written : List ℕ) : Type 0 where
   pub start : Start
   pub answer : Summary
-  pub accepted : Judges bytes options (Ok start)
+  pub accepted : Judges bytes (run_of options) (Ok start)
   pub finishes : Finishes start options answer said written
 
 -- the report took a beginning of what an accepted run says
@@ -164,13 +117,13 @@ HasFailedToWrite bytes options report file =
     × ((said : List ℕ) × (written : List ℕ) × CanBeWritten bytes options said written
     × Takes report said × TakesBeginning file written))
 
--- a run of these bytes was refused, in one of four ways. The bytes are not accepted, and nothing is
--- written. The format can't hold the last cells, and the report is whole. Memory ran out or the
--- tables are full. A sink failed
+-- a run of these bytes was refused, in one of four ways. It was refused before anything was said of
+-- it, and nothing is written. The format can't hold the last cells, and the report is whole. Memory
+-- ran out or the tables were full on its way. A sink failed
 abbrev pub HasEndedEarly : {W V : Type 0} → List ℕ → Options → SinkChange W → SinkChange V → Fault →
     Type 0
 HasEndedEarly bytes options report file fault =
-    (Judges bytes options (Err fault) × (report.new ≡ report.old) × (file.new ≡ file.old))
+    (IsRefused bytes (run_of options) fault × (report.new ≡ report.old) × (file.new ≡ file.old))
     ⊎ ((fault ≡ placeless BoxTooLarge) × (file.new ≡ file.old)
     × ((said : List ℕ) × IsTooLarge bytes options said × Takes report said))
     ⊎ ((file.new ≡ file.old)

@@ -4,13 +4,4 @@ use Rattle.engine.specs.declared.options.Options.{Options}
 
 -- the same options with so many workers, and tables of so many pair slots
 abbrev pub with_workers : (workers pairs : ℕ) → Options → Options
-with_workers workers pairs options = record {
-  gens = options.gens;
-  step = options.step;
-  rule = options.rule;
-  window = options.window;
-  format = options.format;
-  pairs = pairs;
-  workers = workers;
-  quiet = options.quiet;
-}
+with_workers workers pairs options = record options { pairs = pairs; workers = workers }

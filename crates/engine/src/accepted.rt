@@ -3,19 +3,20 @@
 ghost use Rattle.std.specs.Prelude.{◌≡◌, ◌⊎◌, Some, Ok, Err, IfOk, IfErr};
 ghost use Rattle.rule_text.specs.CountRule.{IsRule};
 ghost use Rattle.rule_text.specs.declared.fault.RuleFault.{RuleFault};
-ghost use Rattle.engine.specs.Accepted.{KeepsToRange, IsAccepted, IsRefused, LeavesRange};
+ghost use Rattle.engine.specs.Accepted.{KeepsToRange, IsAccepted, LeavesRange};
 ghost use Rattle.plane.specs.Refusal.{rule_refusal};
 ghost use Rattle.engine.specs.Judgement.{ReadsRule};
+ghost use Rattle.engine.specs.Refused.{IsRefused};
 ghost use Rattle.engine.specs.Run.{IsOutOfRoom};
 ghost use Rattle.patterns.specs.PatternFile.{meaning_of};
 ghost use Rattle.table_core.specs.Sizes.{IsPairCount};
 ghost use Rattle.universe.specs.Cells.{limit_of, live_cells, rule_of};
 ghost use Rattle.universe.specs.Tables.{HasFullTable};
 
-use crate::options::Options;
 use patterns::PatternFile;
 use plane::{Fault, Refusal, reach, rule_refusal};
 use rule_text::Rule;
+use run_options::RunOptions;
 use std::alloc::Global;
 use universe::Universe;
 
@@ -38,20 +39,20 @@ pub(crate) struct Accepted<'a> {
 pub(crate) fn judge<'a>(
     alloc: Global,
     bytes: &'a [u8],
-    options: &Options,
+    run: &RunOptions,
 ) -> Result<Accepted<'a>, Fault>
-    requires { IsPairCount options.now.pairs }
-    ensures accepted { IfOk result (λ run.
-        IsAccepted bytes.now options.now (meaning_of run.text)
-        (rule_of run.universe) (live_cells run.universe)) }
-    ensures rule { IfOk result (λ run. rule_of run.universe ≡ run.rule) }
-    ensures limit { IfOk result (λ run. limit_of run.universe ≡ options.now.pairs) }
-    ensures refused { IfErr result (IsRefused bytes.now options.now) }
+    requires { IsPairCount run.now.pairs }
+    ensures accepted { IfOk result (λ begun.
+        IsAccepted bytes.now run.now (meaning_of begun.text)
+        (rule_of begun.universe) (live_cells begun.universe)) }
+    ensures rule { IfOk result (λ begun. rule_of begun.universe ≡ begun.rule) }
+    ensures limit { IfOk result (λ begun. limit_of begun.universe ≡ run.now.pairs) }
+    ensures refused { IfErr result (IsRefused bytes.now run.now) }
 {
     let text = PatternFile::open(alloc, bytes)?;
-    let rule = given_or_named(&text, options.rule)?;
+    let rule = given_or_named(&text, run.rule)?;
     let expected = bytes.len() as u64 / BYTES_A_SLOT;
-    let universe = universe_of(alloc, &rule, &text, expected, options.gens, options.pairs)?;
+    let universe = universe_of(alloc, &rule, &text, expected, run.gens, run.pairs)?;
     Ok(Accepted {
         text,
         rule,

@@ -3,13 +3,11 @@
 ghost use Rattle.std.specs.Prelude.{IfErr, IfOk};
 ghost use Rattle.run_options.specs.Workers.{IsWorkerCount};
 ghost use Rattle.table_core.specs.Sizes.{IsPairCount};
-ghost use Rattle.engine.specs.Accepted.{IsRefused};
 ghost use Rattle.engine.specs.Last.{EndsWith};
 ghost use Rattle.engine.specs.Pattern.{plane_of};
-ghost use Rattle.engine.specs.RunOptions.{without_output};
+ghost use Rattle.engine.specs.Refused.{IsRefused};
 
 use crate::accepted::judge;
-use crate::options::without_output;
 use crate::pattern::Pattern;
 use crate::running::{Summary, finish, team_of};
 use plane::Fault;
@@ -34,15 +32,14 @@ pub fn last_pattern<R: Threads + Wait + Sync>(
     requires workers { IsWorkerCount run.now.workers }
     // It runs accepted files to their last generation, and sums that up.
     ensures ok { IfOk result (λ last.
-        EndsWith bytes.now (without_output run.now) (plane_of last.0) last.1) }
+        EndsWith bytes.now run.now (plane_of last.0) last.1) }
     // It refuses what is not accepted, by its name and at its place, and else only where memory ran out or the tables are full.
-    ensures refused { IfErr result (IsRefused bytes.now (without_output run.now)) }
+    ensures refused { IfErr result (IsRefused bytes.now run.now) }
 {
-    let options = without_output(run);
-    let begun = judge(alloc, bytes, &options)?;
+    let begun = judge(alloc, bytes, run)?;
     let start = begun.text.generation();
-    let team = team_of(rt, alloc, &options, &OpenGate);
-    let universe = begun.universe.after(&team, options.gens)?;
-    let last = finish(alloc, universe, start + options.gens)?;
+    let team = team_of(rt, alloc, run, &OpenGate);
+    let universe = begun.universe.after(&team, run.gens)?;
+    let last = finish(alloc, universe, start + run.gens)?;
     Ok(last)
 }

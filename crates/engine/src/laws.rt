@@ -4,14 +4,16 @@ ghost use Rattle.std.specs.Prelude.{◌≡◌, ℕ, List, Result};
 ghost use Rattle.plane.specs.declared.fault.Fault.{Fault};
 ghost use Rattle.engine.specs.Judgement.{Start, Judges};
 ghost use Rattle.engine.specs.Run.{Finishes};
+ghost use Rattle.engine.specs.RunOptions.{run_of};
 ghost use Rattle.engine.specs.Workers.{with_workers};
 ghost use Rattle.engine.specs.declared.running.Summary.{Summary};
 ghost use Rattle.engine.specs.declared.options.Options.{Options};
+ghost use Rattle.run_options.specs.declared.options.RunOptions.{RunOptions};
 
 /// A run has one judgement: it is accepted or refused, and never both.
 pub fn one_judgement()
-    ensures { (bytes : List ℕ) (options : Options) (a b : Result Start Fault) →
-        Judges bytes options a → Judges bytes options b → a ≡ b }
+    ensures { (bytes : List ℕ) (run : RunOptions) (a b : Result Start Fault) →
+        Judges bytes run a → Judges bytes run b → a ≡ b }
 {}
 
 /// An accepted run has one answer, one report and one file.
@@ -27,7 +29,8 @@ pub fn one_ending()
 pub fn every_number_of_workers()
     ensures judged { (bytes : List ℕ) (options : Options) (workers pairs : ℕ)
         (a b : Result Start Fault) →
-        Judges bytes options a → Judges bytes (with_workers workers pairs options) b → a ≡ b }
+        Judges bytes (run_of options) a →
+        Judges bytes (run_of (with_workers workers pairs options)) b → a ≡ b }
     ensures ended { (start : Start) (options : Options) (workers pairs : ℕ) (a b : Summary)
         (said others written other : List ℕ) →
         Finishes start options a said written →

@@ -1,7 +1,7 @@
 //! What a run is asked to do.
 
 ghost use Rattle.std.specs.Prelude.{◌≡◌};
-ghost use Rattle.engine.specs.RunOptions.{without_output};
+ghost use Rattle.engine.specs.RunOptions.{run_of};
 
 use crate::format::Format;
 use plane::Window;
@@ -32,18 +32,16 @@ pub struct Options {
     pub quiet: bool,
 }
 
-// The same run: it is quiet, and draws and writes nothing.
-pub(crate) fn without_output(run: &RunOptions) -> Options
-    ensures { result ≡ without_output run.now }
-{
-    Options {
-        gens: run.gens,
-        step: 0,
-        rule: run.rule,
-        window: None,
-        format: None,
-        pairs: run.pairs,
-        workers: run.workers,
-        quiet: true,
+impl Options {
+    // Which run it is, whatever is said and written of it.
+    pub(crate) fn run(&self) -> RunOptions
+        ensures { result ≡ run_of self.now }
+    {
+        RunOptions {
+            gens: self.gens,
+            rule: self.rule,
+            pairs: self.pairs,
+            workers: self.workers,
+        }
     }
 }

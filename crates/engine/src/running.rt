@@ -17,6 +17,7 @@ use crate::options::Options;
 use crate::pattern::{Heading, Pattern};
 use crate::reported::run_reported;
 use plane::{Bounds, Fault, Refusal, Sink, Source};
+use run_options::RunOptions;
 use std::alloc::Global;
 use std::sync::Wait;
 use std::thread::Threads;
@@ -102,9 +103,10 @@ pub fn run_gated<R: Threads + Wait + Sync, G: Gate, W: Sink, V: Sink>(
         (change_of W.taken W.failure_count report.old report.new)
         (change_of V.taken V.failure_count file.old file.new) result }
 {
-    let begun = judge(alloc, bytes, options)?;
+    let run = options.run();
+    let begun = judge(alloc, bytes, &run)?;
     let start = begun.text.generation();
-    let team = team_of(rt, alloc, options, gate);
+    let team = team_of(rt, alloc, &run, gate);
     let universe = run_reported(&team, begun.universe, start, options, report)?;
     let (last, summary) = finish(alloc, universe, start + options.gens)?;
     last.draw(options.window, report)?;
@@ -121,16 +123,16 @@ pub fn run_gated<R: Threads + Wait + Sync, G: Gate, W: Sink, V: Sink>(
 pub(crate) fn team_of<'a, R, G>(
     rt: &'a R,
     alloc: Global,
-    options: &Options,
+    run: &RunOptions,
     gate: &'a G,
 ) -> Team<'a, R, G>
-    requires { IsWorkerCount options.now.workers }
-    ensures { result.workers ≡ options.now.workers }
+    requires { IsWorkerCount run.now.workers }
+    ensures { result.workers ≡ run.now.workers }
 {
     Team {
         runtime: rt,
         alloc,
-        workers: options.workers,
+        workers: run.workers,
         gate,
     }
 }

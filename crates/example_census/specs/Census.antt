@@ -6,9 +6,8 @@ use Rattle.plane.specs.SinkChange.{SinkChange, Fails, IsUnfailed, Takes}
 use Rattle.plane.specs.declared.fault.Fault.{Fault}
 use Rattle.plane.specs.declared.refusal.Refusal.TheVariants.{WriteFailed}
 use Rattle.run_options.specs.declared.options.RunOptions.{RunOptions}
-use Rattle.engine.specs.Accepted.{IsRefused}
 use Rattle.engine.specs.Last.{EndsWith}
-use Rattle.engine.specs.RunOptions.{without_output}
+use Rattle.engine.specs.Refused.{IsRefused}
 use Rattle.engine.specs.SummaryLine.{summary_line}
 use Rattle.engine.specs.declared.running.Summary.{Summary}
 
@@ -20,7 +19,7 @@ run_of generations = record { gens = generations; rule = None; pairs = 4194304; 
 -- of an accepted file
 abbrev pub IsSummaryAfter : List ℕ → ℕ → Summary → Type 0
 IsSummaryAfter bytes generations summary =
-    (plane : Plane) × EndsWith bytes (without_output (run_of generations)) plane summary
+    (plane : Plane) × EndsWith bytes (run_of generations) plane summary
 
 -- the text is the lines after 1, 2, 4, .. generations, so many of them
 abbrev pub IsCensus : List ℕ → ℕ → List ℕ → Type 0
@@ -43,5 +42,5 @@ pub record IsCensusRun {W : Type 0} (bytes : List ℕ) (lines : ℕ) (out : Sink
   -- failed
   pub refused : IfErr result (λ fault.
       ((power : ℕ) × (power < lines) × TakesCensus bytes power out
-      × IsRefused bytes (without_output (run_of (2 ^ power))) fault)
+      × IsRefused bytes (run_of (2 ^ power)) fault)
       ⊎ ((fault ≡ placeless WriteFailed) × Fails out))

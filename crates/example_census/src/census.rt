@@ -2,8 +2,7 @@
 
 ghost use Rattle.std.specs.Prelude.{◌≡◌, ◌<◌, ◌≤◌, ◌^◌, IfErr, IfOk};
 ghost use Rattle.plane.specs.SinkChange.{change_of};
-ghost use Rattle.engine.specs.Accepted.{IsRefused};
-ghost use Rattle.engine.specs.RunOptions.{without_output};
+ghost use Rattle.engine.specs.Refused.{IsRefused};
 ghost use Rattle.example_census.specs.Census.{IsCensusRun, IsSummaryAfter, run_of};
 
 use engine::{RunOptions, Summary, last_pattern, write_summary};
@@ -50,7 +49,7 @@ fn summary_after<R: Threads + Wait + Sync>(
     generations: u64,
 ) -> Result<Summary, Fault>
     ensures summary { IfOk result (IsSummaryAfter bytes.now generations) }
-    ensures refused { IfErr result (IsRefused bytes.now (without_output (run_of generations))) }
+    ensures refused { IfErr result (IsRefused bytes.now (run_of generations)) }
 {
     let run = RunOptions {
         gens: generations,

@@ -11,14 +11,11 @@ use Rattle.plane.specs.declared.cell.Bounds.{Bounds}
 use Rattle.plane.specs.declared.fault.Fault.{Fault}
 use Rattle.plane.specs.declared.refusal.Refusal.{Refusal}
 use Rattle.plane.specs.declared.refusal.Refusal.TheVariants.{NoMemory, WriteFailed}
-use Rattle.engine.specs.Accepted.{IsRefused}
 use Rattle.engine.specs.Last.{EndsWith}
 use Rattle.engine.specs.Pictures.{IsScale, Scale}
-use Rattle.engine.specs.RunOptions.{without_output}
+use Rattle.engine.specs.Refused.{IsRefused}
 use Rattle.engine.specs.SummaryLine.{summary_line}
-use Rattle.engine.specs.declared.options.Options.{Options}
 use Rattle.engine.specs.declared.running.Summary.{Summary}
-use Rattle.engine.proofs.Endings.{begun_none}
 use Rattle.engine.proofs.Pictures.{one_scale_lem}
 use Rattle.png_writer.specs.Picture.{IsPngFile, Picture}
 use Rattle.view_program.specs.Drawn.{IsPictureOf}
@@ -27,15 +24,15 @@ use Rattle.view_program.specs.Shown.{rectangle_shown}
 use Rattle.view_program.specs.View.{IsDrawn, IsView}
 use Rattle.view_program.specs.declared.request.View.{View}
 
--- a run that ends so may be refused since memory ran out
-pub out_of_memory : (bytes : List ℕ) (options : Options) (plane : Plane) (answer : Summary) → EndsWith bytes options plane answer → IsRefused bytes options (placeless NoMemory)
+-- a view whose run ends so may be refused since memory ran out
+pub out_of_memory : (bytes : List ℕ) (view : View) (plane : Plane) (answer : Summary) → EndsWith bytes view.run plane answer → IsRefused bytes view.run (placeless NoMemory)
 unfolding IsRefused
-out_of_memory bytes options plane answer ends =
-    let text = ends.accepted.0 in inr (inl (refl, inr (begun_none bytes options ends.start.meaning ends.start.rule text.text text.rule)))
+out_of_memory bytes view plane answer ends =
+    let start = ends.accepted.0 in inr (inl (refl, inr (ends.start.rule, record { meaning = ends.start.meaning; text = start.text; read = start.rule })))
 
 module _ {W V : Type 0} (bytes : List ℕ) (view : View) (name : List ℕ) (report : SinkChange W) (file : SinkChange V) where
   -- a view that was refused before it has written anything
-  pub refused_at_once : (fault : Fault) → report.new ≡ report.old → file.new ≡ file.old → IsRefused bytes (without_output view.run) fault → IsView bytes view name report file (Err fault)
+  pub refused_at_once : (fault : Fault) → report.new ≡ report.old → file.new ≡ file.old → IsRefused bytes view.run fault → IsView bytes view name report file (Err fault)
   refused_at_once fault same same_file refused = record {
     finished = tt;
     unfailed = inr (ap file.failure_count same_file, ap report.failure_count same);
@@ -43,7 +40,7 @@ module _ {W V : Type 0} (bytes : List ℕ) (view : View) (name : List ℕ) (repo
   }
 
   -- a view that has its picture
-  module _ (plane : Plane) (answer : Summary) (ends : EndsWith bytes (without_output view.run) plane answer) (picture : Picture) (shows : IsPictureOf plane (rectangle_shown view.window answer.bounds) view.size picture) where
+  module _ (plane : Plane) (answer : Summary) (ends : EndsWith bytes view.run plane answer) (picture : Picture) (shows : IsPictureOf plane (rectangle_shown view.window answer.bounds) view.size picture) where
     abbrev shown : Bounds
     shown = rectangle_shown view.window answer.bounds
 

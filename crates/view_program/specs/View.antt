@@ -5,9 +5,8 @@ use Rattle.plane.specs.Plane.{Plane}
 use Rattle.plane.specs.SinkChange.{SinkChange, Fails, IsUnfailed, Takes, TakesBeginning}
 use Rattle.plane.specs.declared.fault.Fault.{Fault}
 use Rattle.plane.specs.declared.refusal.Refusal.TheVariants.{WriteFailed}
-use Rattle.engine.specs.Accepted.{IsRefused}
 use Rattle.engine.specs.Last.{EndsWith}
-use Rattle.engine.specs.RunOptions.{without_output}
+use Rattle.engine.specs.Refused.{IsRefused}
 use Rattle.engine.specs.SummaryLine.{summary_line}
 use Rattle.engine.specs.declared.running.Summary.{Summary}
 use Rattle.png_writer.specs.Picture.{IsPngFile, Picture}
@@ -22,7 +21,7 @@ pub record IsDrawn (bytes : List ℕ) (view : View) (name said : List ℕ)
     (picture : Picture) : Type 0 where
   pub plane : Plane
   pub answer : Summary
-  pub ends : EndsWith bytes (without_output view.run) plane answer
+  pub ends : EndsWith bytes view.run plane answer
   pub shows : IsPictureOf plane (rectangle_shown view.window answer.bounds) view.size picture
   pub lines : said
       ≡ summary_line answer
@@ -41,8 +40,7 @@ HasDrawn bytes view name report file =
 abbrev pub HasNotDrawn : {W V : Type 0} → List ℕ → View → List ℕ → SinkChange W → SinkChange V →
     Fault → Type 0
 HasNotDrawn bytes view name report file fault =
-    (IsRefused bytes (without_output view.run) fault × (report.new ≡ report.old)
-    × (file.new ≡ file.old))
+    (IsRefused bytes view.run fault × (report.new ≡ report.old) × (file.new ≡ file.old))
     ⊎ ((fault ≡ placeless WriteFailed)
     × ((said : List ℕ) × (picture : Picture) × IsDrawn bytes view name said picture
     × TakesBeginning report said)

@@ -11,20 +11,20 @@ use Rattle.engine.proofs.accepted.judge.Goals as goal
 pub returns-in_err-text-clause-refused : goal.returns-in_err-text-clause-refused
 returns-in_err-text-clause-refused c =
     let is : c.from_residual.result ≡ Err c.in_err-text.field-0.0 = err_is _ _ c.from_residual.ensures.1 in
-    rw is (text_refused c.args.bytes.now c.args.options.now c.in_err-text.field-0.0 c.in_err-text.ensures.refused)
+    rw is (text_refused c.args.bytes.now c.args.run.now c.in_err-text.field-0.0 c.in_err-text.ensures.refused)
 
 pub returns-in_err-rule-clause-refused : goal.returns-in_err-rule-clause-refused
 returns-in_err-rule-clause-refused c =
     let is : c.from_residual-in_err-rule.result ≡ Err c.in_err-rule.field-0.0 = err_is _ _ c.from_residual-in_err-rule.ensures.1 in
-    rw is (rule_refused c.args.bytes.now c.args.options.now (meaning_of c.in_ok-text.text) c.in_ok-text.ensures.accepted c.in_err-rule.field-0.0 c.in_err-rule.ensures.err)
+    rw is (rule_refused c.args.bytes.now c.args.run.now (meaning_of c.in_ok-text.text) c.in_ok-text.ensures.accepted c.in_err-rule.field-0.0 c.in_err-rule.ensures.err)
 
 pub returns-in_err-universe-clause-refused : goal.returns-in_err-universe-clause-refused
 returns-in_err-universe-clause-refused c =
     let is : c.from_residual-in_err-universe.result ≡ Err (placeless c.in_err-universe.field-0.0) = err_is _ _ c.from_residual-in_err-universe.ensures.1 in
-    rw is (range_refused c.args.bytes.now c.args.options.now (meaning_of c.in_ok-text.text) c.in_ok-text.ensures.accepted c.in_ok-rule.rule c.in_ok-rule.ensures.ok.0 c.in_err-universe.field-0.0 c.in_err-universe.ensures.refused c.in_err-universe.ensures.full)
+    rw is (range_refused c.args.bytes.now c.args.run.now (meaning_of c.in_ok-text.text) c.in_ok-text.ensures.accepted c.in_ok-rule.rule c.in_ok-rule.ensures.ok.0 c.in_err-universe.field-0.0 c.in_err-universe.ensures.refused c.in_err-universe.ensures.full)
 
 pub returns-clause-accepted : goal.returns-clause-accepted
 returns-clause-accepted c =
-    subst (λ (r : CountRule). IsAccepted c.args.bytes.now c.args.options.now (meaning_of c.in_ok-text.text) r (live_cells c.in_ok-universe.universe)) (sym c.in_ok-universe.ensures.rule)
-    (accepted c.args.bytes.now c.args.options.now (meaning_of c.in_ok-text.text) c.in_ok-text.ensures.accepted c.in_ok-rule.rule c.in_ok-rule.ensures.ok.0
+    subst (λ (r : CountRule). IsAccepted c.args.bytes.now c.args.run.now (meaning_of c.in_ok-text.text) r (live_cells c.in_ok-universe.universe)) (sym c.in_ok-universe.ensures.rule)
+    (accepted c.args.bytes.now c.args.run.now (meaning_of c.in_ok-text.text) c.in_ok-text.ensures.accepted c.in_ok-rule.rule c.in_ok-rule.ensures.ok.0
     (live_cells c.in_ok-universe.universe) c.in_ok-rule.ensures.ok.1 c.in_ok-universe.ensures.ok)

@@ -7,7 +7,6 @@ use Rattle.plane.specs.declared.cell.Bounds.{Bounds}
 use Rattle.plane.specs.declared.refusal.Refusal.TheVariants.{NoMemory}
 use Rattle.engine.specs.Pattern.{plane_of}
 use Rattle.engine.specs.Pictures.{IsScale, IsShown, Scale}
-use Rattle.engine.specs.RunOptions.{without_output}
 use Rattle.engine.proofs.ShownBoxes.{bounds_shown}
 use Rattle.view_program.specs.Drawn.{IsPictureOf}
 use Rattle.view_program.specs.PictureLine.{picture_line}
@@ -35,7 +34,7 @@ pub returns-in_err-drawing : goal.returns-in_err-drawing
 returns-in_err-drawing g c =
     let is : c.from_residual-in_err-drawing.result ≡ Err (placeless NoMemory) = search rules in
     rw is (refused_at_once c.args.bytes.now c.args.view.now c.args.name.now _ _ (placeless NoMemory) refl refl
-    (out_of_memory c.args.bytes.now (without_output c.args.view.now.run) (plane_of c.in_ok-last.last) c.in_ok-last.summary c.in_ok-last.ensures.ok))
+    (out_of_memory c.args.bytes.now c.args.view.now (plane_of c.in_ok-last.last) c.in_ok-last.summary c.in_ok-last.ensures.ok))
 
 pub zoomed-requires-clause-shades : goal.zoomed-requires-clause-shades
 zoomed-requires-clause-shades g c =
@@ -54,13 +53,13 @@ pub returns-in_err-image : goal.returns-in_err-image
 returns-in_err-image g c =
     let is : c.from_residual-in_err-image.result ≡ Err (placeless NoMemory) = search rules in
     rw is (refused_at_once c.args.bytes.now c.args.view.now c.args.name.now _ _ (placeless NoMemory) refl refl
-    (out_of_memory c.args.bytes.now (without_output c.args.view.now.run) (plane_of c.in_ok-last.last) c.in_ok-last.summary c.in_ok-last.ensures.ok))
+    (out_of_memory c.args.bytes.now c.args.view.now (plane_of c.in_ok-last.last) c.in_ok-last.summary c.in_ok-last.ensures.ok))
 
 pub returns-in_err-text : goal.returns-in_err-text
 returns-in_err-text g c =
     let is : c.from_residual-in_err-text.result ≡ Err (placeless NoMemory) = search rules in
     rw is (refused_at_once c.args.bytes.now c.args.view.now c.args.name.now _ _ (placeless NoMemory) refl refl
-    (out_of_memory c.args.bytes.now (without_output c.args.view.now.run) (plane_of c.in_ok-last.last) c.in_ok-last.summary c.in_ok-last.ensures.ok))
+    (out_of_memory c.args.bytes.now c.args.view.now (plane_of c.in_ok-last.last) c.in_ok-last.summary c.in_ok-last.ensures.ok))
 
 pub returns-in_err-write_summary : goal.returns-in_err-write_summary
 returns-in_err-write_summary g c =
