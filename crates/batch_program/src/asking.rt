@@ -18,11 +18,11 @@ use engine::{Format, Options};
 use program_parts::{Misfit, WordsFault, WordsReason, copied, number_for, rule_asked, run_numbers};
 use std::alloc::Global;
 
-/// Reads the words of a command line, the program's name first. It answers `Clap` for words that are
-/// not of its form and for a request for help, `Unfit` for an output whose name ends neither with
-/// `.rle` nor with `.mc`, for a window that is not four numbers and for a number of nodes that is no power of two, then
-/// `Refused` with `BadRule` or `BirthOnZero` for the rule that is given, then `Refused` with `WindowTooLarge`, and
-/// `Refused` with `NoMemory`.
+/// Reads the words of a command line, the program's name first. It answers `Clap` for words that
+/// are not of its form and for a request for help, `Unfit` for an output whose name ends neither
+/// with `.rle` nor with `.mc`, for a window that is not four numbers and for a number of nodes that
+/// is not a power of two, then `Refused` with `BadRule` or `BirthOnZero` for the rule that is
+/// given, then `Refused` with `WindowTooLarge`, and `Refused` with `NoMemory`.
 pub fn asked<'a>(alloc: Global, words: &'a [&'a str]) -> Result<Asked, WordsFault>
     ensures asks { IfOk result (AsksFor (texts_of words.entry.now)) }
     ensures faults { IfErr result (IsFaultOf command_line (texts_of words.entry.now)) }

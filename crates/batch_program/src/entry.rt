@@ -13,8 +13,8 @@ use std::rt::{Env, Files};
 use std::sync::Wait;
 use std::thread::Threads;
 
-/// The whole program. `words` are the arguments, the program's name first. It writes the report or the
-/// help to `out` and messages to `err`, and returns the exit status.
+/// The whole program. `words` are the arguments, the program's name first. It writes the report or
+/// the help to `out` and messages to `err`, and returns the exit status.
 ///
 /// - 0: the run went well, or help was asked for.
 /// - 1: the run was refused; one line names the refusal and its byte offset.
@@ -36,8 +36,9 @@ pub fn program<R: Files + Input + Threads + Wait + Sync, O: Sink, E: Sink>(
     program_parts::program::<Lifebatch, R, O, E>(rt, alloc, words, out, err)
 }
 
-/// The whole program on the words that the system gives it. Where there are none, since one is not UTF-8 or memory ran
-/// out, it says so on one line, with status 2 or 1.
+/// The whole program on the words that the system gives it; no clause says that they are these.
+/// Where there are none, since one is not UTF-8 or memory ran out, it says so on one line, with
+/// status 2 or 1.
 pub fn start<R: Env + Files + Input + AllocGlobal + Threads + Wait + Sync, O: Sink, E: Sink>(
     rt: &R,
     out: &mut O,

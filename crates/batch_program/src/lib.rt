@@ -1,4 +1,5 @@
-//! The program as a library: the words of its command line, what it does by them, and its exit status. What a run is stands in [`engine`], whose names are handed on here.
+//! The program as a library: the words of its command line, what it does by them, and its exit
+//! status. What a run is stands in [`engine`], whose names are handed on here.
 #![tactic(auto)]
 
 mod application;

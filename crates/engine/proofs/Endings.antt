@@ -51,8 +51,8 @@ copied_or (Some slice) other = refl
 pub unfailed_same : {S : Type 0} (sink : SinkChange S) → sink.new ≡ sink.old → IsUnfailed sink
 unfailed_same sink same = ap sink.failure_count same
 
--- a run that stopped so is a run as it has to be, if without a format its file is as it was, and no sink failed but at
--- `WriteFailed`
+-- a run that stopped so is a run as it has to be, if without a format its file is as it was, and no
+-- sink failed but at `WriteFailed`
 pub stopped_early : {W V : Type 0} {bytes : List ℕ} {options : Options} {report : SinkChange W} {file : SinkChange V} {fault : Fault} →
     (options.format ≡ None → file.new ≡ file.old) → (fault ≡ placeless WriteFailed) ⊎ (IsUnfailed file × IsUnfailed report) → HasEndedEarly bytes options report file fault →
     IsRun bytes options report file (Err fault)

@@ -145,7 +145,8 @@ pub first_lines : (rule : CountRule) (plane : Plane) (start : ℕ) (options : Op
     AreLinesAfter rule plane start (take (length (shown_until options done)) (shown options)) said
 first_lines rule plane start options done said within = subst (λ ns. AreLinesAfter rule plane start ns said) (sym (shown_first options done options.gens within))
 
--- where a line could not be said, what was said before stands, or the sink has failed and took a beginning of both
+-- where a line could not be said, what was said before stands, or the sink has failed and took a
+-- beginning of both
 pub stopped : {S : Type 0} (taken : S → Option (List ℕ)) (failures : S → ℕ) (start old new : S) (rule : CountRule) (plane : Plane) (generation : ℕ) (options : Options) (refusal : Refusal) (IsNext : List ℕ → Type 0) (lines : ℕ) (said : List ℕ) →
     failures old ≡ failures start → AreLinesAfter rule plane generation (take lines (shown options)) said → Appends (taken start) (taken old) said →
     ((next : List ℕ) → IsNext next → (more : ℕ) × AreLinesAfter rule plane generation (take more (shown options)) (said ++ next)) →

@@ -22,7 +22,7 @@ use Rattle.engine.proofs.Reports.{AllZip-append, filtered_in, filtered_out}
 
 -- ---- listings
 
--- a plane that a square round (0,0) holds has a listing
+-- a plane that a square around (0,0) holds has a listing
 held_listing : (level : ℕ) (plane : Plane) → Holds level plane → (cells : List Cell) × IsListing cells plane
 held_listing level plane holds =
     let half = 2 ^ (level - 1) in

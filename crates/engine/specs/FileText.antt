@@ -23,7 +23,7 @@ HasText None cells = ⊤
 HasText (Some Rle) cells = FitsRle (bounds_of cells)
 HasText (Some Macrocell) cells = ⊤
 
--- the macrocell text of the cells: that of the smallest square round (0,0) that holds them
+-- the macrocell text of the cells: that of the smallest square around (0,0) that holds them
 pub record IsMcText (comments : List (List ℕ)) (rule : CountRule) (generation : ℕ)
     (cells : List Cell) (text : List ℕ) : Type 0 where
   pub level : ℕ

@@ -34,8 +34,8 @@ pub(crate) struct Accepted<'a> {
     pub(crate) universe: Universe,
 }
 
-// Judges a run: the file's text, then the rule, then the range. `NoMemory` or `NodesFull` if there is no room for the
-// cells.
+// Judges a run: the file's text, then the rule, then the range. `NoMemory` or `NodesFull` if there
+// is no room for the cells.
 pub(crate) fn judge<'a>(
     alloc: Global,
     bytes: &'a [u8],
@@ -60,8 +60,9 @@ pub(crate) fn judge<'a>(
     })
 }
 
-// The cells that a file makes live, in tables of at most `limit` pair slots, of which the first has about as many as are
-// `expected`. It refuses `TooFar` where so many generations leave the range, `NodesFull` and `NoMemory`.
+// The cells that a file makes live, in tables of at most `limit` pair slots, of which the first has
+// about as many as are `expected`. It refuses `TooFar` where so many generations leave the range,
+// `NodesFull` and `NoMemory`.
 fn universe_of(
     alloc: Global,
     rule: &Rule,

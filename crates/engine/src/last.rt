@@ -17,11 +17,11 @@ use std::sync::Wait;
 use std::thread::Threads;
 use worker_split::OpenGate;
 
-/// Runs the pattern in a file's bytes as [`run`](crate::run) does, without a report and without a file, and answers its
-/// last generation beside what the run ends with.
+/// Runs the pattern in a file's bytes as [`run`](crate::run) does, without a report and without a
+/// file, and answers its last generation beside what the run ends with.
 ///
-/// It refuses what `run` refuses before its report, `NoMemory`, and `NodesFull`, if the cells of the file or those after
-/// a single generation have no room in the tables that the options allow.
+/// It refuses what `run` refuses before its report, and then `NoMemory` and `NodesFull` as `run`
+/// does.
 pub fn last_pattern<R: Threads + Wait + Sync>(
     rt: &R,
     alloc: Global,
@@ -33,7 +33,8 @@ pub fn last_pattern<R: Threads + Wait + Sync>(
     // It runs accepted files to their last generation, and sums that up.
     ensures ok { IfOk result (λ last.
         EndsWith bytes.now run.now (plane_of last.0) last.1) }
-    // It refuses what is not accepted, by its name and at its place, and else only where memory ran out or the tables are full.
+    // It refuses what is not accepted, by its name and at its place, and else only where memory ran
+    // out or the tables are full.
     ensures refused { IfErr result (IsRefused bytes.now run.now) }
 {
     let begun = judge(alloc, bytes, run)?;

@@ -24,8 +24,8 @@ pub fn one_ending()
         (a ≡ b) × (said ≡ others) × (written ≡ other) }
 {}
 
-/// By every number of workers, and in tables of every size, a run has the same judgement, and an accepted one the same
-/// answer, the same report and the same file.
+/// With every number of workers, and in tables of every size, a run has the same judgement, and an
+/// accepted one the same answer, the same report and the same file.
 pub fn every_number_of_workers()
     ensures judged { (bytes : List ℕ) (options : Options) (workers pairs : ℕ)
         (a b : Result Start Fault) →

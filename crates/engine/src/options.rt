@@ -18,13 +18,14 @@ pub struct Options {
     pub gens: u64,
     /// The distance of reported generations; 0 reports the first and the last.
     pub step: u64,
-    /// The rule to run by in place of the file's, if one is given.
+    /// The rule to run by instead of the file's, if one is given.
     pub rule: Option<Rule>,
     /// The window of the last generation that is drawn after the report, if one is.
     pub window: Option<Window>,
     /// The format of the pattern that is written, if one is.
     pub format: Option<Format>,
-    /// The most pair slots that all tables of squares may have together: a power of two, from 2^10 to 2^28.
+    /// The most pair slots that all tables of squares may have together: a power of two, from 2^10
+    /// to 2^28.
     pub pairs: u32,
     /// How many workers take the steps, from 1 to 64. One starts no thread.
     pub workers: usize,

@@ -39,7 +39,8 @@ impl Pattern {
     ghost use Rattle.engine.specs.Drawing.{picture_of};
     ghost use Rattle.std.specs.Io.KnownBytes.{Appends};
 
-    /// The live cells of a universe. Its tables are freed, except for the words that hold these cells.
+    /// The live cells of a universe. Its tables are freed, except for the words that hold these
+    /// cells.
     pub fn of(universe: Universe) -> Pattern
         ensures { IsSame (plane_of result) (live_cells universe) }
     {
@@ -56,8 +57,9 @@ impl Pattern {
         self.cells.bounds(alloc)
     }
 
-    /// How a rectangle of the pattern is drawn, whose sides lie from -2^62 to 2^62, as large as can be with at most `size`
-    /// pixels on each side, 16 to 4096. `NoMemory` where there is no room for it.
+    /// How a rectangle of the pattern is drawn, whose sides lie from -2^62 to 2^62, as large as can
+    /// be with at most `size` pixels on each side, 16 to 4096. `NoMemory` where there is no room
+    /// for it.
     pub fn picture(&self, alloc: Global, shown: Bounds, size: u32) -> Result<Drawing, Refusal>
         requires shown { IsShown shown }
         requires size { IsSize size }
@@ -68,8 +70,8 @@ impl Pattern {
         pattern_picture::picture(alloc, still, root, shown, size)
     }
 
-    /// Draws a window of the pattern, if one is asked for. `WriteFailed` where the sink failed, which took a beginning
-    /// of the picture then.
+    /// Draws a window of the pattern, if one is asked for. `WriteFailed` where the sink failed,
+    /// which took a beginning of the picture then.
     pub fn draw<W: Sink>(&self, window: Option<Window>, report: &mut W) -> Result<(), Refusal>
         ensures drawn { OnOk result (Appends (W.taken report.old) (W.taken report.new)
             (picture_of window (plane_of self.now))) }
@@ -87,10 +89,11 @@ impl Pattern {
     }
 
     /// Writes the pattern in the format that is asked for, if one is, behind its heading. It
-    /// refuses `BoxTooLarge` where RLE is asked for and a side of its box is 2^31 or more, and `NoMemory`, both before
-    /// the first byte, and `WriteFailed`, where the sink failed: the box fits then, and the sink took a beginning of the text.
-    /// The runs of RLE's rows are found in threads.
-    /// What was written is read as the same cells, rule and generation, within the limits of the format's reader.
+    /// refuses `BoxTooLarge` where RLE is asked for and a side of its box is 2^31 or more, and
+    /// `NoMemory`, both before the first byte, and `WriteFailed`, where the sink failed: the box
+    /// fits then, and the sink took a beginning of the text. The runs of RLE's rows are found in
+    /// threads. What was written is read as the same cells, rule and generation, within the limits
+    /// of the format's reader.
     pub fn write<R: Threads + Sync, V: Sink>(
         &self,
         rt: &R,

@@ -21,8 +21,9 @@ use std::thread::Threads;
 use universe::Universe;
 use worker_split::{Gate, Team};
 
-// Runs a universe of a generation, by a team, as many generations on as the options ask for, and reports generations on the
-// way. `NoMemory` and `NodesFull` come between two lines. Where the sink failed, it took a beginning of some lines.
+// Runs a universe of a generation, by a team, as many generations on as the options ask for, and
+// reports generations on the way. `NoMemory` and `NodesFull` come between two lines. Where the sink
+// failed, it took a beginning of some lines.
 pub(crate) fn run_reported<R: Threads + Wait + Sync, G: Gate, W: Sink>(
     team: &Team<'_, R, G>,
     start: Universe,
@@ -66,7 +67,8 @@ pub(crate) fn run_reported<R: Threads + Wait + Sync, G: Gate, W: Sink>(
     Ok(universe)
 }
 
-// The next number of generations after which there is a line, or that of the last where there are none.
+// The next number of generations after which there is a line, or that of the last where there are
+// none.
 fn next_shown(options: &Options, done: u64) -> u64
     requires { done < options.now.gens }
     ensures later { done < result }

@@ -35,17 +35,21 @@ pub struct Summary {
     pub bounds: Option<Bounds>,
 }
 
-/// Runs the pattern in a file's bytes. It writes the report to `report` (the first generation, the last, and
-/// each multiple of the step between, unless it is to be quiet), then the picture of the window, if one is
-/// asked for; then the last pattern to `file`, if a format is.
+/// Runs the pattern in a file's bytes. It writes the report to `report` (the first generation, the
+/// last, and each multiple of the step between, unless it is to be quiet), then the picture of the
+/// window, if one is asked for; then the last pattern to `file`, if a format is.
 ///
-/// It refuses, in this order, a text that is no pattern file, by its first fault; the file's rule
-/// (`BadRule`, `BirthOnZero`), at the byte offset of the header, unless another rule is given; and a run that
-/// would leave the range (`TooFar`). Until then nothing is written. `BoxTooLarge`, if a side of the last
-/// pattern's box is 2^31 or more, `NoMemory`, and `NodesFull`, if the cells of the file or those after a single
-/// generation have no room in the tables that the options allow, leave `file` as it was. `WriteFailed` comes if a
-/// sink failed, and whenever one did; that sink took a beginning of its text. Nothing is written to `file` before the
-/// box is known to fit.
+/// It refuses, in this order, a text that is not a pattern file, by its first fault; the file's
+/// rule (`BadRule`, `BirthOnZero`), at the byte offset of the header, unless another rule is given;
+/// and a run that would leave the range (`TooFar`). Until then nothing is written.
+///
+/// Three refusals leave `file` as it was: `BoxTooLarge`, if a side of the last pattern's box is
+/// 2^31 or more; `NoMemory`; and `NodesFull`, if a table of the largest size that the options allow
+/// was full while the file's cells were built, or, opened with only the cells of a generation, was
+/// full before the next one or had no room for these cells.
+///
+/// `WriteFailed` comes if a sink failed, and whenever one did; that sink took a beginning of its
+/// text. Nothing is written to `file` before the box is known to fit.
 pub fn run<R: Threads + Wait + Sync, W: Sink, V: Sink>(
     rt: &R,
     alloc: Global,
@@ -63,8 +67,9 @@ pub fn run<R: Threads + Wait + Sync, W: Sink, V: Sink>(
     run_gated(rt, alloc, bytes, options, report, file, &OpenGate)
 }
 
-/// Reads all bytes of a source, and runs the pattern in them as [`run`] does. It refuses `ReadFailed` where the source
-/// failed, and `NoMemory`; before all bytes are read, nothing is written.
+/// Reads all bytes of a source, and runs the pattern in them as [`run`] does. It refuses
+/// `ReadFailed` where the source failed, and `NoMemory`; before all bytes are read, nothing is
+/// written.
 pub fn run_from<R: Threads + Wait + Sync, S: Source, W: Sink, V: Sink>(
     rt: &R,
     alloc: Global,
@@ -86,8 +91,9 @@ pub fn run_from<R: Threads + Wait + Sync, S: Source, W: Sink, V: Sink>(
     run(rt, alloc, bytes.as_slice(), options, report, file)
 }
 
-/// The same as [`run`], with a gate, which is called before and after each job of several workers. No clause can say that
-/// it is called. Tests show it: in a run by two workers each sees, before its first job, that the other has begun.
+/// The same as [`run`], with a gate, which is called before and after each job of several workers.
+/// No clause can say that it is called. Tests show it: in a run with two workers each sees, before
+/// its first job, that the other has begun.
 pub fn run_gated<R: Threads + Wait + Sync, G: Gate, W: Sink, V: Sink>(
     rt: &R,
     alloc: Global,

@@ -15,8 +15,8 @@ const BOUNDS_ROOM: usize = 192;
 
 const LINE_ROOM: usize = 320;
 
-/// Writes one line with the generation, its population and its bounding box, as `4: 5 cells, x 0 to 2, y 1 to 3`.
-/// `WriteFailed` if the sink failed, which took a beginning of the line then.
+/// Writes one line with the generation, its population and its bounding box, as `4: 5 cells, x 0 to
+/// 2, y 1 to 3`. `WriteFailed` if the sink failed, which took a beginning of the line then.
 pub fn write_summary<W: Sink>(out: &mut W, summary: &Summary) -> Result<(), Refusal>
     ensures written { OnOk result (Appends (W.taken out.old) (W.taken out.new)
         (summary_line summary.now)) }

@@ -11,7 +11,7 @@ use Rattle.engine.specs.Refused.{IsRefused}
 use Rattle.engine.specs.SummaryLine.{summary_line}
 use Rattle.engine.specs.declared.running.Summary.{Summary}
 
--- a run of so many generations, by two workers
+-- a run of so many generations, with two workers
 abbrev pub run_of : ℕ → RunOptions
 run_of generations = record { gens = generations; rule = None; pairs = 4194304; workers = 2 }
 

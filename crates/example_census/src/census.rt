@@ -14,8 +14,9 @@ use std::thread::Threads;
 // The most pair slots that a run's tables may have.
 const PAIRS: u32 = 4194304;
 
-/// Writes `lines` lines, one each after 1, 2, 4, 8, .. generations: the generation, the population and the bounding
-/// box. Each run has two workers. It refuses what `last_pattern` refuses, behind the lines until then, and `WriteFailed`.
+/// Writes `lines` lines, one each after 1, 2, 4, 8, .. generations: the generation, the population
+/// and the bounding box. Each run has two workers. It refuses what `last_pattern` refuses, behind
+/// the lines until then, and `WriteFailed`.
 pub(crate) fn census<R: Threads + Wait + Sync, W: Sink>(
     rt: &R,
     alloc: Global,

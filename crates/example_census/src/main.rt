@@ -1,5 +1,5 @@
-//! A census of a pattern: how many cells live, and where their bounding box lies, after 1, 2, 4, 8, .. generations.
-//! An example of a program that stands on the library `engine`.
+//! A census of a pattern: how many cells live, and where their bounding box lies, after 1, 2, 4, 8,
+//! .. generations. An example of a program that stands on the library `engine`.
 #![tactic(auto)]
 
 ghost use Rattle.std.specs.Prelude.{◌≡◌};

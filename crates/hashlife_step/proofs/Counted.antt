@@ -73,7 +73,7 @@ made_and_kept old recalled made kept sq k m n low same none is adds full =
     let last = tallies_added made kept sq m (still_none old made sq k m low first none) adds in
     subst (Tallies old kept sq.level k) (sym full) (tallies_trans old made kept (sq.level - 1) sq.level k m _ (omega arith) first last)
 
--- squares alone are new
+-- only squares are new
 pub makes_none : {old new : Book} {level n : ℕ} → AddsSquares old new → MakesResults old new level n n
 makes_none {old} {new} {level} {n} is = record { keeps = is.keeps; tally = tallies_none old new level n is.results }
 

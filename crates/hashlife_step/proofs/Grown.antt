@@ -14,7 +14,7 @@ use Rattle.hashlife_step.specs.Round.{ShowsRound}
 pub centred_same : (level : ℕ) (plane other : Plane) → IsSame plane other → IsSame (centred level plane) (centred level other)
 centred_same level plane other same = record { same = λ x y. same.same (x +ℤ pos (2 ^ (level - 1))) (y +ℤ pos (2 ^ (level - 1))) }
 
--- a square shown at its level, round (0,0)
+-- a square shown at its level, around (0,0)
 pub shows_round : (book : Book) (level : ℕ) (plane other : Plane) (sq : Sq) → Shows book level plane sq → IsSame (centred level plane) other → ShowsRound book other sq
 shows_round book level plane other sq shown same =
     let Round : ℕ → Type 0 = λ n. IsSame (centred n (book.cells sq)) other in

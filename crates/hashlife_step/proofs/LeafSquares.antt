@@ -19,7 +19,8 @@ future_later old new sq next keeps known shown =
     let two = subst (λ rule. Shows new (sq.level - 1) (future rule old.exponent sq.level (new.cells sq)) next) (sym keeps.rule) one in
     subst (λ exponent. Shows new (sq.level - 1) (future new.rule exponent sq.level (new.cells sq)) next) (sym keeps.exponent) two
 
--- what a kernel makes of the leaves of a square of its level, with an exponent that is cut at its level
+-- what a kernel makes of the leaves of a square of its level, with an exponent that is cut at its
+-- level
 pub kernel_future : (book : Book) (rule : CountRule) (own exponent short level : ℕ) (result plane leaves : Plane) (next : Sq) → level ≡ own → short ≡ min exponent (own - 2) → IsSame leaves plane →
     IsSame result (future rule short own leaves) → Shows book (own - 1) result next → Shows book (level - 1) (future rule exponent level plane) next
 kernel_future book rule own exponent short level result plane leaves next e time same is shown =

@@ -11,7 +11,8 @@ use Rattle.squares.specs.Book.{Book, IsFuture, IsKnown, Shows, Keeps, nth, numbe
 use Rattle.squares.specs.declared.sq.Sq.{Sq}
 use Rattle.squares.proofs.Kept.{keeps_trans, known_kept, shows_kept}
 
--- the first so many show what is made of those that stood there, in the planes that the old book gave them, and the others stand as they did
+-- the first so many show what is made of those that stood there, in the planes that the old book
+-- gave them, and the others stand as they did
 pub record IsReplaced (make : Plane → Plane) (old new : Book) (level done : ℕ) (before now : List Sq) : Type 0 where
   pub keeps : Keeps old new
   pub same_length : length now ≡ length before

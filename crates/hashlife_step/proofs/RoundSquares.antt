@@ -1,4 +1,4 @@
--- Squares with the same cells round (0,0), from one book to the next.
+-- Squares with the same cells around (0,0), from one book to the next.
 use Rattle.std.proofs.Common.{◌≡◌, ℕ, ◌+◌, ◌-◌, ◌^◌, ◌≤◌, max, arith}
 use Rattle.plane.specs.Centred.{centred, Holds}
 use Rattle.plane.specs.Plane.{Plane, after}
@@ -10,7 +10,7 @@ use Rattle.squares.specs.declared.sq.Sq.{Sq}
 use Rattle.squares.proofs.Kept.{adds_trans}
 use Rattle.hashlife_step.specs.Round.{ShowsRound}
 
--- a square of some level that has the cells, in a book where squares alone are new
+-- a square of some level that has the cells, in a book where only squares are new
 pub record IsReached (old new : Book) (plane : Plane) (low high : ℕ) (sq : Sq) : Type 0 where
   pub adds : AddsSquares old new
   pub shown : ShowsRound new plane sq

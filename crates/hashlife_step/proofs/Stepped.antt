@@ -1,4 +1,4 @@
--- A step: a padded square's future, round (0,0).
+-- A step: a padded square's future, around (0,0).
 use Rattle.std.proofs.Common.{◌≡◌, ℕ, ◌+◌, ◌-◌, ◌^◌, ◌≤◌, arith, sym, subst}
 use Rattle.rule_text.specs.CountRule.{CountRule}
 use Rattle.plane.specs.Centred.{centred, Holds}

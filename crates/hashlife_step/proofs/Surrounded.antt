@@ -41,7 +41,7 @@ middle_of a b c d nw ne sw se is_nw is_ne is_sw is_se =
     (joined_nw 8 _ _ _ _ sq_a sq_b sq_c sq_d) (joined_ne 8 _ _ _ _ sq_a sq_b sq_c sq_d) (joined_sw 8 _ _ _ _ sq_a sq_b sq_c sq_d) (joined_se 8 _ _ _ _ sq_a sq_b sq_c sq_d)
     is_nw is_ne is_sw is_se)
 
--- the four centres, joined, show the leaf round (0,0)
+-- the four centres, joined, show the leaf around (0,0)
 pub leaf_surrounded : (level word a b c d : ℕ) (plane : Plane) (b1 b2 b3 b4 b5 : Book) (nw ne sw se whole : Sq) → level ≡ 3 → IsSame plane (bits_plane word) →
     IsSame (bits_plane a) (centre_of 4 (leaves_plane (0 ∷ 0 ∷ 0 ∷ word ∷ []))) → IsSame (bits_plane b) (centre_of 4 (leaves_plane (0 ∷ 0 ∷ word ∷ 0 ∷ []))) →
     IsSame (bits_plane c) (centre_of 4 (leaves_plane (0 ∷ word ∷ 0 ∷ 0 ∷ []))) → IsSame (bits_plane d) (centre_of 4 (leaves_plane (word ∷ 0 ∷ 0 ∷ 0 ∷ []))) →

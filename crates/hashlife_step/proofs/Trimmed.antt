@@ -1,4 +1,4 @@
--- A square of a smaller level with the same cells round (0,0).
+-- A square of a smaller level with the same cells around (0,0).
 use Rattle.std.proofs.Common.{◌≡◌, ℕ, ◌-◌, ◌<◌, arith, subst}
 use Rattle.plane.specs.Centred.{centred, Holds, IsSmallestLevel}
 use Rattle.plane.specs.Plane.{Plane}

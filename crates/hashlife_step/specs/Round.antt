@@ -1,4 +1,4 @@
--- Squares round (0,0).
+-- Squares around (0,0).
 use Rattle.std.specs.Prelude.{◌^◌}
 use Rattle.plane.specs.Plane.{Plane, after}
 use Rattle.plane.specs.Square.{IsSame}

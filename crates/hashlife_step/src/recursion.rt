@@ -103,7 +103,8 @@ fn finish<S: Squares>(
 }
 
 /// Puts its future in the place of each square of a level. With an order, they are first asked for
-/// in this order, as in [`future_in_order`]. Where it refuses, each place has its square or its future.
+/// in this order, as in [`future_in_order`]. Where it refuses, each place has its square or its
+/// future.
 #[cycle(future)]
 pub fn replace_by_futures<S: Squares>(
     book: &mut S,

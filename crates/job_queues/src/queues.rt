@@ -8,9 +8,9 @@ use std::alloc::{AllocError, Global};
 use std::collections::LinkedList;
 use std::sync::Wait;
 
-/// What a pass knows of a deque: whether no other pass was made, all jobs that were ever pushed, in order,
-/// and an end of them that contains all jobs which are left. No value of it is ever made: contracts alone
-/// speak of it.
+/// What a pass knows of a deque: whether no other pass was made, all jobs that were ever pushed, in
+/// order, and an end of them that contains all jobs which are left. No value of it is ever made:
+/// only contracts speak of it.
 pub struct Seen {
     pub alone: bool,
     pub share: LinkedList<usize>,
@@ -40,7 +40,8 @@ impl Outcome<usize, Seen> for Pushes {
     ghost then = { λ v jobs w. w ≡ seen true (v.share ++ jobs) (v.left ++ jobs) };
 }
 
-/// What is taken is the first that is left. An owner without thieves finds none only if all are taken.
+/// What is taken is the first that is left. An owner without thieves finds none only if all are
+/// taken.
 pub(crate) struct Takes;
 
 impl Outcome<usize, Seen> for Takes {

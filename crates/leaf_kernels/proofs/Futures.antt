@@ -1,4 +1,5 @@
--- Rows that are cut to the square after each generation: the cells further in than so many generations are right.
+-- Rows that are cut to the square after each generation: the cells further in than so many
+-- generations are right.
 use Rattle.std.proofs.Common.{◌≡◌, ℕ, zero, suc, ◌*◌, ◌%◌, ◌^◌, ◌<◌, ◌≤◌, min, ℤ, pos, ◌+ℤ◌, ◌≤ℤ◌, ◌<ℤ◌, true, refl, ◌∙◌, ap, arith}
 use Rattle.std.specs.Prelude.{◌&&◌}
 use Rattle.std.proofs.Math.Pow.{pow_mono}
@@ -66,7 +67,8 @@ byte_power (suc (suc (suc (suc (suc (suc zero)))))) h = refl
 byte_power (suc (suc (suc (suc (suc (suc (suc zero))))))) h = refl
 byte_power (suc (suc (suc (suc (suc (suc (suc (suc e)))))))) h = absurd (omega arith)
 
--- the generations of an exponent that is at most so much, as the code and as the definition have them
+-- the generations of an exponent that is at most so much, as the code and as the definition have
+-- them
 pub generations_of : (most e : ℕ) → e < suc most → most < 8 → 1 * 2 ^ e % 2 ^ 8 ≡ 2 ^ min e most
 generations_of most e h small = byte_power e (omega arith) ∙ ap (λ n. 2 ^ n) (least most e h)
   where

@@ -1,4 +1,5 @@
--- B3/S23: a rule, and the cells that live by it, from the digits of their numbers of live neighbours.
+-- B3/S23: a rule, and the cells that live by it, from the digits of their numbers of live
+-- neighbours.
 use Rattle.std.proofs.Common.{◌≡◌, ℕ, ◌+◌, ◌*◌, ◌≤◌, ℤ, Bool, true, false, not, List, length, refl, ◌∙◌, ap, arith, bit_and, bit_or, w64}
 use Rattle.std.specs.Prelude.{bit_xor, ◌&&◌, ◌||◌}
 use Rattle.std.proofs.lemmas.List.Elements.{All-from_recursion}
@@ -21,7 +22,8 @@ is_rule = record {
   no_birth_on_zero = refl;
 }
 
--- the formula, digit by digit: a one, the two of the ones, a one of the twos, and the two of the twos
+-- the formula, digit by digit: a one, the two of the ones, a one of the twos, and the two of the
+-- twos
 pub life_cell : (one carry two four alive : Bool) → (number one + 2 * number carry) + 2 * (number two + 2 * number four) ≤ 8 →
     ((differ carry two && not four) && (one || alive)) ≡ lives life alive ((number one + 2 * number carry) + 2 * (number two + 2 * number four))
 life_cell true true true true alive h = absurd (omega arith)

@@ -1,4 +1,5 @@
--- What shifts of lanes and in lanes do to the cells: each moves, and those that leave the square are gone.
+-- What shifts of lanes and in lanes do to the cells: each moves, and those that leave the square
+-- are gone.
 use mir.Syntax.{Width}
 use mir.Val.{bits}
 use Rattle.std.proofs.Common.{◌≡◌, ℕ, zero, suc, ◌+◌, ◌-◌, ◌*◌, ◌/◌, ◌%◌, ◌^◌, ◌<◌, ◌≤◌, ℤ, pos, ◌+ℤ◌, ◌-ℤ◌, Bool, true, false, List, ◌++◌, length, get_or, replicate, refl, sym, ◌∙◌, ap, arith, Fits, inl, inr}

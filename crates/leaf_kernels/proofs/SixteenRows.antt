@@ -30,7 +30,8 @@ first_bits word column h = bit-and word 65535 column ∙ ap (λ t. bit word colu
     and_all true = refl
     and_all false = refl
 
--- the rows show the cells that the plane has in their columns and rows, so far to the right and down
+-- the rows show the cells that the plane has in their columns and rows, so far to the right and
+-- down
 rows_cut : (rows : List ℕ) (by : ℕ) (plane : Plane) → ((i j : ℕ) → i < 16 → j < 16 → bit (get_or rows j 0) i ≡ plane (pos (by + i)) (pos (by + j))) →
     IsSame (sixteen_rows_plane rows) (cut 16 by by plane)
 rows_cut rows by plane cells = record {

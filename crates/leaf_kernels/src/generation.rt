@@ -1,5 +1,5 @@
-//! Sixty-four rows some generations on, by anything that makes the next generation of four rows from
-//! the rows above and below.
+//! Sixty-four rows some generations on, by anything that makes the next generation of four rows
+//! from the rows above and below.
 ghost use Rattle.rule_text.specs.CountRule.{CountRule};
 ghost use Rattle.plane.specs.Plane.{after, next};
 ghost use Rattle.plane.specs.Square.{IsSame, cut};
@@ -37,8 +37,8 @@ pub(crate) fn rows_after<N: NextCells>(
     later
 }
 
-// Puts their next generation in the place of sixty-four rows. Cells outside the 64 by 64 are taken as
-// dead, and those that would become live there are left out.
+// Puts their next generation in the place of sixty-four rows. Cells outside the 64 by 64 are taken
+// as dead, and those that would become live there are left out.
 #[inline(always)]
 fn advance<N: NextCells>(kernel: &N, rows: &mut [u64x4; 16])
     ensures { IsSame (rows_plane rows.new)

@@ -1,6 +1,6 @@
-//! The middle of squares of 16 by 16 and of 64 by 64 cells, some generations on, and all of a square
-//! of 16 by 16 one generation on. A square is worked on as its rows, the lanes of vectors: many cells
-//! at once.
+//! The middle of squares of 16 by 16 and of 64 by 64 cells, some generations on, and all of a
+//! square of 16 by 16 one generation on. A square is worked on as its rows, the lanes of vectors:
+//! many cells at once.
 #![tactic(auto)]
 
 mod count;

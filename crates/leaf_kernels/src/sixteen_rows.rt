@@ -1,4 +1,5 @@
-//! Sixteen rows of sixteen cells in one vector: lane `y` is row `y`, bit `x` of it the cell `(x, y)`.
+//! Sixteen rows of sixteen cells in one vector: lane `y` is row `y`, bit `x` of it the cell `(x,
+//! y)`.
 ghost use Rattle.std.specs.Prelude.{◌≡◌, ℕ, pos, ◌+◌, ◌<◌, slice_index};
 ghost use Rattle.plane.specs.Laws.{moved};
 ghost use Rattle.plane.specs.Plane.{after, next};

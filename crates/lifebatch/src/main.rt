@@ -1,5 +1,5 @@
-//! The program `lifebatch`: it hands standard output and standard error to [`batch_program::start`], and ends with the
-//! status that this answers.
+//! The program `lifebatch`: it hands standard output and standard error to
+//! [`batch_program::start`], and ends with the status that this answers.
 #![tactic(auto)]
 
 use batch_program::start;

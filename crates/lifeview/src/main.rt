@@ -1,5 +1,5 @@
-//! The program `lifeview`: it hands standard output and standard error to [`view_program::start`], and ends with the
-//! status that this answers.
+//! The program `lifeview`: it hands standard output and standard error to [`view_program::start`],
+//! and ends with the status that this answers.
 #![tactic(auto)]
 
 use plane::Counted;

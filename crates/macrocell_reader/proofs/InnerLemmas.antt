@@ -22,12 +22,12 @@ fields-trimmed_by : (first : ℕ) (rest : List ℕ) (b : Bool) → is_blank firs
 fields-trimmed_by first rest true blank later = ap fields (trimmed_start-blank first rest blank) ∙ later ∙ sym (fields-blank first rest blank)
 fields-trimmed_by first rest false mark later = ap fields (trimmed_start-mark first rest mark)
 
--- blanks at the front are no fields
+-- blanks at the front are not fields
 fields-trimmed : (text : List ℕ) → fields (trimmed_start text) ≡ fields text
 fields-trimmed [] = ap fields trimmed_start-nil
 fields-trimmed (first ∷ rest) = fields-trimmed_by first rest (is_blank first) refl (fields-trimmed rest)
 
--- the first byte is no blank, if there is one
+-- the first byte is not a blank, if there is one
 abbrev pub begins_blank : List ℕ → Bool
 begins_blank [] = false
 begins_blank (first ∷ rest) = is_blank first

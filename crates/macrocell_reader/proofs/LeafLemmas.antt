@@ -165,7 +165,7 @@ other_step row column bits other (first ∷ others) is =
     no_row true b = refl
     no_row false b = refl
 
--- a byte that is no cell and ends no row
+-- a byte that is not a cell and ends no row
 pub bits_on-other : (row column bits other : ℕ) (rest : List ℕ) → (other == byte "$") ≡ false → is_cell other ≡ false → bits_on row column bits (other ∷ rest) ≡ None
 unfolding bits_on ended_parts
 bits_on-other row column bits other rest no_end is = rw no_end (other_step row column bits other (rows_of rest) is)

@@ -47,7 +47,7 @@ module _ (text : List ℕ) where
     unfolding judged
     judged-accepted none = rw (is, none) refl
 
--- a blank line or a comment is no faulty node line, and adds no level
+-- a blank line or a comment is not a faulty node line, and adds no level
 pub no_node_line : (levels line : List ℕ) → is_node_line line ≡ false → (node_line_fault levels line ≡ None) × (levels ≡ levels_after levels line)
 no_node_line levels line none =
     (rw none refl, sym (ap (λ node. levels ++ option_to_list (option_map level_of node)) (node_of-other line none) ∙ append-nil levels))

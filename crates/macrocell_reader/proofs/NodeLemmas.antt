@@ -15,7 +15,7 @@ use Rattle.macrocell_reader.specs.NodeFaults.{is_above, is_child, fault_among}
 use Rattle.macrocell_reader.specs.declared.node.Node.{Node}
 use Rattle.macrocell_reader.specs.declared.node.Node.TheVariants.{Leaf, Inner}
 
--- ---- lines that are no nodes
+-- ---- lines that are not nodes
 
 equal_byte : (first wanted : ℕ) → (first == wanted) ≡ true → first ≡ wanted
 equal_byte first wanted is = grind (arith, nat_tests)

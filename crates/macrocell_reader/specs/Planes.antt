@@ -34,7 +34,7 @@ planes_of nodes = planes_after [] nodes
 abbrev pub root_level : List Node → ℕ
 root_level nodes = slice_index (map level_of nodes) (length nodes - 1)
 
--- the cells of the last of these nodes, round (0, 0); none where there is no node, since number 0
+-- the cells of the last of these nodes, around (0, 0); none where there is no node, since number 0
 -- is empty
 abbrev pub root_plane : List Node → Plane
 root_plane nodes = centred (root_level nodes) (plane_at (planes_of nodes) (length nodes))

@@ -11,9 +11,9 @@ ghost use Rattle.macrocell_reader.specs.Nodes.{kept};
 use crate::node::Node;
 use text_lines::{first_blank, number, trim_start};
 
-/// The inner node of a line: its level, and the numbers of its quadrants north west, north east, south
-/// west and south east. A number that is too large for its type stays at the largest. None where the
-/// line is not five numbers.
+/// The inner node of a line: its level, and the numbers of its quadrants north west, north east,
+/// south west and south east. A number that is too large for its type stays at the largest. None
+/// where the line is not five numbers.
 pub(crate) fn inner(line: &[u8]) -> Option<Node>
     ensures { result ≡ option_map kept (inner_of (numbers line.now)) }
 {
@@ -38,8 +38,8 @@ fn as_number(number: u64) -> u32
     number.min(u64::from(u32::MAX)) as u32
 }
 
-/// The number at the front of a text, after blanks, and what stands after it. It goes up to the next blank,
-/// and stays at the largest `u64` if it is larger.
+/// The number at the front of a text, after blanks, and what stands after it. It goes up to the
+/// next blank, and stays at the largest `u64` if it is larger.
 fn next_number(text: &[u8]) -> Option<(u64, &[u8])>
     ensures { MatchOption result (begins_with_number (numbers text.now) ≡ false)
         (λ found. (n : ℕ) × (numbers text.now ≡ Some n ∷ numbers found.1.now)

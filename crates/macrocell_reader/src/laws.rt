@@ -31,8 +31,8 @@ pub fn faults_have_places()
     ensures { (text : List ℕ) (fault : Fault) → judged text ≡ Err fault → IsSome fault.place }
 {}
 
-/// Each node line of an accepted text is the slice of the text that begins at its place, and the places
-/// rise.
+/// Each node line of an accepted text is the slice of the text that begins at its place, and the
+/// places rise.
 pub fn node_lines_are_slices()
     ensures { (text : List ℕ) (meaning : Meaning) → judged text ≡ Ok meaning →
         StandIn text 0 (map line_of meaning.nodes) }

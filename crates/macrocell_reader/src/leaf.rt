@@ -5,8 +5,8 @@ ghost use Rattle.macrocell_reader.specs.Leaf.{leaf_of, bits_of, is_cell, cell_bi
 
 use text_lines::trim_end;
 
-/// The cells of a leaf line: bit `8 * y + x` is the cell in column x of row y. The line may have blanks at
-/// its end. None where it is no leaf.
+/// The cells of a leaf line: bit `8 * y + x` is the cell in column x of row y. The line may have
+/// blanks at its end. None where it is not a leaf.
 #[tactic(auto, unfolding(crate::specs::Leaf::leaf_of))]
 pub(crate) fn leaf(line: &[u8]) -> Option<u64>
     ensures { result ≡ leaf_of line.now }
@@ -14,7 +14,8 @@ pub(crate) fn leaf(line: &[u8]) -> Option<u64>
     bits_of(trim_end(line))
 }
 
-/// The cells of at most 8 rows of at most 8 cells. A row ends with `$`, which the last one may lack.
+/// The cells of at most 8 rows of at most 8 cells. A row ends with `$`, which the last one may
+/// lack.
 fn bits_of(text: &[u8]) -> Option<u64>
     ensures { result ≡ bits_of text.now }
 {

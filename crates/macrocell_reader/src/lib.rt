@@ -1,5 +1,5 @@
-//! Macrocell pattern files: [`McFile::open`] checks a whole text once, and its comments, its rule and its
-//! node lines are slices of that text.
+//! Macrocell pattern files: [`McFile::open`] checks a whole text once, and its comments, its rule
+//! and its node lines are slices of that text.
 #![tactic(auto)]
 
 mod inner;

@@ -18,8 +18,8 @@ use std::alloc::Global;
 use std::marker::Model;
 use text_lines::{Comments, Line, Lines, begins_with, fault_at, is_blank_line, is_comment};
 
-/// A macrocell file whose whole text was checked. What it hands out are slices of that text, and they stay
-/// good after it is gone.
+/// A macrocell file whose whole text was checked. What it hands out are slices of that text, and
+/// they stay good after it is gone.
 #[derive(Debug, Drop)]
 pub struct McFile<'a> {
     /// The lines after the first.
@@ -41,20 +41,21 @@ impl<'a> Model for McFile<'a> {
 }
 
 impl<'a> McFile<'a> {
-    /// Checks a text. It takes memory for the levels of its nodes, a byte for each, and gives it back; where
-    /// there is none, it refuses `NoMemory` without a place. Else it refuses
+    /// Checks a text. It takes memory for the levels of its nodes, a byte for each, and gives it
+    /// back; where there is none, it refuses `NoMemory` without a place. Else it refuses
     ///
     /// - `NotAPattern` at 0 where the text does not begin with `[M2]`;
     /// - `FramesNotRead` at a line that begins with `#FRAMES`;
-    /// - `BadGen` at a line `#G` whose rest is no number or above the last generation;
+    /// - `BadGen` at a line `#G` whose rest is not a number or above the last generation;
     /// - `OutOfRange` at a line of an inner node of a level above 63;
     /// - `TooManyCells` at a node line whose number is 2^32;
-    /// - `BadNodeLine` at another line that is neither blank, nor a comment, a leaf or an inner node of
-    ///   level 4 or more;
-    /// - `BadChild` at an inner node with a quadrant that is neither 0 nor the number of an earlier node one
-    ///   level lower.
+    /// - `BadNodeLine` at another line that is neither blank, nor a comment, a leaf or an inner
+    ///   node of level 4 or more;
+    /// - `BadChild` at an inner node with a quadrant that is neither 0 nor the number of an
+    ///   earlier node one level lower.
     ///
-    /// The first line with a fault is answered, and of its faults the first in the order of this list.
+    /// The first line with a fault is answered, and of its faults the first in the order of this
+    /// list.
     pub fn open(alloc: Global, source: &'a [u8]) -> Result<McFile<'a>, Fault>
         ensures accepted { IfOk result (λ file. judged source.now ≡ Ok file) }
         ensures refused { IfErr result (λ fault.
@@ -98,8 +99,9 @@ impl<'a> McFile<'a> {
         Comments::new(self.body)
     }
 
-    /// The node lines, in order. Node line k, counted from 1, is node k, and the last is the root. Each is
-    /// without fault after those before it: its quadrants are 0 or earlier nodes, one level lower.
+    /// The node lines, in order. Node line k, counted from 1, is node k, and the last is the root.
+    /// Each is without fault after those before it: its quadrants are 0 or earlier nodes, one level
+    /// lower.
     pub fn lines(&self) -> NodeLines<'a>
         ensures value { result ≡ self.now.nodes }
         ensures in_order { StandInOrder [] (map (λ line. line.node) self.now.nodes) }

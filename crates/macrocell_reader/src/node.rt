@@ -15,8 +15,8 @@ pub enum Node {
     /// A square of side 2^level.
     Inner {
         level: u8,
-        /// The numbers of its quadrants: north west, north east, south west, south east. The first node
-        /// line of a file has number 1, and 0 is the empty square.
+        /// The numbers of its quadrants: north west, north east, south west, south east. The first
+        /// node line of a file has number 1, and 0 is the empty square.
         kids: [u32; 4],
     },
 }
@@ -31,8 +31,8 @@ pub struct NodeLine<'a> {
     pub node: Node,
 }
 
-/// The node that a line writes, whether or not its level and its quadrants are those of a node. A number
-/// that is too large for its type stays at the largest.
+/// The node that a line writes, whether or not its level and its quadrants are those of a node. A
+/// number that is too large for its type stays at the largest.
 #[tactic(auto, unfolding(crate::specs::Nodes::node_of))]
 pub(crate) fn node_of(line: &[u8]) -> Option<Node>
     ensures { result ≡ option_map kept (node_of line.now) }

@@ -17,8 +17,8 @@ pub(crate) const LARGEST_LEVEL: u8 = 63;
 /// The largest number of a node.
 pub(crate) const LARGEST_NUMBER: u32 = u32::MAX;
 
-/// The level of the node that a line writes, where the nodes before it have these levels. It refuses, in
-/// this order,
+/// The level of the node that a line writes, where the nodes before it have these levels. It
+/// refuses, in this order,
 ///
 /// - `OutOfRange` an inner node whose level is too large;
 /// - `TooManyCells` a line whose number is too large;

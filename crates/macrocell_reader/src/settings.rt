@@ -33,7 +33,7 @@ impl<'a> Settings<'a> {
     /// Reads a line of any kind. It refuses
     ///
     /// - `FramesNotRead` a line that begins with `#FRAMES`;
-    /// - `BadGen` a line `#G` whose rest is no number or above the last generation.
+    /// - `BadGen` a line `#G` whose rest is not a number or above the last generation.
     #[tactic(auto, unfolding(crate::specs::Settings::after_line, crate::specs::Settings::said_fault))]
     pub(crate) fn read_line(&mut self, line: Line<'a>) -> Result<(), Fault>
         ensures fault { IfErr result (λ fault. (refusal : Refusal)
@@ -57,8 +57,8 @@ impl<'a> Settings<'a> {
     }
 }
 
-/// The generation that digits write, with blanks at their ends or none, if it is no more than the last
-/// generation.
+/// The generation that digits write, with blanks at their ends or none, if it is no more than the
+/// last generation.
 #[tactic(auto, unfolding(crate::specs::Settings::generation_of))]
 fn generation_of(text: &[u8]) -> Option<u64>
     ensures { result ≡ generation_of text.now }

@@ -28,7 +28,7 @@ pub refused_as : {T : Type 0} (P Q : Type 0) (r : Result T Refusal) → (P → Q
 refused_as P Q (Ok x) f h = tt
 refused_as P Q (Err e) f h = ⊎_elim (λ memory. inl memory) (λ full. inr (full.0, f full.1)) h
 
--- and for want of memory alone where the other reason is out
+-- and only for want of memory where the other reason is out
 pub only_memory : {T : Type 0} (P : Type 0) (r : Result T Refusal) → (P → ⊥) → IfErr r (λ refusal. (refusal ≡ NoMemory) ⊎ ((refusal ≡ NodesFull) × P)) → IsOkUnless r NoMemory
 only_memory P (Ok x) none h = tt
 only_memory P (Err e) none h = ⊎_elim (λ memory. memory) (λ full. absurd (none full.1)) h

@@ -26,7 +26,7 @@ pub record AreRanksOf (old : OldWords) (ranks : List ℕ) : Type 0 where
 abbrev pub IsOrderOfAll : OldWords → Order → Type 0
 IsOrderOfAll old order = IsOrderOf (bits_in old) (words_in old) IsAny order.slots.items order.ends
 
--- so it is unless the cells alone are kept
+-- so it is unless only the cells are kept
 abbrev pub HasRanks : Keep → OldWords → List ℕ → Type 0
 HasRanks CellsAlone old ranks = Unit {0}
 HasRanks (Collected shares) old ranks = AreRanksOf old ranks

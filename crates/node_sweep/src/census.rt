@@ -28,7 +28,7 @@ pub struct Finished {
 pub(crate) struct Survey {
     /// Where the copy begins.
     pub(crate) ends: Ends,
-    /// The rank of each pair, unless the cells alone are kept.
+    /// The rank of each pair, unless only the cells are kept.
     pub(crate) ranks: Vec<u8>,
     /// What is finished, if that was counted.
     pub(crate) finished: Option<Finished>,

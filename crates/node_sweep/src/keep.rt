@@ -12,8 +12,8 @@ pub enum Keep {
 }
 
 /// How much a collection is to keep beside what the root reaches: at most one pair slot in so many.
-/// No clause promises these amounts. Whatever they are, each square and result that is kept is right,
-/// and the root has its cells: they only decide how fast later steps are.
+/// No clause promises these amounts. Whatever they are, each square and result that is kept is
+/// right, and the root has its cells: they only decide how fast later steps are.
 #[derive(Clone, Copy)]
 pub struct Shares {
     /// For small squares and halves.

@@ -61,7 +61,7 @@ is_back table desk back begun ended begins keeps returns =
 pub centred_same : (level : ℕ) (plane other : Plane) → IsSame plane other → IsSame (centred level plane) (centred level other)
 centred_same level plane other is = record { same = λ x y. is.same _ _ }
 
--- the cells that the work found round (0,0), the desk that is back knows
+-- the cells that the work found around (0,0), the desk that is back knows
 pub back_round : {table : NodeTable} {desk back : Desk} {book : Book} (plane : Plane) (sq : Sq) → IsBack table desk back book → IsKnown book sq.level sq →
     IsSame (centred sq.level (book.cells sq)) plane → IsSame (centred sq.level ((book_at table back).cells sq)) plane
 back_round {table} {desk} {back} {book} plane sq is known cells =

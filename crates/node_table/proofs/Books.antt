@@ -131,7 +131,8 @@ is_book store key known rule h = record {
 pub sound_for : (key : Key) (known : Knowledge) → IsRule key.rule → IsCoherent key.shape.bits known → IsSoundFor key known
 sound_for key known rule h = record { book = λ store. is_book store key known rule h; coherent = ∣ h ∣₁ }
 
--- a book keeps all that another desk, or the same one before, knew: the words, the blocks and the squares whose results are known
+-- a book keeps all that another desk, or the same one before, knew: the words, the blocks and the
+-- squares whose results are known
 pub covers_keeps : (store : Store) (key : Key) (old new : Knowledge) → ∥ IsCoherent key.shape.bits new ∥₁ →
     ((entry : ℕ × ℕ) → Contains old.words entry → Contains new.words entry) → ((entry : KnownBlock) → Contains old.blocks entry → Contains new.blocks entry) →
     ((sq : Sq) → Contains (map square_of old.results) sq → Contains (map square_of new.results) sq) → Keeps (book_of store key old) (book_of store key new)

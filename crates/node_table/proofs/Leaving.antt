@@ -32,7 +32,8 @@ same_id m n a b e = λ i. record {
   slot_names = drop 7 (e i);
 }
 
--- a desk of one table is one of another that has the same rule, exponent and numbers, and knows there what it knows
+-- a desk of one table is one of another that has the same rule, exponent and numbers, and knows
+-- there what it knows
 pub same_table : (here table : NodeTable) (desk : Desk) → IsDeskOf here desk → here.key.rule ≡ table.key.rule → here.key.exponent ≡ table.key.exponent →
     (store_of here).numbers ≡ (store_of table).numbers → IsDeskOf table desk × (table.key ≡ here.key)
 same_table here table desk d rule exponent numbers =

@@ -43,7 +43,7 @@ parts_kept learns h = record {
   se = halves_kept learns h.quarters.se h.se;
 }
 
--- the quarters of the quarters alone
+-- only the quarters of the quarters
 pub are_parts : {at : At} {level : ℕ} {plane : Plane} {parts : HalvesOfQuarters} → AreHalvesOfQuarters at level plane parts →
     ArePartsOfParts (book_here at) level plane (record { whole = parts.quarters; nw = squares_of parts.nw.0 parts.nw.1; ne = squares_of parts.ne.0 parts.ne.1; sw = squares_of parts.sw.0 parts.sw.1; se = squares_of parts.se.0 parts.se.1 })
 are_parts h = record { whole = h.quarters; nw = h.nw.quarters; ne = h.ne.quarters; sw = h.sw.quarters; se = h.se.quarters }

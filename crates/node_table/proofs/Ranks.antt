@@ -26,7 +26,7 @@ low_block bits words zero n some low b = refl
 low_block bits words (suc rank) zero some low b = absurd (some refl)
 low_block bits words (suc rank) (suc i) some low b = let from = b.0.from in absurd (omega arith)
 
--- the parts of a block that is no leaf
+-- the parts of a block that is not a leaf
 record HasTwo (bits : ℕ) (words : Words) (rank n : ℕ) : Type 0 where
   less : ℕ
   is : rank ≡ suc less

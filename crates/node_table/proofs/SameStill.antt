@@ -1,4 +1,4 @@
--- Words in one owner's hands are told by their head and the words alone.
+-- Words in one owner's hands are told only by their head and the words.
 use Rattle.std.proofs.Common.{◌≡◌, ℕ, List, ap}
 use Rattle.std.proofs.Props.{props}
 use mathlib.Core.HLevel.{Σ_prop_path}

@@ -99,7 +99,8 @@ module _ (key : Key) (index word : ℕ) (views : List View) (id : ℕ) (v : View
       (same_or_other t.0 id))
       (same_or_other t.0 other)
 
--- each word is known to some desk after a step, where the one that made it has learned what stands there
+-- each word is known to some desk after a step, where the one that made it has learned what stands
+-- there
 known_after : (key : Key) (words : List ℕ) (views : List View) (id index word : ℕ) (v w : View) → slice_get views id ≡ Some v → Grows v.known w.known →
     (slice_index (slice_set words index word) index ≢ 0 → KnowsWord key.shape.bits w.known index (slice_index (slice_set words index word) index)) →
     ((i : ℕ) → slice_index words i ≢ 0 → IsKnownToSome key views i (slice_index words i)) →

@@ -16,10 +16,10 @@ use squares::{LEAF_LEVEL, Num, Sq, Squares};
 use table_core::{Kind, parts};
 
 /// A desk at work at its table. Its calls wait for nobody, take no memory and always return,
-/// whatever other desks do meanwhile. `leaf`, `quad`, `nine` and `overlaps` refuse `NodesFull`
-/// alone, and only where the desk saw another word in each of the 256 slots of the way of a word
-/// that they need; `leaf` and `quad` refuse wherever it saw that before the call, and what the desk
-/// has seen it knows for good: what was refused once stays refused. `keep` refuses nothing.
+/// whatever other desks do meanwhile. `leaf`, `quad`, `nine` and `overlaps` refuse only
+/// `NodesFull`, and only where the desk saw another word in each of the 256 slots of the way of a
+/// word that they need; `leaf` and `quad` refuse wherever it saw that before the call, and what the
+/// desk has seen it knows for good: what was refused once stays refused. `keep` refuses nothing.
 #[derive(Drop)]
 pub struct At<'t> {
     pub(crate) table: &'t NodeTable,

@@ -39,7 +39,7 @@ impl StillWords for SharedStill {
     }
 }
 
-// The two blocks of a block that is no square of level 3.
+// The two blocks of a block that is not a square of level 3.
 fn read_pair<W: StillWords>(still: &W, number: u32) -> (u32, u32)
     requires { IsSomePair (W.good still.now) number }
     ensures { AreParts (W.good still.now) number result.0 result.1 }

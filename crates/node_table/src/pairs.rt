@@ -36,7 +36,7 @@ impl At<'_> {
         }
     }
 
-    // The two blocks of a block that is no square of level 3.
+    // The two blocks of a block that is not a square of level 3.
     pub(crate) fn read_pair(&mut self, number: u32) -> (u32, u32)
         requires { KnowsSomePair (known_by self.old.desk) number }
         ensures learns { LearnsBlocks self.old self.new }

@@ -38,10 +38,11 @@ impl NodeTable {
         &self.key
     }
 
-    /// A running table of these words, and of no others, under a rule and an exponent, and its first
-    /// desk, which knows all that the words then say. The results that are the same under both heads
-    /// stay, and no other. If an allocation fails, the words come back as they were. Words under the
-    /// table's own head stand in memory twice at most meanwhile, and others three times.
+    /// A running table of these words, and of no others, under a rule and an exponent, and its
+    /// first desk, which knows all that the words then say. The results that are the same under
+    /// both heads stay, and no other. If an allocation fails, the words come back as they were.
+    /// Words under the table's own head stand in memory twice at most meanwhile, and others three
+    /// times.
     pub fn open(
         alloc: Global,
         still: Still,

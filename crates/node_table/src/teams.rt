@@ -46,7 +46,8 @@ impl Desk {
             .table
             .shared
             .join_seat::<JoinedView>(&mut self.seat, seat);
-        // A step, at which the rule of the words holds, tells that what the joined view says is true.
+        // A step, at which the rule of the words holds, tells that what the joined view says is
+        // true.
         table.table.shared.load::<LoadNode>(&mut self.seat, 0);
         self.expansions = self.expansions.saturating_add(expansions);
     }
@@ -66,8 +67,8 @@ impl<'t> At<'t> {
         }
     }
 
-    /// This desk knows then what either knew: a square has one number then. The number of expansions
-    /// with which it came stays its own.
+    /// This desk knows then what either knew: a square has one number then. The number of
+    /// expansions with which it came stays its own.
     pub fn join(&mut self, other: At<'_>)
         requires { AreAtOneTable (book_here self.old) (book_here other) }
         ensures own { Keeps (book_here self.old) (book_here self.new) }

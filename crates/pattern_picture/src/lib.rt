@@ -1,4 +1,5 @@
-//! Pictures of the cells of a square: at what scale a rectangle is shown, and the shades of its blocks.
+//! Pictures of the cells of a square: at what scale a rectangle is shown, and the shades of its
+//! blocks.
 #![tactic(auto)]
 
 mod laws;

@@ -13,8 +13,8 @@ use squares::{Look, Sq};
 use std::alloc::Global;
 use viewport::Blocks;
 
-/// How a rectangle of cells is drawn: at what scale, which blocks of cells are shown, and their shades, row by row from
-/// the upper left one.
+/// How a rectangle of cells is drawn: at what scale, which blocks of cells are shown, and their
+/// shades, row by row from the upper left one.
 #[derive(Drop)]
 pub struct Drawing {
     pub scale: Scale,
@@ -22,12 +22,13 @@ pub struct Drawing {
     pub shades: Vec<u8>,
 }
 
-/// Draws a rectangle of the cells of a square of a level from 3 to 63, as large as can be with at most `size` pixels
-/// on each side, 16 to 4096. The rectangle's sides lie from -2^62 to 2^62.
+/// Draws a rectangle of the cells of a square of a level from 3 to 63, as large as can be with at
+/// most `size` pixels on each side, 16 to 4096. The rectangle's sides lie from -2^62 to 2^62.
 ///
-/// Where there is a pixel for each cell, a cell is a square of up to 16 by 16 pixels, black for a live one. Else a pixel
-/// is a block of 2^k by 2^k cells with the smallest k that will do, and its shade tells how many of them live; cells of
-/// these blocks beyond the rectangle count too. `NoMemory` if there is no room for the shades or for a count.
+/// Where there is a pixel for each cell, a cell is a square of up to 16 by 16 pixels, black for a
+/// live one. Else a pixel is a block of 2^k by 2^k cells with the smallest k that will do, and its
+/// shade tells how many of them live; cells of these blocks beyond the rectangle count too.
+/// `NoMemory` if there is no room for the shades or for a count.
 pub fn picture<L: Look>(
     alloc: Global,
     look: &L,

@@ -9,7 +9,8 @@ use viewport::Blocks;
 // The most pixels on a side of a cell.
 const ZOOM_LIMIT: u32 = 16;
 
-/// How large a picture shows cells: blocks of 2^exponent by 2^exponent cells, each as `zoom` by `zoom` pixels.
+/// How large a picture shows cells: blocks of 2^exponent by 2^exponent cells, each as `zoom` by
+/// `zoom` pixels.
 #[derive(Clone, Copy, Debug, PartialEq, Eq)]
 pub struct Scale {
     pub exponent: u8,
@@ -17,9 +18,10 @@ pub struct Scale {
 }
 
 impl Scale {
-    /// The largest scale at which a picture of a rectangle has at most `size` pixels on each side, 16 to 4096. A cell has
-    /// at most 16 pixels on a side. Where not every cell has a pixel of its own, every block has one pixel, and the
-    /// blocks are as small as can be. The rectangle's sides lie from -2^62 to 2^62.
+    /// The largest scale at which a picture of a rectangle has at most `size` pixels on each side,
+    /// 16 to 4096. A cell has at most 16 pixels on a side. Where not every cell has a pixel of its
+    /// own, every block has one pixel, and the blocks are as small as can be. The rectangle's sides
+    /// lie from -2^62 to 2^62.
     pub fn of(shown: Bounds, size: u32) -> Scale
         requires shown { IsShown shown }
         requires size { IsSize size }
@@ -36,8 +38,8 @@ impl Scale {
         }
     }
 
-    /// The blocks that a picture of a rectangle shows at this scale: from that of the upper left cell to that of the
-    /// lower right one.
+    /// The blocks that a picture of a rectangle shows at this scale: from that of the upper left
+    /// cell to that of the lower right one.
     pub fn blocks(self, shown: Bounds) -> Blocks
         requires shown { IsShown shown }
         requires exponent { self.exponent ≤ 62 }
@@ -54,7 +56,8 @@ impl Scale {
     }
 }
 
-// The smallest exponent at which a picture with one pixel for each block has at most `size` pixels on each side.
+// The smallest exponent at which a picture with one pixel for each block has at most `size` pixels
+// on each side.
 fn smallest_exponent(shown: Bounds, size: u32) -> u8
     requires shown { IsShown shown }
     requires size { IsSize size }
@@ -79,7 +82,8 @@ fn longer_side(exponent: u8, shown: Bounds) -> u64
     block_span(exponent, shown.left, shown.right).max(block_span(exponent, shown.top, shown.bottom))
 }
 
-// How many blocks of 2^exponent cells there are from that of the first coordinate to that of the last.
+// How many blocks of 2^exponent cells there are from that of the first coordinate to that of the
+// last.
 fn block_span(exponent: u8, first: i64, last: i64) -> u64
     requires exponent { exponent ≤ 62 }
     requires side { IsShownSide first last }

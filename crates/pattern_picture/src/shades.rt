@@ -19,12 +19,12 @@ const BLACK: u8 = 0;
 // The shade of a block with a single live cell.
 const LIGHTEST: u32 = 160;
 
-/// The shades of blocks of a square of a level from 3 to 63, row by row from the upper left one: 255
-/// (white) for a block without live cells. Where a block is one cell (exponent 0), 0 (black) for a
-/// live one; else 160 - floor(160 b / (2 exponent)) for one with p live cells, b = floor(log2 p), so
-/// that a single cell is seen and a full block is black. What lies outside the square is dead. Each
-/// number above level 5 is counted once. `NoMemory` where there is no room for the shades or for one
-/// more count.
+/// The shades of blocks of a square of a level from 3 to 63, row by row from the upper left one:
+/// 255 (white) for a block without live cells. Where a block is one cell (exponent 0), 0 (black)
+/// for a live one; else 160 - floor(160 b / (2 exponent)) for one with p live cells, b = floor(log2
+/// p), so that a single cell is seen and a full block is black. What lies outside the square is
+/// dead. Each number above level 5 is counted once. `NoMemory` where there is no room for the
+/// shades or for one more count.
 pub fn block_shades<L: Look>(
     alloc: Global,
     look: &L,

@@ -1,4 +1,4 @@
--- Decimal numbers: the byte after one that is no digit, and the number that is read.
+-- Decimal numbers: the byte after one that is not a digit, and the number that is read.
 use Rattle.std.proofs.Common.{◌≡◌, ℕ, ◌+◌, ◌/◌, ◌%◌, ◌^◌, ◌<◌, ◌≤◌, true, cond, List, [], ◌∷◌, ◌++◌, length, decimal, Some, None, refl, sym, ◌∙◌, ap, arith, length-append, suc, ℤ, pos, negsuc, drop}
 use lib.Signed.{mag}
 use Rattle.std.specs.Prelude.{◌&&◌}
@@ -13,7 +13,7 @@ use Rattle.plane.proofs.Elements.{AllByRecursion-append}
 use Rattle.text_lines.specs.Numbers.{decimal_value, number_of, with_digit}
 use Rattle.pattern_writers.proofs.TextLines.{IsMark}
 
--- the byte is no decimal digit
+-- the byte is not a decimal digit
 abbrev pub IsNoDigit : ℕ → Type 0
 IsNoDigit byte = 10 ≤ digit_value byte
 

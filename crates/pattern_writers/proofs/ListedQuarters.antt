@@ -1,4 +1,5 @@
--- What the list of nodes gains by a square: nothing, a leaf, or the squares of its quarters and itself.
+-- What the list of nodes gains by a square: nothing, a leaf, or the squares of its quarters and
+-- itself.
 use Rattle.std.proofs.Common.{◌≡◌, ℕ, ◌+◌, ◌-◌, ◌<◌, ◌≤◌, true, false, cond, List, [], ◌∷◌, ◌++◌, length, refl, sym, ◌∙◌, ap, subst, arith, append-nil}
 use Rattle.std.specs.Prelude.{Some, None, IsTrue, ◌==◌}
 use Rattle.std.specs.HashMap.{Updates}
@@ -45,7 +46,7 @@ text_of_leaf listed square word level same =
     (number_in listed (sw_of (square.level - 1) square.plane)) (number_in listed (se_of (square.level - 1) square.plane)))) ((Decides-eqb square.level 3).1 level)
     ∙ ap leaf_text (plane_equal square.plane (bits_plane word) same)
 
--- a larger square is no leaf
+-- a larger square is not a leaf
 pub not_three : (level : ℕ) → 3 < level → (level == 3) ≡ false
 not_three level above = elim (level == 3) as (λ t. (t ≡ true → level ≡ 3) → t ≡ false) [
   | true ↦ λ is. let same = is refl in absurd (omega (arith, same))

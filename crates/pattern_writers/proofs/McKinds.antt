@@ -130,7 +130,7 @@ and_none : (a : Bool) → (a && false) ≡ false
 and_none true = refl
 and_none false = refl
 
--- a line that writes a node is no comment
+-- a line that writes a node is not a comment
 record IsNodeLine (line : List ℕ) : Type 0 where
   node_line : is_node_line line ≡ true
   unfaulted : said_fault line ≡ None
@@ -166,7 +166,7 @@ node_line_is (b ∷ rest) node is =
     (λ comment. absurd (false≢true (sym (ap (λ t. not (is_blank_line (b ∷ rest) || t)) comment ∙ or_comment (is_blank_line (b ∷ rest))) ∙ line)))
     (λ other. other_first b rest line other)
 
--- lines that write nodes in order are without fault, say nothing else, and are no comments
+-- lines that write nodes in order are without fault, say nothing else, and are not comments
 pub fine_nodes : (levels : List ℕ) (lines : List (List ℕ)) (nodes : List Node) → map node_of lines ≡ map (λ node. Some node) nodes → StandInOrder levels nodes → AreFine levels lines
 fine_nodes levels [] nodes is order = tt
 fine_nodes levels (line ∷ lines) [] is order = absurd (cc)

@@ -1,4 +1,4 @@
--- The quarters of a square round (0,0), and those of the square of half its side.
+-- The quarters of a square around (0,0), and those of the square of half its side.
 use Rattle.std.proofs.Common.{◌≡◌, ℕ, ◌+◌, ◌-◌, ◌^◌, ◌<◌, ◌≤◌, ℤ, pos, ◌+ℤ◌, ◌-ℤ◌, List, [], ◌∷◌, All, refl, sym, ◌∙◌, ap, subst, arith}
 use Rattle.std.specs.Prelude.{◌&&◌}
 use Rattle.std.specs.List.{AllByRecursion}
@@ -46,7 +46,8 @@ corner_square level plane is = record {
 from_half : (quarter half from to : ℕ) (z : ℤ) → half ≡ quarter + quarter → from ≡ to + quarter → (z +ℤ pos from) -ℤ pos half ≡ (z +ℤ pos to) -ℤ pos quarter
 from_half quarter half from to z e f = omega (arith, ints, e, f)
 
--- a part of the square that is moved by half its side is one of the inner square that is moved by half of its own
+-- a part of the square that is moved by half its side is one of the inner square that is moved by
+-- half of its own
 part_inside : (quarter half left left' top top' : ℕ) (plane : Plane) → half ≡ quarter + quarter → left ≡ left' + quarter → top ≡ top' + quarter →
     IsSame (cut quarter left top (moved (pos half) (pos half) plane)) (cut quarter left' top' (moved (pos quarter) (pos quarter) plane))
 part_inside quarter half left left' top top' plane e f g = record {
@@ -155,11 +156,11 @@ module _ (book : Book) (laws : IsBook book) where
           };
         }
 
--- the quarters of a square round (0,0) are known
+-- the quarters of a square around (0,0) are known
 pub quarters_known : (book : Book) (plane : Plane) (level : ℕ) (quarters : List Sq) → AreQuarters book level plane quarters → AreKnown book (level - 1) quarters
 quarters_known book plane level quarters are = record { nw = are.nw.known; ne = are.ne.known; sw = are.sw.known; se = are.se.known }
 
--- the square of a book is a square round (0,0)
+-- the square of a book is a square around (0,0)
 pub first_root : (book : Book) (sq : Sq) (parts : List Sq) → IsBook book → IsKnown book sq.level sq → 4 ≤ sq.level → AreQuarters book sq.level (book.cells sq) parts →
     HasRoot book (centred sq.level (book.cells sq)) (record { level = sq.level; quarters = parts })
 first_root book sq parts laws known low are = record {

@@ -46,7 +46,7 @@ ended_parts-all test end parts ends none =
 abbrev pub IsMark : ℕ → Type 0
 IsMark b = 33 ≤ b
 
--- a byte that is no control byte
+-- a byte that is not a control byte
 abbrev pub IsPlain : ℕ → Type 0
 IsPlain b = 32 ≤ b
 

@@ -47,7 +47,8 @@ range_holds cell within = record {
   bottom = omega (arith, ints, within.y.high);
 }
 
--- the frame's corner lies in the range and its sides are short, and the cells lie in rows that begin at its left, from its corner on
+-- the frame's corner lies in the range and its sides are short, and the cells lie in rows that
+-- begin at its left, from its corner on
 pub record IsFrame (frame : Frame) (cells : List Cell) : Type 0 where
   pub corner : IsInRange frame.corner
   pub width : frame.width < 2 ^ 64

@@ -39,12 +39,12 @@ square_text listed square =
 abbrev pub node_lines : List Square → List ℕ
 node_lines listed = flat_map (λ square. square_text listed square ++ codes "\n") listed
 
--- the plane's square of this level round (0,0), moved to the corner (0,0)
+-- the plane's square of this level around (0,0), moved to the corner (0,0)
 abbrev pub from_corner : ℕ → Plane → Plane
 from_corner level plane = moved (pos (2 ^ (level - 1))) (pos (2 ^ (level - 1))) plane
 
--- the text of the plane's cells, in a square of this level round (0,0), with the comments, the rule
--- and the generation
+-- the text of the plane's cells, in a square of this level around (0,0), with the comments, the
+-- rule and the generation
 abbrev pub mc_text : List (List ℕ) → CountRule → ℕ → ℕ → Plane → List ℕ
 mc_text comments rule generation level plane =
     mc_opening (canonical_text rule) generation ++ comment_lines comments

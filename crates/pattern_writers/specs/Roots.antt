@@ -1,4 +1,4 @@
--- The square round (0,0) that a macrocell file has as its last.
+-- The square around (0,0) that a macrocell file has as its last.
 use Rattle.std.specs.Prelude.{ℕ, ◌≤◌, List}
 use Rattle.plane.specs.Centred.{Holds, IsSmallestLevel}
 use Rattle.plane.specs.Plane.{Plane}
@@ -14,7 +14,7 @@ pub record AreKnown (book : Book) (level : ℕ) (quarters : List Sq) : Type 0 wh
   pub sw : IsKnown book level (nth quarters 2)
   pub se : IsKnown book level (nth quarters 3)
 
--- the quarters of a square round (0,0) that has all the plane's cells
+-- the quarters of a square around (0,0) that has all the plane's cells
 pub record HasRoot (book : Book) (plane : Plane) (root : Root) : Type 0 where
   pub least : 4 ≤ root.level
   pub holds : Holds root.level plane

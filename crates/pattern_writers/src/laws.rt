@@ -11,7 +11,7 @@ ghost use Rattle.pattern_writers.specs.McText.{mc_text};
 ghost use Rattle.pattern_writers.specs.RleReading.{IsReadable, IsReadFromRle};
 ghost use Rattle.pattern_writers.specs.RleText.{rle_text};
 
-/// The text of a pattern depends on its live cells alone.
+/// The text of a pattern depends only on its live cells.
 pub fn same_text()
     ensures { (comments : List (List ℕ)) (rule : CountRule) (generation : ℕ)
         (plane other : Plane) (cells others : List Cell) →
@@ -27,16 +27,16 @@ pub fn distinct_texts()
         cells ≡ others }
 {}
 
-/// The text of a pattern of at most 2^28 cells, all in the range, is accepted, and read as the same cells, the same rule
-/// and generation, and the same comments where none ends with a CR.
+/// The text of a pattern of at most 2^28 cells, all in the range, is accepted, and read as the same
+/// cells, the same rule and generation, and the same comments where none ends with a CR.
 pub fn rle_read_back()
     ensures { (comments : List (List ℕ)) (rule : CountRule) (generation : ℕ)
         (plane : Plane) (cells : List Cell) → IsReadable comments generation plane cells →
         IsReadFromRle comments rule generation plane (rle_text comments rule generation cells) }
 {}
 
-/// The text of a pattern as a macrocell file of fewer than 2^32 nodes is accepted, and read as the same cells, the same
-/// rule and generation, and the same comments where none ends with a CR.
+/// The text of a pattern as a macrocell file of fewer than 2^32 nodes is accepted, and read as the
+/// same cells, the same rule and generation, and the same comments where none ends with a CR.
 pub fn macrocell_read_back()
     ensures { (comments : List (List ℕ)) (rule : CountRule) (generation level : ℕ)
         (plane : Plane) → FitsMc comments generation level plane →

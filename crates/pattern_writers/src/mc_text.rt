@@ -27,13 +27,15 @@ use std::alloc::Global;
 use std::thread::Threads;
 use whole::pattern_nodes;
 
-/// Writes the cells of a square of a level from 3 to 63, whose centre corner is (0,0), with the comments, the rule
-/// and the generation. The root in the file has the smallest level of at least 4 that covers the cells, whatever the
-/// square's level. It refuses `NoMemory` before the first byte, and `WriteFailed` where the sink failed, which took a
-/// beginning of the text then. It is handed the runtime as the writer of RLE is, and starts no thread.
+/// Writes the cells of a square of a level from 3 to 63, whose centre corner is (0,0), with the
+/// comments, the rule and the generation. The root in the file has the smallest level of at least 4
+/// that covers the cells, whatever the square's level. It refuses `NoMemory` before the first byte,
+/// and `WriteFailed` where the sink failed, which took a beginning of the text then. It is handed
+/// the runtime as the writer of RLE is, and starts no thread.
 ///
-/// What the sink took is read as the same cells, rule and generation, and as the same comments where none ends with a
-/// CR, if the generation is at most 2^63, there are fewer than 2^32 nodes and each comment is a line that is kept.
+/// What the sink took is read as the same cells, rule and generation, and as the same comments
+/// where none ends with a CR, if the generation is at most 2^63, there are fewer than 2^32 nodes
+/// and each comment is a line that is kept.
 pub fn write_mc<R: Threads + Sync, B: Look, V: Sink>(
     _rt: &R,
     alloc: Global,

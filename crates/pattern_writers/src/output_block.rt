@@ -13,9 +13,9 @@ const BLOCK_LENGTH: usize = 4096;
 /// Bytes that a sink is to get, after those that it has taken.
 pub(crate) type OutputBlock = ArrayVec<u8, BLOCK_LENGTH>;
 
-/// Puts some bytes after those of the block. Where they find no room in it, the sink gets the block's bytes first,
-/// and a piece that is longer than a block itself. Where the sink failed, it took a beginning of what waited and the
-/// piece.
+/// Puts some bytes after those of the block. Where they find no room in it, the sink gets the
+/// block's bytes first, and a piece that is longer than a block itself. Where the sink failed, it
+/// took a beginning of what waited and the piece.
 pub(crate) fn put<V: Sink>(
     file: &mut V,
     block: &mut OutputBlock,

@@ -33,13 +33,15 @@ use squares::{Look, Sq};
 use std::alloc::Global;
 use std::thread::Threads;
 
-/// Writes the cells of a square of a level up to 63, whose centre corner is (0,0), with the comments, the rule and
-/// the generation. It refuses `NoMemory`, or `BoxTooLarge` where a side of the cells' box is 2^31 or more, both
-/// before the first byte, and `WriteFailed` where the sink failed; no side was too long then, and the sink took a
-/// beginning of the text. The runs of the rows are found in threads.
+/// Writes the cells of a square of a level up to 63, whose centre corner is (0,0), with the
+/// comments, the rule and the generation. It refuses `NoMemory`, or `BoxTooLarge` where a side of
+/// the cells' box is 2^31 or more, both before the first byte, and `WriteFailed` where the sink
+/// failed; no side was too long then, and the sink took a beginning of the text. The runs of the
+/// rows are found in threads.
 ///
-/// What the sink took is read as the same cells, rule and generation, and as the same comments where none ends with a
-/// CR, if the generation is at most 2^63, there are at most 2^28 live cells and each comment is a line that is kept.
+/// What the sink took is read as the same cells, rule and generation, and as the same comments
+/// where none ends with a CR, if the generation is at most 2^63, there are at most 2^28 live cells
+/// and each comment is a line that is kept.
 pub fn write_rle<R: Threads + Sync, B: Look + Sync, V: Sink>(
     rt: &R,
     alloc: Global,

@@ -1,4 +1,4 @@
--- The live items of an RLE file, in a square round (0,0), in the order of reading.
+-- The live items of an RLE file, in a square around (0,0), in the order of reading.
 use Rattle.std.proofs.Common.{ℕ, ◌<◌, ◌≤◌, List, [], ◌∷◌, arith, inl, inr, ⊎_elim}
 use Rattle.std.specs.List.{AllByRecursion}
 use Rattle.std.proofs.lemmas.Int.{ints}

@@ -214,7 +214,7 @@ root_high book nodes squares root order shown found =
     (level_between [] nodes (length squares - 1) root.level order
     (subst (λ (levels : List ℕ). slice_get levels (length squares - 1) ≡ Some root.level) shown.levels (slice_get-map (λ (s : Sq). s.level) squares _ root found))).1
 
--- the root's cells, round (0,0)
+-- the root's cells, around (0,0)
 pub root_shown : (book : Book) (nodes : List Node) (root : Sq) → IsRoot book nodes root → centred root.level (book.cells root) ≡ root_plane nodes
 root_shown book nodes root is = ap (λ (l : ℕ). centred l (book.cells root)) is.level ∙ ap (centred (root_level nodes)) is.cells
 

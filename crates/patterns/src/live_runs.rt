@@ -27,7 +27,8 @@ impl LiveRuns for FileRuns<'_> {
     }
 }
 
-// The square of the file's live cells round (0,0), at the smallest level of at least 4. The file is read once more.
+// The square of the file's live cells around (0,0), at the smallest level of at least 4. The file
+// is read once more.
 pub(crate) fn live_runs_to_square<S: Squares>(
     alloc: Global,
     book: &mut S,
@@ -46,7 +47,7 @@ pub(crate) fn live_runs_to_square<S: Squares>(
     trim(book, root)
 }
 
-// The lowest level of a square round (0,0) that goes so far in each direction.
+// The lowest level of a square around (0,0) that goes so far in each direction.
 fn level_round(reach: u64) -> u8
     requires { reach ≤ 2 ^ 62 }
     ensures low { 4 ≤ result }

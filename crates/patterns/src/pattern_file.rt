@@ -28,8 +28,8 @@ pub enum PatternFile<'a> {
 }
 
 impl<'a> PatternFile<'a> {
-    /// Checks a text in the format that its beginning names. It refuses the text's first fault, and `NoMemory` where
-    /// there is no room to check a macrocell file.
+    /// Checks a text in the format that its beginning names. It refuses the text's first fault, and
+    /// `NoMemory` where there is no room to check a macrocell file.
     pub fn open(alloc: Global, bytes: &'a [u8]) -> Result<Self, Fault>
         ensures accepted { IfOk result (λ file. judged bytes.now ≡ Ok (meaning_of file)) }
         ensures refused { IfErr result (λ fault. (judged bytes.now ≡ Err fault)

@@ -69,7 +69,8 @@ no_step = step stay stay
 pub born_of : (rule : CountRule) → has rule.birth 0 ≡ false → (n : ℕ) → has rule.birth n ≡ true → n ≢ 0
 born_of rule zero n born none = let twice = sym born ∙ ap (has rule.birth) none ∙ zero in cc
 
--- where the candidates have each live cell and what is round it, they have each cell of the next generation
+-- where the candidates have each live cell and what is round it, they have each cell of the next
+-- generation
 pub candidates_cover : (rule : CountRule) (cells candidates : List Cell) → has rule.birth 0 ≡ false →
     AllByRecursion (λ cell. HasAround rule.neighbourhood cell (plane_of candidates)) cells →
     (x y : ℤ) → next rule (plane_of cells) x y ≡ true → plane_of candidates x y ≡ true

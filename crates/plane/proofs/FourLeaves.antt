@@ -40,7 +40,8 @@ module _ (leaves : List ℕ) where
   in_leaf : (k : ℕ) → IsSquare 8 (leaf k)
   in_leaf k = leaf_square (get_or leaves k 0)
 
--- The centre of four leaves: of the left ones and of the right ones the middle rows, and of these the middle columns.
+-- The centre of four leaves: of the left ones and of the right ones the middle rows, and of these
+-- the middle columns.
 module _ (leaves : List ℕ) (left right word : ℕ)
     (left_upper : (place : ℕ) → place < 32 → bit left place ≡ bit (get_or leaves 0 0) (32 + place))
     (left_lower : (place : ℕ) → place < 32 → bit left (32 + place) ≡ bit (get_or leaves 2 0) place)

@@ -1,4 +1,5 @@
--- The halves of leaves: words of which some bits are those of one word, and the others those of another.
+-- The halves of leaves: words of which some bits are those of one word, and the others those of
+-- another.
 use Rattle.std.proofs.Common.{◌≡◌, ℕ, ◌+◌, ◌*◌, ◌/◌, ◌%◌, ◌^◌, ◌<◌, Bool, true, false, [], ◌∷◌, get_or, refl, ◌∙◌, ap, arith, bit_and, bit_or, w64}
 use Rattle.std.specs.Prelude.{◌==◌, ◌&&◌, ◌||◌}
 use Rattle.std.proofs.lemmas.Nat.Bits.{bit_at_mask_above, bit_at_mask_below, bit_at_mask_inside}

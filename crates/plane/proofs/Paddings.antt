@@ -1,4 +1,4 @@
--- Where the cells of a square round (0,0) may lie some generations on.
+-- Where the cells of a square around (0,0) may lie some generations on.
 use Rattle.std.proofs.Common.{◌≡◌, ℕ, zero, suc, ◌+◌, ◌-◌, ◌^◌, ◌≤◌, min, pow_mono, ℤ, pos, ◌+ℤ◌, ◌-ℤ◌, Bool, true, false, count_by, List, [], ◌∷◌, subst, sym, ◌∙◌, ap, arith, refl}
 use Rattle.std.specs.Prelude.{◌&&◌}
 use Rattle.std.proofs.lemmas.Bool.{false≢true}
@@ -45,7 +45,7 @@ twice_half level least =
     let e : level ≡ (suc level) - 1 = omega arith in let f : (suc level) - 2 ≡ level - 1 = omega arith in
     ap (λ n. 2 ^ n) e ∙ half_of (suc level) (omega arith) ∙ ap (λ n. 2 ^ n + 2 ^ n) f
 
--- the cells of a square round (0,0) stay in one that reaches so much further
+-- the cells of a square around (0,0) stay in one that reaches so much further
 pub holds_after : (rule : CountRule) → has rule.birth 0 ≡ false → (level other n : ℕ) (plane : Plane) → 1 ≤ level → 1 ≤ other → 2 ^ (level - 1) + n ≤ 2 ^ (other - 1) →
     Holds level plane → Holds other (after rule plane n)
 holds_after rule none level other n plane least least_other fits is = record {
@@ -68,7 +68,7 @@ pub padded_after : (rule : CountRule) → has rule.birth 0 ≡ false → (level 
 padded_after rule none level exponent padded plane least wide long is =
     holds_after rule none level (padded - 1) (2 ^ exponent) plane least (omega arith) (fits_padded level exponent padded least wide long) is
 
--- a square round (0,0) holds its own cells
+-- a square around (0,0) holds its own cells
 pub square_held : (level : ℕ) (plane : Plane) → IsSquare (2 ^ level) plane → Holds level (centred level plane)
 square_held level plane is = record { dead = λ x y e. is.dead (x +ℤ pos (2 ^ (level - 1))) (y +ℤ pos (2 ^ (level - 1))) e }
 
@@ -87,7 +87,7 @@ holds_more level other plane least more is =
 here_and_there : (half : ℕ) (z : ℤ) → z +ℤ pos half ≡ z -ℤ (pos 0 -ℤ pos half)
 here_and_there half z = omega (arith, ints)
 
--- a square round (0,0) is a plane that was moved
+-- a square around (0,0) is a plane that was moved
 pub centred_moved : (level : ℕ) (plane : Plane) → IsSame (centred level plane) (moved (pos 0 -ℤ pos (2 ^ (level - 1))) (pos 0 -ℤ pos (2 ^ (level - 1))) plane)
 centred_moved level plane = record {
   same = λ x y.
@@ -95,7 +95,7 @@ centred_moved level plane = record {
       ∙ ap (plane (x -ℤ (pos 0 -ℤ pos (2 ^ (level - 1))))) (here_and_there (2 ^ (level - 1)) y);
 }
 
--- generations of a square round (0,0)
+-- generations of a square around (0,0)
 pub centred_after : (rule : CountRule) (level : ℕ) (plane : Plane) (n : ℕ) → IsSame (after rule (centred level plane) n) (centred level (after rule plane n))
 centred_after rule level plane n =
     same_trans (after_same rule (centred level plane) (moved (pos 0 -ℤ pos (2 ^ (level - 1))) (pos 0 -ℤ pos (2 ^ (level - 1))) plane) n (centred_moved level plane))
@@ -105,7 +105,7 @@ centred_after rule level plane n =
 twice_moved : (a b c : ℕ) (z : ℤ) → c ≡ a + b → (z +ℤ pos a) +ℤ pos b ≡ z +ℤ pos c
 twice_moved a b c z e = omega (arith, ints)
 
--- the centre of a square is the part round (0,0), where it holds all
+-- the centre of a square is the part around (0,0), where it holds all
 pub centred_centre : (level : ℕ) (plane : Plane) → 2 ≤ level → Holds (level - 1) (centred level plane) → IsSame (centred (level - 1) (centre_of level plane)) (centred level plane)
 centred_centre level plane least is =
     let same_quarter : (level - 1) - 1 ≡ level - 2 = omega arith in
@@ -121,7 +121,7 @@ centred_centre level plane least is =
 pub holds_same : (level : ℕ) (plane other : Plane) → IsSame plane other → Holds level plane → Holds level other
 holds_same level plane other same is = record { dead = λ x y e. sym (same.same x y) ∙ is.dead x y e }
 
--- the future of a padded square, round (0,0), is what its cells become
+-- the future of a padded square, around (0,0), is what its cells become
 pub centred_future : (rule : CountRule) (exponent level : ℕ) (plane : Plane) → 2 ≤ level → exponent ≤ level - 2 → Holds (level - 1) (after rule (centred level plane) (2 ^ exponent)) →
     IsSame (centred (level - 1) (future rule exponent level plane)) (after rule (centred level plane) (2 ^ exponent))
 centred_future rule exponent level plane least soon is =

@@ -102,7 +102,8 @@ module _ (half : ℕ) (plane : Plane) (is : IsSquare (half + half) plane) where
 shift_round : (half whole : ℕ) (z : ℤ) → whole ≡ half + half → (z +ℤ pos whole) -ℤ pos half ≡ z +ℤ pos half
 shift_round half whole z e = omega (arith, ints)
 
--- one level up, round (0,0): the square's quarters go to the inner corners, and the cells stay the same
+-- one level up, around (0,0): the square's quarters go to the inner corners, and the cells stay the
+-- same
 pub surrounded_round : (level : ℕ) (plane nw ne sw se : Plane) → 1 ≤ level → IsSquare (2 ^ level) plane →
     IsSame nw (cut (2 ^ (level - 1)) 0 0 plane) → IsSame ne (cut (2 ^ (level - 1)) (2 ^ (level - 1)) 0 plane) →
     IsSame sw (cut (2 ^ (level - 1)) 0 (2 ^ (level - 1)) plane) → IsSame se (cut (2 ^ (level - 1)) (2 ^ (level - 1)) (2 ^ (level - 1)) plane) →
@@ -136,7 +137,7 @@ whole_joined half plane nw ne sw se is is_nw is_ne is_sw is_se =
           (λ _. sym (ap (λ u. plane u (y +ℤ pos 0)) (nowhere x) ∙ ap (plane x) (nowhere y))));
     })
 
--- one level down, round (0,0): the inner corners of the quarters, where all else is empty
+-- one level down, around (0,0): the inner corners of the quarters, where all else is empty
 pub inner_round : (level : ℕ) (plane nw ne sw se a b c d : Plane) → 2 ≤ level → IsSquare (2 ^ level) plane →
     IsSquare (2 ^ (level - 2)) a → IsSquare (2 ^ (level - 2)) b → IsSquare (2 ^ (level - 2)) c → IsSquare (2 ^ (level - 2)) d →
     IsSame nw (cut (2 ^ (level - 1)) 0 0 plane) → IsSame ne (cut (2 ^ (level - 1)) (2 ^ (level - 1)) 0 plane) →

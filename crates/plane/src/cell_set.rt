@@ -99,8 +99,8 @@ impl CellSet {
             .fold(None, |bounds, cell| Some(box_with(bounds, *cell)))
     }
 
-    /// Adds a cell of the range; one that is there already stays. `NoMemory` if there is no room for
-    /// it, and then the set is as it was.
+    /// Adds a cell of the range; one that is there already stays. `NoMemory` if there is no room
+    /// for it, and then the set is as it was.
     pub fn insert(&mut self, cell: Cell) -> Result<(), Refusal>
         requires { IsInRange cell }
         ensures ok { OnOk result (IsListing self.new (with_cell cell (plane_of self.old))) }

@@ -92,8 +92,8 @@ impl CellSet {
         Ok(candidates)
     }
 
-    /// The next generation of the cells by the rule. `NoMemory` if there is no room for it. The box of
-    /// the cells, widened by one, has to lie in the range.
+    /// The next generation of the cells by the rule. `NoMemory` if there is no room for it. The box
+    /// of the cells, widened by one, has to lie in the range.
     pub fn next(&self, alloc: Global, rule: &Rule) -> Result<CellSet, Refusal>
         requires { HasReach 1 self.now }
         ensures ok { IfOk result (λ cells. IsListing cells (next rule.now (plane_of self.now))) }

@@ -1,5 +1,5 @@
-//! What holds of all planes and all rules, and how far the range goes, as calls that do nothing and say it in their
-//! clauses.
+//! What holds of all planes and all rules, and how far the range goes, as calls that do nothing and
+//! say it in their clauses.
 
 ghost use Rattle.std.specs.Prelude.{◌≡◌, ◌^◌, pos};
 ghost use Rattle.plane.specs.Laws.{BoundedListing, LightCone, NineParts, OneListing, SmallestBox, Translation};

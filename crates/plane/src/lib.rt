@@ -1,6 +1,6 @@
 //! A plane of cells: the cells that are alive, their generations, the range of coordinates, windows
-//! of cells, the middle of four leaves, the refusals of the whole project and the devices that bytes
-//! are read from and written to.
+//! of cells, the middle of four leaves, the refusals of the whole project and the devices that
+//! bytes are read from and written to.
 #![tactic(auto)]
 
 mod cell;

@@ -59,9 +59,10 @@ fn widen(bounds: Bounds, by: u64) -> Option<Bounds>
     })
 }
 
-/// Judges whether a run stays in the range. Live cells spread by at most one cell a generation, so the
-/// answer is the box of the cells, if there are any, widened by one for each generation. `TooFar` if
-/// that box leaves the range of coordinates, or if the last generation is above the limit.
+/// Judges whether a run stays in the range. Live cells spread by at most one cell a generation, so
+/// the answer is the box of the cells, if there are any, widened by one for each generation.
+/// `TooFar` if that box leaves the range of coordinates, or if the last generation is above the
+/// limit.
 pub fn reach(
     bounds: Option<Bounds>,
     start: u64,

@@ -19,7 +19,7 @@ pub enum Refusal {
     BadRule = 3,
     /// The rule makes cells live that have no live neighbour.
     BirthOnZero = 4,
-    /// A byte of the body is no tag.
+    /// A byte of the body is not a tag.
     BadTag = 5,
     /// A tag of a file with more than two states.
     MoreStates = 6,
@@ -31,11 +31,11 @@ pub enum Refusal {
     TooManyCells = 9,
     /// A line of a macrocell file is neither a leaf nor an inner node.
     BadNodeLine = 10,
-    /// A node's child is no earlier node of the level below.
+    /// A node's child is not an earlier node of the level below.
     BadChild = 11,
     /// The file is a timeline.
     FramesNotRead = 12,
-    /// A generation is no number, or is above the limit.
+    /// A generation is not a number, or is above the limit.
     BadGen = 13,
     /// The run would leave the range of coordinates or of generations.
     TooFar = 14,

@@ -75,7 +75,7 @@ four_parts text x y width height behind_x behind_y first second third =
 -- ---- numbers
 
 module _ {E : Type 0} where
-  -- a text that parses as no number is no numeral of one
+  -- a text that parses as no number is not a numeral of one
   pub no_signed : (text other : List ℕ) (number : ℤ) (parsed : Result ℤ E) → result_ok parsed ≡ None → ParsesSigned w64 10 text parsed → text ≡ other → IsSigned other number → ⊥
   no_signed text other number (Ok n) fails parses is signed = cc
   no_signed text other number (Err e) fails parses is signed =

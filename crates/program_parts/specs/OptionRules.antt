@@ -20,7 +20,7 @@ numeric name short = record (valued_in_short name short) {
   parser = Some (parser.Unsigned 0 18446744073709551615);
 }
 
--- the argument is read by this rule, in this command alone
+-- the argument is read by this rule, only in this command
 abbrev pub HasRule : Arg → Rule → Type 0
 HasRule arg rule = (rule_of arg ≡ rule) × (arg.global ≡ false)
 

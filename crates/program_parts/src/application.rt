@@ -52,8 +52,8 @@ pub trait Application {
     fn output(asked: &Self::Asked) -> Option<&str>
         ensures { option_copied result ≡ behaviour.output asked.now };
 
-    /// Does what some words ask for: reads `source`, says to `out` what there is to say, and writes `file`, if there is
-    /// something to write. It has no other device.
+    /// Does what some words ask for: reads `source`, says to `out` what there is to say, and writes
+    /// `file`, if there is something to write. It has no other device.
     fn perform<R: Threads + Wait + Sync, S: Source, O: Sink, V: Sink>(
         rt: &R,
         alloc: Global,

@@ -7,8 +7,8 @@ ghost use Rattle.program_parts.specs.OptionRules.{HaveRules};
 use clap::{Arg, Command};
 use std::alloc::{AllocError, Global};
 
-/// The form of the words of a program: its name, what the help says first, its options and arguments, and what the help
-/// says last.
+/// The form of the words of a program: its name, what the help says first, its options and
+/// arguments, and what the help says last.
 pub fn command_with<'a>(
     alloc: Global,
     name: &'a str,

@@ -47,9 +47,10 @@ fn read_words<'a, A: Application>(
     A::asked_by(alloc, &matches)
 }
 
-/// The whole program. `words` are the arguments, the program's name first. It does what they ask for, or writes the help to
-/// `out`, and messages to `err`, and returns the exit status: 0, 2 for bad words, else 3 where a device failed and 1 where
-/// not. A failure of `err` changes nothing else.
+/// The whole program. `words` are the arguments, the program's name first. It does what they ask
+/// for, or writes the help to `out`, and messages to `err`, and returns the exit status: 0, 2 for
+/// bad words, else 3 where a device failed and 1 where not. A failure of `err` changes nothing
+/// else.
 pub fn program<A: Application, R: Files + Input + Threads + Wait + Sync, O: Sink, E: Sink>(
     rt: &R,
     alloc: Global,

@@ -13,7 +13,8 @@ use std::rt::Files;
 // The name of standard input. It is read as such, so also where its device may not be opened.
 const STANDARD_INPUT: &str = "/dev/stdin";
 
-/// The file of a name, or standard input for `/dev/stdin`, to be read. If it could not be opened, each read fails.
+/// The file of a name, or standard input for `/dev/stdin`, to be read. If it could not be opened,
+/// each read fails.
 #[derive(Drop)]
 pub struct InputFile<'a, R: Files + Input> {
     path: &'a str,

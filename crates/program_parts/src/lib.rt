@@ -1,5 +1,6 @@
-//! What programs that run patterns share: options of their command lines and the values that these give, the files that
-//! they read and write, their messages and their exit statuses, and a whole program by its [`Application`].
+//! What programs that run patterns share: options of their command lines and the values that these
+//! give, the files that they read and write, their messages and their exit statuses, and a whole
+//! program by its [`Application`].
 #![tactic(auto)]
 
 mod application;

@@ -12,11 +12,12 @@ use itoa::Buffer;
 use plane::{Fault, Refusal, Sink, write_all};
 use std::alloc::Global;
 
-// Room for a program's name of up to 32 bytes, two numbers of up to 40 digits, a name and the words round them.
+// Room for a program's name of up to 32 bytes, two numbers of up to 40 digits, a name and the words
+// round them.
 const LINE_ROOM: usize = 160;
 
-// Writes one line with the refusal and its byte offset. The program's name, which begins the line, has at most 32 bytes.
-// Refuses `WriteFailed` if the sink failed.
+// Writes one line with the refusal and its byte offset. The program's name, which begins the line,
+// has at most 32 bytes. Refuses `WriteFailed` if the sink failed.
 pub(crate) fn tell_fault<E: Sink>(
     messages: &mut E,
     program: &str,
@@ -98,7 +99,8 @@ pub(crate) fn tell_reason<E: Sink>(
     write_all(messages, b"\n")
 }
 
-// Writes the lines of a text up to the first empty one, each behind a space. What it writes has no line feed.
+// Writes the lines of a text up to the first empty one, each behind a space. What it writes has no
+// line feed.
 fn tell_first_paragraph<E: Sink>(messages: &mut E, text: &str) -> Result<(), Refusal>
     ensures told { OnOk result
         ((why : List ℕ) × All (λ byte. byte ≢ 10) why

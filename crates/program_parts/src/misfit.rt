@@ -10,7 +10,7 @@ pub enum Misfit {
     Ending(&'static str),
     /// The window is not four whole numbers.
     Window,
-    /// The number of slots in the node tables is no power of two from 1024 to 268435456.
+    /// The number of slots in the node tables is not a power of two from 1024 to 268435456.
     Nodes,
     /// A value is missing, or out of its range.
     Other,

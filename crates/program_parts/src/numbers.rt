@@ -25,7 +25,8 @@ pub fn number_for(matches: &ArgMatches<'_>, name: &str) -> Result<u64, WordsReas
         .ok_or(WordsReason::Unfit(Misfit::Other))
 }
 
-/// The most pair slots that the tables may have. `Unfit` with `Nodes` if the number is no power of two from 2^10 to 2^28.
+/// The most pair slots that the tables may have. `Unfit` with `Nodes` if the number is not a power
+/// of two from 2^10 to 2^28.
 pub(crate) fn pairs_asked(matches: &ArgMatches<'_>) -> Result<u32, WordsReason>
     ensures ok { IfOk result (IsPairNumber (one_text (found_of matches.now) (codes "nodes"))) }
     ensures err { IfErr result (IsUnfit Misfit.Nodes

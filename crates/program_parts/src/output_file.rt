@@ -12,7 +12,8 @@ use std::fs;
 use std::marker::Model;
 use std::rt::Files;
 
-/// A file that is created, or emptied, when its first byte is written. Without a name each write of some bytes fails.
+/// A file that is created, or emptied, when its first byte is written. Without a name each write of
+/// some bytes fails.
 #[derive(Drop)]
 pub struct OutputFile<'a, R: Files> {
     runtime: &'a R,

@@ -19,7 +19,8 @@ pub enum WordsReason {
     Clap(clap::Error),
     /// The arguments have the right form, with this value that is not fit.
     Unfit(Misfit),
-    /// Memory ran out while the words were read, or the rule or the window that they give is refused.
+    /// Memory ran out while the words were read, or the rule or the window that they give is
+    /// refused.
     Refused(Refusal),
 }
 

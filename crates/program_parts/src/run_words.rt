@@ -10,8 +10,8 @@ use crate::reason::WordsReason;
 use clap::ArgMatches;
 use run_options::RunOptions;
 
-/// The generations, the slots and the workers of the run that words ask for; it has no rule yet. `Unfit` with `Nodes` or
-/// `Other` if one of the numbers is not fit.
+/// The generations, the slots and the workers of the run that words ask for; it has no rule yet.
+/// `Unfit` with `Nodes` or `Other` if one of the numbers is not fit.
 pub fn run_numbers(matches: &ArgMatches<'_>) -> Result<RunOptions, WordsReason>
     ensures ok { (form : App) (words : List Text) → AreMatchesIn form words matches.now →
         IfOk result (GiveNumbers form words) }

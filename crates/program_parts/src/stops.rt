@@ -32,8 +32,9 @@ impl From<Fault> for Stop {
     }
 }
 
-// Tells on one line why a program stopped, if it did, and answers its exit status: 0 if it did not, 2 for bad words, else
-// 3 where a device failed and 1 where not. A failure of the messages changes nothing else. The program's name has at most 32 bytes.
+// Tells on one line why a program stopped, if it did, and answers its exit status: 0 if it did not,
+// 2 for bad words, else 3 where a device failed and 1 where not. A failure of the messages changes
+// nothing else. The program's name has at most 32 bytes.
 pub(crate) fn tell_end<E: Sink>(
     alloc: Global,
     messages: &mut E,

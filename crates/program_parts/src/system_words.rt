@@ -1,4 +1,5 @@
-//! A program on the words that the system gives it.
+//! A program on words that the system gives. Its contract speaks of some words: the kit's `Env`
+//! says nothing of them.
 
 ghost use Rattle.std.specs.Prelude.{◌≡◌, List, IfOk, IsErr};
 ghost use Rattle.clap.specs.Words.{Text};
@@ -15,8 +16,9 @@ use std::sync::Wait;
 use std::thread::Threads;
 use std::{env, io};
 
-/// Runs a program on the words that the system gives it, and answers its exit status: that of [`program`], or that of
-/// [`tell_no_words`] where there are none, since one is not UTF-8 or memory ran out.
+/// Runs a program on the words that the system gives it (no clause says that they are these), and
+/// answers its exit status: that of [`program`], or that of [`tell_no_words`] where there are none,
+/// since one is not UTF-8 or memory ran out.
 pub fn start<
     A: Application,
     R: Env + Files + Input + AllocGlobal + Threads + Wait + Sync,

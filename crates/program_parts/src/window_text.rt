@@ -42,7 +42,8 @@ impl WindowNumbers {
     }
 }
 
-/// The numbers of the window that is asked for, if one is. `Unfit` with `Window` where the text is not four numbers.
+/// The numbers of the window that is asked for, if one is. `Unfit` with `Window` where the text is
+/// not four numbers.
 pub fn window_numbers(text: Option<&str>) -> Result<Option<WindowNumbers>, WordsReason>
     ensures ok { IfOk result (AreNumbersOf (option_copied text.entry)) }
     ensures err { IfErr result (λ fault.

@@ -20,7 +20,8 @@ pub enum WordsFault {
     Clap(clap::Error),
     /// The arguments have the right form, with a value that is not fit.
     Unfit,
-    /// Memory ran out while the words were read, or the rule or the window that they give is refused.
+    /// Memory ran out while the words were read, or the rule or the window that they give is
+    /// refused.
     Refused(Refusal),
 }
 
@@ -36,9 +37,9 @@ impl fmt::Display for WordsFault {
 
 impl error::Error for WordsFault {}
 
-/// Says on one line why a program has no words, and answers its exit status: 2 where a word is not UTF-8, which the error
-/// tells by its kind `InvalidData`, else 1, since memory ran out while they were read. The program's name has at most 32
-/// bytes.
+/// Says on one line why a program has no words, and answers its exit status: 2 where a word is not
+/// UTF-8, which the error tells by its kind `InvalidData`, else 1, since memory ran out while they
+/// were read. The program's name has at most 32 bytes.
 pub fn tell_no_words<E: Sink>(messages: &mut E, program: &str, error: &io::Error) -> u8
     requires { length program.now ≤ 32 }
     ensures no_memory { ¬ (error_kind error.now ≡ ErrorKind.InvalidData) → (result ≡ 1)

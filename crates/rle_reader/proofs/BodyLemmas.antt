@@ -191,7 +191,8 @@ module _ (source : List ℕ) (at : ℕ) where
         (position_or_len-le is_line_feed (get_or source at 0 ∷ drop (at + 1) source)) refl other
     inside false other = ap (stripped_inside at) left
 
-    -- at the start of a line that is no comment it makes no difference whether the line has begun
+    -- at the start of a line that is not a comment it makes no difference whether the line has
+    -- begun
     pub stripped_from-begun : (get_or source at 0 == 35) ≡ false → stripped_from source at false ≡ stripped_from source at true
     stripped_from-begun other = inside false refl ∙ sym (inside true other)
 

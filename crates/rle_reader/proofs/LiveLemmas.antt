@@ -1,4 +1,5 @@
--- The runs of live cells that are still to come, one byte after the other, and one item after the other.
+-- The runs of live cells that are still to come, one byte after the other, and one item after the
+-- other.
 use Rattle.std.proofs.Common.{◌≡◌, ℕ, ◌+◌, ◌<◌, ◌≤◌, ◌⊎◌, inl, inr, length, get_or, ◌==◌, Bool, true, false, List, [], ◌∷◌, ◌++◌, map, fold, max, None, Result, Ok, Err, refl, ap, sym, ◌∙◌, arith, ℤ, pos, ◌+ℤ◌, slice_range}
 use Rattle.std.specs.Result.{ok_prefix}
 use Rattle.std.proofs.lemmas.Bool.{eqb-true}
@@ -113,7 +114,7 @@ left_passed source after at at' left column row left' column' row' count cells t
     ∙ ap (λ a. live_run (record { y = row; x = column }) tag cells ++ live_left left' column' row' 0 (stripped_from source a false)) (sym at_is)
     ∙ ap (λ s. live_run (record { y = row; x = column }) tag cells ++ live_left left' column' row' 0 (stripped_from s at' false)) (sym after_is)
 
--- an item that is not of live cells is no run
+-- an item that is not of live cells is not a run
 pub no_run : (first : Cell) (tag : Tag) (count : ℕ) (more : List (Cell × ℕ)) → (tag ≡ Live → ⊥) → live_run first tag count ++ more ≡ more
 no_run first Dead count more other = refl
 no_run first Row count more other = refl

@@ -17,7 +17,8 @@ use Rattle.rle_reader.specs.declared.item.Tag.{Tag}
 use Rattle.rle_reader.specs.declared.item.Tag.TheVariants.{Dead, Live, Row}
 use Rattle.rle_reader.proofs.FaultLemmas.{no_fault}
 
--- a square of this half side reaches from the corner on up to this column, and has this row or all of the range below it
+-- a square of this half side reaches from the corner on up to this column, and has this row or all
+-- of the range below it
 pub record IsEnough (reach : ℕ) (corner : Cell) (right row : ℤ) : Type 0 where
   pub left_side : neg_ℤ (pos reach) ≤ℤ corner.x
   pub top_side : neg_ℤ (pos reach) ≤ℤ corner.y
@@ -64,7 +65,8 @@ within_first reach corner left state Live count later left_is behind below stays
   all,
 )
 
--- whatever is enough for the items so far has all these runs, if it has those of the items that are left
+-- whatever is enough for the items so far has all these runs, if it has those of the items that are
+-- left
 pub record IsBounded (corner : Cell) (runs : List (Cell × ℕ)) (left column row : ℤ) (live : ℕ) (right : ℤ) (rest : List ItemSlice) : Type 0 where
   pub left_is : left ≡ corner.x
   pub behind : left ≤ℤ column

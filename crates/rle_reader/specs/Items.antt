@@ -1,4 +1,4 @@
--- The items of a body: digits, none or more, and then a byte that is no digit and no `!`.
+-- The items of a body: digits, none or more, and then a byte that is neither a digit nor `!`.
 use Rattle.std.specs.Prelude.{◌≡◌, ℕ, ◌+◌, ◌==◌, ◌||◌, true, false, Bool, if◌then◌else◌, List, [], ◌∷◌, ◌++◌, map, slice_range}
 use Rattle.std.specs.Prelude.{Result, Ok, Err, Option, None, Some, drop}
 use Rattle.std.specs.Char.{is_ascii_digit}
@@ -33,7 +33,7 @@ is_end located = located.byte == byte "!"
 
 -- ---- what the items of a body are
 
--- the item is digits and then a byte that is no digit and no `!`
+-- the item is digits and then a byte that is neither a digit nor `!`
 pub record IsItem (item : Item) : Type 0 where
   pub digits : AllByRecursion (λ located. is_digit located ≡ true) item.digits
   pub tag : is_digit item.tag ≡ false

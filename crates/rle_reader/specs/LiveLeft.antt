@@ -29,7 +29,7 @@ row_after row Dead count = row
 row_after row Live count = row
 row_after row Row count = further row count
 
--- the runs that a tag stands before, none where a byte is no tag
+-- the runs that a tag stands before, none where a byte is not a tag
 abbrev pub runs_at : (Tag → List (Cell × ℕ)) → Result Tag Refusal → List (Cell × ℕ)
 runs_at runs (Err refusal) = []
 runs_at runs (Ok tag) = runs tag

@@ -24,7 +24,7 @@ live_runs_from left state (run ∷ runs) =
 abbrev pub live_runs_of : Meaning → List (Cell × ℕ)
 live_runs_of meaning = live_runs_from meaning.pos.x (start_at meaning.pos) meaning.runs
 
--- the run lies in the square round (0, 0) whose sides are this far from it
+-- the run lies in the square around (0, 0) whose sides are this far from it
 pub record LiesWithin (reach : ℕ) (run : Cell × ℕ) : Type 0 where
   pub left : neg_ℤ (pos reach) ≤ℤ run.0.x
   pub right : (run.0.x +ℤ pos run.1) ≤ℤ pos reach

@@ -4,7 +4,7 @@ use Rattle.std.specs.Char.{is_ascii_digit}
 use Rattle.rle_reader.specs.Items.{ItemSlice, tag_of}
 
 -- the item is the slice of the source that begins at its place; its first byte is a digit, or it is
--- the tag alone, and its last byte is the tag
+-- only the tag, and its last byte is the tag
 pub record IsSlice (source : List ℕ) (item : ItemSlice) : Type 0 where
   pub slice : slice_range source item.place (item.place + length item.text) ≡ item.text
   pub first : (length item.text ≡ 1) ⊎ (is_ascii_digit (slice_index item.text 0) ≡ true)

@@ -49,7 +49,7 @@ impl<'a> Body<'a> {
         self.at = self.source.len();
     }
 
-    /// Takes the next byte that is no blank, CR or LF and stands in no comment.
+    /// Takes the next byte that is not a blank, CR or LF and stands in no comment.
     pub(crate) fn next_byte(&mut self) -> Option<LocatedByte>
         ensures source { self.new.source.now ≡ self.old.source.now }
         ensures place { MatchOption result (self.old.at ≤ self.new.at)
@@ -74,7 +74,8 @@ impl<'a> Body<'a> {
     }
 }
 
-/// The place behind a byte that counts for nothing, and behind the comments that follow it if it is an LF.
+/// The place behind a byte that counts for nothing, and behind the comments that follow it if it is
+/// an LF.
 pub(crate) fn past_skipped(source: &[u8], at: usize) -> usize
     requires within { at < length source.now }
     requires skipped { is_skipped (slice_index source.now at) ≡ true }

@@ -67,8 +67,8 @@ fn is_side(part: &[u8], key: &[u8]) -> bool
     value_behind(part, key).is_some_and(|value| number(value).is_some())
 }
 
-/// What stands behind `key =`, without the blanks at its ends. The key is in small letters; in the part
-/// they may stand in either case.
+/// What stands behind `key =`, without the blanks at its ends. The key is in small letters; in the
+/// part they may stand in either case.
 #[tactic(auto, unfolding(crate::specs::Header::value_behind))]
 fn value_behind<'a>(part: &'a [u8], key: &[u8]) -> Option<&'a [u8]>
     ensures { option_copied result ≡ value_behind key.now part.now }

@@ -27,7 +27,8 @@ pub enum Tag {
 /// An item of the body: so many dead cells, live cells or ends of rows.
 #[derive(Clone, Copy, Debug, PartialEq, Eq)]
 pub struct Run<'a> {
-    /// The file's slice from the item's first digit, or from its tag if it has no count, to its tag.
+    /// The file's slice from the item's first digit, or from its tag if it has no count, to its
+    /// tag.
     pub text: &'a [u8],
     /// The index of the slice's first byte in the file.
     pub place: u64,

@@ -18,8 +18,9 @@ pub fn one_cut()
         AreItemsOf body found → found ≡ items_of body }
 {}
 
-/// The items of an accepted text stay in the range, their live cells are no more than a file may have, each
-/// live cell lies in the range, and a listing of its live cells has no more than a file may have.
+/// The items of an accepted text stay in the range, their live cells are no more than a file may
+/// have, each live cell lies in the range, and a listing of its live cells has no more than a file
+/// may have.
 pub fn accepted_in_range()
     ensures items { (text : List ℕ) (meaning : Meaning) → judged text ≡ Ok meaning →
         StayInRange meaning.pos.x (start_at meaning.pos) meaning.runs }
@@ -32,8 +33,9 @@ pub fn accepted_in_range()
         length cells ≤ most_live_cells }
 {}
 
-/// Each item of an accepted text is the slice of the text from its first digit, or from its tag if it has no
-/// count, to its tag. No slice begins before the one before it ends, so their places rise.
+/// Each item of an accepted text is the slice of the text from its first digit, or from its tag if
+/// it has no count, to its tag. No slice begins before the one before it ends, so their places
+/// rise.
 pub fn items_are_slices()
     ensures { (text : List ℕ) (meaning : Meaning) → judged text ≡ Ok meaning →
         AreSlices text 0 meaning.runs }

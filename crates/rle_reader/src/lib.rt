@@ -1,5 +1,5 @@
-//! RLE pattern files: [`RleFile::open`] checks a whole text once and copies nothing, and its comments,
-//! its rule and its items are slices of that text.
+//! RLE pattern files: [`RleFile::open`] checks a whole text once and copies nothing, and its
+//! comments, its rule and its items are slices of that text.
 #![tactic(auto)]
 
 mod body;

@@ -11,8 +11,8 @@ use plane::Cell;
 use std::marker::Model;
 use text_lines::with_digit;
 
-/// The live items of a file, in order, each as its first cell and how many cells it has to the right. A
-/// contract sees those that are still to come.
+/// The live items of a file, in order, each as its first cell and how many cells it has to the
+/// right. A contract sees those that are still to come.
 #[derive(Debug, Drop)]
 pub struct LiveRuns<'a> {
     rest: LiveRest<'a>,
@@ -29,7 +29,8 @@ impl<'a> Model for LiveRuns<'a> {
 }
 
 impl<'a> LiveRuns<'a> {
-    /// The live items of the body that begins at this place, the start of a line, in a text that was checked.
+    /// The live items of the body that begins at this place, the start of a line, in a text that
+    /// was checked.
     pub(crate) fn new(source: &'a [u8], at: usize, pos: Cell) -> Self
         requires { at ≤ length source.now }
         ensures { result ≡ live_left pos.x pos.x pos.y 0 (stripped_from source.now at true) }
@@ -58,7 +59,8 @@ impl<'a> Iterator for LiveRuns<'a> {
     }
 }
 
-/// What is left of a body without faults, and where its next item begins. No comment begins at `at`.
+/// What is left of a body without faults, and where its next item begins. No comment begins at
+/// `at`.
 #[derive(Clone, Copy, Debug)]
 struct LiveRest<'a> {
     source: &'a [u8],

@@ -6,8 +6,8 @@ ghost use Rattle.rle_reader.specs.Numbers.{integer_of, clamped};
 
 use text_lines::number;
 
-/// The value of a number that may have a `-` before it, or what is nearest to it in the range of `i64`
-/// without its least number.
+/// The value of a number that may have a `-` before it, or what is nearest to it in the range of
+/// `i64` without its least number.
 pub(crate) fn integer(text: &[u8]) -> Option<i64>
     ensures { result ≡ option_map clamped (integer_of text.now) }
 {

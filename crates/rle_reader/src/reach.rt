@@ -7,8 +7,9 @@ ghost use Rattle.rle_reader.specs.Range.{IsWithinReach};
 
 use plane::{COORDINATE_LIMIT, Cell};
 
-/// The half side of a square round (0, 0) in which the cells lie that are neither left of this corner nor
-/// above it, in columns up to the one before `right` and in rows of the range up to `row`.
+/// The half side of a square around (0, 0) in which the cells lie that are neither left of this
+/// corner nor above it, in columns up to the one before `right` and in rows of the range up to
+/// `row`.
 pub(crate) fn reach_of(corner: Cell, right: i64, row: i64) -> u64
     requires corner { IsInRange corner }
     requires right { IsWithinReach right }

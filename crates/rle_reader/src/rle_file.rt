@@ -22,8 +22,8 @@ use plane::{Cell, Fault};
 use std::marker::Model;
 use text_lines::{Comments, Lines};
 
-/// An RLE file whose whole text was checked. What it hands out are slices of that text, and they stay
-/// good after it is gone.
+/// An RLE file whose whole text was checked. What it hands out are slices of that text, and they
+/// stay good after it is gone.
 #[derive(Debug, Drop)]
 pub struct RleFile<'a> {
     source: &'a [u8],
@@ -60,17 +60,19 @@ impl<'a> Model for RleFile<'a> {
 impl<'a> RleFile<'a> {
     /// Checks a text. It refuses
     ///
-    /// - `NotAPattern` where no line is the header, at the end of the text, and at the first line that is
-    ///   not blank, no comment and does not begin with `x` or `X`;
-    /// - `BadHeader` at any other malformed header line, and at a `#CXRLE` line with a malformed `Pos=`;
-    /// - `OutOfRange` at a `#CXRLE` line whose `Pos=` is outside the range, and at an item after which
-    ///   the column or the row is above the limit, or of live cells in the row of the limit;
-    /// - `BadGen` at a `#CXRLE` line whose `Gen=` is no number or above the last generation;
-    /// - `BadTag`, `MoreStates` and `BadCount` at an item whose tag is none, is one of more than two
-    ///   states, or whose count is 0, and `BadCount` at a count that no tag follows;
+    /// - `NotAPattern` where no line is the header, at the end of the text, and at the first line
+    ///   that is not blank, no comment and does not begin with `x` or `X`;
+    /// - `BadHeader` at any other malformed header line, and at a `#CXRLE` line with a malformed
+    ///   `Pos=`;
+    /// - `OutOfRange` at a `#CXRLE` line whose `Pos=` is outside the range, and at an item after
+    ///   which the column or the row is above the limit, or of live cells in the row of the limit;
+    /// - `BadGen` at a `#CXRLE` line whose `Gen=` is not a number or above the last generation;
+    /// - `BadTag`, `MoreStates` and `BadCount` at an item whose tag is none, is one of more than
+    ///   two states, or whose count is 0, and `BadCount` at a count that no tag follows;
     /// - `TooManyCells` at the item with which there are more live cells than a file may have.
     ///
-    /// The first line or item with a fault is answered, and of its faults the one of the lowest number.
+    /// The first line or item with a fault is answered, and of its faults the one of the lowest
+    /// number.
     pub fn open(source: &'a [u8]) -> Result<RleFile<'a>, Fault>
         ensures { result ≡ judged source.now }
     {
@@ -83,8 +85,8 @@ impl<'a> RleFile<'a> {
         })
     }
 
-    /// The cell of the first item, the upper left corner of the pattern's box; (0, 0) if the file does
-    /// not say.
+    /// The cell of the first item, the upper left corner of the pattern's box; (0, 0) if the file
+    /// does not say.
     #[tactic(auto, unfolding(crate::specs::Meaning::meaning_of))]
     pub fn pos(&self) -> Cell
         ensures value { result ≡ self.now.pos }
@@ -117,8 +119,8 @@ impl<'a> RleFile<'a> {
         self.preamble.header as u64
     }
 
-    /// The comments that are kept: the lines before the header that begin with `#C`, `#D`, `#N` or `#O`,
-    /// and not with `#CXRLE`.
+    /// The comments that are kept: the lines before the header that begin with `#C`, `#D`, `#N` or
+    /// `#O`, and not with `#CXRLE`.
     pub fn comments(&self) -> Comments<'a>
         ensures { result ≡ self.now.comments }
     {
@@ -126,8 +128,8 @@ impl<'a> RleFile<'a> {
         Comments::new(Lines::new(before_header))
     }
 
-    /// The items of the body. From the cell of the first one on they stay in the range of coordinates, and
-    /// their live cells are no more than a file may have.
+    /// The items of the body. From the cell of the first one on they stay in the range of
+    /// coordinates, and their live cells are no more than a file may have.
     pub fn runs(&self) -> Runs<'a>
         ensures value { result ≡ self.now.runs }
         ensures in_range { StayInRange self.now.pos.x (start_at self.now.pos) self.now.runs }
@@ -136,8 +138,8 @@ impl<'a> RleFile<'a> {
         Runs::new(self.source, self.preamble.body)
     }
 
-    /// The live items, each as its first cell and how many cells it has to the right, in the order of
-    /// reading.
+    /// The live items, each as its first cell and how many cells it has to the right, in the order
+    /// of reading.
     pub fn live_runs(&self) -> LiveRuns<'a>
         ensures value { result ≡ live_runs_of self.now }
         ensures runs { AreRuns result }
@@ -147,8 +149,8 @@ impl<'a> RleFile<'a> {
         LiveRuns::new(self.source, preamble.body, preamble.settings.pos)
     }
 
-    /// How far from 0 the coordinates of the live cells go, at most: all live cells lie in the square of that
-    /// half side round (0, 0).
+    /// How far from 0 the coordinates of the live cells go, at most: all live cells lie in the
+    /// square of that half side around (0, 0).
     #[tactic(auto, unfolding(crate::specs::Meaning::meaning_of))]
     pub fn reach(&self) -> u64
         ensures bound { result ≤ 2 ^ 62 }
@@ -158,8 +160,8 @@ impl<'a> RleFile<'a> {
     }
 }
 
-/// Goes through the items, each with what comes before it, and answers how far from 0 the coordinates of
-/// the live cells go.
+/// Goes through the items, each with what comes before it, and answers how far from 0 the
+/// coordinates of the live cells go.
 fn check_body(source: &[u8], preamble: &Preamble<'_>) -> Result<u64, Fault>
     requires body { preamble.now.body ≤ length source.now }
     requires in_range { IsInRange preamble.now.settings.pos }

@@ -42,7 +42,7 @@ module _ (first second rest : List ℕ) (first_small : AreDigits first) (second_
       rw (take_while-append_stop is_ascii_digit (digit_text first) (letter ∷ (digit_text second ++ rest)) (digit_text-pass first first_small) other, after_all-append_stop is_ascii_digit (digit_text first) (letter ∷ (digit_text second ++ rest)) (digit_text-pass first first_small) other, no_slash, same)
       (ap Some (two_runs-digits (digit_text first) second rest second_small stops))
 
--- digits are no letter
+-- a digit is not a letter
 digits_alone : (digits rest : List ℕ) → AreDigits digits → both_runs (digit_text digits ++ (47 ∷ rest)) ≡ option_map survival_first (runs_round_slash (digit_text digits ++ (47 ∷ rest)))
 unfolding both_runs
 digits_alone [] rest small = refl

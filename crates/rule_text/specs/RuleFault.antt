@@ -1,4 +1,4 @@
--- Why a text is no rule, in words.
+-- Why a text is not a rule, in words.
 use Rattle.std.specs.Prelude.{ℕ, List, codes}
 use Rattle.rule_text.specs.declared.fault.RuleFault.{RuleFault}
 use Rattle.rule_text.specs.declared.fault.RuleFault.TheVariants.{BadRule, BirthOnZero}

@@ -12,7 +12,7 @@ use Rattle.rule_text.specs.declared.neighbourhood.Neighbourhood.TheVariants.{Moo
 abbrev pub is_blank : ℕ → Bool
 is_blank byte = (byte == 32) || (byte == 9)
 
--- the text from its first byte on that is no blank
+-- the text from its first byte on that is not a blank
 unfoldable pub trimmed_start : List ℕ → List ℕ
 trimmed_start [] = []
 trimmed_start (first ∷ rest) = if is_blank first then trimmed_start rest else first ∷ rest
@@ -33,8 +33,8 @@ pub data Form : Type 0 where
   SurvivalBirth : Form
   DigitsAlone : Form
 
--- the digits of birth and of survival in a form, in capitals; digits alone are those of survival
--- first
+-- the digits of birth and of survival in a form, in capitals; if there are only digits, they are
+-- those of survival first
 abbrev pub body : Form → List ℕ → List ℕ → List ℕ
 body BirthSlashSurvival birth survival =
     codes "B" ++ digit_text birth ++ codes "/S" ++ digit_text survival

@@ -10,7 +10,7 @@ pub fn is_blank(byte: u8) -> bool
     byte == b' ' || byte == b'\t'
 }
 
-/// The text from its first byte on that is no blank.
+/// The text from its first byte on that is not a blank.
 #[tactic(auto, unfolding(crate::specs::RuleText::trimmed_start))]
 pub fn trim_start(text: &[u8]) -> &[u8]
     ensures { result.now ≡ trimmed_start text.now }

@@ -1,4 +1,4 @@
-//! Why a text is no rule.
+//! Why a text is not a rule.
 
 ghost use Rattle.std.specs.Prelude.{Some};
 ghost use Rattle.rule_text.specs.RuleFault.{rule_fault_text};
@@ -6,7 +6,7 @@ ghost use Rattle.rule_text.specs.RuleFault.{rule_fault_text};
 use std::error::Error;
 use std::fmt;
 
-/// Why a text is no rule.
+/// Why a text is not a rule.
 #[derive(Clone, Copy, Debug, PartialEq, Eq)]
 pub enum RuleFault {
     /// It is written in no form of a rule's text, or has a digit above the number of neighbours.

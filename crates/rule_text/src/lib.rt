@@ -1,5 +1,6 @@
-//! Rules of two-state cellular automata that count live neighbours, and their texts. How a rule is written stands in
-//! `written.rt`, `parts.rt` and `blanks.rt`, and what it means in `rule.rt` and `neighbourhood.rt`.
+//! Rules of two-state cellular automata that count live neighbours, and their texts. How a rule is
+//! written stands in `written.rt`, `parts.rt` and `blanks.rt`, and what it means in `rule.rt` and
+//! `neighbourhood.rt`.
 #![tactic(auto)]
 
 mod blanks;

@@ -10,7 +10,7 @@ use std::marker::Model;
 
 /// A rule that counts live neighbours: a dead cell becomes live if their number is a digit of
 /// birth, and a live cell stays live if it is a digit of survival. No digit is above the number of
-/// neighbours, and 0 is no digit of birth.
+/// neighbours, and 0 is not a digit of birth.
 #[derive(Clone, Copy, Debug, PartialEq, Eq)]
 pub struct Rule {
     pub(crate) neighbourhood: Neighbourhood,

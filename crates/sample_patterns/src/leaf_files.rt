@@ -44,7 +44,8 @@ fn push_squares(
     Ok(nw)
 }
 
-/// A macrocell file with leaves of the words 1 to 65536, and squares of four up to one: 524289 cells.
+/// A macrocell file with leaves of the words 1 to 65536, and squares of four up to one: 524289
+/// cells.
 pub fn many_leaves(alloc: Global) -> Result<String, AllocError> {
     let mut text = String::from_str(alloc, "[M2]\n")?;
     for word in 1..65537 {
@@ -57,7 +58,8 @@ pub fn many_leaves(alloc: Global) -> Result<String, AllocError> {
     Ok(text)
 }
 
-/// An RLE file with the leaves of the words 1 to 300 side by side: bit j of the word i is the cell (8i + j mod 8, j div 8).
+/// An RLE file with the leaves of the words 1 to 300 side by side: bit j of the word i is the cell
+/// (8i + j mod 8, j div 8).
 pub fn leaves_in_a_row(alloc: Global) -> Result<String, AllocError> {
     let mut text = String::from_str(alloc, "x = 2408, y = 2\n")?;
     for word in 0..301u16 {

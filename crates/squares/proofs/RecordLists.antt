@@ -10,7 +10,8 @@ use Rattle.squares.proofs.Places.{set_same, set_other}
 use Rattle.squares.specs.Book.{Gains, numbered}
 use Rattle.squares.specs.Nodes.{nodes_of, node_at, level_of, results_from, future_at}
 
--- the i-th record keeps a result, and is that of this square, where the first has the number behind n
+-- the i-th record keeps a result, and is that of this square, where the first has the number behind
+-- n
 pub record IsKept (n : ℕ) (records : List Record) (i : ℕ) (sq : Sq) : Type 0 where
   pub kept : Record
   pub at : slice_get records i ≡ Some kept
@@ -96,7 +97,7 @@ set_length n (r ∷ rs) (suc i) old new at none some = more_length (is_some r.fu
 same_rest : (b : Bool) (x : Sq) (xs ys : List Sq) → xs ≡ ys → cond b (x ∷ xs) xs ≡ cond b (x ∷ ys) ys
 same_rest b x xs ys e = ap (λ zs. cond b (x ∷ zs) zs) e
 
--- a result in place of a result
+-- a result instead of a result
 pub set_results : (n : ℕ) (records : List Record) (i : ℕ) (old new : Record) → slice_get records i ≡ Some old → new.node ≡ old.node → is_some old.future ≡ is_some new.future →
     results_from n (slice_set records i new) ≡ results_from n records
 set_results n [] i old new at e some = refl

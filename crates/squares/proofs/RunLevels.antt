@@ -1,4 +1,4 @@
--- The level of a square round (0,0) that has some runs.
+-- The level of a square around (0,0) that has some runs.
 use Rattle.std.proofs.Common.{◌≡◌, ℕ, ◌+◌, ◌-◌, ◌^◌, ◌<◌, ◌≤◌, ℤ, pos, negsuc, ◌+ℤ◌, ◌-ℤ◌, ◌≤ℤ◌, ◌<ℤ◌, Bool, true, false, List, [], ◌∷◌, map, sym, ◌∙◌, ap, subst, arith, refl}
 use Rattle.std.specs.Prelude.{◌&&◌, ◌||◌, ◌==◌, nat_le, nat_lt, int_le, int_lt, unsigned_abs}
 use Rattle.std.specs.List.{AllByRecursion}
@@ -187,7 +187,7 @@ module _ (half : ℕ) (x y : ℤ) (a b : ℕ) (at_x : x +ℤ pos half ≡ pos a)
   same_runs (run ∷ runs) all = first_in (span_of half run) (map (span_of half) runs) a b
       ∙ ap (λ t. t || in_spans (map (span_of half) runs) a b) (same_run run all.0) ∙ ap (λ t. is_in_run x y run || t) (same_runs runs all.1) ∙ sym (first_run run runs x y)
 
--- a square that shows the spans of the runs shows the runs round (0,0)
+-- a square that shows the spans of the runs shows the runs around (0,0)
 round_cells : (level : ℕ) (runs : List (Cell × ℕ)) → 1 ≤ level → AllByRecursion (FitsRound (2 ^ (level - 1))) runs →
     IsSame (centred level (cut (2 ^ level) 0 0 (marked (in_spans (map (span_of (2 ^ (level - 1))) runs))))) (runs_plane runs)
 round_cells level runs least all = record { same = λ x y. by_case x y (is_round level x y) refl }
@@ -207,7 +207,7 @@ round_cells level runs least all = record { same = λ x y. by_case x y (is_round
         ∙ marked_inside (2 ^ level) f a.0 b.0 (ap (spans (2 ^ level)) (sym a.1) ∙ hx) (ap (spans (2 ^ level)) (sym b.1) ∙ hy)
         ∙ same_runs half x y a.0 b.0 a.1 b.1 runs all
 
--- a square that shows the spans of the runs has the cells of the runs round (0,0)
+-- a square that shows the spans of the runs has the cells of the runs around (0,0)
 pub cells_shown : (book : Book) (level : ℕ) (runs : List (Cell × ℕ)) (sq : Sq) → 1 ≤ level → AllByRecursion (FitsRound (2 ^ (level - 1))) runs →
     Shows book level (cut (2 ^ level) 0 0 (marked (in_spans (map (span_of (2 ^ (level - 1))) runs)))) sq → IsSame (square_plane book sq) (runs_plane runs)
 cells_shown book level runs sq least all shown = subst (λ l. IsSame (centred l (book.cells sq)) (runs_plane runs)) (sym shown.known.at_level) (record {

@@ -84,7 +84,7 @@ row_more spans i row last x y s d word bits made is within rows not was =
     let at = row_of_next row last s (subst (λ (t : Span). row ≤ t.row) (sym is) (all_at (λ (t : Span). row ≤ t.row) spans i d rows within)) not in ap (λ b. b || bits) was ∙ ap (λ b. ((y == row) && in_spans (take i spans) x row) || b) (made ∙ in_row row x y s at)
     ∙ both_or (y == row) (in_spans (take i spans) x row) (in_span x row s) ∙ ap (λ b. (y == row) && b) (sym (more_in spans i s d x row within is))
 
--- where a span begins behind a cell, those before it alone may have the cell
+-- where a span begins behind a cell, only those before it may have the cell
 pub cells_before : (spans : List Span) (i row last x : ℕ) (s d : Span) → AreInOrder spans → i < length spans → s ≡ get_or spans i d → BeginsBehind row last s → x ≤ last →
     in_spans (take i spans) x row ≡ in_spans spans x row
 cells_before [] i row last x s d order within is begins h = absurd (omega (arith, within))

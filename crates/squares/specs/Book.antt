@@ -75,7 +75,7 @@ pub record IsBook (book : Book) : Type 0 where
   pub results_once : (i j : ℕ) (sq : Sq) → slice_get book.results i ≡ Some sq →
       slice_get book.results j ≡ Some sq → i ≡ j
 
--- a book for results under this rule and exponent that knows the empty squares alone
+-- a book for results under this rule and exponent that knows only the empty squares
 pub record IsFresh (rule : CountRule) (exponent : ℕ) (book : Book) : Type 0 where
   pub same_rule : book.rule ≡ rule
   pub same_exponent : book.exponent ≡ exponent
@@ -100,12 +100,12 @@ pub record KeepsResults (old new : Book) : Type 0 where
   pub results : new.results ≡ old.results
   pub learned : new.learned ≡ old.learned
 
--- squares alone are new, if anything is: all that was known stays known, and no result is new
+-- only squares are new, if anything is: all that was known stays known, and no result is new
 pub record AddsSquares (old new : Book) : Type 0 where
   pub keeps : Keeps old new
   pub results : KeepsResults old new
 
--- the square is new among the results, and it alone
+-- the square is new among the results, and only it is
 pub record Gains (old new : List Sq) (sq : Sq) : Type 0 where
   pub length : length new ≡ suc (length old)
   pub has : (other : Sq) → Contains new other ↔ ((other ≡ sq) ⊎ Contains old other)

@@ -1,4 +1,4 @@
--- Squares round (0,0).
+-- Squares around (0,0).
 use Rattle.plane.specs.Centred.{centred, IsSmallestLevel}
 use Rattle.plane.specs.Plane.{Plane}
 use Rattle.plane.specs.Square.{IsSame}
@@ -9,7 +9,7 @@ use Rattle.squares.specs.declared.sq.Sq.{Sq}
 abbrev pub square_plane : Book → Sq → Plane
 square_plane book sq = centred sq.level (book.cells sq)
 
--- a known square round (0,0) that has these cells, at the smallest level of at least 4
+-- a known square around (0,0) that has these cells, at the smallest level of at least 4
 pub record IsRound (book : Book) (plane : Plane) (sq : Sq) : Type 0 where
   pub known : IsKnown book sq.level sq
   pub smallest : IsSmallestLevel sq.level plane

@@ -25,7 +25,7 @@ span_of half run = record {
   end = unsigned_abs (run.0.x +ℤ pos half) + run.1;
 }
 
--- the run of one or more cells lies in the square of this half side round (0,0)
+-- the run of one or more cells lies in the square of this half side around (0,0)
 pub record FitsRound (half : ℕ) (run : Cell × ℕ) : Type 0 where
   pub some : 0 < run.1
   pub left : (pos 0 -ℤ pos half) ≤ℤ run.0.x

@@ -10,15 +10,15 @@ use crate::sq::Sq;
 use plane::Refusal;
 use std::alloc::Global;
 
-/// A source of live cells in the range. It can make their square in any book, more than once. It adds squares
-/// to the book, and no result.
+/// A source of live cells in the range. It can make their square in any book, more than once. It
+/// adds squares to the book, and no result.
 pub trait Build {
     // The live cells.
     ghost live: { Self → Plane };
     // What must hold of the source.
     ghost is_lawful: { Self → Type 0 };
 
-    /// The square of the live cells round (0,0), at the smallest level of at least 4.
+    /// The square of the live cells around (0,0), at the smallest level of at least 4.
     fn build<S: Squares>(&self, alloc: Global, book: &mut S) -> Result<Sq, Refusal>
         requires { is_lawful self.now }
         ensures ok { IfOk result (IsRound (S.book book.new) (live self.now)) }

@@ -106,7 +106,7 @@ fn leaf_column(spans: &[Span], passed: &mut [usize; 8], top: u64, column: u64) -
 }
 
 /// The row of the leaves of the strip of eight rows that begins at `top`.
-pub fn leaf_row<S: Squares>(
+pub(crate) fn leaf_row<S: Squares>(
     alloc: Global,
     book: &mut S,
     spans: &[Span],

@@ -2,7 +2,8 @@
 //!
 //! - A square is a node of a quadtree, and its parts are the children.
 //! - A book is a hash-consing store of nodes.
-//! - `keep` and `recall` of [`Squares`] are the memo of results, and a [`Tally`] counts those that are made.
+//! - `keep` and `recall` of [`Squares`] are the memo of results, and a [`Tally`] counts those
+//!   that are made.
 #![tactic(auto)]
 
 mod book;

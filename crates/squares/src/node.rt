@@ -8,7 +8,7 @@ use crate::sq::{Num, Sq};
 
 /// The level of a square and the numbers of its quarters.
 #[derive(Clone, Copy, PartialEq, Eq, PartialOrd, Ord)]
-pub struct Quarters {
+pub(crate) struct Quarters {
     pub level: u8,
     pub nw: Num,
     pub ne: Num,
@@ -43,14 +43,14 @@ impl Quarters {
 
 /// What a number other than 0 stands for: the cells of a leaf, or the quarters of a larger square.
 #[derive(Clone, Copy)]
-pub enum Node {
+pub(crate) enum Node {
     Leaf(u64),
     Inner(Quarters),
 }
 
 /// A node, and the number of its result once that is known.
 #[derive(Clone, Copy)]
-pub struct Record {
+pub(crate) struct Record {
     pub node: Node,
     pub future: Option<Num>,
 }

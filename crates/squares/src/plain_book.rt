@@ -16,7 +16,7 @@ use std::alloc::{AllocError, Global};
 use std::collections::BTreeMap;
 
 /// A book in one owner's hands. It is never full, nobody else tells it results, and it refuses
-/// `NoMemory` alone: where memory ran out, or its 2^32 numbers did.
+/// Only `NoMemory`: where memory ran out, or its 2^32 numbers did.
 #[derive(Drop)]
 pub struct PlainBook {
     rule: Rule,
@@ -68,7 +68,7 @@ fn add_node<K: Ord + Drop>(
 }
 
 impl PlainBook {
-    /// A book that knows the empty squares alone, for results under this rule and exponent.
+    /// A book that knows only the empty squares, for results under this rule and exponent.
     pub fn new(alloc: Global, rule: Rule, exponent: u8) -> Self
         ensures { IsFresh rule exponent (⟦<PlainBook as Squares>⟧.book result) }
     {

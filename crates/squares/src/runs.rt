@@ -19,7 +19,7 @@ use crate::strips::{LiveRuns, ordered_runs_to_square};
 use plane::{Cell, CellSet, Refusal};
 use std::alloc::{AllocError, Global};
 
-// Whether the run lies in the square of this half side round (0,0).
+// Whether the run lies in the square of this half side around (0,0).
 fn fits(run: (Cell, u64), half: u64) -> bool
     requires half { half ≤ 2 ^ 62 }
     requires run { IsRun run }
@@ -33,7 +33,7 @@ fn fits(run: (Cell, u64), half: u64) -> bool
     distance(cell.x, half) + count <= 2 * half
 }
 
-// The smallest level of at least 4 whose square round (0,0) has all the runs.
+// The smallest level of at least 4 whose square around (0,0) has all the runs.
 fn smallest_level(runs: &[(Cell, u64)]) -> u8
     requires { AllByRecursion IsRun runs.now }
     ensures smallest { IsSmallestLevel result (runs_plane runs.now) }
@@ -76,7 +76,7 @@ impl LiveRuns for SliceRuns<'_> {
     }
 }
 
-/// The square of the runs' cells, at the smallest level of at least 4 round (0,0): a square of
+/// The square of the runs' cells, at the smallest level of at least 4 around (0,0): a square of
 /// level n has the cells from -2^(n-1) to 2^(n-1) - 1, so the level is at most 63. `NoMemory` where
 /// memory ran out, and what the book refuses.
 pub fn runs_to_square<S: Squares>(
@@ -107,7 +107,7 @@ fn runs_of(alloc: Global, cells: &CellSet) -> Result<Vec<(Cell, u64)>, AllocErro
     Ok(runs)
 }
 
-/// The square of the set's cells, at the smallest level of at least 4 round (0,0), so at most 63.
+/// The square of the set's cells, at the smallest level of at least 4 around (0,0), so at most 63.
 /// `NoMemory` where memory ran out, and what the book refuses.
 pub fn cells_to_square<S: Squares>(
     alloc: Global,

@@ -11,7 +11,7 @@ use plane::Cell;
 /// Live cells of one row of a square, from the first up to the end, which is not one of them. Rows
 /// and cells are counted from the square's upper left corner.
 #[derive(Clone, Copy)]
-pub struct Span {
+pub(crate) struct Span {
     pub row: u64,
     pub first: u64,
     pub end: u64,
@@ -19,7 +19,7 @@ pub struct Span {
 
 /// The distance of a coordinate from the left or upper side of a square of this half side round
 /// (0,0).
-pub fn distance(coordinate: i64, half: u64) -> u64
+pub(crate) fn distance(coordinate: i64, half: u64) -> u64
     requires half { half ≤ 2 ^ 62 }
     requires low { (pos 0 -ℤ pos half) ≤ℤ coordinate }
     requires high { coordinate <ℤ pos (2 ^ 62) }

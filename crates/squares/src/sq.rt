@@ -3,14 +3,14 @@
 ghost use Rattle.std.specs.Prelude.{◌≡◌, ◌↔◌, ◌-◌, ◌^◌, ◌≤◌, IsTrue};
 ghost use Rattle.squares.specs.Book.{IsEmpty, numbered};
 
-/// The lowest level of a square round (0,0).
+/// The lowest level of a square around (0,0).
 pub const LOWEST_ROOT_LEVEL: u8 = 4;
 
-/// The highest level of a square round (0,0) whose cells come from a file or from a set.
+/// The highest level of a square around (0,0) whose cells come from a file or from a set.
 pub const HIGHEST_ROOT_LEVEL: u8 = 63;
 
 /// Half the side of a square of this level, which is from 1 to 63: 2^(level - 1), so at most 2^62.
-/// The square round (0,0) has the coordinates from -2^(level - 1) to 2^(level - 1) - 1.
+/// The square around (0,0) has the coordinates from -2^(level - 1) to 2^(level - 1) - 1.
 pub fn half_side(level: u8) -> u64
     requires { (1 ≤ level) × (level ≤ 63) }
     ensures value { result ≡ 2 ^ (level - 1) }

@@ -13,7 +13,7 @@ use std::alloc::{AllocError, Global};
 /// One square again and again, from the end of the segment before up to this column, which is not
 /// one of them. Columns are counted from the left, in squares of the row's level.
 #[derive(Clone, Copy)]
-pub struct Segment {
+pub(crate) struct Segment {
     pub end: u64,
     pub sq: Sq,
 }
@@ -42,7 +42,7 @@ fn index_at(row: &[Segment], from: usize, column: u64) -> usize
 }
 
 /// The square in a column that the row has.
-pub fn square_at(row: &[Segment], column: u64) -> Sq
+pub(crate) fn square_at(row: &[Segment], column: u64) -> Sq
     requires { HasColumns (column + 1) row.now }
     ensures { square_at row.now column ≡ Some result }
 {
@@ -80,7 +80,7 @@ fn square_column(
 }
 
 /// The row of the squares that two rows of squares make, one above the other.
-pub fn join_rows<S: Squares>(
+pub(crate) fn join_rows<S: Squares>(
     alloc: Global,
     book: &mut S,
     upper: &[Segment],
@@ -108,7 +108,7 @@ pub fn join_rows<S: Squares>(
 }
 
 /// The row of empty squares of this level.
-pub fn empty_row(alloc: Global, level: u8, width: u64) -> Result<Vec<Segment>, AllocError>
+pub(crate) fn empty_row(alloc: Global, level: u8, width: u64) -> Result<Vec<Segment>, AllocError>
     ensures { IfOk result (λ row. row.items ≡ record { end = width; sq = numbered level 0 } ∷ []) }
 {
     let mut row = Vec::new(alloc);

@@ -39,7 +39,7 @@ struct Strips<R> {
     runs: R,
 }
 
-/// The span of the next run in a square of this half side round (0,0).
+/// The span of the next run in a square of this half side around (0,0).
 fn next_span<R: LiveRuns>(runs: &mut R, half: u64) -> Option<Span>
     requires half { half ≤ 2 ^ 62 }
     requires fit { AllByRecursion (FitsRound half) (R.left runs.old) }
@@ -123,7 +123,7 @@ fn strip_row<S: Squares, R: LiveRuns + Drop>(
     join_rows(alloc, book, &upper, &lower, width)
 }
 
-/// The square of this level round (0,0) that has the cells of the runs, which come in the order of
+/// The square of this level around (0,0) that has the cells of the runs, which come in the order of
 /// reading. Runs may share cells. `NoMemory` where memory ran out, and what the book refuses.
 pub fn ordered_runs_to_square<S: Squares, R: LiveRuns + Drop>(
     alloc: Global,

@@ -79,7 +79,7 @@ module _ (key : Key) (old new : Words) (kind : Kind) (index word : ℕ) (slot : 
   kept : KeepsWords old new
   kept = fills_keeps old new index word fills
 
-  -- the new word alone is new
+  -- only the new word is new
   only_new : (other : Kind) (i j : ℕ) → IsSlot key.shape.bits other i → IsSlot key.shape.bits other j → i ≡ index → j ≢ index → new i ≡ new j → ⊥
   only_new other i j si sj e n same =
       let k : other ≡ kind = one_kind key.shape.bits other kind i si (subst (IsSlot key.shape.bits kind) (sym e) slot) in

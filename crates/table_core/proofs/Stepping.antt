@@ -93,7 +93,8 @@ module _ (key : Key) (words : List ℕ) (known : Knowledge) (h : AreGoodWords ke
   word_there (Tell desk i n) lawful =
       let k = lawful.of.slot.below in let here = lawful.of.beside in let long = h.long in get_or-set_same words i _ 0 (omega arith)
 
--- all that a running table needs of one step of a desk: the words stay good, and there is what the desk knows afterwards, which is true, agrees with itself, and is no less than before
+-- all that a running table needs of one step of a desk: the words stay good, and there is what the
+-- desk knows afterwards, which is true, agrees with itself, and is no less than before
 pub record DeskStep (key : Key) (words : List ℕ) (known : Knowledge) (event : Event) : Type 0 where
   pub stays : StaysGood key words (words_after event words)
   pub after : Knowledge

@@ -19,7 +19,7 @@ pub not_head : (bits : ℕ) (kind : Kind) (i : ℕ) → IsSlot bits kind i → i
 not_head bits Leaf i h e = let one = h.from in omega arith
 not_head bits Pair i h e = let one = h.from in omega arith
 
--- a result slot is no slot of a leaf or a pair
+-- a result slot is not a slot of a leaf or a pair
 pub not_result : (bits : ℕ) (kind : Kind) (i j : ℕ) → IsSlot bits kind i → IsSlot bits Pair j → i ≢ result_of bits j
 not_result bits Leaf i j h k e = let one = h.below in let two = k.from in omega arith
 not_result bits Pair i j h k e = let one = h.below in let two = k.from in omega arith

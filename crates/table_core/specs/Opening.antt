@@ -1,4 +1,4 @@
--- The words that a table may begin with: a head alone, or good words that stood under another head
+-- The words that a table may begin with: only a head, or good words that stood under another head
 -- and keep some results.
 use Rattle.std.specs.Prelude.{◌≡◌, ◌≢◌, ℕ, ◌-◌, ◌^◌, ◌<◌, ◌≤◌, ◌⊎◌, min}
 use Rattle.table_core.specs.declared.shape.Kind.{Kind}

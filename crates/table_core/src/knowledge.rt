@@ -20,8 +20,8 @@ pub struct KnownResult {
 }
 
 /// What a desk knows: words by their index, what numbers show, results, and how many of the results
-/// it found by asking, so that somebody else had told them. No value of it is ever made: contracts
-/// alone speak of it.
+/// it found by asking, so that somebody else had told them. No value of it is ever made: only
+/// contracts speak of it.
 pub struct Knowledge {
     pub words: LinkedList<(u32, u64)>,
     pub blocks: LinkedList<KnownBlock>,

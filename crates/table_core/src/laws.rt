@@ -39,8 +39,8 @@ pub fn every_truth_is_consistent()
     ensures { EveryTruthIsConsistent }
 {}
 
-/// What a desk truly knows of a table's words has no more results than the table has pair slots: each result
-/// stands beside a slot of its own.
+/// What a desk truly knows of a table's words has no more results than the table has pair slots:
+/// each result stands beside a slot of its own.
 pub fn every_result_has_its_slot()
     ensures { EveryResultHasItsSlot }
 {}
@@ -55,8 +55,8 @@ pub fn full_shard_is_seen()
     ensures { FullShardIsSeen }
 {}
 
-/// Where a desk has seen other words in all slots of a word's way, these stay there for good: whatever the desk learns and
-/// whatever words come, it knows so, and that word stands nowhere.
+/// Where a desk has seen other words in all slots of a word's way, these stay there for good:
+/// whatever the desk learns and whatever words come, it knows so, and that word stands nowhere.
 pub fn every_full_way_stays()
     ensures { EveryFullWayStays }
 {}

@@ -9,8 +9,10 @@
 //! that teaches it, and `Runs` what a run is.
 //!
 //! - A desk is a thread's handle at the shared hash-consing table.
-//! - The way of a word is its probe sequence, and a shard the 256 slots that it visits: a probe group.
-//! - [`Event::Look`] and [`Event::Claim`] load and insert a node, [`Event::Ask`] and [`Event::Tell`] a memoised result.
+//! - The way of a word is its probe sequence, and a shard the 256 slots that it visits: a probe
+//!   group.
+//! - [`Event::Look`] and [`Event::Claim`] load and insert a node, [`Event::Ask`] and
+//!   [`Event::Tell`] a memoised result.
 #![tactic(auto)]
 
 mod key;

@@ -8,7 +8,8 @@ use plane::LEAF_LEVEL;
 /// The rank of the largest squares, those of level 65.
 pub const LARGEST_RANK: u8 = 124;
 
-/// The rank of a square of this level: two for each level above 3, since a half has a rank of its own.
+/// The rank of a square of this level: two for each level above 3, since a half has a rank of its
+/// own.
 pub fn square_rank(level: u8) -> u8
     requires { (3 ≤ level) × (level ≤ 65) }
     ensures rank { result ≡ square_rank level }

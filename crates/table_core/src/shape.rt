@@ -12,7 +12,8 @@ pub const LARGEST_PAIR_COUNT: u32 = 1 << 28;
 /// How many slots a shard has, so how many places the way of a word has.
 pub const SHARD_LEN: u32 = 256;
 
-// 2^64 divided by the golden ratio: the upper bits of a product by it depend on all bits of the word.
+// 2^64 divided by the golden ratio: the upper bits of a product by it depend on all bits of the
+// word.
 const SPREADING_FACTOR: u64 = 0x9E37_79B9_7F4A_7C15;
 
 /// What a slot is for.

@@ -15,7 +15,8 @@ const STEPS_BEFORE_SMALLER_SWEEP: u32 = 256;
 // A table that has taken more steps than this has nearly as many slots as a step needs.
 const STEPS_OF_GROWTH: u32 = 4;
 
-// A step of at most this many expansions is short: threads would take more time to start than they save.
+// A step of at most this many expansions is short: threads would take more time to start than they
+// save.
 const FEW_EXPANSIONS: u64 = 16384;
 
 /// What was collected from full tables for the step that comes next.
@@ -36,7 +37,8 @@ pub struct TableHistory {
     steps: u32,
     /// How many squares the last step of the cells expanded, at this table or at the one before it.
     expansions: Option<u64>,
-    /// How many squares the last try of a step expanded at this table, whether or not the table was full.
+    /// How many squares the last try of a step expanded at this table, whether or not the table was
+    /// full.
     last_try: u64,
     /// What was collected for the next step.
     collections: Collections,
@@ -53,9 +55,9 @@ impl TableHistory {
         }
     }
 
-    /// For a new table of 2^bits pair slots that takes over the cells of this one. It has taken no step. A
-    /// table that isn't large also takes over how many squares the last step expanded; at a large one the next
-    /// step may be long.
+    /// For a new table of 2^bits pair slots that takes over the cells of this one. It has taken no
+    /// step. A table that isn't large also takes over how many squares the last step expanded; at a
+    /// large one the next step may be long.
     pub fn for_new_table(self, bits: u8) -> TableHistory {
         let mut history = TableHistory::new();
         if bits < LARGE_BITS {
@@ -64,8 +66,8 @@ impl TableHistory {
         history
     }
 
-    /// For a new table of 2^bits pair slots that takes over what was collected from this one, when this much
-    /// was finished.
+    /// For a new table of 2^bits pair slots that takes over what was collected from this one, when
+    /// this much was finished.
     pub fn for_collected_table(self, bits: u8, finished: Finished) -> TableHistory {
         let mut history = self.for_new_table(bits);
         history.collections = Collections::Collected(finished);
@@ -78,8 +80,8 @@ impl TableHistory {
         self
     }
 
-    /// For this table, after a try of one more step. A try that met a full table is no step, and doesn't tell
-    /// whether the step is short.
+    /// For this table, after a try of one more step. A try that met a full table is not a step, and
+    /// doesn't tell whether the step is short.
     pub fn after_try(mut self, is_taken: bool, expansions: u64) -> TableHistory {
         self.last_try = expansions;
         if is_taken {
@@ -90,8 +92,8 @@ impl TableHistory {
         self
     }
 
-    /// Whether a collection may help the next step at a full table of so many pair slots: there was none for it
-    /// yet, or the last one left the step some room.
+    /// Whether a collection may help the next step at a full table of so many pair slots: there was
+    /// none for it yet, or the last one left the step some room.
     pub fn should_collect(self, pairs: u64) -> bool {
         match self.collections {
             Collections::None => true,
@@ -134,8 +136,9 @@ impl TableHistory {
         }
     }
 
-    /// Whether a full table of 2^bits pair slots should be swept before it grows, since most of it is likely to
-    /// be left over from earlier steps: it is large and has taken some, or nearly large and has taken many.
+    /// Whether a full table of 2^bits pair slots should be swept before it grows, since most of it
+    /// is likely to be left over from earlier steps: it is large and has taken some, or nearly
+    /// large and has taken many.
     pub fn should_sweep_first(self, bits: u8) -> bool {
         if bits >= LARGE_BITS {
             return self.steps >= STEPS_BEFORE_SWEEP;

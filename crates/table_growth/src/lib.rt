@@ -1,5 +1,6 @@
-//! How large the tables of squares are, what a collection keeps, what a table remembers of its steps, and what is
-//! tried next where one is full. A run is right whatever a `TableHistory` answers: that decides how fast it is.
+//! How large the tables of squares are, what a collection keeps, what a table remembers of its
+//! steps, and what is tried next where one is full. A run is right whatever a `TableHistory`
+//! answers: that decides how fast it is.
 #![tactic(auto)]
 
 mod collections;

@@ -9,26 +9,27 @@ use table_core::Shape;
 // So many workers make the squares of a first step again faster than one thread copies them.
 const LARGE_TEAM: usize = 8;
 
-// After so many collections for one step, the cells alone are tried.
+// After so many collections for one step, only the cells are tried.
 const MOST_COLLECTIONS: u32 = 1 << 20;
 
-/// How a step is tried again: at a new table of which size, and with what of the table that was full.
+/// How a step is tried again: at a new table of which size, and with what of the table that was
+/// full.
 #[derive(Clone, Copy)]
 pub enum Retry {
-    /// Of the same size, with the cells alone.
+    /// Of the same size, with only the cells.
     Swept,
     /// Of this larger size, with all squares and results.
     Enlarged(Shape),
-    /// Of this larger size, with the cells alone.
+    /// Of this larger size, with only the cells.
     Restarted(Shape),
     /// Of the largest size, with what a collection keeps. The number counts the collections.
     Collected(u32),
-    /// Of the largest size, with the cells alone.
+    /// Of the largest size, with only the cells.
     CellsAlone,
 }
 
-/// The shape and the history of the table at which a step was tried first, the largest shape, and how many
-/// workers take the step.
+/// The shape and the history of the table at which a step was tried first, the largest shape, and
+/// how many workers take the step.
 #[derive(Clone, Copy)]
 pub struct RetryPlan {
     pub shape: Shape,
@@ -41,9 +42,10 @@ impl RetryPlan {
     ghost use Rattle.table_growth.specs.Retries.{IsWithinLimit, LeavesFewer};
     ghost use Rattle.table_growth.specs.declared.retries.Retry.TheVariants.{CellsAlone, Collected, Enlarged};
 
-    /// What comes after this try, which met a full table; `None` stands for the first try, at the table as it
-    /// was. A table that earlier steps have filled is swept, if it isn't the largest; then comes each larger
-    /// size, in the first step of many workers with the cells alone; then collections, as long as one helps; and at last the cells alone. If they fill the largest
+    /// What comes after this try, which met a full table; `None` stands for the first try, at the
+    /// table as it was. A table that earlier steps have filled is swept, if it isn't the largest;
+    /// then comes each larger size, in the first step of many workers with only the cells; then
+    /// collections, as long as one helps; and at last only the cells. If they fill the largest
     /// table too, nothing comes: the step has to be halved.
     pub fn next(&self, tried: Option<Retry>, collection_helps: bool) -> Option<Retry>
         ensures within { IfSome result (IsWithinLimit self.now.limit) }
@@ -73,8 +75,8 @@ impl RetryPlan {
         }
     }
 
-    // Whether the step begins again with the cells alone at a larger table: many workers take the first step
-    // of the table's cells.
+    // Whether the step begins again with only the cells at a larger table: many workers take the
+    // first step of the table's cells.
     fn should_restart(&self) -> bool {
         self.workers >= LARGE_TEAM && self.history.has_no_step()
     }

@@ -8,14 +8,16 @@ use table_core::{Kind, Shape};
 // How many pair slots a new table has, as a power of two, if it may have so many.
 const START_BITS: u8 = 12;
 
-// From how many pair slots on a table is large, as a power of two: it is larger than a processor's cache.
+// From how many pair slots on a table is large, as a power of two: it is larger than a processor's
+// cache.
 pub(crate) const LARGE_BITS: u8 = 18;
 
-// How many pair slots a run's tables may have together unless it is told otherwise, as a power of two.
+// How many pair slots a run's tables may have together unless it is told otherwise, as a power of
+// two.
 const DEFAULT_LIMIT_BITS: u8 = 22;
 
-// From how many pair slots on a table grows by sixteen where it may have more slots than by default: who gives
-// so many needs them.
+// From how many pair slots on a table grows by sixteen where it may have more slots than by
+// default: who gives so many needs them.
 const BITS_OF_LARGE_STEPS: u8 = 20;
 
 /// The shape of a new table: 4096 pair slots, or the largest.
@@ -33,8 +35,8 @@ pub enum GrowthFactor {
     Sixteen,
 }
 
-/// The shape of a new table that is likely to need so many pair slots: the smallest that has them of 2^12, 2^16,
-/// 2^20 and each larger power of two, or the largest.
+/// The shape of a new table that is likely to need so many pair slots: the smallest that has them
+/// of 2^12, 2^16, 2^20 and each larger power of two, or the largest.
 pub fn expected_shape(pairs: u64, most: Shape) -> Shape
     ensures within { result.bits ≤ most.bits }
     ensures size { IsFirstSizeUpTo most.bits result.bits }
@@ -55,9 +57,10 @@ pub fn expected_shape(pairs: u64, most: Shape) -> Shape
     Shape { bits }
 }
 
-/// The shape of the table that replaces a full one. It has four or sixteen times as many pair slots, as the
-/// factor says; after a large one four times as many, or sixteen times where the largest shape is above the
-/// default; and never more than the largest. `None` where the full one has the largest shape.
+/// The shape of the table that replaces a full one. It has four or sixteen times as many pair
+/// slots, as the factor says; after a large one four times as many, or sixteen times where the
+/// largest shape is above the default; and never more than the largest. `None` where the full one
+/// has the largest shape.
 pub fn larger(shape: Shape, most: Shape, growth_factor: GrowthFactor) -> Option<Shape>
     ensures some { IfSome result (λ next. (shape.bits < next.bits) × (next.bits ≤ most.bits)) }
     ensures none { IfNone result (most.bits ≤ shape.bits) }

@@ -17,7 +17,7 @@ begins_with front text = bytes_eq (take (length front) text) front
 abbrev pub ends_with : List ℕ → List ℕ → Bool
 ends_with back text = bytes_eq (drop (length text - length back) text) back
 
--- the text up to its last byte that is no blank
+-- the text up to its last byte that is not a blank
 unfoldable pub trimmed_end : List ℕ → List ℕ
 trimmed_end text = reverse (trimmed_start (reverse text))
 

@@ -20,7 +20,7 @@ pub fn first_blank(text: &[u8]) -> Option<usize>
     text.iter().position(|byte| is_blank(*byte))
 }
 
-/// The text up to its last byte that is no blank.
+/// The text up to its last byte that is not a blank.
 #[tactic(auto, using(crate::proofs::TrimLemmas::trimmed_ends))]
 pub fn trim_end(text: &[u8]) -> &[u8]
     ensures { result.now ≡ trimmed_end text.now }

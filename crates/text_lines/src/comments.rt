@@ -31,8 +31,8 @@ pub fn is_settings_line(line: &[u8]) -> bool
     begins_with(line, b"#CXRLE")
 }
 
-/// Whether the line is a comment that is kept: it begins with `#C`, `#D`, `#N` or `#O`, and not with
-/// `#CXRLE`.
+/// Whether the line is a comment that is kept: it begins with `#C`, `#D`, `#N` or `#O`, and not
+/// with `#CXRLE`.
 #[tactic(auto, unfolding(crate::specs::Comments::is_kept))]
 pub fn is_kept(line: &[u8]) -> bool
     ensures { result ≡ is_kept line.now }
@@ -44,8 +44,8 @@ pub fn is_kept(line: &[u8]) -> bool
             || begins_with(line, b"#O"))
 }
 
-/// The kept comments among the lines of a text, in order, each without its line end. A contract sees the
-/// comments that are still to come.
+/// The kept comments among the lines of a text, in order, each without its line end. A contract
+/// sees the comments that are still to come.
 #[derive(Debug, Drop)]
 pub struct Comments<'a> {
     rest: Lines<'a>,

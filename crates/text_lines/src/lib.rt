@@ -1,5 +1,5 @@
-//! What the readers of pattern files share: the lines of a text with their places, blanks at the ends of
-//! a text, numbers of any length, comments, and faults at a place.
+//! What the readers of pattern files share: the lines of a text with their places, blanks at the
+//! ends of a text, numbers of any length, comments, and faults at a place.
 #![tactic(auto)]
 
 mod bytes;

@@ -14,8 +14,8 @@ pub struct Line<'a> {
     pub text: &'a [u8],
 }
 
-/// The lines of a text from a place on. A line goes up to the next LF or to the end of the text, and one
-/// CR at its end is left out.
+/// The lines of a text from a place on. A line goes up to the next LF or to the end of the text,
+/// and one CR at its end is left out.
 #[derive(Clone, Copy, Debug)]
 pub struct Lines<'a> {
     /// The whole text.

@@ -15,8 +15,8 @@ pub fn with_digit(number: u64, digit: u8) -> u64
         .saturating_add(u64::from(digit - b'0'))
 }
 
-/// The value of a text of one or more digits, or the largest `u64` if the value is larger. Other texts
-/// are no numbers.
+/// The value of a text of one or more digits, or the largest `u64` if the value is larger. Other
+/// texts are not numbers.
 pub fn number(text: &[u8]) -> Option<u64>
     ensures { result ≡ option_map capped (number_of text.now) }
 {

@@ -59,7 +59,7 @@ fresh_table still rule exponent slots pairs same vacant is = record {
   size = ap (λ (k : Key). 2 ^ k.shape.bits) is.opens.key ∙ vacant.pair_count ∙ same;
 }
 
--- where a head alone was opened under another, no result is told
+-- where only a head was opened under another, no result is told
 no_result_told : (was key : Key) (old new : Words) (result : KnownResult) → IsFresh was old → Reopens was key old new → IsTrueResult key.shape.bits new result → ⊥
 no_result_told was key old new result fresh reopens told =
     let here : IsTrueResult was.shape.bits new result = subst (λ (s : Shape). IsTrueResult s.bits new result) reopens.shape told in
@@ -74,7 +74,7 @@ no_result_at_first still rule exponent pairs table desk vacant opens = none desk
     none [] told = refl
     none (result ∷ results) told = absurd (no_result_told still.key table.key (words_of still) (slice_index opens.words) result vacant.fresh opens.reopens told.0)
 
--- where squares alone were added at work, the desk that is back knows no result that it did not know
+-- where only squares were added at work, the desk that is back knows no result that it did not know
 pub no_result_back : {table : NodeTable} {desk back : Desk} {begun ended : Book} → IsBack table desk back ended → begun.results ≡ (book_at table desk).results → AddsSquares begun ended →
     (book_at table desk).results ≡ [] → (book_at table back).results ≡ []
 no_result_back back same adds none = sym back.results ∙ adds.results.results ∙ same ∙ none
@@ -88,7 +88,8 @@ filled_up still rule exponent {opened} {now} is stays full = record {
   full = full;
 }
 
--- the table has just been opened from words of the largest size with what the root reaches and nothing else
+-- the table has just been opened from words of the largest size with what the root reaches and
+-- nothing else
 pub record IsOpenedAlone (still : Still) (root : Sq) (universe : Universe) : Type 0 where
   pub alone : Still
   pub copy : Sq
@@ -110,7 +111,7 @@ opened_alone old fresh exponent others {universe} swept now = record {
   opened = opened_under (still_of fresh) (key_of (still_of fresh)).rule exponent now.opened;
 }
 
--- where it is full later, it is full from the cells alone
+-- where it is full later, it is full from only the cells
 pub full_from_alone : (still : Still) (root : Sq) (start same : Universe) → IsOpenedAlone still root start → IsAtExponent (exponent_of start) start same → StaysOpen start.here same.here →
     IsTrue (known_at same.here).is_full → IsFullFromAlone still root same
 full_from_alone still root start same alone at_exponent stays full =
@@ -125,7 +126,8 @@ full_from_alone still root start same alone at_exponent stays full =
           (filled_up alone.alone (rule_of start) (exponent_of start) alone.opened stays full));
     }
 
--- where a step that begins with the cells alone meets a full table of the largest size, there is no larger one
+-- where a step that begins with only the cells meets a full table of the largest size, there is no
+-- larger one
 pub full_at_limit : {E : Type 0} (still : Still) (root : Sq) (start : Universe) (attempt : Result Attempt E) → IsKnown (book_in still) root.level root → IsSame (square_plane (book_in still) root) (live_cells start) → IsOpenedAlone still root start →
     IfOk attempt (IsAttempt start) → IfOk attempt (IsFullInPlace start) → IfOk attempt IsFullAtLimit
 full_at_limit still root start (Ok (Done later)) known cells alone is full = tt

@@ -1,4 +1,5 @@
--- A run that stays in the range is held by the square of level 63 round (0,0), generation by generation.
+-- A run that stays in the range is held by the square of level 63 around (0,0), generation by
+-- generation.
 use Rattle.std.proofs.Common.{◌≡◌, ◌≢◌, ℕ, ◌^◌, ◌<◌, ◌≤◌, ℤ, pos, ◌+ℤ◌, ◌-ℤ◌, ◌≤ℤ◌, true, false, Option, None, Some, List, [], ◌∷◌, IfSome, refl, sym, ◌∙◌, subst, arith}
 use Rattle.std.specs.List.{AllByRecursion}
 use Rattle.std.proofs.lemmas.Bool.{false≢true}

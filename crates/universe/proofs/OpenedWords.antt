@@ -42,6 +42,6 @@ opened_shows still rule exponent table desk opens sq known =
     ∣ is_coherent table.key (slice_index opens.words) desk.seat.me.0.known opens.opening.good opens.known.true_of ∣₁ known.low known.high knows in
     record { known = shown.known; cells = same_trans shown.cells now.cells }
 
--- what the work found round (0,0), the desk that is back knows
+-- what the work found around (0,0), the desk that is back knows
 pub back_as_round : {table : NodeTable} {desk back : Desk} {book : Book} (plane : Plane) (sq : Sq) → IsBack table desk back book → IsRound book plane sq → IsRound (book_at table back) plane sq
 back_as_round plane sq is round = record { known = is.known sq.level sq round.known; smallest = round.smallest; cells = back_round plane sq is round.known round.cells }

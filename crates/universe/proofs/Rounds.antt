@@ -1,4 +1,4 @@
--- Squares round (0,0).
+-- Squares around (0,0).
 use Rattle.std.proofs.Common.{◌≡◌, ◌↔◌, ℕ, ◌-◌, ◌^◌, ℤ, ◌-ℤ◌, pos, ◌+ℤ◌, Bool, true, false, ◌&&◌, refl, sym, ◌∙◌, ap, subst, arith}
 use Rattle.std.proofs.lemmas.Int.{ints}
 use Rattle.plane.specs.Centred.{Holds, centred}
@@ -12,7 +12,7 @@ use Rattle.squares.specs.declared.sq.Sq.{Sq}
 pub held_same : (level : ℕ) (plane other : Plane) → IsSame plane other → Holds level plane → Holds level other
 held_same level plane other same is = record { dead = λ x y outside. sym (same.same x y) ∙ is.dead x y outside }
 
--- the range lies in the square of side 2^63 round (0,0)
+-- the range lies in the square of side 2^63 around (0,0)
 pub in_square : (z : ℤ) → IsCoordinate z → spans (2 ^ 63) (z +ℤ pos (2 ^ 62)) ≡ true
 in_square z at = grind (arith, ints, at.low, at.high)
 

@@ -25,7 +25,7 @@ known_stays root stays known = known_kept stays.keeps known
 pub cells_stay : {old new : OpenTable} (root : Sq) → StaysOpen old new → IsKnown (known_at old) root.level root → IsSame (square_plane (known_at new) root) (square_plane (known_at old) root)
 cells_stay root stays known = centred_same root.level _ _ (stays.keeps.cells root known.known)
 
--- a square that shows the cells of another one has them round (0,0), too
+-- a square that shows the cells of another one has them around (0,0), too
 pub shown_cells : (old new : Book) (root copy : Sq) → Shows new root.level (old.cells root) copy → IsSame (square_plane new copy) (square_plane old root)
 shown_cells old new root copy shown =
     subst (λ (l : ℕ). IsSame (centred l (new.cells copy)) (square_plane old root)) (sym shown.known.at_level) (centred_same root.level _ _ shown.cells)

@@ -54,7 +54,7 @@ pub record IsFreshTable (rule : CountRule) (exponent pairs : ℕ) (opened : Open
   pub size : pairs_in opened ≡ pairs
 
 -- a table of so many pair slots for single generations by this rule, which knows the square of
--- these cells round (0,0)
+-- these cells around (0,0)
 pub record IsBuilt (rule : CountRule) (live : Plane) (pairs : ℕ) (opened : OpenTable)
     (root : Sq) : Type 0 where
   pub under : IsTableUnder rule 0 opened

@@ -20,9 +20,9 @@ use table_growth::{GrowthFactor, TableHistory, expected_shape, larger};
 impl Universe {
     ghost use Rattle.universe.specs.Cells.{limit_of, live_cells, rule_of};
 
-    /// The live cells of the source, in tables of together at most `limit` pair slots. The first table has
-    /// about as many as are `expected`; 0 where nothing is known. `NodesFull` where the largest table fills
-    /// up before their square is built; `NoMemory` where memory runs out.
+    /// The live cells of the source, in tables of together at most `limit` pair slots. The first
+    /// table has about as many as are `expected`; 0 where nothing is known. `NodesFull` where the
+    /// largest table fills up before their square is built; `NoMemory` where memory runs out.
     pub fn of<B: Build>(
         alloc: Global,
         rule: &Rule,

@@ -15,8 +15,9 @@ impl Universe {
     ghost use Rattle.universe.specs.Cells.{limit_of, pairs_of, rule_of};
     ghost use Rattle.universe.specs.Runs.{ReachesExponent, IsAtExponent};
 
-    // The cells at a table of this exponent. It stands beside their own, if the limit leaves room for both, and
-    // else replaces it: then it has the cells alone, in as few words as have room for them, or all of its words.
+    // The cells at a table of this exponent. It stands beside their own, if the limit leaves room
+    // for both, and else replaces it: then it has only the cells, in as few words as have room for
+    // them, or all of its words.
     pub(crate) fn at_exponent(self, alloc: Global, exponent: u8) -> Result<Universe, AllocError>
         ensures { IfOk result (IsAtExponent exponent self) }
     {
@@ -33,7 +34,8 @@ impl Universe {
         compacted.open_at(alloc, exponent, history, start.others)
     }
 
-    // Moves the cells to the open table of this exponent, or to a new one, if the limit leaves room for both.
+    // Moves the cells to the open table of this exponent, or to a new one, if the limit leaves room
+    // for both.
     fn move_beside(mut self, alloc: Global, exponent: u8) -> Result<Attempt, AllocError>
         ensures { IfOk result (ReachesExponent exponent self) }
     {
@@ -44,7 +46,8 @@ impl Universe {
         }
     }
 
-    // Moves the cells to a new table of this exponent, if the limit leaves room for it beside theirs.
+    // Moves the cells to a new table of this exponent, if the limit leaves room for it beside
+    // theirs.
     fn move_to_fresh(mut self, alloc: Global, exponent: u8) -> Result<Attempt, AllocError>
         ensures { IfOk result (ReachesExponent exponent self) }
     {
@@ -58,8 +61,8 @@ impl Universe {
         self.move_to(alloc, table)
     }
 
-    // Evicts as many of the other tables as are needed to make room for one of this shape beside that of the
-    // cells. `false` where the limit is too small for both.
+    // Evicts as many of the other tables as are needed to make room for one of this shape beside
+    // that of the cells. `false` where the limit is too small for both.
     fn make_room_beside(&mut self, shape: Shape) -> bool
         ensures here { self.new.here ≡ self.old.here }
         ensures root { self.new.root ≡ self.old.root }
@@ -74,8 +77,8 @@ impl Universe {
         true
     }
 
-    // Copies the cells into another table, which grows while it is full and the limit leaves room. Their own
-    // stays open, as the one that was used last.
+    // Copies the cells into another table, which grows while it is full and the limit leaves room.
+    // Their own stays open, as the one that was used last.
     #[cycle(move_to)]
     fn move_to(self, alloc: Global, mut other: OpenTable) -> Result<Attempt, AllocError>
         requires rule { (key_at other).rule ≡ rule_of self }

@@ -10,8 +10,8 @@ use std::alloc::{AllocError, Global};
 use table_core::Shape;
 use table_growth::pair_count;
 
-/// The tables that stay open beside the one of the cells, the least recently used first, and the limit for the
-/// pair slots of all.
+/// The tables that stay open beside the one of the cells, the least recently used first, and the
+/// limit for the pair slots of all.
 #[derive(Drop)]
 pub(crate) struct OtherTables {
     tables: Vec<OpenTable>,

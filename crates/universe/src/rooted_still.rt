@@ -18,7 +18,8 @@ use table_core::{Kind, Shape};
 use table_growth::{GrowthFactor, TableHistory, larger, smallest};
 use viewport::bounds;
 
-/// Live cells in the range, as a square in the words of a closed table. The square's centre is the corner (0,0).
+/// Live cells in the range, as a square in the words of a closed table. The square's centre is the
+/// corner (0,0).
 #[derive(Drop)]
 pub struct RootedStill {
     pub(crate) still: Still,
@@ -76,8 +77,8 @@ impl RootedStill {
         Ok(Universe { here, root, others })
     }
 
-    // The cells in new words of this shape, and the history of a table of these. `None` where they have no
-    // room for what is kept, or where nothing was finished since the last collection.
+    // The cells in new words of this shape, and the history of a table of these. `None` where they
+    // have no room for what is kept, or where nothing was finished since the last collection.
     pub(crate) fn copy(
         &self,
         alloc: Global,
@@ -113,7 +114,7 @@ impl RootedStill {
         Ok(Some((RootedStill { still, root }, history)))
     }
 
-    // The cells alone in as few words as have room for them, or else all of the old words.
+    // Only the cells, in as few words as have room for them, or else all of the old words.
     pub(crate) fn compact(self, alloc: Global) -> Result<RootedStill, AllocError>
         ensures { IfOk result (IsCompacted self) }
     {
@@ -131,7 +132,7 @@ impl RootedStill {
         Ok(self)
     }
 
-    // The cells alone in new words of this shape, if these have room for them.
+    // Only the cells, in new words of this shape, if these have room for them.
     fn sweep(&self, alloc: Global, shape: Shape) -> Result<Option<RootedStill>, AllocError>
         ensures ok { IfMade result (IsSweptFrom self.now (2 ^ shape.bits)) }
         ensures full { IfNoRoom result (HasNoRoomToSweep self.now (2 ^ shape.bits)) }

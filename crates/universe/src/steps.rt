@@ -18,8 +18,9 @@ use worker_split::{Gate, Team};
 impl Universe {
     ghost use Rattle.universe.specs.Cells.{limit_of, live_cells, rule_of};
 
-    // The cells after 2^exponent generations. Where the largest table is too small for the step, it is taken in
-    // two halves. `NodesFull` where it is too small for a single generation, and `NoMemory`.
+    // The cells after 2^exponent generations. Where the largest table is too small for the step, it
+    // is taken in two halves. `NodesFull` where it is too small for a single generation, and
+    // `NoMemory`.
     fn step<R: Threads + Wait + Sync, G: Gate>(
         self,
         team: &Team<'_, R, G>,
@@ -43,7 +44,8 @@ impl Universe {
         middle.step(team, exponent - 1)
     }
 
-    // The cells after 2^exponent generations, by steps at the table of this exponent, or of a lower one.
+    // The cells after 2^exponent generations, by steps at the table of this exponent, or of a lower
+    // one.
     fn repeated_step<R: Threads + Wait + Sync, G: Gate>(
         self,
         team: &Team<'_, R, G>,
@@ -63,10 +65,11 @@ impl Universe {
         middle.repeated_step(team, exponent - 1, table)
     }
 
-    /// The cells after so many generations: for each binary digit of their number a team takes some steps, at
-    /// the table of its exponent or of a lower one. The empty universe takes no step. `NodesFull` where the
-    /// largest table, opened with the cells of a generation alone, fills up before the next one is made or has
-    /// no room for these cells; `NoMemory` where memory runs out.
+    /// The cells after so many generations: for each binary digit of their number a team takes some
+    /// steps, at the table of its exponent or of a lower one. The empty universe takes no step.
+    /// `NodesFull` where the largest table, opened with only the cells of a generation, fills up
+    /// before the next one is made or has no room for these cells; `NoMemory` where memory runs
+    /// out.
     pub fn after<R: Threads + Wait + Sync, G: Gate>(
         self,
         team: &Team<'_, R, G>,

@@ -135,7 +135,7 @@ impl OpenTable {
         ensures refusal { IfErr result (Refuses (known_at self.new)) }
     {
         let team = team.at_most(self.history.workers_of_next_step(team.workers));
-        // The second desk begins with no expansion, so it comes back with those of this step alone.
+        // The second desk begins with no expansion, so it comes back with only those of this step.
         let second = self.desk.split_off(&self.table);
         let (desk, made) = step(&team, &self.table, second, root);
         self.history = self.history.after_try(made.is_ok(), desk.expansions());

@@ -16,9 +16,9 @@ use squares::Sq;
 use std::alloc::Global;
 use viewport::{bounds_at, population_at};
 
-/// Live cells in the range, as a square round (0,0) at an open table, with a rule, and a limit for the
-/// pair slots of all its tables. A table for each exponent of its steps stays open: the one with the square
-/// is `here`.
+/// Live cells in the range, as a square around (0,0) at an open table, with a rule, and a limit for
+/// the pair slots of all its tables. A table for each exponent of its steps stays open: the one
+/// with the square is `here`.
 #[derive(Drop)]
 pub struct Universe {
     pub(crate) here: OpenTable,

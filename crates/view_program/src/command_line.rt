@@ -32,7 +32,7 @@ const EXAMPLES: &str = "Examples:
   lifeview -m 1103 --window=-20,-15,40,30 -o middle.png r-pentomino.rle
       draw 40 x 30 cells from (-20,-15)
   lifeview -m 1073741824 --size 4096 --workers 4 -o large.png breeder.mc
-      draw 2^30 generations of a breeder with at most 4096 pixels on a side, by four workers";
+      draw 2^30 generations of a breeder with at most 4096 pixels on a side, with four workers";
 
 // The form of the words.
 pub(crate) fn command<'a>(alloc: Global) -> Result<Command<'a>, AllocError>

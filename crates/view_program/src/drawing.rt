@@ -18,15 +18,16 @@ use std::alloc::Global;
 use std::sync::Wait;
 use std::thread::Threads;
 
-/// Runs the pattern in a file's bytes, and draws its last generation as a PNG file. It writes two lines to `report`: the
-/// generation, the population and the bounding box; and the name of the picture, its size and what a pixel is. Then it
-/// writes the picture to `file`, whose bytes are all in memory by then.
+/// Runs the pattern in a file's bytes, and draws its last generation as a PNG file. It writes two
+/// lines to `report`: the generation, the population and the bounding box; and the name of the
+/// picture, its size and what a pixel is. Then it writes the picture to `file`, whose bytes are all
+/// in memory by then.
 ///
-/// It refuses, in this order, a text that is no pattern file, by its first fault; the file's rule (`BadRule`,
-/// `BirthOnZero`), unless another one is given; and a run that would leave the range (`TooFar`). `NoMemory`, and
-/// `NodesFull`, if the cells of the file or those after a single generation have no room in the tables that the run may
-/// have, come before anything is written. `WriteFailed` comes if a sink failed, and whenever one did; that sink took a
-/// beginning of its text. Nothing is written to `file` where the report failed.
+/// It refuses, in this order, a text that is not a pattern file, by its first fault; the file's
+/// rule (`BadRule`, `BirthOnZero`), unless another one is given; and a run that would leave the
+/// range (`TooFar`). `NoMemory` and `NodesFull` come as in a run of lifebatch, before anything is
+/// written. `WriteFailed` comes if a sink failed, and whenever one did; that sink took a beginning
+/// of its text. Nothing is written to `file` where the report failed.
 pub fn draw<R: Threads + Wait + Sync, W: Sink, V: Sink>(
     rt: &R,
     alloc: Global,
@@ -61,8 +62,9 @@ pub fn draw<R: Threads + Wait + Sync, W: Sink, V: Sink>(
     Ok(())
 }
 
-/// Reads all bytes of a source, and draws the pattern in them as [`draw`] does. It refuses `ReadFailed` where the source
-/// failed, and `NoMemory`; before all bytes are read, nothing is written.
+/// Reads all bytes of a source, and draws the pattern in them as [`draw`] does. It refuses
+/// `ReadFailed` where the source failed, and `NoMemory`; before all bytes are read, nothing is
+/// written.
 pub fn draw_from<R: Threads + Wait + Sync, S: Source, W: Sink, V: Sink>(
     rt: &R,
     alloc: Global,

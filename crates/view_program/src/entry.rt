@@ -13,16 +13,16 @@ use std::rt::{Env, Files};
 use std::sync::Wait;
 use std::thread::Threads;
 
-/// The whole program. `words` are the arguments, the program's name first. It writes two lines about the picture, or the
-/// help, to `out` and messages to `err`, and returns the exit status.
+/// The whole program. `words` are the arguments, the program's name first. It writes two lines
+/// about the picture, or the help, to `out` and messages to `err`, and returns the exit status.
 ///
 /// - 0: the picture was written, or help was asked for.
 /// - 1: the run was refused; one line names the refusal and its byte offset.
 /// - 2: usage error; one line says what is wrong.
 /// - 3: the input could not be read, or the lines or the picture could not be written.
 ///
-/// The picture's file is created at its first byte, when the whole picture is in memory. A failure of `err` changes
-/// nothing else.
+/// The picture's file is created at its first byte, when the whole picture is in memory. A failure
+/// of `err` changes nothing else.
 pub fn program<R: Files + Input + Threads + Wait + Sync, O: Sink, E: Sink>(
     rt: &R,
     alloc: Global,
@@ -37,8 +37,9 @@ pub fn program<R: Files + Input + Threads + Wait + Sync, O: Sink, E: Sink>(
     program_parts::program::<Lifeview, R, O, E>(rt, alloc, words, out, err)
 }
 
-/// The whole program on the words that the system gives it. Where there are none, since one is not UTF-8 or memory ran
-/// out, it says so on one line, with status 2 or 1.
+/// The whole program on the words that the system gives it; no clause says that they are these.
+/// Where there are none, since one is not UTF-8 or memory ran out, it says so on one line, with
+/// status 2 or 1.
 pub fn start<R: Env + Files + Input + AllocGlobal + Threads + Wait + Sync, O: Sink, E: Sink>(
     rt: &R,
     out: &mut O,

@@ -1,5 +1,5 @@
-//! The program lifeview as a library: the words of its command line, the picture that it draws by them, and its exit
-//! status.
+//! The program lifeview as a library: the words of its command line, the picture that it draws by
+//! them, and its exit status.
 #![tactic(auto)]
 
 mod application;

@@ -14,8 +14,9 @@ use plane::{Bounds, Refusal, Sink, write_all};
 // Room for four numbers of up to 40 digits and the words between them.
 const LINE_ROOM: usize = 224;
 
-/// Writes one line with the name of a picture, its columns and rows, and what a pixel is, for a rectangle that is shown
-/// at the largest scale with at most `size` pixels on each side. `WriteFailed` if the sink failed.
+/// Writes one line with the name of a picture, its columns and rows, and what a pixel is, for a
+/// rectangle that is shown at the largest scale with at most `size` pixels on each side.
+/// `WriteFailed` if the sink failed.
 pub(crate) fn write_picture_line<W: Sink>(
     out: &mut W,
     name: &str,

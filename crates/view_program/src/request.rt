@@ -15,8 +15,8 @@ pub const LARGEST_SIZE: u32 = SIDE_LIMIT;
 pub struct View {
     /// The run whose last generation it is.
     pub run: RunOptions,
-    /// The rectangle of cells that is shown, if one is given; its sides lie from -2^62 to 2^62. Else it is the bounding
-    /// box of the live cells, or the cell (0,0) where there are none.
+    /// The rectangle of cells that is shown, if one is given; its sides lie from -2^62 to 2^62.
+    /// Else it is the bounding box of the live cells, or the cell (0,0) where there are none.
     pub window: Option<Bounds>,
     /// The most pixels on a side of the picture, 16 to 4096.
     pub size: u32,

@@ -12,8 +12,8 @@ use program_parts::WindowNumbers;
 // Sides of a rectangle that is shown lie from -SIDE_LIMIT to SIDE_LIMIT.
 const SIDE_LIMIT: i64 = 1 << 62;
 
-/// The sides of the window that has these numbers, if one is asked for. `WindowTooLarge` where it has no cells, or a side
-/// that is too far away.
+/// The sides of the window that has these numbers, if one is asked for. `WindowTooLarge` where it
+/// has no cells, or a side that is too far away.
 pub(crate) fn window_asked(numbers: Option<WindowNumbers>) -> Result<Option<Bounds>, Refusal>
     ensures ok { IfOk result (IsSidesOf numbers) }
     ensures err { IfErr result (λ refusal.

@@ -197,7 +197,7 @@ listed_box p (cell ∷ cells) (Some box) listing h =
     (λ e. absurd (some_box (box_at cell) cells e))
     (λ outer e. ap (λ (b : Bounds). Some b) (one_box p (cell ∷ cells) box outer listing h (smallest_box_lem (cell ∷ cells) outer e)))
 
--- the box of a square round (0,0)
+-- the box of a square around (0,0)
 pub centred_bounds : (level : ℕ) (p : Plane) (o : Option Bounds) → IsSquare (2 ^ level) p → IsLocalBox (2 ^ level) p o →
     HasBounds (centred level p) (moved_box (pos 0 -ℤ pos (2 ^ (level - 1))) (pos 0 -ℤ pos (2 ^ (level - 1))) o)
 centred_bounds level p o is h =

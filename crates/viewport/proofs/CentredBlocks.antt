@@ -1,4 +1,4 @@
--- Blocks of a square round (0,0).
+-- Blocks of a square around (0,0).
 use Rattle.std.proofs.Common.{◌≡◌, ℕ, zero, suc, ◌+◌, ◌-◌, ◌*◌, ◌^◌, ◌≤◌, pow_mono, min, ℤ, pos, ◌+ℤ◌, ◌-ℤ◌, ◌≤ℤ◌, ◌<ℤ◌, false, length, inl, inr, sym, ◌∙◌, ap, arith}
 use Rattle.std.specs.Prelude.{◌*ℤ◌, ◌⊎◌, negsuc}
 use Rattle.std.proofs.Math.IntN.{zero-*ℤ}
@@ -15,7 +15,8 @@ use Rattle.viewport.proofs.BlocksOfPlanes.{dead_window, moved_block}
 use Rattle.viewport.proofs.Products.{above_times, below_times, less_times}
 use Rattle.viewport.proofs.Quarters.{dead_column, dead_row}
 
--- the plane has no live cell further than this from (0,0), to the left and up, or this far, to the right and down
+-- the plane has no live cell further than this from (0,0), to the left and up, or this far, to the
+-- right and down
 pub record IsWithin (half : ℕ) (plane : Plane) : Type 0 where
   pub left : (x y : ℤ) → x <ℤ (pos 0 -ℤ pos half) → plane x y ≡ false
   pub right : (x y : ℤ) → pos half ≤ℤ x → plane x y ≡ false
@@ -66,7 +67,7 @@ moved_back x half = omega (arith, ints)
 corner : (c n s half : ℕ) → half ≡ n * s → (pos c -ℤ pos n) *ℤ pos s ≡ (pos c *ℤ pos s) +ℤ (pos 0 -ℤ pos half)
 corner c n s half fits = let product = less_times (pos c) n s in omega (arith, ints, product, fits)
 
--- a block of a square round (0,0), counted from its upper left corner
+-- a block of a square around (0,0), counted from its upper left corner
 pub centred_block : (level n e : ℕ) (cells : Plane) → 2 ^ (level - 1) ≡ n * 2 ^ e → (c r : ℕ) →
     block_count (centred level cells) e (pos c -ℤ pos n) (pos r -ℤ pos n) ≡ block_count cells e (pos c) (pos r)
 centred_block level n e cells fits c r =

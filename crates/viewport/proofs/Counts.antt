@@ -75,13 +75,13 @@ few book sq level n e low is =
     let most = level_most book sq level n e is in
     let grows = pow_mono {i = 2 * level} {j = 124} (omega arith) in omega (arith, most, grows)
 
--- the listing of a square round (0,0)
+-- the listing of a square around (0,0)
 pub centred_listing : (level : ℕ) (plane : Plane) → IsSquare (2 ^ level) plane →
     IsListing (map (moved_cell (pos 0 -ℤ pos (2 ^ (level - 1))) (pos 0 -ℤ pos (2 ^ (level - 1)))) (square_cells (2 ^ level) plane)) (centred level plane)
 centred_listing level plane is =
     subst (IsListing _) (plane_equal _ _ (same_sym (centred_moved level plane))) (moved_listing _ _ _ plane (square_listing (2 ^ level) plane is))
 
--- the count of a square is its population, round (0,0) too
+-- the count of a square is its population, around (0,0) too
 pub population_of : (book : Book) (sq : Sq) (n : ℕ) → IsBook book → IsKnown book sq.level sq → IsCount book sq n → HasPopulation (centred sq.level (book.cells sq)) n
 population_of book sq n laws known is = record {
   cells = map (moved_cell (pos 0 -ℤ pos (2 ^ (sq.level - 1))) (pos 0 -ℤ pos (2 ^ (sq.level - 1)))) (square_cells (2 ^ sq.level) (book.cells sq));

@@ -1,4 +1,4 @@
--- First rows with live cells: of planes side_by_side and below one another, and round (0,0).
+-- First rows with live cells: of planes side_by_side and below one another, and around (0,0).
 use Rattle.std.proofs.Common.{◌≡◌, ℕ, ◌+◌, ◌-◌, ◌^◌, ◌<◌, ◌≤◌, min, ℤ, pos, ◌+ℤ◌, ◌-ℤ◌, ◌≤ℤ◌, ◌<ℤ◌, true, false, ◌⊎◌, inl, inr, sym, ◌∙◌, ap, subst, arith}
 use Rattle.std.specs.Prelude.{Option, Some, None, unwrap_or, is_some, int_lt}
 use Rattle.std.specs.Int.{int_max}
@@ -33,7 +33,8 @@ live_right p q y h = record { x = h.x; live = or_right (p h.x y) (q h.x y) h.liv
 pos_lt : (a b : ℕ) → a < b → pos a ≤ℤ pos b
 pos_lt a b h = omega (arith, ints)
 
--- the first row of two planes: that of the second one above the first one's, or else the first one's
+-- the first row of two planes: that of the second one above the first one's, or else the first
+-- one's
 pub either_rows : (p q : Plane) (from end : ℕ) (a b : Option ℕ) → IsFirstRowBelow p from end a → IsFirstRowBelow q from (unwrap_or a end) b → IsFirstRowBelow (either p q) from end (option_or b a)
 either_rows p q from end None None h k = both_rows p q _ _ h k
 either_rows p q from end None (Some s) h k = (k.0, k.1, live_right p q _ k.2, both_rows p q _ _ (fewer_rows p _ _ _ (pos_lt s end k.1) h) k.3)

@@ -1,4 +1,5 @@
--- The quarters of a square, as they lie at its sides: the two halves at a side, and what the search in them asks for.
+-- The quarters of a square, as they lie at its sides: the two halves at a side, and what the search
+-- in them asks for.
 use Rattle.std.proofs.Common.{◌≡◌, ℕ, ◌+◌, ◌-◌, ◌^◌, ◌≤◌, ◌<◌, ◌⊎◌, ℤ, pos, ◌+ℤ◌, ◌-ℤ◌, true, ◌||◌, List, refl, sym, ◌∙◌, ap, subst, inl, inr, arith}
 use Rattle.std.specs.Prelude.{IsTrue}
 use Rattle.std.proofs.lemmas.Int.{ints}
@@ -17,7 +18,8 @@ use Rattle.viewport.proofs.BoxesRound.{both_dead, here_too, or_case, or_left, or
 use Rattle.viewport.proofs.GapsOfHalves.{IsHalved}
 use Rattle.viewport.proofs.Quarters.{IsQuartered, from_nothing, over, own_level, quartered}
 
--- how much farther from the side of a square of twice this side a cell lies that was moved so far to the right and down
+-- how much farther from the side of a square of twice this side a cell lies that was moved so far
+-- to the right and down
 abbrev pub farther_off : Side → ℕ → ℤ → ℤ → ℤ
 farther_off Left h right down = right
 farther_off Right h right down = pos h -ℤ right
@@ -59,7 +61,8 @@ each_quarter : (h : ℕ) (p nw ne sw se : Plane) → IsQuartered h p nw ne sw se
 each_quarter h p nw ne sw se is x y live a b c d =
     or_case _ _ (sym (ap (λ q. q x y) (quarters_moved h p nw ne sw se is)) ∙ live) (λ e. or_case _ _ e a b) (λ e. or_case _ _ e c d)
 
--- a quarter of a square of twice this side, so far to the right and down, and so much farther from the square's side than from its own
+-- a quarter of a square of twice this side, so far to the right and down, and so much farther from
+-- the square's side than from its own
 record IsQuarterAt (side : Side) (h : ℕ) (right down by : ℤ) (p q : Plane) : Type 0 where
   pub square : IsSquare h q
   pub cells : (x y : ℤ) → moved right down q x y ≡ true → p x y ≡ true

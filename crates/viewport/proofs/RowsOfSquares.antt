@@ -1,4 +1,5 @@
--- The runs of a row of a square, from those of its quarters, and of a leaf, one bit after the other.
+-- The runs of a row of a square, from those of its quarters, and of a leaf, one bit after the
+-- other.
 use Rattle.std.proofs.Common.{◌≡◌, ◌≢◌, ℕ, suc, ◌+◌, ◌-◌, ◌*◌, ◌^◌, ◌<◌, ◌≤◌, ℤ, pos, ◌+ℤ◌, ◌-ℤ◌, ◌≤ℤ◌, ◌<ℤ◌, Bool, true, false, ◌&&◌, ◌||◌, List, [], refl, sym, ◌∙◌, ap, subst, arith, w64, SFits}
 use Rattle.std.specs.Prelude.{◌==◌, int_lt, int_le}
 use Rattle.std.specs.Int.{bit_at}

@@ -13,8 +13,8 @@ use crate::strips::{Strip, add_dead, count_strip};
 use squares::{Reading, Sq};
 use std::alloc::AllocError;
 
-/// A rectangle of blocks of 2^exponent by 2^exponent cells. Block (i, j) holds the cells (x, y) with
-/// floor(x / 2^exponent) = i and floor(y / 2^exponent) = j.
+/// A rectangle of blocks of 2^exponent by 2^exponent cells. Block (i, j) holds the cells (x, y)
+/// with floor(x / 2^exponent) = i and floor(y / 2^exponent) = j.
 #[derive(Clone, Copy, Debug, PartialEq, Eq)]
 pub struct Blocks {
     /// Up to 62.
@@ -29,9 +29,10 @@ pub struct Blocks {
     pub height: u32,
 }
 
-/// Adds how many live cells each block of row `j` of the rectangle has, in a square of a level from 3 to
-/// 63, by the counts that are known; it adds what it finds to them, so that each number above level 5 is
-/// counted once. What lies outside the square is dead. The book goes on knowing what it knew.
+/// Adds how many live cells each block of row `j` of the rectangle has, in a square of a level from
+/// 3 to 63, by the counts that are known; it adds what it finds to them, so that each number above
+/// level 5 is counted once. What lies outside the square is dead. The book goes on knowing what it
+/// knew.
 pub fn count_blocks<R: Reading>(
     from: &mut R,
     sq: Sq,
@@ -66,8 +67,8 @@ pub fn count_blocks<R: Reading>(
     add_dead(columns.behind, found)
 }
 
-// How columns lie beside a square: how many of them lie left of it, from which to before which of its
-// own columns they go on, counted from its left side, and how many lie right of it.
+// How columns lie beside a square: how many of them lie left of it, from which to before which of
+// its own columns they go on, counted from its left side, and how many lie right of it.
 #[derive(Clone, Copy)]
 struct Columns {
     before: u64,

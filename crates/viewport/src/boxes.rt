@@ -14,9 +14,9 @@ use squares::{Look, Looked, Reading, Sq};
 use std::alloc::{AllocError, Global};
 use std::collections::HashMap;
 
-/// The smallest box round the live cells of a square of a level up to 63, if it has any. From each side
-/// of the square only the first squares with live cells are read, each number above level 5 once.
-/// `NoMemory` where there is no room for one more gap.
+/// The smallest box round the live cells of a square of a level up to 63, if it has any. From each
+/// side of the square only the first squares with live cells are read, each number above level 5
+/// once. `NoMemory` where there is no room for one more gap.
 pub fn bounds<B: Look>(alloc: Global, book: &B, sq: Sq) -> Result<Option<Bounds>, Refusal>
     requires known { IsKnown (B.book book.now) sq.level sq }
     requires level { sq.level ≤ 63 }
@@ -26,10 +26,10 @@ pub fn bounds<B: Look>(alloc: Global, book: &B, sq: Sq) -> Result<Option<Bounds>
     bounds_at(alloc, &mut Looked(book), sq)
 }
 
-/// The smallest box round the live cells of a square of a level up to 63, if it has any, found at a book
-/// that is read. The book goes on knowing what it knew. From each side of the square only the first
-/// squares with live cells are read, each number above level 5 once. `NoMemory` where there is no room
-/// for one more gap.
+/// The smallest box round the live cells of a square of a level up to 63, if it has any, found at a
+/// book that is read. The book goes on knowing what it knew. From each side of the square only the
+/// first squares with live cells are read, each number above level 5 once. `NoMemory` where there
+/// is no room for one more gap.
 pub fn bounds_at<R: Reading>(alloc: Global, book: &mut R, sq: Sq) -> Result<Option<Bounds>, Refusal>
     requires known { IsKnown (R.book book.old) sq.level sq }
     requires level { sq.level ≤ 63 }

@@ -14,7 +14,7 @@ use std::collections::HashMap;
 
 // A side of a square.
 #[derive(Clone, Copy)]
-pub enum Side {
+pub(crate) enum Side {
     Left,
     Right,
     Top,
@@ -22,17 +22,17 @@ pub enum Side {
 }
 
 // The gaps of squares at one side, by level and number.
-pub type Gaps = HashMap<(u8, u32), Option<u64>>;
+pub(crate) type Gaps = HashMap<(u8, u32), Option<u64>>;
 
-// The lowest level of which gaps are noted. Looking for the gap of a lower square again costs no more
-// than its note.
+// The lowest level of which gaps are noted. Looking for the gap of a lower square again costs no
+// more than its note.
 const LOWEST_NOTED: u8 = 6;
 
-// How many columns or rows without a live cell lie between a side of the square and its first live cell
-// from there, by the gaps at that side that are known; it adds what it finds to them. None where no cell
-// is live.
+// How many columns or rows without a live cell lie between a side of the square and its first live
+// cell from there, by the gaps at that side that are known; it adds what it finds to them. None
+// where no cell is live.
 #[cycle(gap)]
-pub fn gap<R: Reading>(
+pub(crate) fn gap<R: Reading>(
     book: &mut R,
     sq: Sq,
     side: Side,
@@ -63,8 +63,8 @@ pub fn gap<R: Reading>(
     Ok(whole)
 }
 
-// The gap of a square, by its quarters: by the two at the side, and where neither has a live cell, by
-// the two others.
+// The gap of a square, by its quarters: by the two at the side, and where neither has a live cell,
+// by the two others.
 #[cycle(gap)]
 fn quarters_gap<R: Reading>(
     book: &mut R,

@@ -7,7 +7,7 @@ ghost use Rattle.viewport.specs.Halves.{IsHalfOfBlocks, IsHalfRow};
 use squares::{Look, Reading, Sq, half_side};
 
 // The two quarters of a square that have one of its rows, from left to right, and the row there.
-pub fn half_with_row<B: Look>(book: &B, sq: Sq, y: u64) -> (Sq, Sq, u64)
+pub(crate) fn half_with_row<B: Look>(book: &B, sq: Sq, y: u64) -> (Sq, Sq, u64)
     requires known { IsKnown (B.book book.now) sq.level sq }
     requires low { 3 < sq.level }
     requires high { sq.level ≤ 63 }
@@ -22,7 +22,12 @@ pub fn half_with_row<B: Look>(book: &B, sq: Sq, y: u64) -> (Sq, Sq, u64)
 
 // The two quarters of a square that have one of its rows of blocks, from left to right, and the row
 // there; a quarter has so many rows of them. The book goes on knowing what it knew.
-pub fn half_with_blocks<R: Reading>(from: &mut R, sq: Sq, row: u64, half: u64) -> (Sq, Sq, u64)
+pub(crate) fn half_with_blocks<R: Reading>(
+    from: &mut R,
+    sq: Sq,
+    row: u64,
+    half: u64,
+) -> (Sq, Sq, u64)
     requires known { IsKnown (R.book from.old) sq.level sq }
     requires low { 3 < sq.level }
     requires row { row < half + half }

@@ -15,9 +15,10 @@ use squares::{LEAF_LEVEL, Look, Sq, half_side};
 // Room for the widest row and its line end.
 const LINE_ROOM: usize = WINDOW_SIDE_LIMIT as usize + 1;
 
-/// Draws the cells of a window that looks at a square of a level up to 63: a line for each row, with
-/// `*` for each live cell and `.` for each dead one. What lies outside the square is dead. It takes no
-/// memory. `WriteFailed` where the sink failed in this call, which took a beginning of the text then.
+/// Draws the cells of a window that looks at a square of a level up to 63: a line for each row,
+/// with `*` for each live cell and `.` for each dead one. What lies outside the square is dead. It
+/// takes no memory. `WriteFailed` where the sink failed in this call, which took a beginning of the
+/// text then.
 pub fn picture<B: Look, W: Sink>(
     book: &B,
     sq: Sq,

@@ -14,7 +14,8 @@ use std::collections::HashMap;
 /// The numbers of live cells of squares, by level and number.
 pub type Counts = HashMap<(u8, u32), u128>;
 
-// The lowest level of which counts are noted. Counting a lower square again costs no more than its note.
+// The lowest level of which counts are noted. Counting a lower square again costs no more than its
+// note.
 const LOWEST_NOTED: u8 = 6;
 
 /// How many live cells a square of a level up to 63 has: up to 2^126. Each number above level 5 is
@@ -44,7 +45,11 @@ pub fn population_at<R: Reading>(alloc: Global, book: &mut R, sq: Sq) -> Result<
 
 // How many live cells the square has, by the counts that are known; it adds what it finds to them.
 #[cycle(count)]
-pub fn count<R: Reading>(from: &mut R, sq: Sq, counts: &mut Counts) -> Result<u128, AllocError>
+pub(crate) fn count<R: Reading>(
+    from: &mut R,
+    sq: Sq,
+    counts: &mut Counts,
+) -> Result<u128, AllocError>
     requires known { IsKnown (R.book from.old) sq.level sq }
     requires level { sq.level ≤ 63 }
     requires counted { AreCounts (R.book from.old) counts.old }

@@ -11,8 +11,8 @@ use crate::sides::{row_at, rows_above, side, signed_half_side};
 use squares::{LEAF_LEVEL, Look, Sq, half_side};
 
 /// The first row, from row y on downwards, in which a square of a level up to 63 has a live cell.
-/// Empty squares are passed over, so that its time follows what the square has near the rows from y to
-/// that one, and not how many rows lie between.
+/// Empty squares are passed over, so that its time follows what the square has near the rows from y
+/// to that one, and not how many rows lie between.
 pub fn first_row<B: Look>(book: &B, sq: Sq, y: i64) -> Option<i64>
     requires known { IsKnown (B.book book.now) sq.level sq }
     requires level { sq.level ≤ 63 }
@@ -27,7 +27,8 @@ pub fn first_row<B: Look>(book: &B, sq: Sq, y: i64) -> Option<i64>
     Some(row_at(row, half))
 }
 
-// The first row with a live cell among those from `from` to before `end`, counted from the square's top.
+// The first row with a live cell among those from `from` to before `end`, counted from the square's
+// top.
 #[cycle(first_row_below)]
 fn first_row_below<B: Look>(book: &B, sq: Sq, from: u64, end: u64) -> Option<u64>
     requires known { IsKnown (B.book book.now) sq.level sq }

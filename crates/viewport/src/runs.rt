@@ -12,9 +12,9 @@ use plane::Refusal;
 use squares::{LEAF_LEVEL, Look, Sq, half_side};
 use std::alloc::{AllocError, Global};
 
-/// The runs of live cells in row y of a square of a level up to 63, from left to right, each as long
-/// as it can be: its first cell, and how many there are. Empty squares are passed over. `NoMemory`
-/// where there is no room for one more run.
+/// The runs of live cells in row y of a square of a level up to 63, from left to right, each as
+/// long as it can be: its first cell, and how many there are. Empty squares are passed over.
+/// `NoMemory` where there is no room for one more run.
 pub fn row_runs<B: Look>(
     alloc: Global,
     book: &B,

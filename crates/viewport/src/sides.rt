@@ -7,7 +7,7 @@ ghost use Rattle.viewport.specs.Places.{IsPlace};
 use squares::half_side;
 
 // The side of a square of this level.
-pub fn side(level: u8) -> u64
+pub(crate) fn side(level: u8) -> u64
     requires { level ≤ 63 }
     ensures { result ≡ 2 ^ level }
 {
@@ -15,7 +15,7 @@ pub fn side(level: u8) -> u64
 }
 
 // Half the side of a square of this level, as a coordinate.
-pub fn signed_half_side(level: u8) -> i64
+pub(crate) fn signed_half_side(level: u8) -> i64
     requires low { 1 ≤ level }
     requires high { level ≤ 63 }
     ensures side { result ≡ pos (2 ^ (level - 1)) }
@@ -24,9 +24,9 @@ pub fn signed_half_side(level: u8) -> i64
     half_side(level) as i64
 }
 
-// How far a column or a row lies from the left side or from the top of a square of this level, if the
-// square has it.
-pub fn place(z: i64, level: u8) -> Option<u64>
+// How far a column or a row lies from the left side or from the top of a square of this level, if
+// the square has it.
+pub(crate) fn place(z: i64, level: u8) -> Option<u64>
     requires low { 1 ≤ level }
     requires high { level ≤ 63 }
     ensures { IsPlace level z result }
@@ -39,7 +39,7 @@ pub fn place(z: i64, level: u8) -> Option<u64>
 }
 
 // How many rows lie above row y, from the top on.
-pub fn rows_above(y: i64, half: i64) -> u64
+pub(crate) fn rows_above(y: i64, half: i64) -> u64
     requires low { pos 0 ≤ℤ half }
     requires high { half ≤ℤ pos (2 ^ 62) }
     requires below { y <ℤ half }
@@ -49,7 +49,7 @@ pub fn rows_above(y: i64, half: i64) -> u64
 }
 
 // The row that has so many rows above it, counted from (0,0).
-pub fn row_at(row: u64, half: i64) -> i64
+pub(crate) fn row_at(row: u64, half: i64) -> i64
     requires low { pos 0 ≤ℤ half }
     requires high { half ≤ℤ pos (2 ^ 62) }
     requires row { row < 2 ^ 63 }

@@ -16,15 +16,15 @@ use std::alloc::AllocError;
 // Neighbouring blocks of a row of a square: how many rows lie above it, and its columns from one to
 // before another, counted from the left side.
 #[derive(Clone, Copy)]
-pub struct Strip {
+pub(crate) struct Strip {
     pub row: u64,
     pub from: u64,
     pub end: u64,
 }
 
-// Adds how many live cells each block of the strip has, by the counts that are known; it adds what it
-// finds to them. A block has 2^exponent cells a side. The book goes on knowing what it knew.
-pub fn count_strip<R: Reading>(
+// Adds how many live cells each block of the strip has, by the counts that are known; it adds what
+// it finds to them. A block has 2^exponent cells a side. The book goes on knowing what it knew.
+pub(crate) fn count_strip<R: Reading>(
     from: &mut R,
     sq: Sq,
     exponent: u8,
@@ -75,7 +75,8 @@ pub fn count_strip<R: Reading>(
     )
 }
 
-// The part of the strip in the left one of two squares that have so many blocks a side, in their row.
+// The part of the strip in the left one of two squares that have so many blocks a side, in their
+// row.
 fn left_part(strip: Strip, row: u64, half: u64) -> Strip
     ensures row { result.row ≡ row }
     ensures from { result.from ≡ min strip.from half }
@@ -88,7 +89,8 @@ fn left_part(strip: Strip, row: u64, half: u64) -> Strip
     }
 }
 
-// The part of the strip in the right one of two squares that have so many blocks a side, in their row.
+// The part of the strip in the right one of two squares that have so many blocks a side, in their
+// row.
 fn right_part(strip: Strip, row: u64, half: u64) -> Strip
     ensures row { result.row ≡ row }
     ensures from { result.from ≡ strip.from - half }
@@ -137,7 +139,7 @@ fn count_in_leaf(word: u64, exponent: u8, column: u64, row: u64) -> u32
 }
 
 // Adds so many blocks without live cells.
-pub fn add_dead(blocks: u64, found: &mut Vec<u128>) -> Result<(), AllocError>
+pub(crate) fn add_dead(blocks: u64, found: &mut Vec<u128>) -> Result<(), AllocError>
     ensures ok { OnOk result (found.new.items ≡ found.old.items ++ replicate blocks 0) }
 {
     for _ in 0..blocks {

@@ -1,4 +1,5 @@
-//! Worked examples of the texts of rules and patterns and of pictures, and what the tests of texts share.
+//! Worked examples of the texts of rules and patterns and of pictures, and what the tests of texts
+//! share.
 
 mod banded_rows;
 mod macrocell_nodes;

@@ -21,7 +21,8 @@ pub record AreCut (least count rest low : ℕ) (shares : List (List ℕ)) : Type
   pub enough : rest * least ≤ count - low
   pub few : count - low ≤ rest * suc least
 
--- a share of so many equal ones is near the least of all, and what is left is enough for the others, and not too much
+-- a share of so many equal ones is near the least of all, and what is left is enough for the
+-- others, and not too much
 pub record Divides (least jobs rest share : ℕ) : Type 0 where
   pub long : least ≤ share
   pub short : share ≤ least + 1

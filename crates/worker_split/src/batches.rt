@@ -146,11 +146,11 @@ pub(crate) fn team_future<R: Threads + Wait + Sync, G: Gate>(
     future_of(at, sq, None, tally)
 }
 
-/// The future of a square, by so many workers, 1 to 64, and the desk that comes back with all that
-/// they found out. The gate is called before and after each job.
+/// The future of a square, with so many workers, 1 to 64, and the desk that comes back with all
+/// that they found out. The gate is called before and after each job.
 ///
-/// The top level of a square of level 8 or more is expanded, and rounds take the squares of the level
-/// below whose results the desk doesn't find; of a lower square they take the square itself.
+/// The top level of a square of level 8 or more is expanded, and rounds take the squares of the
+/// level below whose results the desk doesn't find; of a lower square they take the square itself.
 pub fn batch_future<R: Threads + Wait + Sync, G: Gate>(
     rt: &R,
     alloc: Global,
@@ -167,8 +167,8 @@ pub fn batch_future<R: Threads + Wait + Sync, G: Gate>(
     ensures ok { IfOk result.1 (HasFuture (book_at table.now result.0) sq) }
     // Memory ran out, or the desk that comes back knows a full shard.
     ensures refusal { IfErr result.1 (Refuses (book_at table.now result.0)) }
-    // The desk that comes back knows all that it knew. Its number of expansions only rises, by at most the number of
-    // new results times that of workers.
+    // The desk that comes back knows all that it knew. Its number of expansions only rises, by at
+    // most the number of new results times that of workers.
     ensures desk { ComesBack table.now workers desk result.0 }
 {
     let team = Team {

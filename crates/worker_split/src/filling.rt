@@ -1,5 +1,5 @@
-//! The list of a round's futures, from the answers at their places. Where no worker answered, the round's
-//! own desk does the job.
+//! The list of a round's futures, from the answers at their places. Where no worker answered, the
+//! round's own desk does the job.
 ghost use Rattle.std.specs.Prelude.{◌≡◌, ◌<◌, ◌≤◌, All, IfOk, IfErr, IfSome, [], length, vec_capacity};
 ghost use Rattle.node_table.specs.DesksAtWork.{book_here};
 ghost use Rattle.worker_split.specs.Jobs.{HaveFutures, IsJob, RefusesFull};

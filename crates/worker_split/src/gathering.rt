@@ -1,4 +1,5 @@
-//! The desks of a round's workers: handed out before the work, and joined after it with what they found.
+//! The desks of a round's workers: handed out before the work, and joined after it with what they
+//! found.
 ghost use Rattle.std.specs.Prelude.{◌≡◌, ◌+◌, ◌<◌, ℕ, All, List, length};
 ghost use Rattle.squares.specs.declared.sq.Sq.{Sq};
 ghost use Rattle.squares.specs.Book.{Book, IsBook, Keeps};

@@ -20,7 +20,8 @@ pub(crate) struct Shared<'a, R, G> {
     pub(crate) gate: &'a G,
 }
 
-/// The future of a square, by a desk that asks for those of smaller squares in this order, if there is one.
+/// The future of a square, by a desk that asks for those of smaller squares in this order, if there
+/// is one.
 pub(crate) fn future_of(
     at: &mut At<'_>,
     sq: Sq,

@@ -1,5 +1,5 @@
-//! Rounds of jobs: the futures of many squares by a team of workers at one table, who take jobs from
-//! one another and help one another; and the future of one square by such rounds.
+//! Rounds of jobs: the futures of many squares by a team of workers at one table, who take jobs
+//! from one another and help one another; and the future of one square by such rounds.
 #![tactic(auto)]
 
 mod batches;

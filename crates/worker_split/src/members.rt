@@ -13,8 +13,8 @@ pub(crate) struct Answer {
     pub(crate) future: Result<Sq, Refusal>,
 }
 
-/// What a worker solves jobs with: the order in which it asks for the futures of smaller squares, the
-/// expansions that it counted, and the answers that it found.
+/// What a worker solves jobs with: the order in which it asks for the futures of smaller squares,
+/// the expansions that it counted, and the answers that it found.
 #[derive(Drop)]
 pub(crate) struct Solver {
     pub(crate) order: Option<Order>,
@@ -22,7 +22,8 @@ pub(crate) struct Solver {
     pub(crate) answers: Vec<Answer>,
 }
 
-/// A worker: its own queue and its ends of the others', what it solves jobs with, and its desk at work.
+/// A worker: its own queue and its ends of the others', what it solves jobs with, and its desk at
+/// work.
 #[derive(Drop)]
 pub(crate) struct Member<'t> {
     pub(crate) own: JobQueue,

@@ -1,4 +1,5 @@
-//! What a round takes memory for: its workers, the places of their answers, and the list of futures.
+//! What a round takes memory for: its workers, the places of their answers, and the list of
+//! futures.
 ghost use Rattle.std.specs.Prelude.{◌≡◌, ◌<◌, ◌≤◌, All, IfOk, length};
 ghost use Rattle.worker_split.specs.Rounds.{HasRoom, IsIdle, StayIdle};
 ghost use Rattle.job_queues.specs.Shares.{jobs_between, share_in};
@@ -46,7 +47,8 @@ fn member<'t>(
     })
 }
 
-// The workers, each with a contiguous share of the jobs. The lengths of the shares differ by at most one.
+// The workers, each with a contiguous share of the jobs. The lengths of the shares differ by at
+// most one.
 fn members<'t>(alloc: Global, count: usize, workers: usize) -> Result<Vec<Member<'t>>, AllocError>
     requires { workers ≤ 64 }
     ensures len { IfOk result (λ members. length members.items ≡ workers) }

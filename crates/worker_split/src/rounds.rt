@@ -91,9 +91,9 @@ pub(crate) fn carry_out<'t, R: Threads + Wait + Sync, G: Gate>(
     fill(&shared, at, places, room.futures, tally)
 }
 
-/// The futures of all jobs, by so many workers, 1 to 64, and the desk that comes back with all that
-/// they found out. The gate is called before and after each job, with the job's place in the list. A
-/// refused job doesn't stop the others.
+/// The futures of all jobs, with so many workers, 1 to 64, and the desk that comes back with all
+/// that they found out. The gate is called before and after each job, with the job's place in the
+/// list. A refused job doesn't stop the others.
 ///
 /// `NoMemory` comes before the first job. `NodesFull` comes where a job was refused.
 pub fn round<R: Threads + Wait + Sync, G: Gate>(
@@ -108,13 +108,15 @@ pub fn round<R: Threads + Wait + Sync, G: Gate>(
     requires desk { IsDeskOf table.now desk }
     requires jobs { All (IsJob (book_at table.now desk)) jobs.now }
     requires workers { (1 ≤ workers) × (workers ≤ 64) }
-    // At each job's place stands its future, and the desk that comes back knows it as the job's result.
+    // At each job's place stands its future, and the desk that comes back knows it as the job's
+    // result.
     ensures ok { IfOk result.1 (HaveFutures (book_at table.now result.0) jobs.now) }
-    // Memory ran out, and the desk comes back as it was; or the desk that comes back knows a full shard.
+    // Memory ran out, and the desk comes back as it was; or the desk that comes back knows a full
+    // shard.
     ensures refusal { IfErr result.1 (λ refusal. ((refusal ≡ NoMemory) × (result.0 ≡ desk))
         ⊎ ((refusal ≡ NodesFull) × IsTrue (book_at table.now result.0).is_full)) }
-    // The desk that comes back knows all that it knew. Its number of expansions only rises, by at most the number of
-    // new results times that of workers.
+    // The desk that comes back knows all that it knew. Its number of expansions only rises, by at
+    // most the number of new results times that of workers.
     ensures desk { ComesBack table.now workers desk result.0 }
 {
     let team = Team {

@@ -31,7 +31,7 @@ fn advance<R: Threads + Wait + Sync, G: Gate>(
     ensures refusal { IfErr result (Refuses (book_here at.new)) }
     ensures continues { Continues team.now.workers at.old at.new tally.old tally.new }
 {
-    // One worker alone starts no round.
+    // One worker by itself starts no round.
     if team.workers == 1 {
         return hashlife_step::step(at, root, tally);
     }
@@ -41,10 +41,10 @@ fn advance<R: Threads + Wait + Sync, G: Gate>(
     trim(at, next)
 }
 
-/// One step of 2^exponent generations, by the table's exponent, by a team: the root is padded, its future
-/// taken and trimmed. The answer has the cells that those of the root become, at the smallest level of at
-/// least 4, round the same centre. The desk comes back with all that the team found out. A team of one
-/// starts no thread and calls no gate.
+/// One step of 2^exponent generations, by the table's exponent, by a team: the root is padded, its
+/// future taken and trimmed. The answer has the cells that those of the root become, at the
+/// smallest level of at least 4, round the same centre. The desk comes back with all that the team
+/// found out. A team of one starts no thread and calls no gate.
 pub fn step<R: Threads + Wait + Sync, G: Gate>(
     team: &Team<'_, R, G>,
     table: &NodeTable,
@@ -58,8 +58,8 @@ pub fn step<R: Threads + Wait + Sync, G: Gate>(
         (IsStepOf (book_at table.now desk) (book_at table.now result.0) root) }
     // Memory ran out, or the desk that comes back knows a full shard.
     ensures refusal { IfErr result.1 (Refuses (book_at table.now result.0)) }
-    // The desk that comes back knows all that it knew. Its number of expansions only rises, by at most the number of
-    // new results times that of workers.
+    // The desk that comes back knows all that it knew. Its number of expansions only rises, by at
+    // most the number of new results times that of workers.
     ensures desk { ComesBack table.now team.now.workers desk result.0 }
 {
     let (own, mut at) = set_out(table, desk);

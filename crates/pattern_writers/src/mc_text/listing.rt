@@ -14,7 +14,8 @@ use squares::{LEAF_LEVEL, Look, Sq};
 use std::alloc::{AllocError, Global};
 use std::collections::HashMap;
 
-// The nodes that are written, in order, and the numbers of their squares by level and number in the book.
+// The nodes that are written, in order, and the numbers of their squares by level and number in the
+// book.
 #[derive(Drop)]
 struct NodeList {
     nodes: Vec<Node>,
@@ -22,7 +23,8 @@ struct NodeList {
 }
 
 impl NodeList {
-    // The number of a square for which no node has to be added: 0 of an empty one, else that of its node.
+    // The number of a square for which no node has to be added: 0 of an empty one, else that of its
+    // node.
     fn number_of(&self, sq: Sq) -> Option<u64>
         ensures { result ≡ number_of self.now sq }
     {
@@ -46,8 +48,8 @@ impl NodeList {
     }
 }
 
-// The nodes of the squares in a square of a level from 4 to 63, whose centre corner is (0,0), in the smallest square
-// that has its cells.
+// The nodes of the squares in a square of a level from 4 to 63, whose centre corner is (0,0), in
+// the smallest square that has its cells.
 pub(crate) fn listed_nodes<B: Look>(
     alloc: Global,
     book: &B,

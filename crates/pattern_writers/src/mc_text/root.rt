@@ -1,4 +1,4 @@
-//! The smallest square round (0,0) that holds the cells of a larger one.
+//! The smallest square around (0,0) that holds the cells of a larger one.
 
 ghost use Rattle.std.specs.Prelude.{◌≡◌, ◌≤◌, ◌<◌, ◌-◌, ◌+◌, IfSome, IfNone};
 ghost use Rattle.plane.specs.Centred.{Holds};
@@ -17,7 +17,8 @@ pub(crate) struct Root {
 }
 
 impl Root {
-    // The smallest square of a level of at least 4 that has the cells of a square, with the same centre corner.
+    // The smallest square of a level of at least 4 that has the cells of a square, with the same
+    // centre corner.
     pub(crate) fn of<B: Look>(book: &B, sq: Sq) -> Self
         requires known { IsKnown (B.book book.now) sq.level sq }
         requires low { 4 ≤ sq.level }

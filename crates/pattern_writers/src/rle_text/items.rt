@@ -39,8 +39,8 @@ impl Item {
     }
 }
 
-// The items of the rows from the corner on, whose runs come in bands: no dead cells before the end of a row, and the
-// ends of empty rows counted with those of the row before them.
+// The items of the rows from the corner on, whose runs come in bands: no dead cells before the end
+// of a row, and the ends of empty rows counted with those of the row before them.
 pub(crate) fn items(
     alloc: Global,
     corner: Cell,

@@ -48,7 +48,8 @@ impl RowRun {
     }
 }
 
-// The longest runs of a square's cells in the rows from `from` to before `end`, row by row and from left to right.
+// The longest runs of a square's cells in the rows from `from` to before `end`, row by row and from
+// left to right.
 pub(crate) fn runs_between<B: Look>(
     alloc: Global,
     book: &B,

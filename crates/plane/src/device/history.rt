@@ -6,7 +6,8 @@ ghost use Rattle.std.specs.Borrow.{ftrue};
 use std::fmt;
 use std::marker::Model;
 
-// The bytes that went through a device, in order. It takes no memory, and its calls do nothing at run time.
+// The bytes that went through a device, in order. It takes no memory, and its calls do nothing at
+// run time.
 #[derive(Drop)]
 pub struct History {
     pub ghost bytes: { List ℕ },

@@ -70,8 +70,8 @@ pub trait Sink {
     // given, its answer, and the device after it.
     ghost writes: { Self → List ℕ → Result ℕ Failed → Self → Type 0 } = { λ _ _ _ _. Unit {0} };
 
-    /// Takes the first bytes, at least one unless there are none, and answers how many it took. A call
-    /// that fails takes none.
+    /// Takes the first bytes, at least one unless there are none, and answers how many it took. A
+    /// call that fails takes none.
     fn write_some(&mut self, bytes: &[u8]) -> Result<usize, Failed>
         ensures bound { WritesAtMost result bytes.now }
         ensures progress { 0 < length bytes.now → IfOk result (λ count. 0 < count) }

@@ -7,8 +7,8 @@ ghost use Rattle.plane.specs.Device.{AppendsBeginning, TellsFailure};
 use crate::device::traits::Sink;
 use crate::refusal::Refusal;
 
-/// Writes all of the bytes. `WriteFailed` where the sink failed in this call; it took the first of them then, or
-/// none, and never all.
+/// Writes all of the bytes. `WriteFailed` where the sink failed in this call; it took the first of
+/// them then, or none, and never all.
 pub fn write_all<W: Sink>(sink: &mut W, bytes: &[u8]) -> Result<(), Refusal>
     ensures written { OnOk result (Appends (W.taken sink.old) (W.taken sink.new) bytes.now) }
     ensures beginning { OnErr result

@@ -55,7 +55,7 @@ fn strange_rle(place: usize) -> Fault {
 
 const ONE_CELL: &str = "[M2]\n*$\n4 0 0 0 1\n";
 
-// The same for the one cell. Where the end of the first line is strange the leaf is no line.
+// The same for the one cell. Where the end of the first line is strange the leaf is not a line.
 fn strange_macrocell(place: usize) -> Fault {
     match place {
         0..=3 => fault(Refusal::NotAPattern, 0),
@@ -139,7 +139,8 @@ fn runs_a_file_of_the_most_cells(rt: HostRuntime) -> Result<(), AllocError> {
     Ok(())
 }
 
-// The last lines of chains, and how they run: the cell lies at (0,0), or where columns and rows begin.
+// The last lines of chains, and how they run: the cell lies at (0,0), or where columns and rows
+// begin.
 const CHAINS: &[(&str, Row)] = &[
     (
         "63 0 0 0 60\n",

@@ -41,8 +41,8 @@ fn made_bytes(alloc: Global, count: usize) -> Result<Vec<u8>, AllocError> {
     Ok(bytes)
 }
 
-/// Whether a source of these bytes that fails at this call is loaded as it should be, where so many reads
-/// load them.
+/// Whether a source of these bytes that fails at this call is loaded as it should be, where so many
+/// reads load them.
 fn is_loaded_or_fails(alloc: Global, bytes: &[u8], reads: u64, call: u64) -> Result<bool, Fail> {
     let mut source = FailAt::new(Memory::holding(alloc, bytes)?, call);
     let is_reached = call >= 1 && call <= reads;
@@ -69,8 +69,8 @@ fn first_wrong_read(alloc: Global, bytes: &[u8], reads: u64) -> Result<Option<u6
     Ok(None)
 }
 
-/// Fails each read of a source in turn, and none: so many reads load the bytes, and the last one finds
-/// their end.
+/// Fails each read of a source in turn, and none: so many reads load the bytes, and the last one
+/// finds their end.
 fn assert_reads_fail<R: Abort + AllocGlobal + Threads + Wait + Sync>(
     rt: &R,
     bytes: &[u8],
@@ -144,8 +144,8 @@ fn is_cut_from(text: &str, whole: &str) -> bool {
     whole.starts_with(text) && text.len() < whole.len()
 }
 
-/// Whether a run said that a sink failed: the report is cut off and nothing is in the file, or the report
-/// stands whole and the file is cut off.
+/// Whether a run said that a sink failed: the report is cut off and nothing is in the file, or the
+/// report stands whole and the file is cut off.
 fn is_cut(row: &Row, end: &Ended, failing: Failing) -> bool {
     let (fault, report, file) = end.told();
     let is_cut = match failing {
@@ -167,8 +167,8 @@ fn ended<R: Abort + AllocGlobal + Threads + Wait + Sync>(
     Ended::with_devices(rt, file, &row.options(), most, failing.at(call))
 }
 
-/// How many calls a run makes of a sink: at least one, and one for each byte where it takes one at a
-/// time.
+/// How many calls a run makes of a sink: at least one, and one for each byte where it takes one at
+/// a time.
 fn calls_of<R: Abort + AllocGlobal + Threads + Wait + Sync>(
     rt: &R,
     row: &Row,
@@ -182,8 +182,8 @@ fn calls_of<R: Abort + AllocGlobal + Threads + Wait + Sync>(
     Ok(calls)
 }
 
-/// The first call at which, if it fails, a run with so many calls of the sink does not end as it should;
-/// call 0, and one behind the last, fail at none.
+/// The first call at which, if it fails, a run with so many calls of the sink does not end as it
+/// should; call 0, and one behind the last, fail at none.
 fn first_wrong_call<R: Abort + AllocGlobal + Threads + Wait + Sync>(
     rt: &R,
     row: &Row,

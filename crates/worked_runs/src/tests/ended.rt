@@ -36,8 +36,8 @@ impl Ended {
         Ended::with_devices(rt, file, options, usize::MAX, (0, 0))
     }
 
-    /// Runs a file with devices that take so many bytes at a time, of which the report and the file fail
-    /// at these calls, or at none for 0.
+    /// Runs a file with devices that take so many bytes at a time, of which the report and the file
+    /// fail at these calls, or at none for 0.
     pub(crate) fn with_devices<R: Abort + AllocGlobal + Threads + Wait + Sync>(
         rt: &R,
         file: &[u8],

@@ -12,8 +12,8 @@ const TOO_LARGE: Row = Row {
     ..RLE
 };
 
-// The line behind the file of a full square, and how it runs. After one generation the corners live, and along each
-// side the cells outside it that have three neighbours.
+// The line behind the file of a full square, and how it runs. After one generation the corners
+// live, and along each side the cells outside it that have three neighbours.
 const SQUARES: &[(&str, Row)] = &[
     (
         "61 58",

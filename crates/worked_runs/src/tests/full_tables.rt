@@ -1,5 +1,5 @@
-//! Few slots: a run writes what it writes in many, or is refused with a beginning of its report and no output. Which of both
-//! is said where it is known.
+//! Few slots: a run writes what it writes in many, or is refused with a beginning of its report and
+//! no output. Which of both is said where it is known.
 
 use crate::tests::accepted::{FAR_GLIDERS, LIMITS, LONG_ROWS, PATTERNS, STEPS};
 use crate::tests::ended::Ended;
@@ -18,8 +18,8 @@ use std::process::Abort;
 use std::sync::Wait;
 use std::thread::Threads;
 
-// The fewest slots there can be for a run of so many generations. In half as many as a glider for 2^40 generations
-// is given, its steps would be halved until they are too many to be taken.
+// The fewest slots there can be for a run of so many generations. In half as many as a glider for
+// 2^40 generations is given, its steps would be halved until they are too many to be taken.
 fn fewest(generations: u64) -> u32 {
     if generations < 1 << 39 { 1024 } else { 2048 }
 }
@@ -32,7 +32,8 @@ fn in_the_fewest(row: &Row, workers: usize) -> Row {
     }
 }
 
-/// Runs rows that have room in the fewest slots. One worker takes the same steps in each run, and so writes all of it each time.
+/// Runs rows that have room in the fewest slots. One worker takes the same steps in each run, and
+/// so writes all of it each time.
 fn assert_room<R: Abort + AllocGlobal + Threads + Wait + Sync>(
     rt: &R,
     rows: &[Row],
@@ -45,7 +46,8 @@ fn assert_room<R: Abort + AllocGlobal + Threads + Wait + Sync>(
     Ok(())
 }
 
-/// Runs rows in the fewest slots, where it isn't known whether there is room: by two workers the schedule decides it.
+/// Runs rows in the fewest slots, where it isn't known whether there is room: with two workers the
+/// schedule decides it.
 fn assert_whole_or_full<R: Abort + AllocGlobal + Threads + Wait + Sync>(
     rt: &R,
     rows: &[Row],
@@ -90,8 +92,9 @@ fn runs_far_in_the_fewest_slots(rt: HostRuntime) -> Result<(), AllocError> {
     Ok(())
 }
 
-// The more a step is halved, the more generations of the replicator have to have room, and most of them have more squares than
-// the last. Which of them a run comes to hangs on when its tables are full, so no count of squares says how it ends.
+// The more a step is halved, the more generations of the replicator have to have room, and most of
+// them have more squares than the last. Which of them a run comes to hangs on when its tables are
+// full, so no count of squares says how it ends.
 #[test]
 fn runs_a_replicator_in_the_fewest_slots_or_not(rt: HostRuntime) -> Result<(), AllocError> {
     for workers in [1, 2] {
@@ -112,9 +115,9 @@ const NO_ROOM: Row = Row {
     ..RLE
 };
 
-// The line behind the file of a full square, and how it runs in the fewest slots, by whatever number of workers. A full square
-// takes two pairs a level, so fewer than a shard has slots. One generation on, the squares of the cells alone take more than
-// 1800 pairs.
+// The line behind the file of a full square, and how it runs in the fewest slots, by whatever
+// number of workers. A full square takes two pairs a level, so fewer than a shard has slots. One
+// generation on, only the squares of the cells take more than 1800 pairs.
 const FULL_SQUARES: &[(&str, Row)] = &[
     (
         "61 58",

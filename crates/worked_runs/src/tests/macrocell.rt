@@ -243,7 +243,8 @@ fn reads_and_writes_macrocell_files(rt: HostRuntime) -> Result<(), AllocError> {
     assert_rows(&rt, WRITTEN)
 }
 
-// Runs what rows write, and compares what is written again, and the report, which is the last line of theirs.
+// Runs what rows write, and compares what is written again, and the report, which is the last line
+// of theirs.
 fn assert_written_again<R: Abort + AllocGlobal + Threads + Wait + Sync>(
     rt: &R,
     rows: &[Row],

@@ -1,4 +1,5 @@
-//! Tables of squares that may have few slots: runs that have room in them, and runs that are refused.
+//! Tables of squares that may have few slots: runs that have room in them, and runs that are
+//! refused.
 
 use crate::tests::ended::Ended;
 use crate::tests::rows::{
@@ -47,7 +48,8 @@ pub(crate) const GLIDER: Row = Row {
     ..FAR_GLIDER
 };
 
-// The same in so few slots that a step fills them more than once: squares are collected, and the step goes on.
+// The same in so few slots that a step fills them more than once: squares are collected, and the
+// step goes on.
 pub(crate) const COLLECTED: Row = Row {
     pairs: 4096,
     ..SETTLED
@@ -90,7 +92,8 @@ fn two_workers_run_in_few_slots(rt: HostRuntime) -> Result<(), AllocError> {
     assert_rows(&rt, &[row])
 }
 
-// The leaves of the words 1 to 300 side by side: bit j of the word i is the cell (8i + j mod 8, j div 8).
+// The leaves of the words 1 to 300 side by side: bit j of the word i is the cell (8i + j mod 8, j
+// div 8).
 fn leaves_in_a_row(alloc: Global) -> Result<String, AllocError> {
     let mut text = String::from_str(alloc, "x = 2408, y = 2\n8b")?;
     for word in 1..301u32 {
@@ -126,8 +129,8 @@ fn refuses_300_leaves_in_the_fewest_slots(rt: HostRuntime) -> Result<(), AllocEr
     assert_reported(&rt, file.as_str(), &PLAIN, None, "0: 1184\n")
 }
 
-// The words 1 to 160, 16 in a row, each in the middle of a leaf of its own: bit j of the word i is the cell
-// (8 (i mod 16) + 1 + j mod 4, 8 (i div 16) + 1 + j div 4).
+// The words 1 to 160, 16 in a row, each in the middle of a leaf of its own: bit j of the word i is
+// the cell (8 (i mod 16) + 1 + j mod 4, 8 (i div 16) + 1 + j div 4).
 fn spread_leaves(alloc: Global) -> Result<String, AllocError> {
     let mut text = String::from_str(alloc, "x = 128, y = 88, rule = B1/S01234V\n")?;
     for row in 0..11u8 {
@@ -140,7 +143,8 @@ fn spread_leaves(alloc: Global) -> Result<String, AllocError> {
     Ok(text)
 }
 
-// A row of cells through the centres of 16 leaves, of the bits of this worth and the next three of their words.
+// A row of cells through the centres of 16 leaves, of the bits of this worth and the next three of
+// their words.
 fn push_centres(text: &mut String, row: u8, worth: u32) -> Result<(), AllocError> {
     for column in 0..16u32 {
         let word = 16 * u32::from(row) + column;

@@ -40,7 +40,8 @@ const PICTURES: &[Pictured] = &[
         report: "0: 5\n.*.\n..*\n***\n",
         picture: ".*.\n..*\n***\n",
     },
-    // Two columns and three rows of it, one cell further to the right and down after four generations.
+    // Two columns and three rows of it, one cell further to the right and down after four
+    // generations.
     Pictured {
         file: "x = 3, y = 3\nbob$2bo$3o!",
         generations: 4,
@@ -81,7 +82,7 @@ fn asked(generations: u64, window: (i64, i64, u32, u32), quiet: bool) -> Result<
     })
 }
 
-/// Runs a row with its lines and without, by one worker and by two.
+/// Runs a row with its lines and without, with one worker and by two.
 fn assert_pictured<R: Abort + AllocGlobal + Threads + Wait + Sync>(
     rt: &R,
     row: &Pictured,
@@ -107,7 +108,8 @@ fn draws_the_window_behind_the_lines(rt: HostRuntime) -> Result<(), Fail> {
     Ok(())
 }
 
-/// Runs a row by one worker in the fewest slots, where it has room: the worker takes the same steps in each run.
+/// Runs a row with one worker in the fewest slots, where it has room: the worker takes the same
+/// steps in each run.
 fn assert_pictured_in_the_fewest<R: Abort + AllocGlobal + Threads + Wait + Sync>(
     rt: &R,
     row: &Pictured,

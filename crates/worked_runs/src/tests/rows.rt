@@ -163,8 +163,8 @@ fn is_between_lines(said: &str, report: &str) -> bool {
     report.starts_with(said) && (said.is_empty() || said.ends_with("\n"))
 }
 
-/// Compares how a run of a row ended: as the row says, or refused by this refusal between two lines of the
-/// report, with nothing in the file. It answers whether it was refused so.
+/// Compares how a run of a row ended: as the row says, or refused by this refusal between two lines
+/// of the report, with nothing in the file. It answers whether it was refused so.
 pub(crate) fn assert_whole_or_refused<R: Abort>(
     rt: &R,
     row: &Row,
@@ -203,7 +203,7 @@ pub(crate) fn assert_rows<R: Abort + AllocGlobal + Threads + Wait + Sync>(
     Ok(())
 }
 
-/// Runs rows by so many workers, and compares what is written with what they say.
+/// Runs rows with so many workers, and compares what is written with what they say.
 pub(crate) fn assert_rows_by<R: Abort + AllocGlobal + Threads + Wait + Sync>(
     rt: &R,
     rows: &[Row],

@@ -89,7 +89,8 @@ impl Ended {
     }
 }
 
-/// Whether a run ends as it should whose reader, which comes to its end in so many reads, fails at this one, or at none.
+/// Whether a run ends as it should whose reader, which comes to its end in so many reads, fails at
+/// this one, or at none.
 fn is_right<R: Abort + AllocGlobal + Threads + Wait + Sync>(
     rt: &R,
     row: &Row,
@@ -108,7 +109,8 @@ fn is_right<R: Abort + AllocGlobal + Threads + Wait + Sync>(
     Ok(ended.is(None, row.report, row.text))
 }
 
-/// The first read at which, if it fails, a run does not end as it should; 0, and one behind the last, fail at none.
+/// The first read at which, if it fails, a run does not end as it should; 0, and one behind the
+/// last, fail at none.
 fn first_wrong_read<R: Abort + AllocGlobal + Threads + Wait + Sync>(
     rt: &R,
     row: &Row,

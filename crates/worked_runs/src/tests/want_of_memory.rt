@@ -1,8 +1,9 @@
 //! Want of memory: it refuses a run, or changes nothing.
 //!
-//! In a plain run of the tests there is memory. `rt try --test --fail-alloc N -- want_of_memory` makes the
-//! Nth allocation of each of these tests fail, and is run for each N from 1 up to the first at which
-//! none of them prints a line of its own. `checks/refused_memory.py` does so with the program.
+//! In a plain run of the tests there is memory. `rt try --test --fail-alloc N -- want_of_memory`
+//! makes the Nth allocation of each of these tests fail, and is run for each N from 1 up to the
+//! first at which none of them prints a line of its own. `checks/refused_memory.py` does so with
+//! the program.
 
 use crate::tests::ended::Ended;
 use crate::tests::nodes::SETTLED;
@@ -17,8 +18,8 @@ use std::sync::Wait;
 use std::test::Fail;
 use std::thread::Threads;
 
-/// Runs a row: it writes its whole texts, or is refused between two lines of the report, with nothing
-/// in the file.
+/// Runs a row: it writes its whole texts, or is refused between two lines of the report, with
+/// nothing in the file.
 fn assert_runs_or_refuses<R: Abort + AllocGlobal + Print + Threads + Wait + Sync>(
     rt: &R,
     row: &Row,

@@ -1,4 +1,4 @@
-//! Runs by several workers: they write what one writes.
+//! Runs with several workers: they write what one writes.
 
 use crate::tests::ended::Ended;
 use crate::tests::full_tables::short_runs;
@@ -42,7 +42,8 @@ fn one_worker_runs_in_few_slots(rt: HostRuntime) -> Result<(), AllocError> {
     Ok(())
 }
 
-// Several workers write the same, or are refused with no output: whether there is room, the schedule decides.
+// Several workers write the same, or are refused with no output: whether there is room, the
+// schedule decides.
 #[test]
 fn workers_run_in_few_slots(rt: HostRuntime) -> Result<(), AllocError> {
     for workers in [2, 64] {
@@ -61,7 +62,8 @@ fn workers_run_in_few_slots(rt: HostRuntime) -> Result<(), AllocError> {
 
 const TURNS: u64 = 1_000_000_000;
 
-// Jobs 0 and 1 of a round each set their own flag, and read the other's. Only the first call of each counts.
+// Jobs 0 and 1 of a round each set their own flag, and read the other's. Only the first call of
+// each counts.
 #[derive(Drop)]
 struct Meets {
     flags: [AtomicU64; 2],

@@ -19,7 +19,7 @@ pub(crate) fn book_of(alloc: Global, text: &str, exponent: u8) -> Result<PlainBo
     Ok(PlainBook::new(alloc, rule_of(text)?, exponent))
 }
 
-/// The square of the cells round (0,0).
+/// The square of the cells around (0,0).
 pub(crate) fn square_round<S: Squares>(
     alloc: Global,
     book: &mut S,

@@ -69,7 +69,8 @@ fn next_generations(rt: HostRuntime) {
     assert_no_row(&rt, first_wrong_next(rt.alloc(), NEXT));
 }
 
-// The cells at these places as they are listed, whether (3, 1) and (1, 3) are among them, and their box.
+// The cells at these places as they are listed, whether (3, 1) and (1, 3) are among them, and their
+// box.
 type Shown = (Vec<(i64, i64)>, bool, bool, Option<Bounds>);
 
 fn shown(alloc: Global, places: &[Place]) -> Result<Shown, Refusal> {
@@ -204,7 +205,8 @@ fn memory_of(alloc: Global, room: usize) -> Result<Memory, Refusal> {
     }
 }
 
-// What a memory of four bytes answers to two writes, how many failed, and whether it holds the first.
+// What a memory of four bytes answers to two writes, how many failed, and whether it holds the
+// first.
 fn written_to_four_bytes(alloc: Global) -> Result<(Answers, u64, bool), Refusal> {
     let mut memory = memory_of(alloc, 4)?;
     let answers = two_writes(&mut memory, b"abc", b"de");
@@ -218,7 +220,8 @@ fn memory_takes_what_it_has_room_for(rt: HostRuntime) {
     assert_eq!(rt; written_to_four_bytes(rt.alloc()), Ok(wanted));
 }
 
-// What two reads answer of which the second fails, and what the next one answers and what it leaves.
+// What two reads answer of which the second fails, and what the next one answers and what it
+// leaves.
 type Reads = (Answers, Result<usize, Failed>, [u8; 2]);
 
 fn read_with_one_failure(alloc: Global) -> Result<Reads, Refusal> {
@@ -238,7 +241,7 @@ fn source_that_fails_once(rt: HostRuntime) {
     assert_eq!(rt; read_with_one_failure(rt.alloc()), Ok(wanted));
 }
 
-// What two writes answer of which the first fails, and whether the second alone is held.
+// What two writes answer of which the first fails, and whether only the second is held.
 fn written_with_one_failure(alloc: Global) -> Result<(Answers, bool), Refusal> {
     let mut sink = FailAt::new(memory_of(alloc, 2)?, 1);
     let answers = two_writes(&mut sink, b"a", b"b");

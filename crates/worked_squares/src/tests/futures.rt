@@ -106,8 +106,8 @@ fn levels_of_worked_paddings(rt: HostRuntime) {
     assert_no_row(&rt, first_wrong_padding(rt.alloc(), PADDINGS));
 }
 
-// A leaf, and the four leaves of the square of level 4 that has it in its middle: each corner of the
-// leaf, a glider, a row, all cells, and none.
+// A leaf, and the four leaves of the square of level 4 that has it in its middle: each corner of
+// the leaf, a glider, a row, all cells, and none.
 const SURROUNDED: &[(u64, [u64; 4])] = &[
     (1, [1 << 36, 0, 0, 0]),
     (1 << 7, [0, 1 << 35, 0, 0]),
@@ -168,7 +168,8 @@ fn future_bits(book: &mut PlainBook, sq: Sq, tally: &mut Tally) -> Result<u64, R
     Ok(book.bits(result))
 }
 
-// The cells of the future of a square of level 4, and the tally after it was asked for once and twice.
+// The cells of the future of a square of level 4, and the tally after it was asked for once and
+// twice.
 fn future_twice(alloc: Global, exponent: u8, leaves: [u64; 4]) -> Result<(u64, u64, u64), Refusal> {
     let mut book = book_of(alloc, "B3/S23", exponent)?;
     let sq = join_leaves(&mut book, leaves)?;
@@ -212,7 +213,8 @@ fn stepped<S: Squares>(book: &mut S, root: Sq) -> Result<Sq, Refusal>
     step(book, root, &mut Tally { expansions: 0 })
 }
 
-// The level of the square round (0,0) of a glider that began right of and below (0,0), after a step.
+// The level of the square around (0,0) of a glider that began right of and below (0,0), after a
+// step.
 fn level_of_stepped_glider(alloc: Global, exponent: u8) -> Result<u8, Refusal> {
     let mut book = book_of(alloc, "B3/S23", exponent)?;
     let root = join_leaves(&mut book, [0, 0, 0, 0x70402])?;
@@ -237,7 +239,8 @@ fn a_glider_goes_far(rt: HostRuntime) {
     assert_no_row(&rt, first_wrong_level(rt.alloc(), FAR));
 }
 
-// About a quarter of the cells of a square of 8 by 8 at (-4, -4), by a linear congruential generator.
+// About a quarter of the cells of a square of 8 by 8 at (-4, -4), by a linear congruential
+// generator.
 fn soup(alloc: Global, seed: u32) -> Result<CellSet, Refusal> {
     let mut cells = CellSet::new(alloc);
     let mut word = seed;

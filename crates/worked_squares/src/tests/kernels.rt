@@ -1,5 +1,5 @@
-//! Sixteen rows one generation on, and the centres of squares of 16 by 16 cells some generations on,
-//! beside a plain kernel that goes cell by cell.
+//! Sixteen rows one generation on, and the centres of squares of 16 by 16 cells some generations
+//! on, beside a plain kernel that goes cell by cell.
 
 use crate::tests::books::rule_of;
 use crate::tests::rows::assert_no_row;
@@ -8,8 +8,8 @@ use plane::Refusal;
 use rule_text::Rule;
 use std::simd::prelude::*;
 
-// A rule's text, and which of the three cells above a cell, beside it (with itself in the middle) and
-// below it are its neighbours: bit 0 is the left one.
+// A rule's text, and which of the three cells above a cell, beside it (with itself in the middle)
+// and below it are its neighbours: bit 0 is the left one.
 struct Row {
     text: &'static str,
     above: u32,

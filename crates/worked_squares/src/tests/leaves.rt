@@ -1,4 +1,4 @@
-//! The centres of squares of 16 by 16 cells, also beside a reckoning that goes cell by cell.
+//! The centres of squares of 16 by 16 cells, also beside a calculation that goes cell by cell.
 
 use crate::tests::books::rule_of;
 use crate::tests::rows::assert_no_row;
@@ -7,7 +7,8 @@ use plane::Refusal;
 use rule_text::Rule;
 use sample_patterns::BLINKER_LEAVES;
 
-// Three live cells in a row in the middle of a square, and one live cell right of and below the middle.
+// Three live cells in a row in the middle of a square, and one live cell right of and below the
+// middle.
 const ONE_CELL: [u64; 4] = [0, 0, 0, 1];
 
 // A rule's text, a square, and its centre after one, two and four generations.

@@ -15,7 +15,7 @@ use viewport::Blocks;
 
 const WHITE: u8 = 255;
 
-// The four blocks round (0,0).
+// The four blocks around (0,0).
 fn four_round(exponent: u8) -> Blocks
     requires { exponent ≤ 62 }
     ensures exponent { result.exponent ≤ 62 }
@@ -31,7 +31,7 @@ fn four_round(exponent: u8) -> Blocks
     }
 }
 
-// The shades of blocks of the square round (0,0) that has these cells.
+// The shades of blocks of the square around (0,0) that has these cells.
 fn shades_round(alloc: Global, places: &[Place], blocks: Blocks) -> Result<Vec<u8>, Refusal>
     requires exponent { blocks.exponent ≤ 62 }
     requires columns { IsBlockRange blocks.exponent blocks.left blocks.width }
@@ -50,8 +50,8 @@ fn is_just(shades: &Result<Vec<u8>, Refusal>, expected: &[u8]) -> bool {
     }
 }
 
-// A single cell is black where a block is one cell, and light where it is larger. Blocks of exponents
-// 3 to 5 are as large as the square's quarters, or larger.
+// A single cell is black where a block is one cell, and light where it is larger. Blocks of
+// exponents 3 to 5 are as large as the square's quarters, or larger.
 #[test]
 fn single_cells(rt: HostRuntime) {
     for exponent in 0..6u8 {
@@ -99,7 +99,7 @@ fn full_square<S: Squares>(book: &mut S) -> Result<Sq, Refusal>
     shared(book, u64::MAX, 12)
 }
 
-// The shades of the four blocks round (0,0) of the full square.
+// The shades of the four blocks around (0,0) of the full square.
 fn full_shades(alloc: Global, exponent: u8) -> Result<Vec<u8>, Refusal> {
     if exponent > 62 {
         return Err(Refusal::OutOfRange);

@@ -1,6 +1,6 @@
-//! Futures of squares of the levels 4 to 6, and the expansions that they take, reckoned cell by cell
-//! apart from this program. A square of level 5 takes nine futures of level 4, and four more where there
-//! is time for them; one of level 6 takes none.
+//! Futures of squares of the levels 4 to 6, and the expansions that they take, calculated cell by
+//! cell apart from this program. A square of level 5 takes nine futures of level 4, and four more
+//! where there is time for them; one of level 6 takes none.
 
 ghost use Rattle.std.specs.Prelude.{◌<◌};
 ghost use Rattle.squares.specs.Book.{IsKnown};
@@ -14,8 +14,8 @@ use plane::{CellSet, Refusal};
 use squares::{Sq, Squares};
 use std::alloc::Global;
 
-// A square round (0,0) as leaves row by row, and its middle after 2^exponent generations, or fewer if
-// it is too small for so many.
+// A square around (0,0) as leaves row by row, and its middle after 2^exponent generations, or fewer
+// if it is too small for so many.
 struct Row {
     rule: &'static str,
     exponent: u8,
@@ -372,7 +372,7 @@ fn is_live(leaves: &[u64], x: i8, y: i8) -> bool {
     }
 }
 
-// The cells of leaves row by row, round (0,0).
+// The cells of leaves row by row, around (0,0).
 fn cells_of(alloc: Global, leaves: &[u64]) -> Result<CellSet, Refusal> {
     let mut cells = CellSet::new(alloc);
     for y in -32..32i8 {

@@ -163,7 +163,8 @@ fn rows(rt: HostRuntime) -> Result<(), Fail> {
     Ok(())
 }
 
-// The first live row of the largest square, from far above it, from its last row and from far below.
+// The first live row of the largest square, from far above it, from its last row and from far
+// below.
 fn first_rows_of_largest(alloc: Global) -> Result<[Option<i64>; 3], Refusal> {
     let mut book = empty_book(alloc)?;
     let sq = filled(&mut book, FULL, 63)?;
@@ -216,8 +217,8 @@ fn draw<W: Sink>(
     draw_windows(&book, sq, &[sides], sink)
 }
 
-// A blinker that stands, and five cells on both sides of (0,0), some at the corners of the square of
-// level 4.
+// A blinker that stands, and five cells on both sides of (0,0), some at the corners of the square
+// of level 4.
 const BLINKER: [Place; 3] = [(1, -1), (1, 0), (1, 1)];
 
 const SPREAD: [Place; 5] = [(-8, -8), (-1, -1), (0, 0), (-2, 1), (7, 7)];

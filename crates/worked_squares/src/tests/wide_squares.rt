@@ -1,4 +1,5 @@
-//! The centres of squares of 64 by 64 cells, reckoned cell by cell, apart from this program and by it.
+//! The centres of squares of 64 by 64 cells, calculated cell by cell, apart from this program and
+//! by it.
 
 use crate::tests::books::rule_of;
 use leaf_kernels::result64;
@@ -32,7 +33,8 @@ fn middle(text: &str, leaves: &[u64; 64], exponent: u8) -> Result<Middle, Refusa
     Ok(result64(&rule_of(text)?, quarters_of(leaves), exponent.min(4)))
 }
 
-// Without a live cell nothing comes, and where all live no cell stays: each has eight live neighbours.
+// Without a live cell nothing comes, and where all live no cell stays: each has eight live
+// neighbours.
 #[test]
 fn centres_of_empty_and_full_squares(rt: HostRuntime) {
     for exponent in 0..5u8 {

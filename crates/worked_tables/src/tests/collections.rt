@@ -1,5 +1,5 @@
-//! A generation that has no room in the largest table and is made there all the same: squares whose results are
-//! known are collected, and what only led to them makes room.
+//! A generation that has no room in the largest table and is made there all the same: squares whose
+//! results are known are collected, and what only led to them makes room.
 
 ghost use Rattle.std.specs.Prelude.{⊤};
 ghost use Rattle.plane.specs.Listing.{plane_of};
@@ -44,7 +44,8 @@ fn is_middle(place: u16) -> bool {
     place % 8 == 3 || place % 8 == 4
 }
 
-// Blocks in the middle of about half of 80 by 80 leaves. None comes near another, so that all of them stay.
+// Blocks in the middle of about half of 80 by 80 leaves. None comes near another, so that all of
+// them stay.
 fn blocks(alloc: Global) -> Result<CellSet, Refusal> {
     let mut cells = CellSet::new(alloc);
     for y in 0..640u16 {
@@ -72,8 +73,9 @@ fn later<S: Squares>(alloc: Global, book: &mut S, cells: &CellSet) -> Result<Sq,
     step(book, root, &mut Tally { expansions: 0 })
 }
 
-// One table of so many slots is too small for the generation, also where it begins with the cells alone; and a
-// single generation is not halved. So what a universe of this limit answers it owes to collections.
+// One table of so many slots is too small for the generation, also where it begins with only the
+// cells; and a single generation is not halved. So what a universe of this limit answers it owes to
+// collections.
 #[test]
 fn a_generation_that_has_no_room_is_made(rt: HostRuntime) -> Result<(), Fail> {
     let cells = blocks(rt.alloc())?;

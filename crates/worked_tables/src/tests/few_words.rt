@@ -8,8 +8,8 @@ use std::alloc::Global;
 use std::process::Abort;
 use std::test::Fail;
 
-// The words 1 to 160, 16 in a row, each in the middle of a leaf of its own: bit j of the word i is the cell
-// (8 (i mod 16) + 1 + j mod 4, 8 (i div 16) + 1 + j div 4).
+// The words 1 to 160, 16 in a row, each in the middle of a leaf of its own: bit j of the word i is
+// the cell (8 (i mod 16) + 1 + j mod 4, 8 (i div 16) + 1 + j div 4).
 fn spread_leaves(alloc: Global) -> Result<CellSet, Refusal> {
     let mut cells = CellSet::new(alloc);
     for word in 1..161u8 {
@@ -25,7 +25,7 @@ fn spread_leaves(alloc: Global) -> Result<CellSet, Refusal> {
     Ok(cells)
 }
 
-// All cells of the square of side 16 round (0,0).
+// All cells of the square of side 16 around (0,0).
 fn full_square(alloc: Global) -> Result<CellSet, Refusal> {
     let mut cells = CellSet::new(alloc);
     for place in 0..=255u8 {

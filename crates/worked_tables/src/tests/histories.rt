@@ -1,11 +1,13 @@
-//! What a table remembers of its steps, and what it answers then. No clause says it, since no cell hangs on it.
+//! What a table remembers of its steps, and what it answers then. No clause says it, since no cell
+//! hangs on it.
 
 use crate::tests::sweeps::finished_after_step;
 use std::test::Fail;
 use table_growth::TableHistory;
 
-// A step of at most 16384 expansions is short, and the next one has one worker. A try that met a full table
-// doesn't tell, and a new table of 2^18 pair slots or more doesn't take over what the last step told.
+// A step of at most 16384 expansions is short, and the next one has one worker. A try that met a
+// full table doesn't tell, and a new table of 2^18 pair slots or more doesn't take over what the
+// last step told.
 #[test]
 fn short_steps_have_one_worker(rt: HostRuntime) -> Result<(), Fail> {
     for (is_taken, expansions, bits, workers) in [
@@ -38,8 +40,9 @@ fn a_new_table_is_not_swept(rt: HostRuntime) -> Result<(), Fail> {
     Ok(())
 }
 
-// A collection may help where there was none for the step yet, or where the last one left room to expand a square
-// for every 16 pair slots; and not where all was collected. A step that is taken begins anew.
+// A collection may help where there was none for the step yet, or where the last one left room to
+// expand a square for every 16 pair slots; and not where all was collected. A step that is taken
+// begins anew.
 #[test]
 fn a_collection_is_made_while_it_may_help(rt: HostRuntime) -> Result<(), Fail> {
     let begun = TableHistory::new();

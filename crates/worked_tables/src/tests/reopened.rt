@@ -12,8 +12,8 @@ use squares::{Sq, Squares, join_leaves};
 use std::process::Abort;
 use std::test::Fail;
 
-// A rule and an exponent under which words are opened again, and whether the results of squares of the
-// levels 4, 5 and 6 stay that were made under B3/S23 and the exponent 3.
+// A rule and an exponent under which words are opened again, and whether the results of squares of
+// the levels 4, 5 and 6 stay that were made under B3/S23 and the exponent 3.
 const REOPENINGS: [(&str, u8, [bool; 3]); 4] = [
     ("B3/S23", 2, [true, false, false]),
     ("B3/S23", 5, [true, true, false]),

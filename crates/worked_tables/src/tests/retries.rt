@@ -7,9 +7,9 @@ use std::test::Fail;
 use table_core::Shape;
 use table_growth::{Retry, RetryPlan, TableHistory};
 
-// A table that is full, and what is tried then: its size and the largest one's, the steps that it has taken,
-// how many collections help, and how many workers there are. A number in the order is the size of a larger
-// table; one with "alone" has the cells alone.
+// A table that is full, and what is tried then: its size and the largest one's, the steps that it
+// has taken, how many collections help, and how many workers there are. A number in the order is
+// the size of a larger table; one with "alone" has only the cells.
 #[derive(Clone, Copy)]
 struct Case {
     shape: Shape,

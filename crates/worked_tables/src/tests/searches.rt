@@ -1,8 +1,9 @@
 //! How many looks, claims, asks and tells a search takes, and the reads and results of a square.
 //!
-//! A running table counts no steps. What is counted here is what a desk of this file makes on a plain list of words: it goes
-//! along the way of a word, and each look, claim, ask and tell is one call of `step`. A running desk goes the same ways, as the
-//! numbers show that it gives, and the words that it leaves.
+//! A running table counts no steps. What is counted here is what a desk of this file makes on a
+//! plain list of words: it goes along the way of a word, and each look, claim, ask and tell is one
+//! call of `step`. A running desk goes the same ways, as the numbers show that it gives, and the
+//! words that it leaves.
 
 ghost use Rattle.squares.specs.Book.{Keeps};
 
@@ -150,8 +151,9 @@ impl Counting {
     }
 }
 
-// A word, the number of its leaf, and the looks, claims, asks and tells of its search: the empty leaf takes none, a new leaf
-// is claimed in the first slot that is vacant, and one that stands in its first slot is looked at.
+// A word, the number of its leaf, and the looks, claims, asks and tells of its search: the empty
+// leaf takes none, a new leaf is claimed in the first slot that is vacant, and one that stands in
+// its first slot is looked at.
 const LEAVES: &[(u64, Option<u32>, [u32; 4])] = &[
     (0, Some(0), [0, 0, 0, 0]),
     (1, Some(159), [1, 1, 0, 0]),
@@ -186,7 +188,8 @@ fn a_full_way_takes_256_looks(rt: HostRuntime) {
     );
 }
 
-// Quarters, and the steps by which their square is found: a search for each half with a cell, and one for the two halves.
+// Quarters, and the steps by which their square is found: a search for each half with a cell, and
+// one for the two halves.
 const QUADS: &[([u32; 4], [u32; 4])] = &[
     ([0, 0, 0, 0], [0, 0, 0, 0]),
     ([159, 0, 0, 0], [2, 2, 0, 0]),
@@ -207,7 +210,8 @@ fn a_square_takes_at_most_three_searches(rt: HostRuntime) {
     }
 }
 
-// Quarters, and the looks by which they are read: one for the square, and one for each half with a cell.
+// Quarters, and the looks by which they are read: one for the square, and one for each half with a
+// cell.
 const READS: &[([u32; 4], u32)] = &[
     ([0, 0, 0, 0], 0),
     ([159, 0, 0, 0], 2),
@@ -228,7 +232,8 @@ fn quarters_are_read_by_at_most_three_looks(rt: HostRuntime) {
     }
 }
 
-// The result of the empty square takes no step. That of another is asked by one step and told by one; one told later is lost.
+// The result of the empty square takes no step. That of another is asked by one step and told by
+// one; one told later is lost.
 #[test]
 fn a_result_takes_one_ask_and_one_tell(rt: HostRuntime) {
     let mut counting = Counting::new();
@@ -254,7 +259,8 @@ fn a_result_takes_one_ask_and_one_tell(rt: HostRuntime) {
     );
 }
 
-// The first of the words 0 to 257 whose leaf has another number at the book than in the list, or is refused at one alone.
+// The first of the words 0 to 257 whose leaf has another number at the book than in the list, or is
+// refused at only one.
 fn first_other_leaf<S: Squares>(book: &mut S, counting: &mut Counting) -> Option<u64>
     ensures { Keeps (S.book book.old) (S.book book.new) }
 {

@@ -145,7 +145,8 @@ fn one_leaf_of_256_stays(rt: HostRuntime) -> Result<(), Fail> {
     Ok(())
 }
 
-// All leaves of a full table stay where it is enlarged, and one of twice the size has room for one more.
+// All leaves of a full table stay where it is enlarged, and one of twice the size has room for one
+// more.
 #[test]
 fn all_leaves_of_256_stay(rt: HostRuntime) -> Result<(), Fail> {
     let (words, root) = words_of(&rt, Made::OneLeafOfMany, PAIRS, 5)?;
@@ -171,8 +172,8 @@ fn few_words_have_room(rt: HostRuntime) -> Result<(), Fail> {
     Ok(())
 }
 
-// 1024 different leaves have no room in the smallest table, and the words from which they were to be
-// copied are as they were.
+// 1024 different leaves have no room in the smallest table, and the words from which they were to
+// be copied are as they were.
 #[test]
 fn many_words_have_no_room(rt: HostRuntime) -> Result<(), Fail> {
     let (words, root) = words_of(&rt, Made::LargerLeaves, 16 * PAIRS, 5)?;
@@ -222,7 +223,8 @@ fn results_that_are_reached_stay(rt: HostRuntime) -> Result<(), Fail> {
     Ok(())
 }
 
-// The number of squares that a step expands at these words, and the population of the cells that it begins with.
+// The number of squares that a step expands at these words, and the population of the cells that it
+// begins with.
 fn expanded_at(rt: &(impl Abort + AllocGlobal), words: Still, root: Sq) -> Result<(u64, u128), Fail>
     requires { IsKnown (book_in words) root.level root }
 {
@@ -237,8 +239,8 @@ fn expanded_at(rt: &(impl Abort + AllocGlobal), words: Still, root: Sq) -> Resul
     Ok((expansions, count))
 }
 
-// A step whose square has its result is recalled after a collection, and made anew after a sweep, in tables of
-// the same size and of half of it.
+// A step whose square has its result is recalled after a collection, and made anew after a sweep,
+// in tables of the same size and of half of it.
 #[test]
 fn a_step_is_recalled_after_a_collection(rt: HostRuntime) -> Result<(), Fail> {
     let (words, root) = words_of(&rt, Made::Step, 262144, 10)?;

@@ -27,8 +27,8 @@ pub(crate) fn open_table(
     }
 }
 
-/// A running table of so many pair slots without a square, by `B3/S23`, and its first desk. It fails if no table
-/// has that many.
+/// A running table of so many pair slots without a square, by `B3/S23`, and its first desk. It
+/// fails if no table has that many.
 pub(crate) fn empty_table(
     alloc: Global,
     pairs: u32,

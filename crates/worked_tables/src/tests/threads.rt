@@ -1,4 +1,5 @@
-//! Two threads and eight that number the same words at one table: each word has one number in the end.
+//! Two threads and eight that number the same words at one table: each word has one number in the
+//! end.
 
 ghost use Rattle.squares.specs.Book.{Keeps};
 ghost use Rattle.node_table.specs.Desks.{IsDeskOf};
@@ -34,8 +35,8 @@ fn numbered(table: &NodeTable, desk: Desk, rising: bool) -> (Desk, Numbers)
     (at.leave(), numbers)
 }
 
-// Numbers the words by two desks, each in a thread of its own: one goes rising, the other falling. Answers the joined
-// desk, and the numbers that each thread got.
+// Numbers the words by two desks, each in a thread of its own: one goes rising, the other falling.
+// Answers the joined desk, and the numbers that each thread got.
 fn numbered_by_two<R: Threads + Sync>(
     rt: &R,
     table: &NodeTable,
@@ -125,8 +126,8 @@ fn alike(first: Option<Answers>, second: Option<Answers>) -> Option<Answers> {
     if first == second { first } else { None }
 }
 
-// What 2^splits desks answer alike, each in a thread of its own: of two that were split the second begins so
-// many words behind the first.
+// What 2^splits desks answer alike, each in a thread of its own: of two that were split the second
+// begins so many words behind the first.
 fn answered_by<R: Threads + Sync>(
     rt: &R,
     table: &NodeTable,
@@ -166,7 +167,8 @@ fn answered_by<R: Threads + Sync>(
     (table.join(one, other), alike(answers, others))
 }
 
-// Desk d of eight begins with the word 32d + 1, which is the place 32d. One word finds no room at any of them.
+// Desk d of eight begins with the word 32d + 1, which is the place 32d. One word finds no room at
+// any of them.
 #[test]
 fn eight_threads_answer_alike(rt: HostRuntime) -> Result<(), Fail> {
     let (table, desk) = empty_table(rt.alloc(), PAIRS, 0)?;

@@ -1,4 +1,5 @@
-//! Universes some generations on, at tables of several sizes. The populations were found apart from this program.
+//! Universes some generations on, at tables of several sizes. The populations were found apart from
+//! this program.
 
 ghost use Rattle.plane.specs.Runs.{AreRuns, runs_plane};
 

@@ -1,9 +1,9 @@
-//! Want of memory: no words are made, or no table is opened and the words come back as they were, or the
-//! words can't be copied and stay.
+//! Want of memory: no words are made, or no table is opened and the words come back as they were,
+//! or the words can't be copied and stay.
 //!
-//! In a plain run of the tests there is memory. `rt try --test --fail-alloc N -- want_of_memory` makes the
-//! Nth allocation fail, and is run for each N from 1 up to the first at which no test prints a line of
-//! its own.
+//! In a plain run of the tests there is memory. `rt try --test --fail-alloc N -- want_of_memory`
+//! makes the Nth allocation fail, and is run for each N from 1 up to the first at which no test
+//! prints a line of its own.
 
 ghost use Rattle.std.specs.Prelude.{IfOk};
 ghost use Rattle.node_table.specs.Desks.{IsDeskOf};
@@ -22,8 +22,8 @@ use std::test::Fail;
 use table_core::Shape;
 use table_growth::COLLECTION_SHARES;
 
-// A running table of these words. Where memory was wanting, it is opened at the second try, with the
-// words that came back from the first.
+// A running table of these words. Where memory was wanting, it is opened at the second try, with
+// the words that came back from the first.
 pub(crate) fn opened<R: Abort + AllocGlobal + Print>(
     rt: &R,
     still: Still,

@@ -1,8 +1,9 @@
-//! Rows that are written in bands: patterns of few rows and of many, and of rows that lie far apart.
+//! Rows that are written in bands: patterns of few rows and of many, and of rows that lie far
+//! apart.
 //!
-//! In a plain run of the tests there is memory. `rt try --test --fail-alloc N -- want_of_memory` makes the
-//! Nth allocation of the last test fail, and is run for each N from 1 up to the first at which it prints no
-//! line of its own.
+//! In a plain run of the tests there is memory. `rt try --test --fail-alloc N -- want_of_memory`
+//! makes the Nth allocation of the last test fail, and is run for each N from 1 up to the first at
+//! which it prints no line of its own.
 
 use pattern_writers::write_rle;
 use plane::{Cell, CellSet, Memory, Refusal};
@@ -118,7 +119,8 @@ fn one_cell_in_each_of_100_rows(rt: HostRuntime) -> Result<(), Fail> {
     assert_text(&rt, rt.alloc(), &column(rt.alloc(), 100)?, COLUMN)
 }
 
-// The cells have this text, or memory runs out before its first byte; then they have it at the second try.
+// The cells have this text, or memory runs out before its first byte; then they have it at the
+// second try.
 fn assert_text_or_refused<R: Threads + Sync + Abort + Print>(
     rt: &R,
     alloc: Global,

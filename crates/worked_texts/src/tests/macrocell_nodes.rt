@@ -28,8 +28,8 @@ fn is_this(line: Option<NodeLine<'_>>, wanted: &(&str, u64, Node)) -> bool {
     }
 }
 
-/// Whether the node lines of a text are these, each as its slice, its place and its node, and none comes
-/// behind them, however often one asks.
+/// Whether the node lines of a text are these, each as its slice, its place and its node, and none
+/// comes behind them, however often one asks.
 fn has_lines(alloc: Global, text: &str, lines: &[(&str, u64, Node)]) -> bool {
     match nodes_of(alloc, text) {
         Some(nodes) => are_these(nodes, lines),
@@ -173,8 +173,8 @@ fn reads_a_chain_to_the_largest_level(rt: HostRuntime) {
     assert_none(&rt, chain_otherwise(rt.alloc(), CHAINS));
 }
 
-/// Adds so many lines of nodes of a level, each of the next four nodes from the first on, and answers the
-/// node that comes next.
+/// Adds so many lines of nodes of a level, each of the next four nodes from the first on, and
+/// answers the node that comes next.
 fn push_nodes(
     alloc: Global,
     text: &mut String,

@@ -108,7 +108,8 @@ fn accepts(rt: HostRuntime) {
     assert_none(&rt, first_refused(rt.alloc(), ACCEPTED));
 }
 
-/// What the lines of settings say: the generation, whether the rule's text is this one, and its place.
+/// What the lines of settings say: the generation, whether the rule's text is this one, and its
+/// place.
 fn settings(alloc: Global, text: &str, rule: Option<&str>) -> Option<(u64, bool, u64)> {
     match McFile::open(alloc, text.as_bytes()) {
         Ok(file) => Some(settings_of(&file, rule)),
@@ -182,8 +183,8 @@ fn keeps_comments(rt: HostRuntime) {
     assert_none(&rt, kept_otherwise(rt.alloc(), COMMENTS));
 }
 
-/// What a text is refused with, the second time if memory ran out the first time, and how often it ran
-/// out.
+/// What a text is refused with, the second time if memory ran out the first time, and how often it
+/// ran out.
 fn refused_again(alloc: Global, text: &str) -> (Option<(Refusal, u64)>, u32) {
     let answer = refused(alloc, text);
     if answer == Some((Refusal::NoMemory, u64::MAX)) {
@@ -220,9 +221,9 @@ const GROWING: &[(&str, Option<(Refusal, u64)>)] = &[
     ("[M2]\n#G x\n*$\n", Some((Refusal::BadGen, 5))),
 ];
 
-/// In a plain run of the tests there is memory. `rt try --test --fail-alloc N -- says_when_memory_runs_out`
-/// makes the Nth allocation fail: the answer is then `NoMemory` without a place, and that of a run
-/// with memory the next time.
+/// In a plain run of the tests there is memory. `rt try --test --fail-alloc N --
+/// says_when_memory_runs_out` makes the Nth allocation fail: the answer is then `NoMemory` without
+/// a place, and that of a run with memory the next time.
 #[test]
 fn says_when_memory_runs_out(rt: HostRuntime) {
     let (first, misses) = first_and_misses(rt.alloc(), GROWING);

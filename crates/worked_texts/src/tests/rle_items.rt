@@ -70,8 +70,8 @@ fn is_this(run: Option<Run<'_>>, item: &(&str, u64, u64, Tag)) -> bool {
     }
 }
 
-/// Whether the items of a text are these, each as its slice, its place, its count and its tag, and none
-/// comes behind them, however often one asks.
+/// Whether the items of a text are these, each as its slice, its place, its count and its tag, and
+/// none comes behind them, however often one asks.
 fn has_items(text: &str, items: &[(&str, u64, u64, Tag)]) -> bool {
     match runs_of(text) {
         Some(runs) => are_these(runs, items),

@@ -170,8 +170,8 @@ fn reads_every_beginning(rt: HostRuntime) {
     }
 }
 
-/// What the lines before the body say: the first cell, the generation, whether the rule's text is this
-/// one, and the place of the header.
+/// What the lines before the body say: the first cell, the generation, whether the rule's text is
+/// this one, and the place of the header.
 fn settings(text: &str, rule: Option<&str>) -> Option<(Cell, u64, bool, u64)> {
     match RleFile::open(text.as_bytes()) {
         Ok(file) => Some(settings_of(&file, rule)),

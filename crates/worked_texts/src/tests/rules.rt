@@ -18,7 +18,7 @@ const RULES: &[(&str, &str, u32)] = &[
     ("3/", "B/S3", 4096),
 ];
 
-/// The faults of texts that are no rules.
+/// The faults of texts that are not rules.
 const FAULTS: &[(&str, RuleFault)] = &[
     ("", RuleFault::BadRule),
     ("B3", RuleFault::BadRule),

@@ -35,7 +35,8 @@ enum Square {
     UpperLeftAndLowerRight([u64; 4]),
 }
 
-// The square of level 5 that has a square of level 4 in its upper left quarter, and another in the lower right one.
+// The square of level 5 that has a square of level 4 in its upper left quarter, and another in the
+// lower right one.
 fn larger_of(book: &mut PlainBook, nw: Sq, se: Sq) -> Result<Sq, Refusal>
     requires nw { IsKnown (⟦<PlainBook as Squares>⟧.book book.old) 4 nw }
     requires se { IsKnown (⟦<PlainBook as Squares>⟧.book book.old) 4 se }
@@ -68,7 +69,8 @@ fn build(book: &mut PlainBook, square: Square) -> Result<Sq, Refusal>
 // What stands before the comments of each text.
 const OPENING: &[u8] = b"[M2] (lifebatch 1)\n#R B3/S23\n#G 4\n";
 
-// Whether this, behind the opening, is the macrocell text of a square, with the kept comments or with none.
+// Whether this, behind the opening, is the macrocell text of a square, with the kept comments or
+// with none.
 fn has_text<R: Threads + Sync>(
     rt: &R,
     alloc: Global,
@@ -103,7 +105,7 @@ const TEXTS: &[Text] = &[
         "$$$$....*$\n4 1 0 0 0\n",
     ),
     (Square::Alone([0; 4]), false, ""),
-    // The root is the smallest square round (0,0).
+    // The root is the smallest square around (0,0).
     (Square::UpperLeft([0, 0, 0, 1]), false, "*$\n4 1 0 0 0\n"),
     (Square::UpperLeft([0; 4]), false, ""),
     (

@@ -1,4 +1,4 @@
-//! The future of a square by several workers, beside that of a plain book.
+//! The future of a square with several workers, beside that of a plain book.
 
 ghost use Rattle.std.specs.Prelude.{IfOk};
 ghost use Rattle.squares.specs.Book.{IsKnown, Keeps};
@@ -68,7 +68,7 @@ fn made_by<R: Threads + Wait + Sync + Abort + AllocGlobal>(
     })
 }
 
-// The future of the same square by a plain book alone.
+// The future of the same square with only a plain book.
 fn made_alone<S: Squares>(book: &mut S, tally: &mut Tally) -> Result<Sq, Refusal> {
     let job = padded(book)?;
     future(book, job, tally)

@@ -79,7 +79,7 @@ impl Gate for Meets {
     }
 }
 
-// A round of so many jobs by two workers, with this gate.
+// A round of so many jobs with two workers, with this gate.
 fn by_two<R: Threads + Wait + Sync + Abort + AllocGlobal, G: Gate>(
     rt: &R,
     gate: &G,

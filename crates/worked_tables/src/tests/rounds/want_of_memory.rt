@@ -1,5 +1,6 @@
-//! Want of memory: a round ends before its first job, and the desk that comes back does it at the second
-//! try. `rt try --test --fail-alloc N -- rounds::want_of_memory` makes the Nth allocation fail.
+//! Want of memory: a round ends before its first job, and the desk that comes back does it at the
+//! second try. `rt try --test --fail-alloc N -- rounds::want_of_memory` makes the Nth allocation
+//! fail.
 
 ghost use Rattle.node_table.specs.Desks.{IsDeskOf, book_at};
 ghost use Rattle.worker_split.specs.Jobs.{IsJob};
