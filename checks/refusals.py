@@ -12,8 +12,9 @@ functions that are not proved with an edit, and the goals that are open there. A
 
     CRATE/EDIT: FUNCTION, GOAL, GOAL; FUNCTION, GOAL -- REASON
 
-The clause of a contract is a goal whose name begins with `returns`. An edit should be refused at one. Behind an edit that is refused only elsewhere, the
-list says why. --write keeps these reasons, and puts a question mark where there is none yet; the line then differs until someone writes the reason.
+The clause of a contract is a goal whose name begins with `returns`; if functions call one another in a ring, behind the name of the function. An edit
+should be refused at one. Behind an edit that is refused only elsewhere, the list says why. --write keeps these reasons, and puts a question mark where
+there is none yet; the line then differs until someone writes the reason.
 """
 import argparse
 import importlib.machinery
@@ -44,7 +45,7 @@ CHECK = Check(
 LIST = pathlib.Path("checks") / "refusals.txt"
 HEAD = """\
 # Where the prover refuses each must-fail edit, as checks/refusals.py finds it: CRATE/EDIT: FUNCTION, GOAL, GOAL; FUNCTION, GOAL
-# A goal that begins with `returns` is a clause of the function's contract. Behind ` -- ` stands why an edit is refused at none.
+# A goal that begins with `returns`, or so behind a function's name, is a clause of the contract. Behind ` -- ` stands why an edit is refused at none.
 """
 UNKNOWN = "?"
 
@@ -55,6 +56,8 @@ ANSWERED = re.compile(r"(?:\./)?proofs/(\S+)\.antt:\d+:\d+: error: `([^`]+)`:? ?
 # An answer that names what the edit took away. It says little of the contract.
 NAMES = re.compile("has no field|is not in scope|has no `|was not admitted")
 GONE = "by a name that is gone"
+# A goal that is a clause of the function's contract. In a ring of functions the name of its function stands before.
+CLAUSE = re.compile(r"(\w+-)?returns")
 # A goal that is open at a place of the code. Its name stands in the last brackets.
 OPEN = re.compile(r"note: (src/\S+\.rt):(\d+):\d+: it is not proved that .*\(`([^`]+)`\)")
 UNPROVED = re.compile(r"(?:fn|struct|enum|trait|impl) (\S+): (?:not proved|no proof)(?:[:;] )?(.*)")
@@ -73,7 +76,7 @@ class Refusal:
     goal: str
 
     def is_at_clause(self) -> bool:
-        return self.goal.startswith("returns") and not self.goal.endswith(GONE)
+        return CLAUSE.match(self.goal) is not None and not self.goal.endswith(GONE)
 
 
 @dataclass
