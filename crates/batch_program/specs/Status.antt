@@ -1,5 +1,5 @@
 -- What lifebatch does by what words ask for.
-use Rattle.std.specs.Prelude.{◌≡◌, List, ℕ, Result, option_map, string_bytes}
+use Rattle.std.specs.Prelude.{◌≡◌, Result, option_map, string_bytes}
 use Rattle.std.specs.Result.{result_map_both}
 use Rattle.plane.specs.SinkChange.{SinkChange}
 use Rattle.plane.specs.SourceChange.{IsDoneWithAll, SourceChange}

@@ -5,7 +5,7 @@ use rule_text::Rule;
 /// The largest number of workers of a run.
 pub const MOST_WORKERS: usize = 64;
 
-/// What a run is asked to do that has neither a report nor a file.
+/// Which run it is, whatever is said and written of it.
 #[derive(Clone, Copy, Debug, PartialEq, Eq)]
 pub struct RunOptions {
     /// The number of generations to run on from the file's own.
