@@ -30,7 +30,7 @@ pub fn asked<'a>(alloc: Global, words: &'a [&'a str]) -> Result<Asked, WordsFaul
     program_parts::asked::<Lifebatch>(alloc, words)
 }
 
-// What words ask for, by the matches that clap has found in them.
+/// What words ask for, by the matches that clap has found in them.
 pub(crate) fn asked_by(alloc: Global, matches: &ArgMatches<'_>) -> Result<Asked, WordsReason>
     ensures asks { (words : List Text) → AreMatchesIn command_form words matches.now →
         IfOk result (AsksFor words) }

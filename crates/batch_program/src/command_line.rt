@@ -39,7 +39,7 @@ const EXAMPLES: &str = "Examples:
   lifebatch -m 1073741824 --nodes 67108864 --workers 4 breeder.mc
       run 2^30 generations in larger node tables, with four workers";
 
-// The form of the words.
+/// The form of the words.
 pub(crate) fn command<'a>(alloc: Global) -> Result<Command<'a>, AllocError>
     ensures { IfOk result (λ command. app_of command ≡ command_form) }
 {

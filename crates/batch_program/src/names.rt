@@ -3,5 +3,5 @@
 /// The name of the program, which begins its messages.
 pub const NAME: &str = "lifebatch";
 
-// The endings of the files that it writes.
+/// The endings of the files that it writes.
 pub(crate) const ENDINGS: &str = ".rle or .mc";

@@ -9,8 +9,8 @@ ghost use Rattle.batch_program.specs.Windows.{AreNarrow, HasNoWindow, IsWindowOf
 use plane::{Refusal, Window};
 use program_parts::{Misfit, WindowNumbers, WordsReason, window_numbers};
 
-// The numbers of the window that is asked for, if one is. `Unfit` with `Window` where the text is
-// not four numbers, or those of columns and rows have more than 32 bits.
+/// The numbers of the window that is asked for, if one is. `Unfit` with `Window` where the text is
+/// not four numbers, or those of columns and rows have more than 32 bits.
 pub(crate) fn narrow_numbers(text: Option<&str>) -> Result<Option<WindowNumbers>, WordsReason>
     ensures ok { IfOk result (AreNarrow (option_copied text.entry)) }
     ensures err { IfErr result (λ fault.
@@ -29,7 +29,7 @@ fn is_narrow(numbers: WindowNumbers) -> bool
     numbers.width <= u64::from(u32::MAX) && numbers.height <= u64::from(u32::MAX)
 }
 
-// The window that has these numbers, if one is asked for.
+/// The window that has these numbers, if one is asked for.
 pub(crate) fn window_asked(numbers: Option<WindowNumbers>) -> Result<Option<Window>, Refusal>
     ensures ok { IfOk result (IsWindowOf numbers) }
     ensures err { IfErr result (λ refusal.

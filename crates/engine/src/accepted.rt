@@ -26,7 +26,7 @@ const LIFE: &[u8] = b"B3/S23";
 // About how many bytes of a large pattern file there are for each pair slot that its squares need.
 const BYTES_A_SLOT: u64 = 10;
 
-// What an accepted run begins with.
+/// What an accepted run begins with.
 #[derive(Drop)]
 pub(crate) struct Accepted<'a> {
     pub(crate) text: PatternFile<'a>,
@@ -34,8 +34,8 @@ pub(crate) struct Accepted<'a> {
     pub(crate) universe: Universe,
 }
 
-// Judges a run: the file's text, then the rule, then the range. `NoMemory` or `NodesFull` if there
-// is no room for the cells.
+/// Judges a run: the file's text, then the rule, then the range. `NoMemory` or `NodesFull` if there
+/// is no room for the cells.
 pub(crate) fn judge<'a>(
     alloc: Global,
     bytes: &'a [u8],

@@ -34,7 +34,7 @@ pub struct Options {
 }
 
 impl Options {
-    // Which run it is, whatever is said and written of it.
+    /// Which run it is, whatever is said and written of it.
     pub(crate) fn run(&self) -> RunOptions
         ensures { result ≡ run_of self.now }
     {

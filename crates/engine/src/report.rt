@@ -16,8 +16,8 @@ use universe::Universe;
 // Room for two numbers of up to 40 digits and what stands round them.
 const LINE_ROOM: usize = 96;
 
-// Says how many cells of a generation are live, unless the report is left out. `NoMemory` if there
-// is no room to count them.
+/// Says how many cells of a generation are live, unless the report is left out. `NoMemory` if there
+/// is no room to count them.
 pub(crate) fn report_generation<W: Sink>(
     alloc: Global,
     report: &mut W,

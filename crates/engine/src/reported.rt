@@ -21,9 +21,9 @@ use std::thread::Threads;
 use universe::Universe;
 use worker_split::{Gate, Team};
 
-// Runs a universe of a generation, by a team, as many generations on as the options ask for, and
-// reports generations on the way. `NoMemory` and `NodesFull` come between two lines. Where the sink
-// failed, it took a beginning of some lines.
+/// Runs a universe of a generation, by a team, as many generations on as the options ask for, and
+/// reports generations on the way. `NoMemory` and `NodesFull` come between two lines. Where the
+/// sink failed, it took a beginning of some lines.
 pub(crate) fn run_reported<R: Threads + Wait + Sync, G: Gate, W: Sink>(
     team: &Team<'_, R, G>,
     start: Universe,

@@ -125,7 +125,7 @@ pub fn run_gated<R: Threads + Wait + Sync, G: Gate, W: Sink, V: Sink>(
     Ok(summary)
 }
 
-// The workers that take the steps.
+/// The workers that take the steps.
 pub(crate) fn team_of<'a, R, G>(
     rt: &'a R,
     alloc: Global,
@@ -143,7 +143,7 @@ pub(crate) fn team_of<'a, R, G>(
     }
 }
 
-// The pattern of the last generation, and what the run ends with.
+/// The pattern of the last generation, and what the run ends with.
 pub(crate) fn finish(
     alloc: Global,
     mut universe: Universe,

@@ -40,7 +40,7 @@ pub(crate) fn middle_of(rows: [u64x4; 16]) -> [[u64; 4]; 4]
     ]
 }
 
-/// Four times eight rows, from the top, of two squares of sixteen leaves beside each other.
+// Four times eight rows, from the top, of two squares of sixteen leaves beside each other.
 #[inline(always)]
 fn bands(left: [u64; 16], right: [u64; 16]) -> [u64x8; 4]
     ensures left { (four column place row : ℕ) → four < 4 → column < 4 → place < 8 → row < 8
@@ -60,7 +60,7 @@ fn bands(left: [u64; 16], right: [u64; 16]) -> [u64x8; 4]
     ]
 }
 
-/// Four vectors of eight as eight of four: lane `y` of vector `x` is lane `x` of vector `y`.
+// Four vectors of eight as eight of four: lane `y` of vector `x` is lane `x` of vector `y`.
 #[inline(always)]
 fn by_lane(bands: [u64x8; 4]) -> [u64x4; 8]
     ensures { (row lane : ℕ) → row < 8 → lane < 4
@@ -112,7 +112,7 @@ pub(crate) fn transpose(words: u64x8) -> u64x8
     words_of_bytes(interleave(bytes_of_words(words)))
 }
 
-/// The bytes of eight words, the lowest byte of each first.
+// The bytes of eight words, the lowest byte of each first.
 #[inline(always)]
 fn bytes_of_words(words: u64x8) -> u8x64
     ensures { (word place : ℕ) → word < 8 → place < 8
@@ -121,7 +121,7 @@ fn bytes_of_words(words: u64x8) -> u8x64
     words.to_le_bytes()
 }
 
-/// The bytes of eight words in turn, the first byte of each first.
+// The bytes of eight words in turn, the first byte of each first.
 #[inline(always)]
 fn interleave(bytes: u8x64) -> u8x64
     ensures { (word place : ℕ) → word < 8 → place < 8
@@ -134,7 +134,7 @@ fn interleave(bytes: u8x64) -> u8x64
     ])
 }
 
-/// Words of eight bytes each, the lowest first.
+// Words of eight bytes each, the lowest first.
 #[inline(always)]
 fn words_of_bytes(bytes: u8x64) -> u64x8
     ensures { (column place row : ℕ) → column < 8 → place < 8 → row < 8

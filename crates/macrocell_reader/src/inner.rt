@@ -31,15 +31,15 @@ pub(crate) fn inner(line: &[u8]) -> Option<Node>
     })
 }
 
-/// The number of a node, or the largest `u32` if it is larger.
+// The number of a node, or the largest `u32` if it is larger.
 fn as_number(number: u64) -> u32
     ensures { result ≡ min number 4294967295 }
 {
     number.min(u64::from(u32::MAX)) as u32
 }
 
-/// The number at the front of a text, after blanks, and what stands after it. It goes up to the
-/// next blank, and stays at the largest `u64` if it is larger.
+// The number at the front of a text, after blanks, and what stands after it. It goes up to the
+// next blank, and stays at the largest `u64` if it is larger.
 fn next_number(text: &[u8]) -> Option<(u64, &[u8])>
     ensures { MatchOption result (begins_with_number (numbers text.now) ≡ false)
         (λ found. (n : ℕ) × (numbers text.now ≡ Some n ∷ numbers found.1.now)
@@ -51,7 +51,7 @@ fn next_number(text: &[u8]) -> Option<(u64, &[u8])>
     Some((value, &rest[length..]))
 }
 
-/// How many bytes stand before the first blank, or how many there are if there is none.
+// How many bytes stand before the first blank, or how many there are if there is none.
 fn field_length(text: &[u8]) -> usize
     ensures { result ≡ position_or_len is_blank text.now }
 {

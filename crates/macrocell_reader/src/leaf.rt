@@ -14,8 +14,8 @@ pub(crate) fn leaf(line: &[u8]) -> Option<u64>
     bits_of(trim_end(line))
 }
 
-/// The cells of at most 8 rows of at most 8 cells. A row ends with `$`, which the last one may
-/// lack.
+// The cells of at most 8 rows of at most 8 cells. A row ends with `$`, which the last one may
+// lack.
 fn bits_of(text: &[u8]) -> Option<u64>
     ensures { result ≡ bits_of text.now }
 {
@@ -40,7 +40,7 @@ fn bits_of(text: &[u8]) -> Option<u64>
     Some(bits)
 }
 
-/// The bits with a cell at this place, where none is set from there on.
+// The bits with a cell at this place, where none is set from there on.
 fn with_cell(bits: u64, place: u32, cell: u8) -> u64
     requires place { place < 64 }
     requires free { bits < 2 ^ place }

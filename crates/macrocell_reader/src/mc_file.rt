@@ -110,7 +110,7 @@ impl<'a> McFile<'a> {
     }
 }
 
-/// Checks lines, each with the nodes before it, and gives what they say.
+// Checks lines, each with the nodes before it, and gives what they say.
 fn check_lines<'a>(alloc: Global, body: Lines<'a>) -> Result<Settings<'a>, Fault>
     ensures accepted { IfOk result (λ settings.
         (first_fault [] (lines_left body.entry) ≡ None)
@@ -128,7 +128,7 @@ fn check_lines<'a>(alloc: Global, body: Lines<'a>) -> Result<Settings<'a>, Fault
     Ok(settings)
 }
 
-/// Adds the level of a line to those of the nodes before it, if it is a node line.
+// Adds the level of a line to those of the nodes before it, if it is a node line.
 fn add_level(levels: &mut Vec<u8>, line: Line<'_>) -> Result<(), Fault>
     ensures accepted { OnOk result ((node_line_fault levels.old.items line.entry.text.now ≡ None)
         × (levels.new.items ≡ levels_after levels.old.items line.entry.text.now)) }
@@ -144,7 +144,7 @@ fn add_level(levels: &mut Vec<u8>, line: Line<'_>) -> Result<(), Fault>
     Ok(())
 }
 
-/// Whether the line is neither blank nor a comment.
+// Whether the line is neither blank nor a comment.
 fn is_node_line(line: &[u8]) -> bool
     ensures { result ≡ is_node_line line.now }
 {

@@ -47,7 +47,7 @@ pub(crate) fn node_of(line: &[u8]) -> Option<Node>
     None
 }
 
-/// Whether a line that begins with this byte is a leaf, if it is a node.
+// Whether a line that begins with this byte is a leaf, if it is a node.
 fn begins_leaf(first: u8) -> bool
     ensures { result ≡ begins_leaf first }
 {

@@ -32,7 +32,7 @@ pub(crate) fn level_of_line(levels: &[u8], line: &[u8]) -> Result<u8, Refusal>
     level_among(levels, node_of(line))
 }
 
-/// The same of a node that was read.
+// The same of a node that was read.
 #[tactic(auto, unfolding(crate::specs::NodeFaults::fault_among))]
 fn level_among(levels: &[u8], node: Option<Node>) -> Result<u8, Refusal>
     ensures fault { IfErr result (λ refusal. fault_among levels.now node ≡ Some refusal) }
@@ -58,14 +58,14 @@ fn level_among(levels: &[u8], node: Option<Node>) -> Result<u8, Refusal>
     }
 }
 
-/// Whether the line is an inner node whose level is too large.
+// Whether the line is an inner node whose level is too large.
 fn is_above(node: &Option<Node>) -> bool
     ensures { result ≡ is_above node.now }
 {
     matches!(node, Some(Node::Inner { level, .. }) if *level > LARGEST_LEVEL)
 }
 
-/// Whether the number is 0, or that of an earlier node one level lower.
+// Whether the number is 0, or that of an earlier node one level lower.
 fn is_child(levels: &[u8], level: u8, number: u32) -> bool
     requires { LEAST_INNER_LEVEL ≤ level }
     ensures { result ≡ is_child levels.now level number }

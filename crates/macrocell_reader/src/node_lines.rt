@@ -47,7 +47,7 @@ impl<'a> Iterator for NodeLines<'a> {
     }
 }
 
-/// Takes lines up to the next node line, or all if there is none.
+// Takes lines up to the next node line, or all if there is none.
 fn next_node<'a>(lines: &mut Lines<'a>) -> Option<NodeLine<'a>>
     ensures { MatchOption result
         ((nodes_kept (lines_left lines.old) ≡ []) × (nodes_kept (lines_left lines.new) ≡ []))

@@ -57,8 +57,8 @@ impl<'a> Settings<'a> {
     }
 }
 
-/// The generation that digits write, with blanks at their ends or none, if it is no more than the
-/// last generation.
+// The generation that digits write, with blanks at their ends or none, if it is no more than the
+// last generation.
 #[tactic(auto, unfolding(crate::specs::Settings::generation_of))]
 fn generation_of(text: &[u8]) -> Option<u64>
     ensures { result ≡ generation_of text.now }

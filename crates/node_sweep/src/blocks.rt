@@ -9,8 +9,8 @@ use crate::transfer::{Fresh, Transfer};
 use plane::Refusal;
 use table_core::{Kind, LARGEST_RANK, pair_word, parts};
 
-// How many pairs are copied side by side, or results read and then told, so that they wait for
-// memory together.
+/// How many pairs are copied side by side, or results read and then told, so that they wait for
+/// memory together.
 pub(crate) const BLOCK_LEN: u32 = 64;
 
 // How many places of a word's way need no second look, where this was found at the first.

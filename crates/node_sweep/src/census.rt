@@ -7,7 +7,7 @@ use crate::transfer::{Ends, OldWords};
 use std::alloc::{AllocError, Global};
 use table_core::{Kind, LARGEST_RANK};
 
-/// How many pairs of each rank there are, and how many of them have results.
+// How many pairs of each rank there are, and how many of them have results.
 #[derive(Clone, Copy)]
 struct Census {
     pairs: [u32; 256],

@@ -55,7 +55,7 @@ impl Transfer<'_> {
         Ok(())
     }
 
-    // What is collected, copied into fresh words. The root has this rank.
+    /// What is collected, copied into fresh words. The root has this rank.
     pub(crate) fn copy_collected(
         &self,
         alloc: Global,

@@ -13,7 +13,7 @@ use table_core::{Kind, pair_word, parts};
 impl Transfer<'_> {
     ghost use Rattle.node_sweep.specs.Transfers.{IsCopyNoted, IsUnderway, IsWordNeeded, SaysNoRoom, fresh_words, new_bits, old_bits, old_words, wants};
 
-    // The copy of a number that is wanted, by its word, of whose way so many places were tried.
+    /// The copy of a number that is wanted, by its word, of whose way so many places were tried.
     pub(crate) fn note(
         &self,
         fresh: &mut Fresh,
@@ -39,7 +39,7 @@ impl Transfer<'_> {
         Ok(index)
     }
 
-    // The copy of a block of at most this rank that is wanted. Each number is copied once.
+    /// The copy of a block of at most this rank that is wanted. Each number is copied once.
     pub(crate) fn copy(&self, fresh: &mut Fresh, number: u32, height: u8) -> Result<u32, Refusal>
         requires underway { IsUnderway self.now fresh.old }
         requires block { IsLowBlock (old_bits self.now) (old_words self.now) height number }

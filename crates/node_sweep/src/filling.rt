@@ -16,7 +16,7 @@ impl Transfer<'_> {
     ghost use Rattle.node_sweep.specs.Filled.{AreWantedCopied, CopiesInto};
     ghost use Rattle.node_sweep.specs.Transfers.{IsCopyMade, IsUnderway, SaysNoRoom, number_count, old_bits, old_words};
 
-    // How many numbers the leaves and the pairs of the old words have, with 0.
+    /// How many numbers the leaves and the pairs of the old words have, with 0.
     pub(crate) fn number_count(&self) -> usize
         ensures { result ≡ number_count self.now }
     {
@@ -24,7 +24,7 @@ impl Transfer<'_> {
         (shape.index(Kind::Pair, 0) + shape.slot_count(Kind::Pair)) as usize
     }
 
-    // Fresh words without a square, and a note for each old leaf and pair, that it has no copy.
+    /// Fresh words without a square, and a note for each old leaf and pair, that it has no copy.
     pub(crate) fn begin(&self, alloc: Global) -> Result<Fresh, AllocError>
         ensures { IfOk result (IsUnderway self.now) }
     {

@@ -103,7 +103,7 @@ impl OldWords<'_> {
         }
     }
 
-    // The rank of each pair, at its slot; 0 stands at a free slot.
+    /// The rank of each pair, at its slot; 0 stands at a free slot.
     pub(crate) fn ranks(&self, alloc: Global) -> Result<Vec<u8>, AllocError>
         ensures { IfOk result (λ ranks. AreRanksOf self.now ranks.items) }
     {

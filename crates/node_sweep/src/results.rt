@@ -90,7 +90,7 @@ impl Transfer<'_> {
         }
     }
 
-    // The fresh words, with the result of each pair beside its copy, where both have one.
+    /// The fresh words, with the result of each pair beside its copy, where both have one.
     pub(crate) fn with_results(&self, fresh: Fresh) -> Fresh
         requires { IsUnderway self.now fresh }
         ensures kept { AreAllResultsKept self.now fresh.copies.items result.words.items }

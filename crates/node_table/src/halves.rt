@@ -20,7 +20,7 @@ pub(crate) struct Half {
 }
 
 impl At<'_> {
-    // Two squares side by side.
+    /// Two squares side by side.
     pub(crate) fn half(&mut self, left: Sq, right: Sq) -> Result<Half, Refusal>
         requires { AreBeside (book_here self.old) left right }
         ensures learns { LearnsBlocks self.old self.new }
@@ -41,7 +41,7 @@ impl At<'_> {
         })
     }
 
-    // The square that two halves make.
+    /// The square that two halves make.
     pub(crate) fn whole(&mut self, upper: Half, lower: Half) -> Result<Sq, Refusal>
         requires { MakeSquare self.old upper lower }
         ensures learns { LearnsBlocks self.old self.new }
@@ -58,7 +58,7 @@ impl At<'_> {
         Ok(square(upper.left.level + 1, number))
     }
 
-    // The upper and the lower half of a square above level 3.
+    /// The upper and the lower half of a square above level 3.
     pub(crate) fn read_halves(&mut self, sq: Sq) -> (Half, Half)
         requires known { IsKnown (book_here self.old) sq.level sq }
         requires level { 3 < sq.level }

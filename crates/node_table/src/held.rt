@@ -41,7 +41,7 @@ impl Drop for Held {
 }
 
 impl Held {
-    // The words of a vector.
+    /// The words of a vector.
     pub(crate) fn of_vector(words: Vec<u64>) -> Held
         ensures { result ≡ words.items }
     {
@@ -50,7 +50,7 @@ impl Held {
         }
     }
 
-    // The words of a table that no thread shares any more.
+    /// The words of a table that no thread shares any more.
     pub(crate) fn of_table(closed: Closed<(), Global>) -> Held
         requires full { IsFull closed.words }
         requires no_slots { slots_len closed.slots ≡ 0 }
@@ -82,7 +82,7 @@ impl Held {
         }
     }
 
-    // The words as a slice, where a vector holds them.
+    /// The words as a slice, where a vector holds them.
     pub(crate) fn as_slice(&self) -> Option<&[u64]>
         ensures { IfSome result (λ words. words.now ≡ self.now) }
     {
@@ -92,7 +92,7 @@ impl Held {
         }
     }
 
-    // The same words, held by a vector if there is memory for it.
+    /// The same words, held by a vector if there is memory for it.
     pub(crate) fn in_vector(self, alloc: Global) -> Held
         ensures { result ≡ self }
     {
@@ -105,7 +105,7 @@ impl Held {
         }
     }
 
-    // A vector with the same words.
+    /// A vector with the same words.
     pub(crate) fn copied(&self, alloc: Global) -> Result<Vec<u64>, AllocError>
         ensures { IfOk result (λ words. words.items ≡ self.now) }
     {

@@ -13,7 +13,7 @@ use crate::halves::Half;
 use plane::Refusal;
 use squares::Sq;
 
-// The halves of each of three rows of three squares: its first two squares, and its last two.
+/// The halves of each of three rows of three squares: its first two squares, and its last two.
 #[derive(Clone, Copy)]
 pub(crate) struct HalvesOfRows {
     pub upper: (Half, Half),
@@ -65,8 +65,8 @@ impl At<'_> {
         })
     }
 
-    // Of nine squares of one level in three rows, the four that neighbours make. The halves of the
-    // middle row serve the squares above and below it.
+    /// Of nine squares of one level in three rows, the four that neighbours make. The halves of the
+    /// middle row serve the squares above and below it.
     pub(crate) fn overlaps_by_halves(
         &mut self,
         level: u8,

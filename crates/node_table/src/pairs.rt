@@ -13,8 +13,8 @@ use plane::Refusal;
 use table_core::{Kind, pair_word, parts};
 
 impl At<'_> {
-    // The number of two blocks of one rank, beside or below one another. Two empty ones are an
-    // empty one.
+    /// The number of two blocks of one rank, beside or below one another. Two empty ones are an
+    /// empty one.
     pub(crate) fn pair(&mut self, first: u32, second: u32) -> Result<u32, Refusal>
         requires { KnowsParts (known_by self.old.desk) (pair_of first second) }
         ensures learns { LearnsBlocks self.old self.new }
@@ -36,7 +36,7 @@ impl At<'_> {
         }
     }
 
-    // The two blocks of a block that is not a square of level 3.
+    /// The two blocks of a block that is not a square of level 3.
     pub(crate) fn read_pair(&mut self, number: u32) -> (u32, u32)
         requires { KnowsSomePair (known_by self.old.desk) number }
         ensures learns { LearnsBlocks self.old self.new }

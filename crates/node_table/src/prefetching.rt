@@ -11,12 +11,12 @@ use squares::Sq;
 use table_core::{Kind, pair_word};
 
 impl At<'_> {
-    // The slot where the search for the half of two squares begins.
+    /// The slot where the search for the half of two squares begins.
     pub(crate) fn prefetch_half(&self, left: Sq, right: Sq) {
         self.prefetch(left.num.0, right.num.0);
     }
 
-    // The slot where the search for the square of two halves begins.
+    /// The slot where the search for the square of two halves begins.
     pub(crate) fn prefetch_whole(&self, upper: Half, lower: Half) {
         self.prefetch(upper.number, lower.number);
         let word = pair_word(upper.number, lower.number);
@@ -27,7 +27,7 @@ impl At<'_> {
             .peek(self.table.key.shape.result_index(index) as usize);
     }
 
-    // The result beside a known square.
+    /// The result beside a known square.
     pub(crate) fn prefetch_result(&self, sq: Sq)
         requires known { IsKnown (book_here self.now) sq.level sq }
         requires level { 3 < sq.level }

@@ -9,8 +9,8 @@ use crate::at::At;
 use table_core::{Kind, SHARD_LEN};
 
 impl At<'_> {
-    // The number of a word: where it stands on its way, or comes to stand there now. There is none
-    // where another word stands at each place.
+    /// The number of a word: where it stands on its way, or comes to stand there now. There is none
+    /// where another word stands at each place.
     pub(crate) fn number(&mut self, kind: Kind, word: u64) -> Option<u32>
         requires some { word ≢ 0 }
         requires parts { KnowsPartsFor (known_by self.old.desk) kind word }

@@ -83,7 +83,7 @@ impl Still {
         })
     }
 
-    // The same words, held by a vector if there is memory for it.
+    /// The same words, held by a vector if there is memory for it.
     pub(crate) fn in_vector(self, alloc: Global) -> Still
         ensures { result ≡ self }
     {
@@ -92,7 +92,7 @@ impl Still {
         Still { key, words }
     }
 
-    // The words under another rule and exponent, with the results that are the same under both.
+    /// The words under another rule and exponent, with the results that are the same under both.
     pub(crate) fn reopen(&self, alloc: Global, key: Key) -> Result<Still, AllocError>
         requires { key.shape ≡ self.now.key.shape }
         ensures { IfOk result (IsReopened self.now key) }
@@ -114,7 +114,7 @@ impl Still {
         Ok(Still::of_words(key, words))
     }
 
-    // Whether the words stand under this head.
+    /// Whether the words stand under this head.
     pub(crate) fn has_head(&self, key: &Key) -> bool
         requires { key.now.shape ≡ self.now.key.shape }
         ensures { IsTrue result → self.now.key ≡ key.now }

@@ -43,8 +43,8 @@ impl At<'_> {
         }
     }
 
-    // The nine overlapping squares of a square above level 4. The three in the middle column are
-    // made of its four halves, and those beside the middle one of halves of the quarters.
+    /// The nine overlapping squares of a square above level 4. The three in the middle column are
+    /// made of its four halves, and those beside the middle one of halves of the quarters.
     pub(crate) fn nine_by_halves(&mut self, sq: Sq) -> Result<[Sq; 9], Refusal>
         requires known { IsKnown (book_here self.old) sq.level sq }
         requires level { 4 < sq.level }

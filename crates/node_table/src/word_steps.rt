@@ -12,7 +12,7 @@ use crate::rules::{LoadNode, LoadResult, PlaceNode, PlaceResult};
 use table_core::result_word;
 
 impl At<'_> {
-    // Loads the word of a leaf or a pair.
+    /// Loads the word of a leaf or a pair.
     pub(crate) fn look(&mut self, index: u32) -> u64
         requires { index < self.old.table.now.table.shared.table_id.words }
         ensures here { StaysAt self.old self.new }
@@ -26,7 +26,7 @@ impl At<'_> {
             .load::<LoadNode>(&mut desk.seat, index as usize)
     }
 
-    // Places the word of a leaf or a pair where 0 stands, and answers the word that stood there.
+    /// Places the word of a leaf or a pair where 0 stands, and answers the word that stood there.
     pub(crate) fn claim(&mut self, index: u32, word: u64) -> u64
         requires range { index < self.old.table.now.table.shared.table_id.words }
         requires lawful { IsLawful self.old.table.now.key (known_by self.old.desk)
@@ -42,7 +42,7 @@ impl At<'_> {
             .compare_exchange::<PlaceNode>(&mut desk.seat, index as usize, 0, word)
     }
 
-    // Loads the word of a result.
+    /// Loads the word of a result.
     pub(crate) fn ask(&mut self, index: u32) -> u64
         requires range { index < self.old.table.now.table.shared.table_id.words }
         requires lawful { IsLawful self.old.table.now.key (known_by self.old.desk) (Ask 0 index) }
@@ -57,7 +57,7 @@ impl At<'_> {
             .load::<LoadResult>(&mut desk.seat, index as usize)
     }
 
-    // Places the word of a result where 0 stands, and answers the word that stood there.
+    /// Places the word of a result where 0 stands, and answers the word that stood there.
     pub(crate) fn tell(&mut self, index: u32, number: u32) -> u64
         requires range { index < self.old.table.now.table.shared.table_id.words }
         requires lawful { IsLawful self.old.table.now.key (known_by self.old.desk)

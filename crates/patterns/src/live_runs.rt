@@ -27,8 +27,8 @@ impl LiveRuns for FileRuns<'_> {
     }
 }
 
-// The square of the file's live cells around (0,0), at the smallest level of at least 4. The file
-// is read once more.
+/// The square of the file's live cells around (0,0), at the smallest level of at least 4. The file
+/// is read once more.
 pub(crate) fn live_runs_to_square<S: Squares>(
     alloc: Global,
     book: &mut S,

@@ -14,8 +14,8 @@ use plane::Refusal;
 use squares::{LOWEST_ROOT_LEVEL, Sq, Squares};
 use std::alloc::Global;
 
-// The square of the last node around (0,0), at the smallest level of at least 4, or the empty one
-// where there is no node. Each node is made once.
+/// The square of the last node around (0,0), at the smallest level of at least 4, or the empty one
+/// where there is no node. Each node is made once.
 pub(crate) fn nodes_to_square<S: Squares>(
     alloc: Global,
     book: &mut S,

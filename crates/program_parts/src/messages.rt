@@ -16,8 +16,8 @@ use std::alloc::Global;
 // round them.
 const LINE_ROOM: usize = 160;
 
-// Writes one line with the refusal and its byte offset. The program's name, which begins the line,
-// has at most 32 bytes. Refuses `WriteFailed` if the sink failed.
+/// Writes one line with the refusal and its byte offset. The program's name, which begins the line,
+/// has at most 32 bytes. Refuses `WriteFailed` if the sink failed.
 pub(crate) fn tell_fault<E: Sink>(
     messages: &mut E,
     program: &str,
@@ -52,7 +52,7 @@ fn fault_line(program: &str, fault: Fault) -> ArrayString<LINE_ROOM>
     line
 }
 
-// The exit status of a program whose run was refused: 3 where a device failed, else 1.
+/// The exit status of a program whose run was refused: 3 where a device failed, else 1.
 pub(crate) fn refused_status(refusal: Refusal) -> u8
     ensures { result ≡ refused_status refusal }
 {
@@ -62,7 +62,7 @@ pub(crate) fn refused_status(refusal: Refusal) -> u8
     }
 }
 
-// Says on one line that the words are bad, and why: the first paragraph of the reason's text.
+/// Says on one line that the words are bad, and why: the first paragraph of the reason's text.
 pub(crate) fn tell_bad_words<E: Sink>(
     alloc: Global,
     messages: &mut E,
@@ -80,7 +80,8 @@ pub(crate) fn tell_bad_words<E: Sink>(
     }
 }
 
-// Says on one line that the words are bad, and why: the first paragraph of a text, if there is one.
+/// Says on one line that the words are bad, and why: the first paragraph of a text, if there is
+/// one.
 pub(crate) fn tell_reason<E: Sink>(
     messages: &mut E,
     program: &str,

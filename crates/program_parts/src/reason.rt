@@ -27,7 +27,7 @@ pub enum WordsReason {
 impl WordsReason {
     ghost use Rattle.program_parts.specs.Faults.{fault_by};
 
-    // The fault of the words, which doesn't say which value is not fit.
+    /// The fault of the words, which doesn't say which value is not fit.
     pub(crate) fn fault(self) -> WordsFault
         ensures { result ≡ fault_by self }
     {

@@ -32,9 +32,9 @@ impl From<Fault> for Stop {
     }
 }
 
-// Tells on one line why a program stopped, if it did, and answers its exit status: 0 if it did not,
-// 2 for bad words, else 3 where a device failed and 1 where not. A failure of the messages changes
-// nothing else. The program's name has at most 32 bytes.
+/// Tells on one line why a program stopped, if it did, and answers its exit status: 0 if it did
+/// not, 2 for bad words, else 3 where a device failed and 1 where not. A failure of the messages
+/// changes nothing else. The program's name has at most 32 bytes.
 pub(crate) fn tell_end<E: Sink>(
     alloc: Global,
     messages: &mut E,
@@ -61,7 +61,7 @@ pub(crate) fn tell_end<E: Sink>(
     }
 }
 
-// Ends a program whose words ask for no run: shows the help where they ask for it, and stops else.
+/// Ends a program whose words ask for no run: shows the help where they ask for it, and stops else.
 pub(crate) fn end_of_words<O: Sink>(
     alloc: Global,
     reason: WordsReason,

@@ -87,7 +87,7 @@ impl Cursor {
     }
 }
 
-/// Moves a coordinate on by a count. `OutOfRange` if it is then above the limit.
+// Moves a coordinate on by a count. `OutOfRange` if it is then above the limit.
 fn advance(coordinate: i64, count: u64) -> Result<i64, Refusal>
     requires { IsWithinReach coordinate }
     ensures ok { IfOk result (λ next. (passes_limit coordinate count ≡ false)
@@ -104,7 +104,7 @@ fn advance(coordinate: i64, count: u64) -> Result<i64, Refusal>
     Ok(coordinate.wrapping_add_unsigned(count))
 }
 
-/// So many live cells more. `TooManyCells` if they are then too many.
+// So many live cells more. `TooManyCells` if they are then too many.
 fn more_live(live: u64, count: u64) -> Result<u64, Refusal>
     requires { live ≤ most_live_cells }
     ensures ok { IfOk result (λ more. (more ≡ live + count) × (more ≤ most_live_cells)) }

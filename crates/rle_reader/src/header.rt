@@ -28,7 +28,7 @@ pub(crate) fn header_rule(line: &[u8]) -> Result<Option<&[u8]>, Refusal>
     rule_behind(rest)
 }
 
-/// What stands before the first comma, or all where there is none.
+// What stands before the first comma, or all where there is none.
 fn until_comma(text: &[u8]) -> &[u8]
     ensures { result.now ≡ before_first (is_byte (byte ",")) text.now }
 {
@@ -38,7 +38,7 @@ fn until_comma(text: &[u8]) -> &[u8]
     }
 }
 
-/// The rule that stands behind the next comma, if there is one.
+// The rule that stands behind the next comma, if there is one.
 #[tactic(auto, unfolding(crate::specs::Header::rule_behind))]
 fn rule_behind(rest: &[u8]) -> Result<Option<&[u8]>, Refusal>
     ensures { seen_rule result ≡ rule_behind rest.now }
@@ -51,7 +51,7 @@ fn rule_behind(rest: &[u8]) -> Result<Option<&[u8]>, Refusal>
         .ok_or(Refusal::BadHeader)
 }
 
-/// Whether the line's first byte after blanks is `x` or `X`.
+// Whether the line's first byte after blanks is `x` or `X`.
 #[tactic(auto, unfolding(crate::specs::Header::begins_as_header))]
 fn begins_as_header(line: &[u8]) -> bool
     ensures { result ≡ begins_as_header line.now }
@@ -59,7 +59,7 @@ fn begins_as_header(line: &[u8]) -> bool
     matches!(trim_start(line).first(), Some(b'x' | b'X'))
 }
 
-/// Whether the part is the key, `=` and one or more digits.
+// Whether the part is the key, `=` and one or more digits.
 #[tactic(auto, unfolding(crate::specs::Header::is_side))]
 fn is_side(part: &[u8], key: &[u8]) -> bool
     ensures { result ≡ is_side key.now part.now }
@@ -67,8 +67,8 @@ fn is_side(part: &[u8], key: &[u8]) -> bool
     value_behind(part, key).is_some_and(|value| number(value).is_some())
 }
 
-/// What stands behind `key =`, without the blanks at its ends. The key is in small letters; in the
-/// part they may stand in either case.
+// What stands behind `key =`, without the blanks at its ends. The key is in small letters; in the
+// part they may stand in either case.
 #[tactic(auto, unfolding(crate::specs::Header::value_behind))]
 fn value_behind<'a>(part: &'a [u8], key: &[u8]) -> Option<&'a [u8]>
     ensures { option_copied result ≡ value_behind key.now part.now }
@@ -77,7 +77,7 @@ fn value_behind<'a>(part: &'a [u8], key: &[u8]) -> Option<&'a [u8]>
     is_key(trim(name), key).then(|| trim(value))
 }
 
-/// Whether the name is the key, whichever its letters' case.
+// Whether the name is the key, whichever its letters' case.
 fn is_key(name: &[u8], key: &[u8]) -> bool
     ensures { result ≡ is_key key.now name.now }
 {

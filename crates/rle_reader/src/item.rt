@@ -37,7 +37,7 @@ pub struct Run<'a> {
     pub tag: Tag,
 }
 
-/// The digits at the front of a body.
+// The digits at the front of a body.
 #[derive(Clone, Copy)]
 struct Count {
     /// Their value, or the largest `u64` if it is larger; 1 where there is no digit.
@@ -69,7 +69,7 @@ pub(crate) fn next_run<'a>(body: &mut Body<'a>) -> Result<Option<Run<'a>>, Fault
     }
 }
 
-/// The item from a place to its tag.
+// The item from a place to its tag.
 fn tagged_run<'a>(
     source: &'a [u8],
     place: usize,
@@ -97,7 +97,7 @@ fn tagged_run<'a>(
     }))
 }
 
-/// The end of the body, where a count that no tag follows is a fault.
+// The end of the body, where a count that no tag follows is a fault.
 fn check_end<'a>(place: usize, is_written: bool) -> Result<Option<Run<'a>>, Fault>
     ensures { seen_next result ≡ (if is_written then Err (fault_at BadCount place) else Ok None) }
 {
@@ -108,7 +108,7 @@ fn check_end<'a>(place: usize, is_written: bool) -> Result<Option<Run<'a>>, Faul
     }
 }
 
-/// Takes digits, of which `first` is the first if it is one, and the byte after them.
+// Takes digits, of which `first` is the first if it is one, and the byte after them.
 fn read_count(body: &mut Body<'_>, first: LocatedByte) -> Count
     requires { first.place < body.old.at }
     ensures source { body.new.source.now ≡ body.old.source.now }

@@ -59,8 +59,8 @@ impl<'a> Iterator for LiveRuns<'a> {
     }
 }
 
-/// What is left of a body without faults, and where its next item begins. No comment begins at
-/// `at`.
+// What is left of a body without faults, and where its next item begins. No comment begins at
+// `at`.
 #[derive(Clone, Copy, Debug)]
 struct LiveRest<'a> {
     source: &'a [u8],
@@ -71,7 +71,7 @@ struct LiveRest<'a> {
 }
 
 impl<'a> LiveRest<'a> {
-    /// Takes items up to the next live one, or all that is left if there is none.
+    // Takes items up to the next live one, or all that is left if there is none.
     fn next_live(&mut self) -> Option<(Cell, u64)>
         ensures { MatchOption result ((live_rest self.old ≡ []) × (live_rest self.new ≡ []))
             (λ run. live_rest self.old ≡ run ∷ live_rest self.new) }
@@ -102,7 +102,7 @@ impl<'a> LiveRest<'a> {
         None
     }
 
-    /// The cell at which the next item begins.
+    // The cell at which the next item begins.
     fn cell(&self) -> Cell
         ensures { result ≡ record { y = self.now.row; x = self.now.column } }
     {
@@ -112,7 +112,7 @@ impl<'a> LiveRest<'a> {
         }
     }
 
-    /// Passes the tag of an item with this count.
+    // Passes the tag of an item with this count.
     fn pass(&mut self, tag: Tag, count: u64)
         requires { self.old.at < length self.old.source.now }
         ensures source { self.new.source.now ≡ self.old.source.now }

@@ -29,7 +29,7 @@ fn negative(size: Option<u64>) -> Option<i64>
     size.map(|size| -as_signed(size))
 }
 
-/// The number, or the largest `i64` if it is larger.
+// The number, or the largest `i64` if it is larger.
 fn as_signed(number: u64) -> i64
     ensures { result ≡ pos (min number 9223372036854775807) }
 {

@@ -37,7 +37,7 @@ pub(crate) fn rightmost(column: i64, other: i64) -> i64
     if column < other { other } else { column }
 }
 
-/// The row behind this one, or the limit if that is nearer.
+// The row behind this one, or the limit if that is nearer.
 fn row_behind(row: i64) -> i64
     requires { IsWithinReach row }
     ensures within { IsWithinReach result }
@@ -46,7 +46,7 @@ fn row_behind(row: i64) -> i64
     if row < COORDINATE_LIMIT { row + 1 } else { row }
 }
 
-/// How far from 0 the coordinate is, or a number that is larger.
+// How far from 0 the coordinate is, or a number that is larger.
 fn farther(number: u64, coordinate: i64) -> u64
     requires number { number ≤ 2 ^ 62 }
     requires coordinate { IsWithinReach coordinate }

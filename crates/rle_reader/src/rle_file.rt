@@ -160,8 +160,8 @@ impl<'a> RleFile<'a> {
     }
 }
 
-/// Goes through the items, each with what comes before it, and answers how far from 0 the
-/// coordinates of the live cells go.
+// Goes through the items, each with what comes before it, and answers how far from 0 the
+// coordinates of the live cells go.
 fn check_body(source: &[u8], preamble: &Preamble<'_>) -> Result<u64, Fault>
     requires body { preamble.now.body ≤ length source.now }
     requires in_range { IsInRange preamble.now.settings.pos }

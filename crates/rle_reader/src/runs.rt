@@ -50,7 +50,7 @@ impl<'a> Iterator for Runs<'a> {
     }
 }
 
-/// Takes the next item, or all that is left if there is none.
+// Takes the next item, or all that is left if there is none.
 fn take_run<'a>(body: &mut Body<'a>) -> Option<Run<'a>>
     ensures { MatchOption result ((runs_left body.old ≡ []) × (runs_left body.new ≡ []))
         (λ run. runs_left body.old ≡ run_seen run ∷ runs_left body.new) }

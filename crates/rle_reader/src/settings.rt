@@ -52,7 +52,7 @@ impl Settings {
             .map_err(|refusal| fault_at(refusal, line.place))
     }
 
-    /// These settings after the words of a line, or the lowest fault of a word.
+    // These settings after the words of a line, or the lowest fault of a word.
     fn after_words(self, line: &[u8]) -> Result<Settings, Refusal>
         ensures { result ≡ after_readings self (map word_of (words line.now)) }
     {
@@ -73,7 +73,7 @@ impl Settings {
         }
     }
 
-    /// These settings after a word.
+    // These settings after a word.
     fn after_word(self, word: Word) -> Settings
         ensures { result ≡ after_word self word }
     {
@@ -91,7 +91,7 @@ impl Settings {
     }
 }
 
-/// What stands before the first blank of a text, and what stands after it, if there is one.
+// What stands before the first blank of a text, and what stands after it, if there is one.
 fn first_word(text: &[u8]) -> (&[u8], Option<&[u8]>)
     ensures words { words text.now ≡ result.0.now ∷ words_left (option_copied result.1) }
     ensures shorter { IfSome result.1 (λ others. length others.now < length text.now) }
@@ -102,7 +102,7 @@ fn first_word(text: &[u8]) -> (&[u8], Option<&[u8]>)
     }
 }
 
-/// Of two refusals the one of the lower number.
+// Of two refusals the one of the lower number.
 fn lower(lowest_refusal: Option<Refusal>, refusal: Refusal) -> Option<Refusal>
     ensures { result ≡ lower lowest_refusal refusal }
 {
@@ -112,7 +112,7 @@ fn lower(lowest_refusal: Option<Refusal>, refusal: Refusal) -> Option<Refusal>
     }
 }
 
-/// What a word says.
+// What a word says.
 #[tactic(auto, unfolding(crate::specs::Words::word_of))]
 fn read_word(text: &[u8]) -> Result<Word, Refusal>
     ensures { result ≡ word_of text.now }
@@ -126,7 +126,7 @@ fn read_word(text: &[u8]) -> Result<Word, Refusal>
     Ok(Word::Other)
 }
 
-/// Two whole numbers and a comma between them, both in the range of coordinates.
+// Two whole numbers and a comma between them, both in the range of coordinates.
 fn position(text: &[u8]) -> Result<Cell, Refusal>
     ensures { result ≡ position_of text.now }
 {
@@ -136,7 +136,7 @@ fn position(text: &[u8]) -> Result<Cell, Refusal>
     }
 }
 
-/// The cell of two coordinates: first of all both have to be numbers, and then both in the range.
+// The cell of two coordinates: first of all both have to be numbers, and then both in the range.
 #[tactic(auto, unfolding(crate::specs::Words::cell_at))]
 fn cell(x: Option<i64>, y: Option<i64>) -> Result<Cell, Refusal>
     ensures { result ≡ cell_at x y }
@@ -151,14 +151,14 @@ fn cell(x: Option<i64>, y: Option<i64>) -> Result<Cell, Refusal>
     }
 }
 
-/// The generation that a text of digits gives.
+// The generation that a text of digits gives.
 fn generation_of(text: &[u8]) -> Result<u64, Refusal>
     ensures { result ≡ generation_at (number_of text.now) }
 {
     generation(number(text))
 }
 
-/// The generation, if there is a number and it is no more than the last generation.
+// The generation, if there is a number and it is no more than the last generation.
 #[tactic(auto, unfolding(crate::specs::Words::generation_at))]
 fn generation(number: Option<u64>) -> Result<u64, Refusal>
     ensures { result ≡ generation_at number }

@@ -18,7 +18,7 @@ pub(crate) struct Parts<'a> {
     pub(crate) survival: &'a [u8],
 }
 
-/// The digits of birth and of survival, and the text after them.
+// The digits of birth and of survival, and the text after them.
 #[derive(Clone, Copy)]
 struct Body<'a> {
     birth: &'a [u8],
@@ -26,7 +26,7 @@ struct Body<'a> {
     rest: &'a [u8],
 }
 
-/// Two runs of digits, and the text after them.
+// Two runs of digits, and the text after them.
 #[derive(Clone, Copy)]
 struct Runs<'a> {
     first: &'a [u8],
@@ -56,7 +56,7 @@ pub(crate) fn find_parts(text: &[u8]) -> Option<Parts<'_>>
     })
 }
 
-/// The digits of birth and of survival at the front of a text, in one of the five forms.
+// The digits of birth and of survival at the front of a text, in one of the five forms.
 #[tactic(auto, unfolding(crate::specs::RuleCut::both_runs))]
 fn find_body(text: &[u8]) -> Option<Body<'_>>
     ensures body { option_map seen_body result ≡ both_runs (capitals text.now) }
@@ -82,7 +82,7 @@ fn find_body(text: &[u8]) -> Option<Body<'_>>
     })
 }
 
-/// Two runs of digits with a letter between them, before which a slash may stand.
+// Two runs of digits with a letter between them, before which a slash may stand.
 #[tactic(auto, unfolding(crate::specs::RuleCut::runs_round_letter))]
 fn runs_round_letter(text: &[u8], letter: u8) -> Option<Runs<'_>>
     ensures runs { option_map seen_runs result ≡ runs_round_letter letter (capitals text.now) }
@@ -99,7 +99,7 @@ fn runs_round_letter(text: &[u8], letter: u8) -> Option<Runs<'_>>
     })
 }
 
-/// Two runs of digits with a slash between them.
+// Two runs of digits with a slash between them.
 #[tactic(auto, unfolding(crate::specs::RuleCut::runs_round_slash))]
 fn runs_round_slash(text: &[u8]) -> Option<Runs<'_>>
     ensures runs { option_map seen_runs result ≡ runs_round_slash (capitals text.now) }
@@ -115,8 +115,8 @@ fn runs_round_slash(text: &[u8]) -> Option<Runs<'_>>
     })
 }
 
-/// The neighbourhood by the letter at the front of a text, and the text after it. Without such a
-/// letter it is the eight cells round a cell.
+// The neighbourhood by the letter at the front of a text, and the text after it. Without such a
+// letter it is the eight cells round a cell.
 #[tactic(auto, unfolding(crate::specs::RuleCut::neighbourhood_cut))]
 fn leading_neighbourhood(text: &[u8]) -> (Neighbourhood, &[u8])
     ensures { (result.0, capitals result.1.now) ≡ neighbourhood_cut (capitals text.now) }
@@ -132,7 +132,7 @@ fn leading_neighbourhood(text: &[u8]) -> (Neighbourhood, &[u8])
     }
 }
 
-/// The text after this mark at its front: a slash, or a capital or the same letter in lower case.
+// The text after this mark at its front: a slash, or a capital or the same letter in lower case.
 fn after_mark(text: &[u8], mark: u8) -> Option<&[u8]>
     ensures { option_map capitals (option_copied result) ≡ after_mark mark (capitals text.now) }
 {
@@ -144,7 +144,7 @@ fn after_mark(text: &[u8], mark: u8) -> Option<&[u8]>
     }
 }
 
-/// The digits at the front of a text, and the text after them.
+// The digits at the front of a text, and the text after them.
 fn leading_digits(text: &[u8]) -> (&[u8], &[u8])
     ensures digits { result.0.now ≡ take_while is_ascii_digit (capitals text.now) }
     ensures only_digits { AllPass is_ascii_digit result.0.now }

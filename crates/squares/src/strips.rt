@@ -31,7 +31,7 @@ pub trait LiveRuns {
             (λ run. left self.old ≡ run ∷ left self.new) };
 }
 
-/// The spans of the runs that are left, of which the next one is known.
+// The spans of the runs that are left, of which the next one is known.
 #[derive(Drop)]
 struct Strips<R> {
     half: u64,
@@ -39,7 +39,7 @@ struct Strips<R> {
     runs: R,
 }
 
-/// The span of the next run in a square of this half side around (0,0).
+// The span of the next run in a square of this half side around (0,0).
 fn next_span<R: LiveRuns>(runs: &mut R, half: u64) -> Option<Span>
     requires half { half ≤ 2 ^ 62 }
     requires fit { AllByRecursion (FitsRound half) (R.left runs.old) }
@@ -51,7 +51,7 @@ fn next_span<R: LiveRuns>(runs: &mut R, half: u64) -> Option<Span>
     Some(Span::of(run, half))
 }
 
-/// The next spans that lie above this row.
+// The next spans that lie above this row.
 fn take_spans<R: LiveRuns + Drop>(
     alloc: Global,
     strips: &mut Strips<R>,
@@ -75,7 +75,7 @@ fn take_spans<R: LiveRuns + Drop>(
     Ok(spans)
 }
 
-/// Whether there is no next span, or it lies in the row or below.
+// Whether there is no next span, or it lies in the row or below.
 fn lies_below(next: Option<Span>, row: u64) -> bool
     ensures { IsTrue result ↔ MatchOption next ⊤ (λ span. row ≤ span.row) }
 {
@@ -85,7 +85,7 @@ fn lies_below(next: Option<Span>, row: u64) -> bool
     }
 }
 
-/// The row of the squares of this level whose first row of cells is `top`.
+// The row of the squares of this level whose first row of cells is `top`.
 fn strip_row<S: Squares, R: LiveRuns + Drop>(
     alloc: Global,
     book: &mut S,

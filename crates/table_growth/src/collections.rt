@@ -12,9 +12,9 @@ pub const COLLECTION_SHARES: Shares = Shares {
     leaves: 16,
 };
 
-// One more collection for a step helps only if one more in so many large squares is finished than
-// at the last.
+/// One more collection for a step helps only if one more in so many large squares is finished than
+/// at the last.
 pub(crate) const FINISHED_SHARE: u64 = 32;
 
-// A step that expanded fewer squares than one for this many pair slots had too little room.
+/// A step that expanded fewer squares than one for this many pair slots had too little room.
 pub(crate) const SLOTS_AN_EXPANSION: u64 = 16;

@@ -19,7 +19,7 @@ const STEPS_OF_GROWTH: u32 = 4;
 // save.
 const FEW_EXPANSIONS: u64 = 16384;
 
-/// What was collected from full tables for the step that comes next.
+// What was collected from full tables for the step that comes next.
 #[derive(Clone, Copy)]
 enum Collections {
     /// Nothing yet.

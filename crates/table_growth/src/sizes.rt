@@ -8,8 +8,8 @@ use table_core::{Kind, Shape};
 // How many pair slots a new table has, as a power of two, if it may have so many.
 const START_BITS: u8 = 12;
 
-// From how many pair slots on a table is large, as a power of two: it is larger than a processor's
-// cache.
+/// From how many pair slots on a table is large, as a power of two: it is larger than a processor's
+/// cache.
 pub(crate) const LARGE_BITS: u8 = 18;
 
 // How many pair slots a run's tables may have together unless it is told otherwise, as a power of

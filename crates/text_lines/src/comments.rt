@@ -82,7 +82,7 @@ impl<'a> Iterator for Comments<'a> {
     }
 }
 
-/// Takes lines up to the next kept comment, or all if there is none.
+// Takes lines up to the next kept comment, or all if there is none.
 fn next_comment<'a>(lines: &mut Lines<'a>) -> Option<&'a [u8]>
     ensures { MatchOption result
         ((comments_of (lines_left lines.old) ≡ []) × (comments_of (lines_left lines.new) ≡ []))

@@ -75,7 +75,7 @@ pub fn line_length(text: &[u8]) -> usize
     memchr(b'\n', text).unwrap_or(text.len())
 }
 
-/// The line without one CR at its end.
+// The line without one CR at its end.
 #[tactic(auto, unfolding(crate::specs::Lines::without_return))]
 fn without_return(line: &[u8]) -> &[u8]
     ensures { result.now ≡ without_return line.now }

@@ -12,8 +12,8 @@ use table_core::Shape;
 use table_growth::{COLLECTION_SHARES, Retry, RetryPlan, pair_count};
 use worker_split::{Gate, Team};
 
-// The universe after a step, or after its cells came to another table; or, where a table was full,
-// the universe as it was before.
+/// The universe after a step, or after its cells came to another table; or, where a table was full,
+/// the universe as it was before.
 #[derive(Drop)]
 pub(crate) enum Attempt {
     Done(Universe),
@@ -26,8 +26,8 @@ impl Universe {
     ghost use Rattle.universe.specs.Runs.{IsAttempt, IsFullAtLimit, IsFullInPlace, MayStep};
     ghost use Rattle.node_sweep.specs.declared.keep.Keep.TheVariants.{CellsAlone};
 
-    // Takes one step of the cells at their table, or, where that is full, at new ones, as the plan
-    // says.
+    /// Takes one step of the cells at their table, or, where that is full, at new ones, as the plan
+    /// says.
     pub(crate) fn step_with_growth<R: Threads + Wait + Sync, G: Gate>(
         self,
         team: &Team<'_, R, G>,

@@ -15,9 +15,9 @@ impl Universe {
     ghost use Rattle.universe.specs.Cells.{limit_of, pairs_of, rule_of};
     ghost use Rattle.universe.specs.Runs.{ReachesExponent, IsAtExponent};
 
-    // The cells at a table of this exponent. It stands beside their own, if the limit leaves room
-    // for both, and else replaces it: then it has only the cells, in as few words as have room for
-    // them, or all of its words.
+    /// The cells at a table of this exponent. It stands beside their own, if the limit leaves room
+    /// for both, and else replaces it: then it has only the cells, in as few words as have room for
+    /// them, or all of its words.
     pub(crate) fn at_exponent(self, alloc: Global, exponent: u8) -> Result<Universe, AllocError>
         ensures { IfOk result (IsAtExponent exponent self) }
     {

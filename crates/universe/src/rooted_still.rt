@@ -59,7 +59,7 @@ impl RootedStill {
         bounds(alloc, &self.still, self.root)
     }
 
-    // The cells at a table that is opened of these words under an exponent, beside other tables.
+    /// The cells at a table that is opened of these words under an exponent, beside other tables.
     pub(crate) fn open_at(
         self,
         alloc: Global,
@@ -77,8 +77,8 @@ impl RootedStill {
         Ok(Universe { here, root, others })
     }
 
-    // The cells in new words of this shape, and the history of a table of these. `None` where they
-    // have no room for what is kept, or where nothing was finished since the last collection.
+    /// The cells in new words of this shape, and the history of a table of these. `None` where they
+    /// have no room for what is kept, or where nothing was finished since the last collection.
     pub(crate) fn copy(
         &self,
         alloc: Global,
@@ -114,7 +114,7 @@ impl RootedStill {
         Ok(Some((RootedStill { still, root }, history)))
     }
 
-    // Only the cells, in as few words as have room for them, or else all of the old words.
+    /// Only the cells, in as few words as have room for them, or else all of the old words.
     pub(crate) fn compact(self, alloc: Global) -> Result<RootedStill, AllocError>
         ensures { IfOk result (IsCompacted self) }
     {

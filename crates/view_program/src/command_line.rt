@@ -34,7 +34,7 @@ const EXAMPLES: &str = "Examples:
   lifeview -m 1073741824 --size 4096 --workers 4 -o large.png breeder.mc
       draw 2^30 generations of a breeder with at most 4096 pixels on a side, with four workers";
 
-// The form of the words.
+/// The form of the words.
 pub(crate) fn command<'a>(alloc: Global) -> Result<Command<'a>, AllocError>
     ensures { IfOk result (λ command. app_of command ≡ command_form) }
 {

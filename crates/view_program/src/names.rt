@@ -3,5 +3,5 @@
 /// The name of the program, which begins its messages.
 pub const NAME: &str = "lifeview";
 
-// The ending of the files that it writes.
+/// The ending of the files that it writes.
 pub(crate) const ENDING: &str = ".png";

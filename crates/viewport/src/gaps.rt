@@ -12,7 +12,7 @@ use squares::{LEAF_LEVEL, Reading, Sq, half_side};
 use std::alloc::AllocError;
 use std::collections::HashMap;
 
-// A side of a square.
+/// A side of a square.
 #[derive(Clone, Copy)]
 pub(crate) enum Side {
     Left,
@@ -21,16 +21,16 @@ pub(crate) enum Side {
     Bottom,
 }
 
-// The gaps of squares at one side, by level and number.
+/// The gaps of squares at one side, by level and number.
 pub(crate) type Gaps = HashMap<(u8, u32), Option<u64>>;
 
 // The lowest level of which gaps are noted. Looking for the gap of a lower square again costs no
 // more than its note.
 const LOWEST_NOTED: u8 = 6;
 
-// How many columns or rows without a live cell lie between a side of the square and its first live
-// cell from there, by the gaps at that side that are known; it adds what it finds to them. None
-// where no cell is live.
+/// How many columns or rows without a live cell lie between a side of the square and its first live
+/// cell from there, by the gaps at that side that are known; it adds what it finds to them. None
+/// where no cell is live.
 #[cycle(gap)]
 pub(crate) fn gap<R: Reading>(
     book: &mut R,

@@ -6,7 +6,7 @@ ghost use Rattle.viewport.specs.Halves.{IsHalfOfBlocks, IsHalfRow};
 
 use squares::{Look, Reading, Sq, half_side};
 
-// The two quarters of a square that have one of its rows, from left to right, and the row there.
+/// The two quarters of a square that have one of its rows, from left to right, and the row there.
 pub(crate) fn half_with_row<B: Look>(book: &B, sq: Sq, y: u64) -> (Sq, Sq, u64)
     requires known { IsKnown (B.book book.now) sq.level sq }
     requires low { 3 < sq.level }
@@ -20,8 +20,8 @@ pub(crate) fn half_with_row<B: Look>(book: &B, sq: Sq, y: u64) -> (Sq, Sq, u64)
     half_of(book.parts(sq), y, half_side(sq.level))
 }
 
-// The two quarters of a square that have one of its rows of blocks, from left to right, and the row
-// there; a quarter has so many rows of them. The book goes on knowing what it knew.
+/// The two quarters of a square that have one of its rows of blocks, from left to right, and the
+/// row there; a quarter has so many rows of them. The book goes on knowing what it knew.
 pub(crate) fn half_with_blocks<R: Reading>(
     from: &mut R,
     sq: Sq,

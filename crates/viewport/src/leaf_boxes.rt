@@ -22,7 +22,7 @@ fn round(a: Option<Bounds>, b: Option<Bounds>) -> Option<Bounds>
     }
 }
 
-// The box of a leaf's live cells.
+/// The box of a leaf's live cells.
 pub(crate) fn leaf_box(word: u64) -> Option<Bounds>
     ensures { IsLocalBox 8 (bits_plane word) result }
 {

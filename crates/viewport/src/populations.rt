@@ -43,7 +43,7 @@ pub fn population_at<R: Reading>(alloc: Global, book: &mut R, sq: Sq) -> Result<
     Ok(count(book, sq, &mut counts)?)
 }
 
-// How many live cells the square has, by the counts that are known; it adds what it finds to them.
+/// How many live cells the square has, by the counts that are known; it adds what it finds to them.
 #[cycle(count)]
 pub(crate) fn count<R: Reading>(
     from: &mut R,

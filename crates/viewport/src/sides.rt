@@ -6,7 +6,7 @@ ghost use Rattle.viewport.specs.Places.{IsPlace};
 
 use squares::half_side;
 
-// The side of a square of this level.
+/// The side of a square of this level.
 pub(crate) fn side(level: u8) -> u64
     requires { level ≤ 63 }
     ensures { result ≡ 2 ^ level }
@@ -14,7 +14,7 @@ pub(crate) fn side(level: u8) -> u64
     1 << level
 }
 
-// Half the side of a square of this level, as a coordinate.
+/// Half the side of a square of this level, as a coordinate.
 pub(crate) fn signed_half_side(level: u8) -> i64
     requires low { 1 ≤ level }
     requires high { level ≤ 63 }
@@ -24,8 +24,8 @@ pub(crate) fn signed_half_side(level: u8) -> i64
     half_side(level) as i64
 }
 
-// How far a column or a row lies from the left side or from the top of a square of this level, if
-// the square has it.
+/// How far a column or a row lies from the left side or from the top of a square of this level, if
+/// the square has it.
 pub(crate) fn place(z: i64, level: u8) -> Option<u64>
     requires low { 1 ≤ level }
     requires high { level ≤ 63 }
@@ -38,7 +38,7 @@ pub(crate) fn place(z: i64, level: u8) -> Option<u64>
     Some((z + half) as u64)
 }
 
-// How many rows lie above row y, from the top on.
+/// How many rows lie above row y, from the top on.
 pub(crate) fn rows_above(y: i64, half: i64) -> u64
     requires low { pos 0 ≤ℤ half }
     requires high { half ≤ℤ pos (2 ^ 62) }
@@ -48,7 +48,7 @@ pub(crate) fn rows_above(y: i64, half: i64) -> u64
     if y < -half { 0 } else { (y + half) as u64 }
 }
 
-// The row that has so many rows above it, counted from (0,0).
+/// The row that has so many rows above it, counted from (0,0).
 pub(crate) fn row_at(row: u64, half: i64) -> i64
     requires low { pos 0 ≤ℤ half }
     requires high { half ≤ℤ pos (2 ^ 62) }

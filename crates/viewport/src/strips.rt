@@ -13,8 +13,8 @@ use crate::sides::side;
 use squares::{LEAF_LEVEL, Reading, Sq, half_side};
 use std::alloc::AllocError;
 
-// Neighbouring blocks of a row of a square: how many rows lie above it, and its columns from one to
-// before another, counted from the left side.
+/// Neighbouring blocks of a row of a square: how many rows lie above it, and its columns from one
+/// to before another, counted from the left side.
 #[derive(Clone, Copy)]
 pub(crate) struct Strip {
     pub row: u64,
@@ -22,8 +22,8 @@ pub(crate) struct Strip {
     pub end: u64,
 }
 
-// Adds how many live cells each block of the strip has, by the counts that are known; it adds what
-// it finds to them. A block has 2^exponent cells a side. The book goes on knowing what it knew.
+/// Adds how many live cells each block of the strip has, by the counts that are known; it adds what
+/// it finds to them. A block has 2^exponent cells a side. The book goes on knowing what it knew.
 pub(crate) fn count_strip<R: Reading>(
     from: &mut R,
     sq: Sq,
@@ -138,7 +138,7 @@ fn count_in_leaf(word: u64, exponent: u8, column: u64, row: u64) -> u32
     sum
 }
 
-// Adds so many blocks without live cells.
+/// Adds so many blocks without live cells.
 pub(crate) fn add_dead(blocks: u64, found: &mut Vec<u128>) -> Result<(), AllocError>
     ensures ok { OnOk result (found.new.items ≡ found.old.items ++ replicate blocks 0) }
 {

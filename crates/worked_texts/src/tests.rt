@@ -14,12 +14,12 @@ use rle_reader::Comments;
 use std::fmt::Debug;
 use std::process::Abort;
 
-/// Fails where there is a first row that is otherwise, and says what it is.
+// Fails where there is a first row that is otherwise, and says what it is.
 fn assert_none<R: Abort, T: Copy + PartialEq + Debug>(rt: &R, first: Option<T>) {
     assert_eq!(rt; first, None);
 }
 
-/// The bytes of a text, if there is one.
+// The bytes of a text, if there is one.
 fn bytes_of(text: Option<&str>) -> Option<&[u8]> {
     match text {
         Some(text) => Some(text.as_bytes()),
@@ -27,7 +27,7 @@ fn bytes_of(text: Option<&str>) -> Option<&[u8]> {
     }
 }
 
-/// Whether this comment is all that is kept, or nothing where it is empty.
+// Whether this comment is all that is kept, or nothing where it is empty.
 fn are_only(comments: Comments<'_>, comment: &str) -> bool {
     let mut kept = comments;
     match kept.next() {

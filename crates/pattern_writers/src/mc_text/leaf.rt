@@ -12,7 +12,7 @@ const LEAF_ROOM: usize = 72;
 
 const ROW_ROOM: usize = 8;
 
-// The rows of a leaf up to the last with a live cell, each ended by `$`.
+/// The rows of a leaf up to the last with a live cell, each ended by `$`.
 pub(crate) fn leaf_text(word: u64) -> ArrayString<LEAF_ROOM>
     ensures text { result.bytes ≡ leaf_text (bits_plane word) }
     ensures short { length result.bytes ≤ 72 }

@@ -48,8 +48,8 @@ impl NodeList {
     }
 }
 
-// The nodes of the squares in a square of a level from 4 to 63, whose centre corner is (0,0), in
-// the smallest square that has its cells.
+/// The nodes of the squares in a square of a level from 4 to 63, whose centre corner is (0,0), in
+/// the smallest square that has its cells.
 pub(crate) fn listed_nodes<B: Look>(
     alloc: Global,
     book: &B,

@@ -16,7 +16,7 @@ use plane::{Refusal, Sink};
 // Room for five numbers of 40 digits, each with the byte behind it.
 const LINE_ROOM: usize = 205;
 
-// A square that is listed.
+/// A square that is listed.
 #[derive(Clone, Copy)]
 pub(crate) enum Node {
     // Bit 8y + x is the cell (x, y).
@@ -73,7 +73,7 @@ fn push_number(line: &mut ArrayString<LINE_ROOM>, number: u64)
     line.push_str(Buffer::new().format(number));
 }
 
-// Writes each node as a line.
+/// Writes each node as a line.
 pub(crate) fn write_nodes<V: Sink>(
     file: &mut V,
     block: &mut OutputBlock,

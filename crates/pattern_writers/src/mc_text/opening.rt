@@ -9,7 +9,7 @@ use itoa::Buffer;
 // Room for the first line, a rule and a number of up to 40 digits.
 const OPENING_ROOM: usize = 100;
 
-// The first line, the rule and the generation.
+/// The first line, the rule and the generation.
 pub(crate) fn opening_lines(rule: &str, generation: u64) -> ArrayString<OPENING_ROOM>
     requires { length rule.now ≤ 24 }
     ensures { result.bytes ≡ mc_opening rule.now generation }

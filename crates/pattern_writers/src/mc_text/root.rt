@@ -9,7 +9,7 @@ ghost use Rattle.squares.specs.Rounds.{square_plane};
 
 use squares::{LOWEST_ROOT_LEVEL, Look, Sq, has_empty_border};
 
-// The quarters of a square whose centre corner is (0,0), which need not be a square that is known.
+/// The quarters of a square whose centre corner is (0,0), which need not be a square that is known.
 #[derive(Clone, Copy)]
 pub(crate) struct Root {
     pub level: u8,
@@ -17,8 +17,8 @@ pub(crate) struct Root {
 }
 
 impl Root {
-    // The smallest square of a level of at least 4 that has the cells of a square, with the same
-    // centre corner.
+    /// The smallest square of a level of at least 4 that has the cells of a square, with the same
+    /// centre corner.
     pub(crate) fn of<B: Look>(book: &B, sq: Sq) -> Self
         requires known { IsKnown (B.book book.now) sq.level sq }
         requires low { 4 ≤ sq.level }

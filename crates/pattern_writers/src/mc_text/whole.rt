@@ -15,8 +15,8 @@ use rule_text::Rule;
 use squares::{LEAF_LEVEL, Look, PlainBook, Sq, Squares};
 use std::alloc::Global;
 
-// The nodes of the squares in a square, whose centre corner is (0,0), in the smallest square of a
-// level of at least 4 that has its cells.
+/// The nodes of the squares in a square, whose centre corner is (0,0), in the smallest square of a
+/// level of at least 4 that has its cells.
 pub(crate) fn pattern_nodes<B: Look>(
     alloc: Global,
     book: &B,

@@ -14,8 +14,8 @@ use squares::{Look, Sq};
 use std::alloc::{AllocError, Global};
 use std::thread::Threads;
 
-// The longest runs of a square's cells, row by row and from left to right, in bands of the rows of
-// their frame. The bands are made in threads.
+/// The longest runs of a square's cells, row by row and from left to right, in bands of the rows of
+/// their frame. The bands are made in threads.
 pub(crate) fn banded_runs<R: Threads + Sync, B: Look + Sync>(
     rt: &R,
     alloc: Global,

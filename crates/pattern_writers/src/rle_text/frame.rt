@@ -8,10 +8,10 @@ use plane::{Bounds, Cell, Refusal};
 // A box that is written has sides below this.
 const SIDE_LIMIT: u64 = 1 << 31;
 
-// How many bands the rows of a frame are cut into.
+/// How many bands the rows of a frame are cut into.
 pub(crate) const BANDS: u64 = 64;
 
-// Where a pattern lies: its upper left corner and its two sides.
+/// Where a pattern lies: its upper left corner and its two sides.
 #[derive(Clone, Copy)]
 pub(crate) struct Frame {
     pub corner: Cell,
@@ -20,7 +20,7 @@ pub(crate) struct Frame {
 }
 
 impl Frame {
-    // The frame of a box, or of no cells. `BoxTooLarge` if a side is 2^31 or more.
+    /// The frame of a box, or of no cells. `BoxTooLarge` if a side is 2^31 or more.
     pub(crate) fn round(bounds: Option<Bounds>) -> Result<Self, Refusal>
         ensures frame { IfOk result (λ frame. frame ≡ frame_of bounds) }
         ensures fits { IsOk result ↔ FitsRle bounds }
@@ -49,7 +49,7 @@ impl Frame {
         })
     }
 
-    // The row that a band begins with, or the row after the last one.
+    /// The row that a band begins with, or the row after the last one.
     pub(crate) fn band_row(self, band: u64) -> i64
         requires band { band ≤ 64 }
         requires room { HasRoom self }

@@ -15,7 +15,7 @@ use std::alloc::Global;
 use std::thread::Threads;
 use viewport::bounds;
 
-// The frame of a square's cells, and their items in it.
+/// The frame of a square's cells, and their items in it.
 pub(crate) fn framed_items<R: Threads + Sync, B: Look + Sync>(
     rt: &R,
     alloc: Global,

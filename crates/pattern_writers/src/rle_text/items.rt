@@ -13,7 +13,7 @@ use std::alloc::{AllocError, Global};
 // Room for a count and a tag.
 const ITEM_ROOM: usize = 41;
 
-// So many dead cells, live cells or ends of rows.
+/// So many dead cells, live cells or ends of rows.
 #[derive(Clone, Copy)]
 pub(crate) struct Item {
     pub count: u64,
@@ -21,7 +21,7 @@ pub(crate) struct Item {
 }
 
 impl Item {
-    // Its count, if that is not 1, and its tag.
+    /// Its count, if that is not 1, and its tag.
     pub(crate) fn text(self) -> ArrayString<ITEM_ROOM>
         ensures text { result.bytes ≡ item_text self }
         ensures short { length result.bytes ≤ 41 }
@@ -39,8 +39,8 @@ impl Item {
     }
 }
 
-// The items of the rows from the corner on, whose runs come in bands: no dead cells before the end
-// of a row, and the ends of empty rows counted with those of the row before them.
+/// The items of the rows from the corner on, whose runs come in bands: no dead cells before the end
+/// of a row, and the ends of empty rows counted with those of the row before them.
 pub(crate) fn items(
     alloc: Global,
     corner: Cell,

@@ -17,7 +17,7 @@ const LINE_LENGTH: usize = 70;
 // Room for a line and its end.
 const LINE_ROOM: usize = 71;
 
-// Writes the items and the `!`, in lines.
+/// Writes the items and the `!`, in lines.
 pub(crate) fn write_body<V: Sink>(
     file: &mut V,
     block: &mut OutputBlock,

@@ -10,7 +10,7 @@ use plane::Cell;
 // Room for a line of up to three numbers of 40 digits or two and a rule.
 const LINE_ROOM: usize = 160;
 
-// The line that says where the pattern lies and in which generation.
+/// The line that says where the pattern lies and in which generation.
 pub(crate) fn position_line(corner: Cell, generation: u64) -> ArrayString<LINE_ROOM>
     ensures { result.bytes ≡ position_line corner.x corner.y generation }
 {
@@ -25,7 +25,7 @@ pub(crate) fn position_line(corner: Cell, generation: u64) -> ArrayString<LINE_R
     line
 }
 
-// The header: the sides of the box and the rule.
+/// The header: the sides of the box and the rule.
 pub(crate) fn header_line(width: u64, height: u64, rule: &str) -> ArrayString<LINE_ROOM>
     requires { length rule.now ≤ 24 }
     ensures { result.bytes ≡ header_line width height rule.now }

@@ -14,7 +14,7 @@ use squares::{Look, Sq};
 use std::alloc::{AllocError, Global};
 use viewport::first_row;
 
-// Live cells side by side in a row.
+/// Live cells side by side in a row.
 #[derive(Clone, Copy)]
 pub(crate) struct RowRun {
     pub row: i64,
@@ -37,7 +37,7 @@ impl RowRun {
         }
     }
 
-    // The cell after the last.
+    /// The cell after the last.
     pub(crate) fn next_cell(&self) -> Cell
         ensures { result ≡ next_cell self.now }
     {
@@ -48,8 +48,8 @@ impl RowRun {
     }
 }
 
-// The longest runs of a square's cells in the rows from `from` to before `end`, row by row and from
-// left to right.
+/// The longest runs of a square's cells in the rows from `from` to before `end`, row by row and
+/// from left to right.
 pub(crate) fn runs_between<B: Look>(
     alloc: Global,
     book: &B,

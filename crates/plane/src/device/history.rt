@@ -6,8 +6,8 @@ ghost use Rattle.std.specs.Borrow.{ftrue};
 use std::fmt;
 use std::marker::Model;
 
-// The bytes that went through a device, in order. It takes no memory, and its calls do nothing at
-// run time.
+/// The bytes that went through a device, in order. It takes no memory, and its calls do nothing at
+/// run time.
 #[derive(Drop)]
 pub struct History {
     pub ghost bytes: { List ℕ },
@@ -18,14 +18,14 @@ impl Model for History {
 }
 
 impl History {
-    // No bytes.
+    /// No bytes.
     pub(crate) fn new() -> History
         ensures { result.bytes ≡ [] }
     {
         History {}
     }
 
-    // These bytes come after the others.
+    /// These bytes come after the others.
     pub(crate) fn extend(&mut self, _bytes: &[u8])
         ensures { self.new.bytes ≡ self.old.bytes ++ _bytes.now }
     {}

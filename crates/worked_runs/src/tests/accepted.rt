@@ -94,8 +94,8 @@ pub(crate) const PATTERNS: &[Row] = &[
     },
 ];
 
-// The ends of the range and of the generations, and the position that was the last one of a smaller
-// range.
+/// The ends of the range and of the generations, and the position that was the last one of a
+/// smaller range.
 pub(crate) const LIMITS: &[Row] = &[
     Row {
         file: "#CXRLE Pos=4611686018427387903,0\nx = 1, y = 1\no!",
@@ -137,8 +137,8 @@ const LAST: u64 = 1 << 63;
 
 const NONE_LEFT: &str = "#CXRLE Pos=0,0 Gen=9223372036854775808\nx = 0, y = 0, rule = B3/S23\n!\n";
 
-// The 36 cells at (0,0), (2,0), .. (70,0), and the 34 cells at (0,0), .. (66,0) with (68,0),
-// (69,0): a body line takes an item, or the `!`, where it then has at most 70 bytes.
+/// The 36 cells at (0,0), (2,0), .. (70,0), and the 34 cells at (0,0), .. (66,0) with (68,0),
+/// (69,0): a body line takes an item, or the `!`, where it then has at most 70 bytes.
 pub(crate) const LONG_ROWS: &[Row] = &[
     Row {
         file: "x = 71, y = 1\nobobobobobobobobobobobobobobobobobobobobobobobobobobobobobobobobobobobo!",
@@ -220,7 +220,7 @@ pub(crate) const STEPS: &[Row] = &[
     },
 ];
 
-// Runs of the glider that no engine comes through cell by cell.
+/// Runs of the glider that no engine comes through cell by cell.
 pub(crate) const FAR_GLIDERS: &[Row] = &[
     FAR_GLIDER,
     Row {

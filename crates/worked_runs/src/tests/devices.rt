@@ -32,7 +32,7 @@ const WRITE_FAILED: Fault = Fault {
     place: None,
 };
 
-/// So many bytes, in which no part of 8192 bytes is that at the front.
+// So many bytes, in which no part of 8192 bytes is that at the front.
 fn made_bytes(alloc: Global, count: usize) -> Result<Vec<u8>, AllocError> {
     let mut bytes = Vec::with_capacity(alloc, count)?;
     for index in 0..count {
@@ -41,8 +41,8 @@ fn made_bytes(alloc: Global, count: usize) -> Result<Vec<u8>, AllocError> {
     Ok(bytes)
 }
 
-/// Whether a source of these bytes that fails at this call is loaded as it should be, where so many
-/// reads load them.
+// Whether a source of these bytes that fails at this call is loaded as it should be, where so many
+// reads load them.
 fn is_loaded_or_fails(alloc: Global, bytes: &[u8], reads: u64, call: u64) -> Result<bool, Fail> {
     let mut source = FailAt::new(Memory::holding(alloc, bytes)?, call);
     let is_reached = call >= 1 && call <= reads;
@@ -59,7 +59,7 @@ fn is_loaded_or_fails(alloc: Global, bytes: &[u8], reads: u64, call: u64) -> Res
     Ok(is_right && plane::Source::failures(&source) == u64::from(is_reached))
 }
 
-/// The first call at which, if it fails, the bytes are not loaded as they should be.
+// The first call at which, if it fails, the bytes are not loaded as they should be.
 fn first_wrong_read(alloc: Global, bytes: &[u8], reads: u64) -> Result<Option<u64>, Fail> {
     for call in 0..=reads.saturating_add(2) {
         if !is_loaded_or_fails(alloc, bytes, reads, call)? {
@@ -69,8 +69,8 @@ fn first_wrong_read(alloc: Global, bytes: &[u8], reads: u64) -> Result<Option<u6
     Ok(None)
 }
 
-/// Fails each read of a source in turn, and none: so many reads load the bytes, and the last one
-/// finds their end.
+// Fails each read of a source in turn, and none: so many reads load the bytes, and the last one
+// finds their end.
 fn assert_reads_fail<R: Abort + AllocGlobal + Threads + Wait + Sync>(
     rt: &R,
     bytes: &[u8],
@@ -94,19 +94,19 @@ fn loads_all_or_says_that_reading_failed(rt: HostRuntime) -> Result<(), Fail> {
     Ok(())
 }
 
-/// How many calls of the report and of the file have failed.
+// How many calls of the report and of the file have failed.
 fn failures(end: &Ended) -> (u64, u64) {
     (end.report.failures, end.file.failures)
 }
 
-/// Whether a run ended well with the whole texts of its row, and no call failed.
+// Whether a run ended well with the whole texts of its row, and no call failed.
 fn is_whole(row: &Row, end: &Ended) -> bool {
     let (fault, report, file) = end.told();
     let is_told = fault.is_none() && report == row.report && file == row.text;
     is_told && failures(end) == (0, 0)
 }
 
-/// The sink of which a call fails.
+// The sink of which a call fails.
 #[derive(Clone, Copy)]
 enum Failing {
     Report,
@@ -114,7 +114,7 @@ enum Failing {
 }
 
 impl Failing {
-    /// At which call the report fails, and at which one the file.
+    // At which call the report fails, and at which one the file.
     fn at(self, call: u64) -> (u64, u64) {
         match self {
             Failing::Report => (call, 0),
@@ -122,7 +122,7 @@ impl Failing {
         }
     }
 
-    /// How many calls a run made of the sink.
+    // How many calls a run made of the sink.
     fn calls(self, end: &Ended) -> u64 {
         match self {
             Failing::Report => end.report.calls,
@@ -130,7 +130,7 @@ impl Failing {
         }
     }
 
-    /// The whole text that the sink takes.
+    // The whole text that the sink takes.
     fn text(self, row: &Row) -> &'static str {
         match self {
             Failing::Report => row.report,
@@ -139,13 +139,13 @@ impl Failing {
     }
 }
 
-/// Whether a text is a beginning of the whole, and not all of it.
+// Whether a text is a beginning of the whole, and not all of it.
 fn is_cut_from(text: &str, whole: &str) -> bool {
     whole.starts_with(text) && text.len() < whole.len()
 }
 
-/// Whether a run said that a sink failed: the report is cut off and nothing is in the file, or the
-/// report stands whole and the file is cut off.
+// Whether a run said that a sink failed: the report is cut off and nothing is in the file, or the
+// report stands whole and the file is cut off.
 fn is_cut(row: &Row, end: &Ended, failing: Failing) -> bool {
     let (fault, report, file) = end.told();
     let is_cut = match failing {
@@ -155,7 +155,7 @@ fn is_cut(row: &Row, end: &Ended, failing: Failing) -> bool {
     is_cut && fault == Some(WRITE_FAILED) && failures(end) == failing.at(1)
 }
 
-/// Runs a row with sinks that take so many bytes at a time, of which one fails at this call.
+// Runs a row with sinks that take so many bytes at a time, of which one fails at this call.
 fn ended<R: Abort + AllocGlobal + Threads + Wait + Sync>(
     rt: &R,
     row: &Row,
@@ -167,8 +167,8 @@ fn ended<R: Abort + AllocGlobal + Threads + Wait + Sync>(
     Ended::with_devices(rt, file, &row.options(), most, failing.at(call))
 }
 
-/// How many calls a run makes of a sink: at least one, and one for each byte where it takes one at
-/// a time.
+// How many calls a run makes of a sink: at least one, and one for each byte where it takes one at
+// a time.
 fn calls_of<R: Abort + AllocGlobal + Threads + Wait + Sync>(
     rt: &R,
     row: &Row,
@@ -182,8 +182,8 @@ fn calls_of<R: Abort + AllocGlobal + Threads + Wait + Sync>(
     Ok(calls)
 }
 
-/// The first call at which, if it fails, a run with so many calls of the sink does not end as it
-/// should; call 0, and one behind the last, fail at none.
+// The first call at which, if it fails, a run with so many calls of the sink does not end as it
+// should; call 0, and one behind the last, fail at none.
 fn first_wrong_call<R: Abort + AllocGlobal + Threads + Wait + Sync>(
     rt: &R,
     row: &Row,
@@ -206,7 +206,7 @@ fn first_wrong_call<R: Abort + AllocGlobal + Threads + Wait + Sync>(
     Ok(None)
 }
 
-/// Fails each call of a sink in turn, and none, for each row.
+// Fails each call of a sink in turn, and none, for each row.
 fn assert_fails<R: Abort + AllocGlobal + Threads + Wait + Sync>(
     rt: &R,
     most: usize,

@@ -40,7 +40,7 @@ const SQUARES: &[(&str, Row)] = &[
     ),
 ];
 
-// The file up to a line.
+/// The file up to a line.
 pub(crate) fn full_square(line_behind: &str) -> &'static str {
     match FULL.split_once(line_behind) {
         Some((file, _)) => file,

@@ -32,8 +32,8 @@ fn in_the_fewest(row: &Row, workers: usize) -> Row {
     }
 }
 
-/// Runs rows that have room in the fewest slots. One worker takes the same steps in each run, and
-/// so writes all of it each time.
+// Runs rows that have room in the fewest slots. One worker takes the same steps in each run, and
+// so writes all of it each time.
 fn assert_room<R: Abort + AllocGlobal + Threads + Wait + Sync>(
     rt: &R,
     rows: &[Row],
@@ -46,8 +46,8 @@ fn assert_room<R: Abort + AllocGlobal + Threads + Wait + Sync>(
     Ok(())
 }
 
-/// Runs rows in the fewest slots, where it isn't known whether there is room: with two workers the
-/// schedule decides it.
+// Runs rows in the fewest slots, where it isn't known whether there is room: with two workers the
+// schedule decides it.
 fn assert_whole_or_full<R: Abort + AllocGlobal + Threads + Wait + Sync>(
     rt: &R,
     rows: &[Row],

@@ -12,7 +12,7 @@ use std::sync::Wait;
 use std::thread::Threads;
 use table_core::Shape;
 
-/// What is answered beside the last pattern of a row.
+// What is answered beside the last pattern of a row.
 fn answer_of<R: Abort + AllocGlobal + Threads + Wait + Sync>(
     rt: &R,
     row: &Row,
@@ -29,7 +29,7 @@ fn answer_of<R: Abort + AllocGlobal + Threads + Wait + Sync>(
     Ok(summary)
 }
 
-/// Whether the last pattern of a row is answered as its run is.
+// Whether the last pattern of a row is answered as its run is.
 fn assert_answered_as_run<R: Abort + AllocGlobal + Threads + Wait + Sync>(
     rt: &R,
     row: &Row,
@@ -39,7 +39,7 @@ fn assert_answered_as_run<R: Abort + AllocGlobal + Threads + Wait + Sync>(
     Ok(())
 }
 
-/// Whether the last patterns of rows are answered as their runs are.
+// Whether the last patterns of rows are answered as their runs are.
 fn assert_answered_as_runs<R: Abort + AllocGlobal + Threads + Wait + Sync>(
     rt: &R,
     rows: &[Row],

@@ -13,7 +13,7 @@ use std::thread::Threads;
 
 const GLIDER: &str = "[M2] (golly 2.0)\n#R B3/S23\n$$..*$...*$.***$$$$\n4 0 0 0 1\n";
 
-// All 2^126 cells of the range.
+/// All 2^126 cells of the range.
 pub(crate) const FULL: &str = "[M2] (lifebatch 1)\n#R B3/S23\n#G 0\n\
      ********$********$********$********$********$********$********$********$\n4 1 1 1 1\n\
      5 2 2 2 2\n6 3 3 3 3\n7 4 4 4 4\n8 5 5 5 5\n9 6 6 6 6\n10 7 7 7 7\n11 8 8 8 8\n\

@@ -16,7 +16,7 @@ pub(crate) const FULL: Fault = Fault {
     place: None,
 };
 
-// The last generations of the R-pentomino.
+/// The last generations of the R-pentomino.
 pub(crate) const SETTLED: Row = Row {
     generations: 1103,
     report: "0: 5\n1103: 116\n",
@@ -32,7 +32,7 @@ pub(crate) const SETTLED: Row = Row {
     ..R_PENTOMINO
 };
 
-// The same, with a line for every hundredth generation.
+/// The same, with a line for every hundredth generation.
 pub(crate) const REPORTED: Row = Row {
     step: 100,
     report: "0: 5\n100: 121\n200: 120\n300: 168\n400: 195\n500: 174\n600: 213\n700: 194\n\
@@ -40,7 +40,7 @@ pub(crate) const REPORTED: Row = Row {
     ..SETTLED
 };
 
-// 1024 generations of the glider.
+/// 1024 generations of the glider.
 pub(crate) const GLIDER: Row = Row {
     generations: 1024,
     report: "0: 5\n1024: 5\n",
@@ -48,8 +48,8 @@ pub(crate) const GLIDER: Row = Row {
     ..FAR_GLIDER
 };
 
-// The same in so few slots that a step fills them more than once: squares are collected, and the
-// step goes on.
+/// The same in so few slots that a step fills them more than once: squares are collected, and the
+/// step goes on.
 pub(crate) const COLLECTED: Row = Row {
     pairs: 4096,
     ..SETTLED

@@ -9,7 +9,7 @@ use std::sync::Wait;
 use std::test::Fail;
 use std::thread::Threads;
 
-/// A file, how many generations it runs, which window is drawn, the report, and its picture.
+// A file, how many generations it runs, which window is drawn, the report, and its picture.
 struct Pictured {
     file: &'static str,
     generations: u64,
@@ -82,7 +82,7 @@ fn asked(generations: u64, window: (i64, i64, u32, u32), quiet: bool) -> Result<
     })
 }
 
-/// Runs a row with its lines and without, with one worker and by two.
+// Runs a row with its lines and without, with one worker and by two.
 fn assert_pictured<R: Abort + AllocGlobal + Threads + Wait + Sync>(
     rt: &R,
     row: &Pictured,
@@ -108,8 +108,8 @@ fn draws_the_window_behind_the_lines(rt: HostRuntime) -> Result<(), Fail> {
     Ok(())
 }
 
-/// Runs a row with one worker in the fewest slots, where it has room: the worker takes the same
-/// steps in each run.
+// Runs a row with one worker in the fewest slots, where it has room: the worker takes the same
+// steps in each run.
 fn assert_pictured_in_the_fewest<R: Abort + AllocGlobal + Threads + Wait + Sync>(
     rt: &R,
     row: &Pictured,

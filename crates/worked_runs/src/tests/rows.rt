@@ -158,7 +158,7 @@ pub(crate) fn assert_told<R: Abort>(
     assert_eq!(rt; (file, end.told()), (file, wanted));
 }
 
-/// Whether a text is the beginning of a report, up to the end of a line.
+// Whether a text is the beginning of a report, up to the end of a line.
 fn is_between_lines(said: &str, report: &str) -> bool {
     report.starts_with(said) && (said.is_empty() || said.ends_with("\n"))
 }

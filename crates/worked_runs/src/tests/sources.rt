@@ -15,7 +15,7 @@ const ROWS: &[Row] = &[BLINKER, R_PENTOMINO, COMMENTED_GLIDER, SHARED_LEAF];
 // How many bytes a reader gives at a time.
 const SIPS: [usize; 3] = [1, 7, usize::MAX];
 
-/// A reader that gives at most so many bytes at a time.
+// A reader that gives at most so many bytes at a time.
 #[derive(Drop)]
 struct ShortReads<'a> {
     bytes: &'a [u8],
@@ -23,7 +23,7 @@ struct ShortReads<'a> {
 }
 
 impl<'a> ShortReads<'a> {
-    /// In how many reads it comes to its end.
+    // In how many reads it comes to its end.
     fn reads(&self) -> u64 {
         let full = self.bytes.len().div_ceil(self.most.max(1));
         (full as u64).saturating_add(1)
@@ -37,7 +37,7 @@ impl<'a> Read for ShortReads<'a> {
     }
 }
 
-/// Which call of each device fails, or 0 for none.
+// Which call of each device fails, or 0 for none.
 #[derive(Clone, Copy, Default)]
 struct FailingCalls {
     read: u64,
@@ -45,7 +45,7 @@ struct FailingCalls {
     file: u64,
 }
 
-/// How a run of what a source gives ended, and what its report and its file took.
+// How a run of what a source gives ended, and what its report and its file took.
 #[derive(Drop)]
 struct Ended {
     fault: Option<Refusal>,
@@ -89,8 +89,8 @@ impl Ended {
     }
 }
 
-/// Whether a run ends as it should whose reader, which comes to its end in so many reads, fails at
-/// this one, or at none.
+// Whether a run ends as it should whose reader, which comes to its end in so many reads, fails at
+// this one, or at none.
 fn is_right<R: Abort + AllocGlobal + Threads + Wait + Sync>(
     rt: &R,
     row: &Row,
@@ -109,8 +109,8 @@ fn is_right<R: Abort + AllocGlobal + Threads + Wait + Sync>(
     Ok(ended.is(None, row.report, row.text))
 }
 
-/// The first read at which, if it fails, a run does not end as it should; 0, and one behind the
-/// last, fail at none.
+// The first read at which, if it fails, a run does not end as it should; 0, and one behind the
+// last, fail at none.
 fn first_wrong_read<R: Abort + AllocGlobal + Threads + Wait + Sync>(
     rt: &R,
     row: &Row,
@@ -126,7 +126,7 @@ fn first_wrong_read<R: Abort + AllocGlobal + Threads + Wait + Sync>(
     Ok(None)
 }
 
-/// Runs each row from a reader that gives so many bytes at a time.
+// Runs each row from a reader that gives so many bytes at a time.
 fn assert_runs<R: Abort + AllocGlobal + Threads + Wait + Sync>(
     rt: &R,
     most: usize,

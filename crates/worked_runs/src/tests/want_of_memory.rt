@@ -18,8 +18,8 @@ use std::sync::Wait;
 use std::test::Fail;
 use std::thread::Threads;
 
-/// Runs a row: it writes its whole texts, or is refused between two lines of the report, with
-/// nothing in the file.
+// Runs a row: it writes its whole texts, or is refused between two lines of the report, with
+// nothing in the file.
 fn assert_runs_or_refuses<R: Abort + AllocGlobal + Print + Threads + Wait + Sync>(
     rt: &R,
     row: &Row,
@@ -27,7 +27,7 @@ fn assert_runs_or_refuses<R: Abort + AllocGlobal + Print + Threads + Wait + Sync
     assert_asked_or_refuses(rt, row, &row.options())
 }
 
-/// The same where more is asked for than the row says.
+// The same where more is asked for than the row says.
 fn assert_asked_or_refuses<R: Abort + AllocGlobal + Print + Threads + Wait + Sync>(
     rt: &R,
     row: &Row,

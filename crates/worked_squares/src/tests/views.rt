@@ -12,7 +12,7 @@ use std::alloc::Global;
 use std::test::Fail;
 use viewport::{bounds, first_row, picture, population, population_at, row_runs};
 
-// The square of this level that has the leaf everywhere.
+/// The square of this level that has the leaf everywhere.
 pub(crate) fn shared<S: Squares>(book: &mut S, word: u64, level: u8) -> Result<Sq, Refusal>
     requires low { 3 ≤ level }
     requires high { level ≤ 63 }

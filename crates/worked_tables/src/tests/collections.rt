@@ -16,7 +16,7 @@ use std::test::Fail;
 use table_core::Shape;
 use universe::Universe;
 
-/// Live cells as a set.
+// Live cells as a set.
 #[derive(Clone, Copy)]
 struct Cells<'a> {
     cells: &'a CellSet,

@@ -16,7 +16,7 @@ fn leaf<S: Squares>(book: &mut S, word: u64) -> Result<Sq, Refusal> {
     book.leaf(word)
 }
 
-// Makes the leaves of the words from the first to the last, and says how many were not refused.
+/// Makes the leaves of the words from the first to the last, and says how many were not refused.
 pub(crate) fn make_leaves<S: Squares>(book: &mut S, first: u64, last: u64) -> u64
     ensures { Keeps (S.book book.old) (S.book book.new) }
 {

@@ -257,7 +257,7 @@ fn a_step_is_recalled_after_a_collection(rt: HostRuntime) -> Result<(), Fail> {
     Ok(())
 }
 
-// What is finished after a step of the R-pentomino.
+/// What is finished after a step of the R-pentomino.
 pub(crate) fn finished_after_step(rt: &(impl Abort + AllocGlobal)) -> Result<Finished, Fail> {
     let (words, root) = words_of(rt, Made::Step, 262144, 10)?;
     assert!(rt; Shape::is_pair_count(262144));

@@ -72,7 +72,7 @@ fn count(seen: &[bool]) -> usize {
     seen.iter().filter(|it| **it).count()
 }
 
-// How many numbers up to 256 the words 1 to 257 have, and how many of the words find no room.
+/// How many numbers up to 256 the words 1 to 257 have, and how many of the words find no room.
 pub(crate) fn numbers_and_refusals<S: Squares>(book: &mut S) -> (usize, usize) {
     let mut numbers = [false; 257];
     let mut refused = [false; 258];

@@ -15,7 +15,7 @@ use table_core::Shape;
 use universe::Universe;
 use worker_split::{OpenGate, Team};
 
-/// Live cells as runs: rising, disjoint and in the range.
+// Live cells as runs: rising, disjoint and in the range.
 #[derive(Clone, Copy)]
 struct Runs<'a> {
     runs: &'a [(Cell, u64)],
@@ -62,7 +62,7 @@ fn later<R: Threads + Wait + Sync + AllocGlobal>(
     universe.after(&team, generations)
 }
 
-// Goes on by so many generations, again and again, and asserts the population that each comes to.
+/// Goes on by so many generations, again and again, and asserts the population that each comes to.
 pub(crate) fn assert_comes_to<R: Threads + Wait + Sync + Abort + AllocGlobal>(
     rt: &R,
     start: Universe,

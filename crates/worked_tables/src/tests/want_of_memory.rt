@@ -22,8 +22,8 @@ use std::test::Fail;
 use table_core::Shape;
 use table_growth::COLLECTION_SHARES;
 
-// A running table of these words. Where memory was wanting, it is opened at the second try, with
-// the words that came back from the first.
+/// A running table of these words. Where memory was wanting, it is opened at the second try, with
+/// the words that came back from the first.
 pub(crate) fn opened<R: Abort + AllocGlobal + Print>(
     rt: &R,
     still: Still,
@@ -42,7 +42,7 @@ pub(crate) fn opened<R: Abort + AllocGlobal + Print>(
     }
 }
 
-// The words of a table without a square, where there is memory for them.
+/// The words of a table without a square, where there is memory for them.
 pub(crate) fn empty_words<R: Abort + AllocGlobal + Print>(
     rt: &R,
     pairs: u32,

@@ -7,7 +7,7 @@ use plane::Refusal;
 use sample_patterns::chain;
 use std::alloc::{AllocError, Global};
 
-/// The node lines of a text, which stay when the file is gone, if it is accepted.
+// The node lines of a text, which stay when the file is gone, if it is accepted.
 fn nodes_of(alloc: Global, text: &str) -> Option<NodeLines<'_>> {
     match McFile::open(alloc, text.as_bytes()) {
         Ok(file) => {
@@ -18,7 +18,7 @@ fn nodes_of(alloc: Global, text: &str) -> Option<NodeLines<'_>> {
     }
 }
 
-/// Whether a node line has this slice, this place and this node.
+// Whether a node line has this slice, this place and this node.
 fn is_this(line: Option<NodeLine<'_>>, wanted: &(&str, u64, Node)) -> bool {
     let (slice, place, node) = *wanted;
     let text = slice.as_bytes();
@@ -28,8 +28,8 @@ fn is_this(line: Option<NodeLine<'_>>, wanted: &(&str, u64, Node)) -> bool {
     }
 }
 
-/// Whether the node lines of a text are these, each as its slice, its place and its node, and none
-/// comes behind them, however often one asks.
+// Whether the node lines of a text are these, each as its slice, its place and its node, and none
+// comes behind them, however often one asks.
 fn has_lines(alloc: Global, text: &str, lines: &[(&str, u64, Node)]) -> bool {
     match nodes_of(alloc, text) {
         Some(nodes) => are_these(nodes, lines),
@@ -47,7 +47,7 @@ fn are_these(nodes: NodeLines<'_>, lines: &[(&str, u64, Node)]) -> bool {
     rest.next().is_none() && rest.next().is_none()
 }
 
-/// Whether the only node line is this one, and a leaf with these cells.
+// Whether the only node line is this one, and a leaf with these cells.
 fn is_leaf(alloc: Global, line: &str, word: u64) -> bool {
     match format!(in alloc; "[M2]\n{line}\r\n") {
         Ok(text) => has_lines(alloc, text.as_str(), &[(line, 5, Node::Leaf(word))]),
@@ -71,7 +71,7 @@ const LEAVES: &[(&str, u64)] = &[
     ),
 ];
 
-/// The first line that is read as another leaf, or as none.
+// The first line that is read as another leaf, or as none.
 fn read_otherwise<'a>(alloc: Global, rows: &[(&'a str, u64)]) -> Option<&'a str> {
     for (line, word) in rows {
         if !is_leaf(alloc, line, *word) {
@@ -118,7 +118,7 @@ fn reads_node_lines_that_end_with_a_carriage_return(rt: HostRuntime) {
     assert!(rt; has_lines(rt.alloc(), text, &lines));
 }
 
-/// What a text is refused with, and how many node lines it has, none if it is refused.
+// What a text is refused with, and how many node lines it has, none if it is refused.
 fn outcome(alloc: Global, text: &str) -> (Option<(Refusal, u64)>, u64) {
     let mut count = 0u64;
     if let Some(nodes) = nodes_of(alloc, text) {
@@ -129,7 +129,7 @@ fn outcome(alloc: Global, text: &str) -> (Option<(Refusal, u64)>, u64) {
     (refused(alloc, text), count)
 }
 
-/// The last lines of chains, and what comes out: the refusal and how many node lines there are.
+// The last lines of chains, and what comes out: the refusal and how many node lines there are.
 const CHAINS: &[(&str, Option<(Refusal, u64)>, u64)] = &[
     ("63 0 0 0 60\n", None, 61),
     ("63 60 0 0 0\n", None, 61),
@@ -143,7 +143,7 @@ const CHAINS: &[(&str, Option<(Refusal, u64)>, u64)] = &[
     ),
 ];
 
-/// The outcome of a text that was made; none if there was no memory for it.
+// The outcome of a text that was made; none if there was no memory for it.
 fn made_outcome(
     alloc: Global,
     text: Result<String, AllocError>,
@@ -154,7 +154,7 @@ fn made_outcome(
     }
 }
 
-/// The first last line of a chain with another outcome, and the outcome.
+// The first last line of a chain with another outcome, and the outcome.
 fn chain_otherwise<'a>(
     alloc: Global,
     rows: &[(&'a str, Option<(Refusal, u64)>, u64)],
@@ -173,8 +173,8 @@ fn reads_a_chain_to_the_largest_level(rt: HostRuntime) {
     assert_none(&rt, chain_otherwise(rt.alloc(), CHAINS));
 }
 
-/// Adds so many lines of nodes of a level, each of the next four nodes from the first on, and
-/// answers the node that comes next.
+// Adds so many lines of nodes of a level, each of the next four nodes from the first on, and
+// answers the node that comes next.
 fn push_nodes(
     alloc: Global,
     text: &mut String,
@@ -194,10 +194,10 @@ fn push_nodes(
     Ok(first)
 }
 
-/// How many nodes there are of each level above 4096 leaves.
+// How many nodes there are of each level above 4096 leaves.
 const PYRAMID: &[(u8, u32)] = &[(4, 1024), (5, 256), (6, 64), (7, 16), (8, 4), (9, 1)];
 
-/// 4096 different leaves, and above them nodes that each take the next four, up to one root.
+// 4096 different leaves, and above them nodes that each take the next four, up to one root.
 fn pyramid(alloc: Global) -> Result<String, AllocError> {
     let mut text = String::from_str(alloc, "[M2]\n")?;
     for word in 0..4096u32 {
@@ -210,7 +210,7 @@ fn pyramid(alloc: Global) -> Result<String, AllocError> {
     Ok(text)
 }
 
-/// Adds a leaf line that has the lowest 12 bits of a word as its cells, in two rows.
+// Adds a leaf line that has the lowest 12 bits of a word as its cells, in two rows.
 fn push_leaf(text: &mut String, word: u32) -> Result<(), AllocError> {
     for bit in 0..12u32 {
         let cell = if (word >> bit) & 1 == 1 { "*" } else { "." };

@@ -62,7 +62,7 @@ const REFUSED: &[(&str, Refusal, u64)] = &[
     ("[M2]\n*$\n4 0 0 0 1\n#G x\n3\n", Refusal::BadGen, 18),
 ];
 
-/// The first text that is refused otherwise, and how.
+// The first text that is refused otherwise, and how.
 fn refused_otherwise<'a>(
     alloc: Global,
     rows: &[(&'a str, Refusal, u64)],
@@ -93,7 +93,7 @@ const ACCEPTED: &[&str] = &[
     "[M2]\n#R nothing of a rule\n#G 9223372036854775808\n#x\n#",
 ];
 
-/// The first text that is refused, and how.
+// The first text that is refused, and how.
 fn first_refused<'a>(alloc: Global, texts: &[&'a str]) -> Option<(&'a str, (Refusal, u64))> {
     for text in texts {
         if let Some(refusal) = refused(alloc, text) {
@@ -108,8 +108,8 @@ fn accepts(rt: HostRuntime) {
     assert_none(&rt, first_refused(rt.alloc(), ACCEPTED));
 }
 
-/// What the lines of settings say: the generation, whether the rule's text is this one, and its
-/// place.
+// What the lines of settings say: the generation, whether the rule's text is this one, and its
+// place.
 fn settings(alloc: Global, text: &str, rule: Option<&str>) -> Option<(u64, bool, u64)> {
     match McFile::open(alloc, text.as_bytes()) {
         Ok(file) => Some(settings_of(&file, rule)),
@@ -122,7 +122,7 @@ fn settings_of(file: &McFile<'_>, rule: Option<&str>) -> (u64, bool, u64) {
     (file.generation(), is_rule, file.rule_place())
 }
 
-/// Texts, each with its generation, its rule and the rule's place.
+// Texts, each with its generation, its rule and the rule's place.
 const SETTINGS: &[(&str, u64, Option<&str>, u64)] = &[
     ("[M2]\n*$\n", 0, None, 0),
     ("[M2] (golly 2.0)\n#R B3/S23\n", 0, Some("B3/S23"), 17),
@@ -133,7 +133,7 @@ const SETTINGS: &[(&str, u64, Option<&str>, u64)] = &[
     ("[M2]#R a\n#Rb\n", 0, Some("b"), 9),
 ];
 
-/// The first text whose settings are read otherwise.
+// The first text whose settings are read otherwise.
 fn set_otherwise<'a>(alloc: Global, rows: &[(&'a str, u64, Option<&str>, u64)]) -> Option<&'a str> {
     for (text, generation, rule, place) in rows {
         if settings(alloc, text, *rule) != Some((*generation, true, *place)) {
@@ -148,7 +148,7 @@ fn reads_settings(rt: HostRuntime) {
     assert_none(&rt, set_otherwise(rt.alloc(), SETTINGS));
 }
 
-/// Whether this comment, or none, is all that is kept of a text.
+// Whether this comment, or none, is all that is kept of a text.
 fn keeps(alloc: Global, text: &str, comment: &str) -> bool {
     match McFile::open(alloc, text.as_bytes()) {
         Ok(file) => are_only(file.comments(), comment),
@@ -156,7 +156,7 @@ fn keeps(alloc: Global, text: &str, comment: &str) -> bool {
     }
 }
 
-/// Texts, and the comment that is kept, empty where none is.
+// Texts, and the comment that is kept, empty where none is.
 const COMMENTS: &[(&str, &str)] = &[
     ("[M2]\n#C one\n", "#C one"),
     ("[M2]\n#C one\r\n", "#C one"),
@@ -168,7 +168,7 @@ const COMMENTS: &[(&str, &str)] = &[
     ("[M2]\n#D\n", "#D"),
 ];
 
-/// The first text of which another comment is kept, or more than one.
+// The first text of which another comment is kept, or more than one.
 fn kept_otherwise<'a>(alloc: Global, rows: &[(&'a str, &str)]) -> Option<&'a str> {
     for (text, comment) in rows {
         if !keeps(alloc, text, comment) {
@@ -183,8 +183,8 @@ fn keeps_comments(rt: HostRuntime) {
     assert_none(&rt, kept_otherwise(rt.alloc(), COMMENTS));
 }
 
-/// What a text is refused with, the second time if memory ran out the first time, and how often it
-/// ran out.
+// What a text is refused with, the second time if memory ran out the first time, and how often it
+// ran out.
 fn refused_again(alloc: Global, text: &str) -> (Option<(Refusal, u64)>, u32) {
     let answer = refused(alloc, text);
     if answer == Some((Refusal::NoMemory, u64::MAX)) {
@@ -194,7 +194,7 @@ fn refused_again(alloc: Global, text: &str) -> (Option<(Refusal, u64)>, u32) {
     }
 }
 
-/// The first text that is refused otherwise, and how often memory ran out before.
+// The first text that is refused otherwise, and how often memory ran out before.
 fn first_and_misses<'a>(
     alloc: Global,
     rows: &[(&'a str, Option<(Refusal, u64)>)],
@@ -210,7 +210,7 @@ fn first_and_misses<'a>(
     (None, misses)
 }
 
-/// Texts whose reading takes memory, and what they are refused with.
+// Texts whose reading takes memory, and what they are refused with.
 const GROWING: &[(&str, Option<(Refusal, u64)>)] = &[
     ("[M2]\n*$\n4 0 0 0 1\n5 0 0 0 2\n", None),
     ("[M2]\n*$\n3\n", Some((Refusal::BadNodeLine, 8))),
@@ -221,9 +221,9 @@ const GROWING: &[(&str, Option<(Refusal, u64)>)] = &[
     ("[M2]\n#G x\n*$\n", Some((Refusal::BadGen, 5))),
 ];
 
-/// In a plain run of the tests there is memory. `rt try --test --fail-alloc N --
-/// says_when_memory_runs_out` makes the Nth allocation fail: the answer is then `NoMemory` without
-/// a place, and that of a run with memory the next time.
+// In a plain run of the tests there is memory. `rt try --test --fail-alloc N --
+// says_when_memory_runs_out` makes the Nth allocation fail: the answer is then `NoMemory` without
+// a place, and that of a run with memory the next time.
 #[test]
 fn says_when_memory_runs_out(rt: HostRuntime) {
     let (first, misses) = first_and_misses(rt.alloc(), GROWING);

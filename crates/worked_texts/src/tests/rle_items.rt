@@ -4,7 +4,7 @@ use super::assert_none;
 use super::rle_texts::keeps;
 use rle_reader::{RleFile, Run, Runs, Tag};
 
-/// The items of a text, which stay when the file is gone, if it is accepted.
+// The items of a text, which stay when the file is gone, if it is accepted.
 fn runs_of(text: &str) -> Option<Runs<'_>> {
     match RleFile::open(text.as_bytes()) {
         Ok(file) => {
@@ -15,7 +15,7 @@ fn runs_of(text: &str) -> Option<Runs<'_>> {
     }
 }
 
-/// How many live cells the items of a text have, if it is accepted.
+// How many live cells the items of a text have, if it is accepted.
 fn live_cells(text: &str) -> Option<u64> {
     match runs_of(text) {
         Some(runs) => Some(cells_of(runs)),
@@ -40,7 +40,7 @@ const CELLS: &[(&str, u64)] = &[
     ("x = 1, y = 1\n3o!", 3),
 ];
 
-/// The first text whose items have another number of live cells.
+// The first text whose items have another number of live cells.
 fn counted_otherwise<'a>(rows: &[(&'a str, u64)]) -> Option<&'a str> {
     for (text, cells) in rows {
         if live_cells(text) != Some(*cells) {
@@ -55,7 +55,7 @@ fn counts_the_cells_of_beginnings(rt: HostRuntime) {
     assert_none(&rt, counted_otherwise(CELLS));
 }
 
-/// Whether an item has this slice, this place, this count and this tag.
+// Whether an item has this slice, this place, this count and this tag.
 fn is_this(run: Option<Run<'_>>, item: &(&str, u64, u64, Tag)) -> bool {
     let (slice, place, count, tag) = *item;
     let wanted = Run {
@@ -70,8 +70,8 @@ fn is_this(run: Option<Run<'_>>, item: &(&str, u64, u64, Tag)) -> bool {
     }
 }
 
-/// Whether the items of a text are these, each as its slice, its place, its count and its tag, and
-/// none comes behind them, however often one asks.
+// Whether the items of a text are these, each as its slice, its place, its count and its tag, and
+// none comes behind them, however often one asks.
 fn has_items(text: &str, items: &[(&str, u64, u64, Tag)]) -> bool {
     match runs_of(text) {
         Some(runs) => are_these(runs, items),
@@ -104,7 +104,7 @@ fn reads_items(rt: HostRuntime) {
     assert!(rt; has_items("x = 3, y = 3\nb2o$2o$bo!", GLIDER));
 }
 
-/// Texts of one item, its slice and its place.
+// Texts of one item, its slice and its place.
 const LONG_ITEMS: &[(&str, &str, u64)] = &[
     ("x = 12, y = 1\n1\n2o\n#C here\n!junk", "1\n2o", 14),
     ("x = 12, y = 1\n1\n2o\n#C here\n", "1\n2o", 14),
@@ -125,12 +125,12 @@ const LONG_ITEMS: &[(&str, &str, u64)] = &[
     ),
 ];
 
-/// Whether a text keeps no comment, and its only item is this one, of twelve live cells.
+// Whether a text keeps no comment, and its only item is this one, of twelve live cells.
 fn has_twelve_cells(text: &str, slice: &str, place: u64) -> bool {
     has_items(text, &[(slice, place, 12, Tag::Live)]) && keeps(text.as_bytes(), "")
 }
 
-/// The first text that is read otherwise.
+// The first text that is read otherwise.
 fn read_otherwise<'a>(rows: &[(&'a str, &str, u64)]) -> Option<&'a str> {
     for (text, slice, place) in rows {
         if !has_twelve_cells(text, slice, *place) {

@@ -5,7 +5,7 @@ use plane::{Cell, Refusal};
 use rle_reader::RleFile;
 use std::alloc::Global;
 
-/// The refusal of a text and its place.
+// The refusal of a text and its place.
 fn refused(text: &[u8]) -> Option<(Refusal, u64)> {
     match RleFile::open(text) {
         Ok(_) => None,
@@ -93,7 +93,7 @@ const REFUSED_BODIES: &[(&str, Refusal, u64)] = &[
     ("o$4611686018427387905o", Refusal::OutOfRange, 15),
 ];
 
-/// The refusal of a text of two parts, and its place.
+// The refusal of a text of two parts, and its place.
 fn refused_behind(alloc: Global, head: &str, rest: &str) -> Option<(Refusal, u64)> {
     match format!(in alloc; "{head}{rest}") {
         Ok(text) => refused(text.as_bytes()),
@@ -101,7 +101,7 @@ fn refused_behind(alloc: Global, head: &str, rest: &str) -> Option<(Refusal, u64
     }
 }
 
-/// The first rest that is refused otherwise behind a head, and how.
+// The first rest that is refused otherwise behind a head, and how.
 fn refused_otherwise<'a>(
     alloc: Global,
     head: &str,
@@ -141,7 +141,7 @@ const ACCEPTED: &[&str] = &[
     "x = 1, y = 1\n00268435456A$0000000000000000000000001.!",
 ];
 
-/// The first text that is refused, and how.
+// The first text that is refused, and how.
 fn first_refused<'a>(texts: &[&'a str]) -> Option<(&'a str, (Refusal, u64))> {
     for text in texts {
         if let Some(refusal) = refused(text.as_bytes()) {
@@ -170,8 +170,8 @@ fn reads_every_beginning(rt: HostRuntime) {
     }
 }
 
-/// What the lines before the body say: the first cell, the generation, whether the rule's text is
-/// this one, and the place of the header.
+// What the lines before the body say: the first cell, the generation, whether the rule's text is
+// this one, and the place of the header.
 fn settings(text: &str, rule: Option<&str>) -> Option<(Cell, u64, bool, u64)> {
     match RleFile::open(text.as_bytes()) {
         Ok(file) => Some(settings_of(&file, rule)),
@@ -186,7 +186,7 @@ fn settings_of(file: &RleFile<'_>, rule: Option<&str>) -> (Cell, u64, bool, u64)
 
 const LIFE: Option<&str> = Some("B3/S23");
 
-/// Texts, each with x and y of the first cell, its generation, its rule and the header's place.
+// Texts, each with x and y of the first cell, its generation, its rule and the header's place.
 type Settings = (&'static str, i64, i64, u64, Option<&'static str>, u64);
 
 const SETTINGS: &[Settings] = &[
@@ -229,7 +229,7 @@ const SETTINGS: &[Settings] = &[
     ),
 ];
 
-/// The first text whose lines before the body are read otherwise.
+// The first text whose lines before the body are read otherwise.
 fn set_otherwise(rows: &[Settings]) -> Option<&'static str> {
     for (text, x, y, generation, rule, place) in rows {
         let first = Cell { x: *x, y: *y };
@@ -253,7 +253,7 @@ pub(super) fn keeps(text: &[u8], comment: &str) -> bool {
     }
 }
 
-/// Whether this comment, or none, is all that is kept of lines before a header.
+// Whether this comment, or none, is all that is kept of lines before a header.
 fn keeps_before(alloc: Global, lines: &str, comment: &str) -> bool {
     match format!(in alloc; "{lines}x = 1, y = 1\n#C in the body\n!") {
         Ok(text) => keeps(text.as_bytes(), comment),
@@ -261,7 +261,7 @@ fn keeps_before(alloc: Global, lines: &str, comment: &str) -> bool {
     }
 }
 
-/// Lines before a header, and the comment that is kept, empty where none is.
+// Lines before a header, and the comment that is kept, empty where none is.
 const COMMENTS: &[(&str, &str)] = &[
     ("#C one\n", "#C one"),
     ("#C one\r\n", "#C one"),
@@ -275,7 +275,7 @@ const COMMENTS: &[(&str, &str)] = &[
     ("#D\n", "#D"),
 ];
 
-/// The first lines of which another comment is kept, or more than one.
+// The first lines of which another comment is kept, or more than one.
 fn kept_otherwise<'a>(alloc: Global, rows: &[(&'a str, &str)]) -> Option<&'a str> {
     for (lines, comment) in rows {
         if !keeps_before(alloc, lines, comment) {

@@ -3,7 +3,7 @@
 use super::assert_none;
 use rule_text::{Rule, RuleFault};
 
-/// What a text of a rule is read as: its canonical text and its code.
+// What a text of a rule is read as: its canonical text and its code.
 const RULES: &[(&str, &str, u32)] = &[
     ("B3/S23", "B3/S23", 6152),
     ("b3s23", "B3/S23", 6152),
@@ -18,7 +18,7 @@ const RULES: &[(&str, &str, u32)] = &[
     ("3/", "B/S3", 4096),
 ];
 
-/// The faults of texts that are not rules.
+// The faults of texts that are not rules.
 const FAULTS: &[(&str, RuleFault)] = &[
     ("", RuleFault::BadRule),
     ("B3", RuleFault::BadRule),
@@ -35,7 +35,7 @@ const FAULTS: &[(&str, RuleFault)] = &[
     ("3/0", RuleFault::BirthOnZero),
 ];
 
-/// Whether the rule that a text is read as has this canonical text, and its code.
+// Whether the rule that a text is read as has this canonical text, and its code.
 fn read_and_written(text: &str, canonical: &str) -> Option<(bool, u32)> {
     match Rule::read(text.as_bytes()) {
         Ok(rule) => Some((rule.text().as_str() == canonical, rule.code())),
@@ -43,7 +43,7 @@ fn read_and_written(text: &str, canonical: &str) -> Option<(bool, u32)> {
     }
 }
 
-/// The first text that is read as another rule, and what it is read as.
+// The first text that is read as another rule, and what it is read as.
 fn read_otherwise<'a>(rows: &[(&'a str, &str, u32)]) -> Option<(&'a str, Option<(bool, u32)>)> {
     for (text, canonical, code) in rows {
         let rule = read_and_written(text, canonical);
@@ -59,12 +59,12 @@ fn reads_and_writes_rules(rt: HostRuntime) {
     assert_none(&rt, read_otherwise(RULES));
 }
 
-/// The fault of a text, if it has one.
+// The fault of a text, if it has one.
 fn fault_of(text: &str) -> Option<RuleFault> {
     Rule::read(text.as_bytes()).err()
 }
 
-/// The first text that has another fault, and the fault.
+// The first text that has another fault, and the fault.
 fn faulty_otherwise<'a>(rows: &[(&'a str, RuleFault)]) -> Option<(&'a str, Option<RuleFault>)> {
     for (text, fault) in rows {
         let found = fault_of(text);
@@ -93,7 +93,7 @@ fn leaves_blanks_out(rt: HostRuntime) {
     assert_eq!(rt; Rule::read(b" \tB3/S23V\t "), Rule::read(b"23/3v"));
 }
 
-/// How long the canonical text of a rule is.
+// How long the canonical text of a rule is.
 fn text_length(text: &str) -> Option<usize> {
     match Rule::read(text.as_bytes()) {
         Ok(rule) => Some(rule.text().len()),
@@ -106,7 +106,7 @@ fn longest_text(rt: HostRuntime) {
     assert_eq!(rt; text_length("B12345678/S012345678"), Some(20));
 }
 
-/// Whether a dead and a live cell with so many live neighbours live on by the rule of Life.
+// Whether a dead and a live cell with so many live neighbours live on by the rule of Life.
 fn fates(count: u8) -> Option<(bool, bool)> {
     match Rule::read(b"B3/S23") {
         Ok(life) => Some((life.lives(false, count), life.lives(true, count))),
@@ -123,7 +123,7 @@ fn lives_by_its_digits(rt: HostRuntime) {
     }
 }
 
-/// How many neighbours a cell has by the rule of a text.
+// How many neighbours a cell has by the rule of a text.
 fn most_neighbours(text: &str) -> Option<u8> {
     match Rule::read(text.as_bytes()) {
         Ok(rule) => Some(rule.neighbourhood().neighbour_count()),

@@ -28,7 +28,7 @@ fn all_of_leaves<S: Squares>(
     Ok(squares)
 }
 
-// The desk, and the squares of level 4 of these leaves as jobs.
+/// The desk, and the squares of level 4 of these leaves as jobs.
 pub(crate) fn jobs_at(
     alloc: Global,
     table: &NodeTable,
@@ -44,7 +44,7 @@ pub(crate) fn jobs_at(
     (at.leave(), jobs)
 }
 
-// The leaves of so many squares, which differ from one another.
+/// The leaves of so many squares, which differ from one another.
 pub(crate) fn leaves_of(alloc: Global, count: u64) -> Result<Vec<[u64; 4]>, Fail> {
     let mut list = Vec::new(alloc);
     for k in 0..count {

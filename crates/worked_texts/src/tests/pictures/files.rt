@@ -7,7 +7,7 @@ use png_writer::Image;
 use std::alloc::Global;
 use std::test::Fail;
 
-// The length of a picture's file, and the checksum of its last chunk of pixels.
+/// The length of a picture's file, and the checksum of its last chunk of pixels.
 pub(crate) fn length_and_checksum(alloc: Global, image: &Image) -> Result<(usize, u32), Fail>
     requires { 1 ≤ length image.now.rows }
 {
