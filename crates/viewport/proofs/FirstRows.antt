@@ -1,4 +1,4 @@
--- First rows with live cells: of planes side_by_side and below one another, and around (0,0).
+-- First rows with live cells: of planes beside and below one another, and around (0,0).
 use Rattle.std.proofs.Common.{◌≡◌, ℕ, ◌+◌, ◌-◌, ◌^◌, ◌<◌, ◌≤◌, min, ℤ, pos, ◌+ℤ◌, ◌-ℤ◌, ◌≤ℤ◌, ◌<ℤ◌, true, false, ◌⊎◌, inl, inr, sym, ◌∙◌, ap, subst, arith}
 use Rattle.std.specs.Prelude.{Option, Some, None, unwrap_or, is_some, int_lt}
 use Rattle.std.specs.Int.{int_max}
@@ -57,7 +57,7 @@ pub moved_rows : (p : Plane) (h from end : ℕ) (o : Option ℕ) → IsFirstRowB
 moved_rows p h from end None is = rows_aside p h _ _ is
 moved_rows p h from end (Some r) is = (is.0, is.1, live_aside p h _ is.2, rows_aside p h _ _ is.3)
 
--- the first row of two squares side_by_side one another
+-- the first row of two squares beside one another
 pub beside_rows : (p q : Plane) (h from end : ℕ) (a b : Option ℕ) → IsFirstRowBelow p from end a → IsFirstRowBelow q from (unwrap_or a end) b → IsFirstRowBelow (side_by_side h p q) from end (option_or b a)
 beside_rows p q h from end a b is are = either_rows p (moved (pos h) (pos 0) q) from end a b is (moved_rows q h from _ b are)
 

@@ -1,4 +1,4 @@
--- The halves of a square: two squares side_by_side one another.
+-- The halves of a square: two squares beside one another.
 use Rattle.std.specs.Prelude.{◌≡◌, ℕ, ◌+◌, ◌<◌, ◌≤◌, ℤ, pos, ◌||◌}
 use Rattle.plane.specs.Laws.{moved}
 use Rattle.plane.specs.Plane.{Plane}
@@ -7,21 +7,21 @@ use Rattle.plane.specs.Plane.{Plane}
 abbrev pub either : Plane → Plane → Plane
 either p q x y = p x y || q x y
 
--- two squares side_by_side one another, of which the first has sides of this length
+-- two squares beside one another, of which the first has sides of this length
 abbrev pub side_by_side : ℕ → Plane → Plane → Plane
 side_by_side h p q = either p (moved (pos h) (pos 0) q)
 
--- a row of the plane is this row of two squares of these sides side_by_side one another
+-- a row of the plane is this row of two squares of these sides beside one another
 pub record IsHalfRow (h : ℕ) (plane first second : Plane) (y row : ℕ) : Type 0 where
   pub inside : row < h
   pub cells : (x : ℤ) → plane x (pos y) ≡ side_by_side h first second x (pos row)
 
--- two squares of these sides side_by_side one another are the plane's rows from `top` on
+-- two squares of these sides beside one another are the plane's rows from `top` on
 pub record AreRowsFrom (top h : ℕ) (plane first second : Plane) : Type 0 where
   pub cells : (x : ℤ) (y : ℕ) → y < h →
       plane x (pos (top + y)) ≡ side_by_side h first second x (pos y)
 
--- two squares, of h cells and n rows of blocks a side, side_by_side one another are the upper or
+-- two squares, of h cells and n rows of blocks a side, beside one another are the upper or
 -- the lower half of the plane, the one that has a row of blocks, and this is the row there
 pub record IsHalfOfBlocks (n h : ℕ) (plane first second : Plane) (row there : ℕ) : Type 0 where
   pub inside : there < n

@@ -53,7 +53,7 @@ fn first_row_below<B: Look>(book: &B, sq: Sq, from: u64, end: u64) -> Option<u64
     Some(lower + half)
 }
 
-// The same of two squares side_by_side one another.
+// The same of two squares beside one another.
 #[cycle(first_row_below)]
 fn first_row_beside<B: Look>(book: &B, left: Sq, right: Sq, from: u64, end: u64) -> Option<u64>
     requires left { IsKnown (B.book book.now) left.level left }
