@@ -41,11 +41,14 @@ def proved_crates(program: Program) -> set[str]:
 
 
 def tell_about(program: Program) -> int:
-    """Says that the program has to be built, and about how long that takes."""
+    """Says whether the program has to be built, and about how long that takes."""
     try:
         proved = proved_crates(program)
     except Failed:
         proved = set()
+    if proved == crates_below(program.name).keys():
+        Progress(program.name, 0).tell("the program is built")
+        return 0
     left = duration(pace_of(program, proved).seconds_left())
     why = "older than its code or contracts" if program.built.exists() else "not built yet"
     Progress(program.name, 0).tell(f"the program is {why}; the next run builds it, which takes {left} here")
