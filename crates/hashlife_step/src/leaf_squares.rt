@@ -13,7 +13,7 @@ use squares::{Sq, Squares, join_leaves, read_leaves};
 
 /// The level of a base: of the squares whose futures a kernel makes from all their leaves at once.
 /// The future of a larger square is made of those of smaller ones.
-pub(crate) const BASE_LEVEL: u8 = 6;
+pub const BASE_LEVEL: u8 = 6;
 
 // The sixteen leaves of a square of level 5, row by row.
 fn read_sixteen<S: Squares>(book: &mut S, sq: Sq) -> [u64; 16]

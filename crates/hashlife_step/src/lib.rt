@@ -6,15 +6,14 @@ mod centres;
 mod leaf_squares;
 mod orders;
 mod padding;
-mod plans;
 mod recursion;
 mod steps;
 mod trimming;
 
-pub use orders::Order;
+pub use leaf_squares::BASE_LEVEL;
+pub use orders::EvaluationOrder;
 pub use padding::pad;
-pub use plans::plan;
 pub use recursion::{future, future_in_order, replace_by_futures};
 pub use squares::Tally;
-pub use steps::step;
+pub use steps::{plan, step};
 pub use trimming::trim;

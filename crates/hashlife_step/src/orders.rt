@@ -28,7 +28,7 @@ const ORDERS_OF_FOUR: [[u8; 4]; 8] = [
 /// An order in which the futures of several squares are asked for. No result hangs on an order, so
 /// nothing says that each square comes at some place.
 #[derive(Clone, Copy, Debug, PartialEq, Eq)]
-pub struct Order {
+pub struct EvaluationOrder {
     // Which of the eight lists of places it goes by.
     list: u8,
     // How many places after that of the list a square stands.
@@ -36,14 +36,14 @@ pub struct Order {
     ghost listed: { list < 8 },
 }
 
-impl Order {
+impl EvaluationOrder {
     /// The order of a worker: the first one has none, and 255 others have each their own. Workers
     /// share their work best where their orders begin at different squares.
-    pub fn of_worker(worker: u8) -> Option<Order> {
+    pub fn of_worker(worker: u8) -> Option<EvaluationOrder> {
         if worker == 0 {
             return None;
         }
-        Some(Order {
+        Some(EvaluationOrder {
             list: worker % 8,
             turn: worker / 8,
         })

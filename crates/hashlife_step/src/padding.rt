@@ -1,5 +1,6 @@
 //! Empty squares round a square, so that a step has room.
 ghost use Rattle.std.specs.Prelude.{◌≡◌, ◌+◌, ◌-◌, ◌^◌, ◌<◌, ◌≤◌, max, IfOk, IfErr};
+ghost use Rattle.plane.specs.declared.cell.TheConstants.{HIGHEST_LEVEL};
 ghost use Rattle.plane.specs.Centred.{Holds};
 ghost use Rattle.plane.specs.Plane.{after};
 ghost use Rattle.squares.specs.Book.{AddsSquares, IsKnown, MayRefuse};
@@ -14,7 +15,7 @@ use squares::{LEAF_LEVEL, Sq, Squares};
 fn grow<S: Squares>(book: &mut S, sq: Sq) -> Result<Sq, Refusal>
     requires known { IsKnown (S.book book.old) sq.level sq }
     requires low { 3 < sq.level }
-    requires high { sq.level < 65 }
+    requires high { sq.level < HIGHEST_LEVEL }
     ensures level { IfOk result (λ grown. grown.level ≡ sq.level + 1) }
     ensures cells { IfOk result (ShowsRound (S.book book.new) (square_plane (S.book book.old) sq)) }
     ensures refusal { IfErr result (MayRefuse (S.book book.new)) }
@@ -34,7 +35,7 @@ fn grow<S: Squares>(book: &mut S, sq: Sq) -> Result<Sq, Refusal>
 /// the middle of a square of level 5 at least.
 pub fn pad<S: Squares>(book: &mut S, sq: Sq, exponent: u8) -> Result<Sq, Refusal>
     requires known { IsKnown (S.book book.old) sq.level sq }
-    requires high { max (sq.level + 2) (exponent + 3) ≤ 65 }
+    requires high { max (sq.level + 2) (exponent + 3) ≤ HIGHEST_LEVEL }
     ensures level { IfOk result (λ padded. padded.level ≡ max (sq.level + 2) (exponent + 3)) }
     ensures cells { IfOk result (ShowsRound (S.book book.new) (square_plane (S.book book.old) sq)) }
     // What the cells become in that time lies in the square of the level below, round the same

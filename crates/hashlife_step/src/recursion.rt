@@ -1,6 +1,7 @@
 //! The recursion of HashLife: the future of a square from the futures of smaller ones. The book is
 //! the memo: it recalls the results that it knows and keeps those that are made.
 ghost use Rattle.std.specs.Prelude.{◌+◌, ◌-◌, ◌<◌, ◌≤◌, All, IfOk, IfErr, OnErr, OnOk};
+ghost use Rattle.plane.specs.declared.cell.TheConstants.{HIGHEST_LEVEL};
 ghost use Rattle.squares.specs.Book.{IsFuture, IsKnown, MayRefuse};
 ghost use Rattle.hashlife_step.specs.FoundFutures.{FindsFuture};
 ghost use Rattle.hashlife_step.specs.Futures.{AreFinished, AreFutures, AreSameOrFutures};
@@ -8,7 +9,7 @@ ghost use Rattle.hashlife_step.specs.Tallies.{MakesResults};
 
 use crate::centres::four_centres;
 use crate::leaf_squares::{BASE_LEVEL, base_future, leaf_future};
-use crate::orders::Order;
+use crate::orders::EvaluationOrder;
 use plane::Refusal;
 use squares::{LEAF_LEVEL, Sq, Squares, Tally};
 
@@ -31,7 +32,7 @@ pub fn future<S: Squares>(book: &mut S, sq: Sq, tally: &mut Tally) -> Result<Sq,
 pub fn future_in_order<S: Squares>(
     book: &mut S,
     sq: Sq,
-    order: Option<Order>,
+    order: Option<EvaluationOrder>,
     tally: &mut Tally,
 ) -> Result<Sq, Refusal>
     requires known { IsKnown (S.book book.old) sq.level sq }
@@ -53,7 +54,7 @@ pub fn future_in_order<S: Squares>(
 fn make<S: Squares>(
     book: &mut S,
     sq: Sq,
-    order: Option<Order>,
+    order: Option<EvaluationOrder>,
     tally: &mut Tally,
 ) -> Result<Sq, Refusal>
     requires known { IsKnown (S.book book.old) sq.level sq }
@@ -83,12 +84,12 @@ fn finish<S: Squares>(
     book: &mut S,
     level: u8,
     nine: [Sq; 9],
-    order: Option<Order>,
+    order: Option<EvaluationOrder>,
     tally: &mut Tally,
 ) -> Result<[Sq; 4], Refusal>
     requires known { All (IsKnown (S.book book.old) level) nine }
     requires low { 3 ≤ level }
-    requires high { level < 65 }
+    requires high { level < HIGHEST_LEVEL }
     ensures ok { IfOk result (AreFinished (S.book book.new) level nine) }
     ensures refusal { IfErr result (MayRefuse (S.book book.new)) }
     ensures makes { MakesResults (S.book book.old) (S.book book.new) (level + 1)
@@ -110,7 +111,7 @@ pub fn replace_by_futures<S: Squares>(
     book: &mut S,
     level: u8,
     squares: &mut [Sq],
-    order: Option<Order>,
+    order: Option<EvaluationOrder>,
     tally: &mut Tally,
 ) -> Result<(), Refusal>
     requires known { All (IsKnown (S.book book.old) level) squares.old }
@@ -134,7 +135,7 @@ fn ask_ahead<S: Squares>(
     book: &mut S,
     level: u8,
     squares: &[Sq],
-    order: Option<Order>,
+    order: Option<EvaluationOrder>,
     tally: &mut Tally,
 ) -> Result<(), Refusal>
     requires known { All (IsKnown (S.book book.old) level) squares.now }

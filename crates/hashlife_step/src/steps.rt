@@ -1,5 +1,8 @@
-//! One step of a run: the square is padded, its future taken and trimmed.
-ghost use Rattle.std.specs.Prelude.{◌+◌, ◌≤◌, max, IfOk, IfErr};
+//! One step of a run: the square is padded, its future taken and trimmed. The steps that a number
+//! of generations takes.
+ghost use Rattle.std.specs.Prelude.{◌≡◌, ◌+◌, ◌^◌, ◌<◌, ◌≤◌, max, All, IfOk, IfErr, sum_by};
+ghost use Rattle.std.specs.List.Sorted.{IsStrictlyIncreasing};
+ghost use Rattle.plane.specs.declared.cell.TheConstants.{HIGHEST_LEVEL};
 ghost use Rattle.squares.specs.Book.{IsKnown, MayRefuse};
 ghost use Rattle.hashlife_step.specs.Round.{IsStepOf};
 ghost use Rattle.hashlife_step.specs.Tallies.{MakesResults};
@@ -7,6 +10,7 @@ ghost use Rattle.hashlife_step.specs.Tallies.{MakesResults};
 use crate::padding::pad;
 use crate::recursion::future;
 use crate::trimming::trim;
+use arrayvec::ArrayVec;
 use plane::Refusal;
 use squares::{Sq, Squares, Tally};
 
@@ -15,14 +19,29 @@ use squares::{Sq, Squares, Tally};
 /// least 4, round the same centre.
 pub fn step<S: Squares>(book: &mut S, root: Sq, tally: &mut Tally) -> Result<Sq, Refusal>
     requires known { IsKnown (S.book book.old) root.level root }
-    requires high { max (root.level + 2) ((S.book book.old).exponent + 3) ≤ 65 }
+    requires high { max (root.level + 2) ((S.book book.old).exponent + 3) ≤ HIGHEST_LEVEL }
     ensures ok { IfOk result (IsStepOf (S.book book.old) (S.book book.new) root) }
     ensures refusal { IfErr result (MayRefuse (S.book book.new)) }
-    ensures makes { MakesResults (S.book book.old) (S.book book.new) 65
+    ensures makes { MakesResults (S.book book.old) (S.book book.new) HIGHEST_LEVEL
         tally.old.expansions tally.new.expansions }
 {
     let exponent = book.exponent();
     let padded = pad(book, root, exponent)?;
     let next = future(book, padded, tally)?;
     trim(book, next)
+}
+
+/// The powers of two that add up to a number of generations, as exponents, rising.
+pub fn plan(generations: u64) -> ArrayVec<u8, 64>
+    ensures rising { IsStrictlyIncreasing result.items }
+    ensures digits { All (λ exponent. exponent < 64) result.items }
+    ensures sum { sum_by (λ exponent. 2 ^ exponent) result.items ≡ generations }
+{
+    let mut exponents = ArrayVec::new();
+    for exponent in 0..64u8 {
+        if generations >> exponent & 1 == 1 {
+            exponents.push(exponent);
+        }
+    }
+    exponents
 }

@@ -4,4 +4,4 @@
 
 mod queues;
 
-pub use queues::{InOrder, JobQueue, JobStealer, Seen};
+pub use queues::{JobQueue, JobStealer};

@@ -11,14 +11,14 @@ use std::sync::Wait;
 /// What a pass knows of a deque: whether no other pass was made, all jobs that were ever pushed, in
 /// order, and an end of them that contains all jobs which are left. No value of it is ever made:
 /// only contracts speak of it.
-pub struct Seen {
-    pub alone: bool,
-    pub share: LinkedList<usize>,
-    pub left: LinkedList<usize>,
+pub(crate) struct Seen {
+    pub(crate) alone: bool,
+    pub(crate) share: LinkedList<usize>,
+    pub(crate) left: LinkedList<usize>,
 }
 
 /// The rule: what a deque holds is an end of what each pass knows to be left.
-pub struct InOrder;
+pub(crate) struct InOrder;
 
 impl Protocol<usize, Seen> for InOrder {
     ghost use Rattle.std.specs.Prelude.{true, false, []};

@@ -7,7 +7,10 @@ ghost use Rattle.leaf_kernels.specs.Generation.{AreNext};
 ghost use Rattle.leaf_kernels.specs.Inside.{AgreeInside};
 ghost use Rattle.leaf_kernels.specs.Rows.{rows_plane};
 
+use crate::life::{Life, is_life};
+use crate::masks::Masks;
 use crate::rows::{from_lane_before, from_lane_behind};
+use rule_text::Rule;
 use std::simd::prelude::*;
 
 /// What makes the next generation of cells from their rows and the rows above and below.
@@ -20,13 +23,22 @@ pub(crate) trait NextCells {
         ensures { AreNext (rule self.now) above here below result };
 }
 
-/// Sixty-four rows so many generations on. In each of them cells outside the 64 by 64 are taken as
-/// dead, so those are right that lie further inside.
-pub(crate) fn rows_after<N: NextCells>(
-    kernel: &N,
-    rows: [u64x4; 16],
-    generations: u8,
-) -> [u64x4; 16]
+/// Sixty-four rows so many generations on by a rule. In each of them cells outside the 64 by 64 are
+/// taken as dead, so those are right that lie further inside.
+#[inline(always)]
+pub(crate) fn later_rows(rule: &Rule, rows: [u64x4; 16], generations: u8) -> [u64x4; 16]
+    ensures { AgreeInside 64 generations (rows_plane result)
+        (after rule.now (rows_plane rows) generations) }
+{
+    if is_life(rule) {
+        rows_after(&Life, rows, generations)
+    } else {
+        rows_after(&Masks::new(*rule), rows, generations)
+    }
+}
+
+// The same by what makes the next generation.
+fn rows_after<N: NextCells>(kernel: &N, rows: [u64x4; 16], generations: u8) -> [u64x4; 16]
     ensures { AgreeInside 64 generations (rows_plane result)
         (after (N.rule kernel.now) (rows_plane rows) generations) }
 {

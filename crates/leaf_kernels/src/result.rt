@@ -4,10 +4,8 @@ ghost use Rattle.plane.specs.Square.{IsSame, bits_plane, future};
 ghost use Rattle.plane.specs.Leaves.{leaves_plane};
 ghost use Rattle.leaf_kernels.specs.Rows.{four_fours_plane, four_sixteens_plane};
 
-use crate::generation::{NextCells, rows_after};
+use crate::generation::later_rows;
 use crate::leaves;
-use crate::life::{Life, is_life};
-use crate::masks::Masks;
 use crate::sixteen_rows::{centre_of_rows, next_rows, rows_of_leaves};
 use rule_text::Rule;
 
@@ -33,19 +31,6 @@ pub fn result64(rule: &Rule, quarters: [[u64; 16]; 4], exp: u8) -> [[u64; 4]; 4]
     ensures { IsSame (four_fours_plane result)
         (future rule.now exp 6 (four_sixteens_plane quarters)) }
 {
-    if is_life(rule) {
-        middle_after(&Life, quarters, exp)
-    } else {
-        middle_after(&Masks::new(*rule), quarters, exp)
-    }
-}
-
-// The same by what makes the next generation.
-fn middle_after<N: NextCells>(kernel: &N, quarters: [[u64; 16]; 4], exp: u8) -> [[u64; 4]; 4]
-    requires { exp < 5 }
-    ensures { IsSame (four_fours_plane result)
-        (future (N.rule kernel.now) exp 6 (four_sixteens_plane quarters)) }
-{
-    let later = rows_after(kernel, leaves::rows_of(quarters), 1 << exp);
+    let later = later_rows(rule, leaves::rows_of(quarters), 1 << exp);
     leaves::middle_of(later)
 }

@@ -2,16 +2,13 @@
 //! y)`.
 ghost use Rattle.std.specs.Prelude.{◌≡◌, ℕ, pos, ◌+◌, ◌<◌, slice_index};
 ghost use Rattle.plane.specs.Laws.{moved};
-ghost use Rattle.plane.specs.Plane.{after, next};
+ghost use Rattle.plane.specs.Plane.{next};
 ghost use Rattle.plane.specs.Square.{IsSame, bit, bits_plane, centre_of, cut};
-ghost use Rattle.leaf_kernels.specs.Inside.{AgreeInside};
 ghost use Rattle.plane.specs.Leaves.{leaves_plane};
 ghost use Rattle.leaf_kernels.specs.Rows.{rows_plane, sixteen_rows_plane};
 
-use crate::generation::rows_after;
+use crate::generation::later_rows;
 use crate::leaves::{middle_lanes, transpose};
-use crate::life::{Life, is_life};
-use crate::masks::Masks;
 use rule_text::Rule;
 use std::simd::prelude::*;
 
@@ -22,18 +19,7 @@ pub fn next_rows(rule: &Rule, rows: u16x16) -> u16x16
     ensures { IsSame (sixteen_rows_plane result)
         (cut 16 0 0 (next rule.now (sixteen_rows_plane rows))) }
 {
-    middle_rows(next_of_all(rule, surround(rows)))
-}
-
-// Sixty-four rows one generation on by a rule. The cells that lie inside are right.
-fn next_of_all(rule: &Rule, rows: [u64x4; 16]) -> [u64x4; 16]
-    ensures { AgreeInside 64 1 (rows_plane result) (after rule.now (rows_plane rows) 1) }
-{
-    if is_life(rule) {
-        rows_after(&Life, rows, 1)
-    } else {
-        rows_after(&Masks::new(*rule), rows, 1)
-    }
+    middle_rows(later_rows(rule, surround(rows), 1))
 }
 
 // Sixty-four rows with these sixteen in their middle; all other cells are dead.

@@ -1,5 +1,6 @@
 -- What a desk knows, as a book of squares.
 use Rattle.std.specs.Prelude.{◌≡◌, ℕ, ◌==◌, nat_le, Bool, true, false, ◌&&◌, if◌then◌else◌, List, [], ◌∷◌, map, Option, Some, None, is_some}
+use Rattle.plane.specs.declared.cell.TheConstants.{HIGHEST_LEVEL}
 use Rattle.plane.specs.Plane.{Plane}
 use Rattle.plane.specs.Square.{IsSame, empty}
 use Rattle.plane.specs.Listing.{plane_of}
@@ -27,7 +28,7 @@ cells_there (Some entry) = plane_of entry.live
 
 abbrev pub knows_in : Knowledge → Sq → Bool
 knows_in known sq =
-    (nat_le 3 sq.level && nat_le sq.level 65)
+    (nat_le 3 sq.level && nat_le sq.level HIGHEST_LEVEL)
     && (if sq.num.0 == 0 then true
     else is_some (entry_at known.blocks (square_rank sq.level) sq.num.0))
 

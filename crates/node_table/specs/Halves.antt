@@ -1,5 +1,6 @@
 -- Halves of squares, and what a desk knows of them.
 use Rattle.std.specs.Prelude.{◌≡◌, ℕ, ◌-◌, ◌<◌, All, List, [], ◌∷◌}
+use Rattle.plane.specs.declared.cell.TheConstants.{HIGHEST_LEVEL}
 use Rattle.plane.specs.Plane.{Plane}
 use Rattle.squares.specs.declared.sq.Sq.{Sq}
 use Rattle.squares.specs.Book.{Book, AreQuarters, IsKnown, nth}
@@ -12,7 +13,7 @@ use Rattle.node_table.specs.Refusals.{IsHalf, known_by}
 
 -- two known squares of one level, of which larger ones can be made
 pub record AreBeside (book : Book) (first second : Sq) : Type 0 where
-  pub fits : first.level < 65
+  pub fits : first.level < HIGHEST_LEVEL
   pub left : IsKnown book first.level first
   pub right : IsKnown book first.level second
 
@@ -35,7 +36,7 @@ squares_of upper lower = upper.left ∷ upper.right ∷ lower.left ∷ lower.rig
 
 -- two known halves of squares of one level
 pub record MakeSquare (at : At) (top bottom : Half) : Type 0 where
-  pub fits : top.left.level < 65
+  pub fits : top.left.level < HIGHEST_LEVEL
   pub upper : KnowsHalf at top.left.level top
   pub lower : KnowsHalf at top.left.level bottom
 

@@ -1,6 +1,7 @@
 -- What words show that nobody changes, as a book that is only read.
 use Rattle.std.specs.Prelude.{ℕ, zero, suc, ◌+◌, ◌^◌, ◌==◌, nat_le, nat_lt, Bool, true, false, not, ◌&&◌, List, map, filter, slice_index}
 use Rattle.std.specs.List.{flat_map, range_with_len}
+use Rattle.plane.specs.declared.cell.TheConstants.{HIGHEST_LEVEL}
 use Rattle.squares.specs.declared.sq.Sq.{Sq}
 use Rattle.squares.specs.Book.{Book, numbered, own_store}
 use Rattle.table_core.specs.declared.key.Key.{Key}
@@ -25,10 +26,10 @@ is_block bits words (suc rank) (suc i) =
     && is_block bits words rank (first_part (words (suc i)))
     && is_block bits words rank (second_part (words (suc i)))
 
--- whether it is a square of level 3 to 65 whose number stands for a block of its rank
+-- whether it is a square of level 3 to the highest whose number stands for a block of its rank
 abbrev pub is_square : ℕ → Words → Sq → Bool
 is_square bits words sq =
-    nat_le 3 sq.level && nat_le sq.level 65
+    nat_le 3 sq.level && nat_le sq.level HIGHEST_LEVEL
     && is_block bits words (square_rank sq.level) sq.num.0
 
 -- whether it is such a square, and a result stands beside its pair
@@ -36,7 +37,7 @@ abbrev pub is_told : ℕ → Words → Sq → Bool
 is_told bits words sq =
     is_square bits words sq && not (words (result_of bits sq.num.0) == 0)
 
--- the squares of level 4 to 65 with the number of a pair slot
+-- the squares of level 4 to the highest with the number of a pair slot
 abbrev pub pair_squares : ℕ → List Sq
 pair_squares bits =
     flat_map (λ level. map (numbered level) (range_with_len (start bits Pair) (2 ^ bits)))

@@ -1,5 +1,6 @@
 -- Words in one owner's hands.
 use Rattle.std.specs.Prelude.{◌≡◌, ◌≢◌, ℕ, ◌^◌, ◌<◌, ◌≤◌, ◌↔◌, Bool, IsTrue, List, slice_index}
+use Rattle.plane.specs.declared.cell.TheConstants.{HIGHEST_LEVEL}
 use Rattle.table_core.specs.declared.key.Key.{Key}
 use Rattle.table_core.specs.Blocks.{Words, IsBlock, square_rank, largest_rank}
 use Rattle.table_core.specs.Opening.{IsFresh, KeepsResult, Reopens}
@@ -37,7 +38,7 @@ pub record HasRank (still : Still) (number found : ℕ) : Type 0 where
 
 -- the result beside the number of a square stays
 pub record KeepsAtRank (still : Still) (key : Key) (pair : ℕ) (stays : Bool) : Type 0 where
-  pub is : (level : ℕ) → 3 < level → pair ≢ 0 → level ≤ 65 →
+  pub is : (level : ℕ) → 3 < level → pair ≢ 0 → level ≤ HIGHEST_LEVEL →
       IsBlock still.key.shape.bits (words_of still) (square_rank level) pair →
       IsTrue stays ↔ KeepsResult still.key key level
 

@@ -1,6 +1,7 @@
 //! A desk at work at its table: the book of squares that the recursion reads and writes.
 ghost use Rattle.std.specs.Prelude.{◌≡◌, ◌<◌, ◌+◌, ◌-◌, All, IfErr, IfNone, IfOk, IfSome, IsErr, IsOk, MatchOption, OnErr, OnOk, Some};
 ghost use Rattle.std.specs.List.{AllByRecursion};
+ghost use Rattle.plane.specs.declared.cell.TheConstants.{HIGHEST_LEVEL};
 ghost use Rattle.plane.specs.Square.{bits_plane};
 ghost use Rattle.squares.specs.Book.{AddsResult, AddsSquares, AreQuarters, AreSubsquares, HasResult, IsEmpty, IsFuture, IsKnown, Keeps, KeepsResults, Learns, MayRefuse, Shows, joined_squares, nth, numbered};
 ghost use Rattle.squares.specs.Overlaps.{AreOverlaps};
@@ -115,7 +116,7 @@ impl Squares for At<'_> {
     }
 
     fn quad(&mut self, quarters: [Sq; 4]) -> Result<Sq, Refusal>
-        requires level { (nth quarters 0).level < 65 }
+        requires level { (nth quarters 0).level < HIGHEST_LEVEL }
         requires known { AllByRecursion
             (IsKnown (book_here self.old) (nth quarters 0).level) quarters }
         ensures ok { IfOk result (Shows (book_here self.new) ((nth quarters 0).level + 1)
@@ -153,7 +154,7 @@ impl Squares for At<'_> {
 
     fn overlaps(&mut self, level: u8, nine: [Sq; 9]) -> Result<[Sq; 4], Refusal>
         requires known { All (IsKnown (book_here self.old) level) nine }
-        requires level { level < 65 }
+        requires level { level < HIGHEST_LEVEL }
         ensures ok { IfOk result (AreOverlaps (book_here self.new) level nine) }
         ensures refusal { IfErr result (MayRefuse (book_here self.new)) }
         ensures full { OnErr result (HasNoRoomForOverlap self.new.table.now self.new.desk nine) }

@@ -14,9 +14,9 @@ use squares::Sq;
 /// Two squares of one level side by side, and the number of both together.
 #[derive(Clone, Copy)]
 pub(crate) struct Half {
-    pub left: Sq,
-    pub right: Sq,
-    pub number: u32,
+    pub(crate) left: Sq,
+    pub(crate) right: Sq,
+    pub(crate) number: u32,
 }
 
 impl At<'_> {

@@ -31,10 +31,6 @@ mod word_steps;
 pub use at::At;
 pub use desk::Desk;
 pub use held::Held;
-pub use rules::{
-    JoinedView, LoadNode, LoadResult, PlaceNode, PlaceResult, SplitView, TableInvariant,
-};
 pub use shared::SharedStill;
 pub use still::Still;
 pub use table::NodeTable;
-pub use view::View;

@@ -1,6 +1,7 @@
 //! The four squares that neighbours make among nine squares in three rows.
 
 ghost use Rattle.std.specs.Prelude.{◌<◌, ◌⊎◌, All, IfOk, IfErr, OnErr};
+ghost use Rattle.plane.specs.declared.cell.TheConstants.{HIGHEST_LEVEL};
 ghost use Rattle.squares.specs.Book.{IsKnown, MayRefuse};
 ghost use Rattle.squares.specs.Overlaps.{AreOverlaps};
 ghost use Rattle.table_core.specs.declared.shape.Kind.TheVariants.{Pair};
@@ -16,9 +17,9 @@ use squares::Sq;
 /// The halves of each of three rows of three squares: its first two squares, and its last two.
 #[derive(Clone, Copy)]
 pub(crate) struct HalvesOfRows {
-    pub upper: (Half, Half),
-    pub middle: (Half, Half),
-    pub lower: (Half, Half),
+    pub(crate) upper: (Half, Half),
+    pub(crate) middle: (Half, Half),
+    pub(crate) lower: (Half, Half),
 }
 
 impl At<'_> {
@@ -42,7 +43,7 @@ impl At<'_> {
     // The halves of the three rows of nine squares of one level.
     fn halves_of_rows(&mut self, level: u8, nine: [Sq; 9]) -> Result<HalvesOfRows, Refusal>
         requires known { All (IsKnown (book_here self.old) level) nine }
-        requires level { level < 65 }
+        requires level { level < HIGHEST_LEVEL }
         ensures learns { LearnsBlocks self.old self.new }
         ensures ok { IfOk result (AreHalvesOfRows self.new level nine) }
         ensures refusal { IfErr result (MayRefuse (book_here self.new)) }
@@ -73,7 +74,7 @@ impl At<'_> {
         nine: [Sq; 9],
     ) -> Result<[Sq; 4], Refusal>
         requires known { All (IsKnown (book_here self.old) level) nine }
-        requires level { level < 65 }
+        requires level { level < HIGHEST_LEVEL }
         ensures learns { LearnsBlocks self.old self.new }
         ensures ok { IfOk result (AreOverlaps (book_here self.new) level nine) }
         ensures refusal { IfErr result (MayRefuse (book_here self.new)) }

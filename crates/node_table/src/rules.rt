@@ -8,7 +8,7 @@ use atomic_table::{Join, Play, Split, TableRule};
 
 /// The rule of the words, between any two steps: they are good, what each desk knows is true, and
 /// some desk knows each word that is not 0.
-pub struct TableInvariant;
+pub(crate) struct TableInvariant;
 
 impl TableRule<(), View, Still> for TableInvariant {
     ghost holds = { IsSoundState };
@@ -17,35 +17,35 @@ impl TableRule<(), View, Still> for TableInvariant {
 }
 
 /// A load of the word of a leaf or a pair.
-pub struct LoadNode;
+pub(crate) struct LoadNode;
 
 impl Play<(), View> for LoadNode {
     ghost then = { LoadsNode };
 }
 
 /// A compare-exchange of the word of a leaf or a pair from 0.
-pub struct PlaceNode;
+pub(crate) struct PlaceNode;
 
 impl Play<(), View> for PlaceNode {
     ghost then = { PlacesNode };
 }
 
 /// A load of the word of a result.
-pub struct LoadResult;
+pub(crate) struct LoadResult;
 
 impl Play<(), View> for LoadResult {
     ghost then = { LoadsResult };
 }
 
 /// A compare-exchange of the word of a result from 0.
-pub struct PlaceResult;
+pub(crate) struct PlaceResult;
 
 impl Play<(), View> for PlaceResult {
     ghost then = { PlacesResult };
 }
 
 /// Both desks know what the one knew.
-pub struct SplitView;
+pub(crate) struct SplitView;
 
 impl Split<View> for SplitView {
     ghost left = { λ view. view };
@@ -54,7 +54,7 @@ impl Split<View> for SplitView {
 }
 
 /// The one desk knows what either knew.
-pub struct JoinedView;
+pub(crate) struct JoinedView;
 
 impl Join<View> for JoinedView {
     ghost both = { merged };

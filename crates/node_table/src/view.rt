@@ -4,7 +4,7 @@ use table_core::{Key, Knowledge};
 /// What a desk has seen: the table's key, and what the desk knows of the words. That of a desk that
 /// was joined into another has no key, and knows nothing. No value of it is ever made: only
 /// contracts speak of it.
-pub struct View {
-    pub key: Option<Key>,
-    pub known: Knowledge,
+pub(crate) struct View {
+    pub(crate) key: Option<Key>,
+    pub(crate) known: Knowledge,
 }

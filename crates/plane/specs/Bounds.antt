@@ -5,15 +5,23 @@ use Rattle.plane.specs.declared.cell.Cell.{Cell}
 use Rattle.plane.specs.declared.cell.Bounds.{Bounds}
 use Rattle.plane.specs.Range.{IsBoxInRange, widened}
 
+-- the box of one cell
+abbrev pub box_of : Cell → Bounds
+box_of cell = record { left = cell.x; top = cell.y; right = cell.x; bottom = cell.y }
+
+-- the smallest box that holds both
+abbrev pub box_union : Bounds → Bounds → Bounds
+box_union a b = record {
+  left = int_min a.left b.left;
+  top = int_min a.top b.top;
+  right = int_max a.right b.right;
+  bottom = int_max a.bottom b.bottom;
+}
+
 -- the smallest box that also holds the cell
 abbrev pub box_with : Option Bounds → Cell → Option Bounds
-box_with None cell = Some (record { left = cell.x; top = cell.y; right = cell.x; bottom = cell.y })
-box_with (Some box) cell = Some (record {
-  left = int_min box.left cell.x;
-  top = int_min box.top cell.y;
-  right = int_max box.right cell.x;
-  bottom = int_max box.bottom cell.y;
-})
+box_with None cell = Some (box_of cell)
+box_with (Some box) cell = Some (box_union box (box_of cell))
 
 -- the smallest box that holds the cells, if there are any
 abbrev pub bounds_of : List Cell → Option Bounds

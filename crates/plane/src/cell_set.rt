@@ -35,19 +35,10 @@ impl Model for CellSet {
 fn box_with(bounds: Option<Bounds>, cell: Cell) -> Bounds
     ensures { box_with bounds cell ≡ Some result }
 {
+    let own = Bounds::of(cell);
     match bounds {
-        Some(bounds) => Bounds {
-            left: bounds.left.min(cell.x),
-            top: bounds.top.min(cell.y),
-            right: bounds.right.max(cell.x),
-            bottom: bounds.bottom.max(cell.y),
-        },
-        None => Bounds {
-            left: cell.x,
-            top: cell.y,
-            right: cell.x,
-            bottom: cell.y,
-        },
+        Some(bounds) => bounds.union(own),
+        None => own,
     }
 }
 

@@ -5,10 +5,8 @@ mod fail_at;
 mod history;
 mod memory;
 mod traits;
-mod writing;
 
 pub use counted::Counted;
 pub use fail_at::FailAt;
 pub use memory::Memory;
-pub use traits::{Failed, Sink, Source};
-pub use writing::write_all;
+pub use traits::{Failed, Sink, Source, write_all};

@@ -2,8 +2,9 @@
 
 ghost use Rattle.std.specs.Prelude.{◌≡◌, Some};
 ghost use Rattle.plane.specs.declared.refusal.Refusal.TheVariants.{NoMemory};
-ghost use Rattle.plane.specs.Refusal.{name_of, number_of};
+ghost use Rattle.plane.specs.Refusal.{name_of, number_of, rule_refusal};
 
+use rule_text::RuleFault;
 use std::alloc::{AllocError, AllocFailed};
 use std::error::Error;
 use std::fmt;
@@ -115,5 +116,15 @@ impl<T: Drop> From<AllocFailed<T>> for Refusal {
 
     fn from(_error: AllocFailed<T>) -> Refusal {
         Refusal::NoMemory
+    }
+}
+
+/// The refusal of a rule's fault: `BadRule` or `BirthOnZero`.
+pub fn rule_refusal(fault: RuleFault) -> Refusal
+    ensures { result ≡ rule_refusal fault }
+{
+    match fault {
+        RuleFault::BadRule => Refusal::BadRule,
+        RuleFault::BirthOnZero => Refusal::BirthOnZero,
     }
 }

@@ -10,7 +10,7 @@ use std::marker::Model;
 pub const WINDOW_SIDE_LIMIT: u32 = 1024;
 
 /// Windows begin at coordinates from `-WINDOW_CORNER_LIMIT` to `WINDOW_CORNER_LIMIT`.
-pub const WINDOW_CORNER_LIMIT: i64 = 1 << 62;
+pub(crate) const WINDOW_CORNER_LIMIT: i64 = 1 << 62;
 
 /// A rectangle of the plane that a picture can show. It is never empty.
 #[derive(Clone, Copy, Debug, PartialEq, Eq)]

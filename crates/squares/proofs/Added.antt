@@ -6,12 +6,12 @@ use Rattle.std.specs.Ordering.{nat_cmp}
 use Rattle.std.proofs.lemmas.List.{length-map}
 use Rattle.std.proofs.lemmas.Map.Lookups.{exact_unsigned}
 use Rattle.rule_text.specs.CountRule.{CountRule}
-use Rattle.squares.specs.declared.node.Node.{Node}
-use Rattle.squares.specs.declared.node.Node.TheVariants.{Leaf, Inner}
+use Rattle.squares.specs.declared.node.PlainNode.{PlainNode}
+use Rattle.squares.specs.declared.node.PlainNode.TheVariants.{Leaf, Inner}
 use Rattle.squares.specs.declared.node.Quarters.{Quarters}
 use Rattle.squares.specs.declared.node.Record.{Record}
 use Rattle.squares.specs.declared.sq.Num.{Num}
-use Rattle.squares.specs.Nodes.{node_at, nodes_of, quarters_order, AreFutures, AreKnown, HasNumbers, IsGood}
+use Rattle.squares.specs.Nodes.{node_at, nodes_of, quarters_order, AreFutures, AreNodeQuarters, HasNumbers, IsGood}
 use Rattle.squares.proofs.NodeLists.{node_pushed}
 use Rattle.squares.proofs.NumberMaps.{exact_quarters, inner_apart, leaves_apart, no_inner, no_leaf, numbers_added, numbers_kept, numbers_same}
 use Rattle.squares.proofs.PlainLaws.{nodes_pushed}
@@ -29,15 +29,15 @@ last_number : (old : List Record) (num : Num) → num.0 ≡ suc (length old) →
 last_number old num is = is ∙ ap suc (sym (length-map old (λ (r : Record). r.node)))
 
 -- the nodes with one more
-pub one_more : (old new : List Record) (node : Node) → new ≡ old ++ record { node = node; future = None } ∷ [] → nodes_of new ≡ nodes_of old ++ node ∷ []
+pub one_more : (old new : List Record) (node : PlainNode) → new ≡ old ++ record { node = node; future = None } ∷ [] → nodes_of new ≡ nodes_of old ++ node ∷ []
 one_more old new node is = ap nodes_of is ∙ nodes_pushed old _
 
 -- a node that was added stands under its number
-pub added_there : (old new : List Record) (node : Node) (num : Num) → num.0 ≡ suc (length old) → new ≡ old ++ record { node = node; future = None } ∷ [] → node_at (nodes_of new) num.0 ≡ Some node
+pub added_there : (old new : List Record) (node : PlainNode) (num : Num) → num.0 ≡ suc (length old) → new ≡ old ++ record { node = node; future = None } ∷ [] → node_at (nodes_of new) num.0 ≡ Some node
 added_there old new node num number is = node_pushed (nodes_of old) (nodes_of new) node num.0 (one_more old new node is) (sym (last_number old num number))
 
 module _ (rule : CountRule) (exponent : ℕ) (old new : List Record) (leaves : BTreeMap ℕ Num) (inner : BTreeMap Quarters Num) (sound : AreSound rule exponent old leaves inner) where
-  more_futures : (node : Node) → new ≡ old ++ record { node = node; future = None } ∷ [] → AreFutures rule exponent new
+  more_futures : (node : PlainNode) → new ≡ old ++ record { node = node; future = None } ∷ [] → AreFutures rule exponent new
   more_futures node is = subst (AreFutures rule exponent) (sym is) (pushed_futures rule exponent old node sound.good sound.futures)
 
   pub leaf_added : {E : Type 0} (r : Result Num E) (word : ℕ) (noted : BTreeMap ℕ Num) → word ≢ 0 → word < 2 ^ 64 → get nat_cmp leaves word ≡ None →
@@ -58,7 +58,7 @@ module _ (rule : CountRule) (exponent : ℕ) (old new : List Record) (leaves : B
     futures = subst (AreFutures rule exponent) (sym same) sound.futures;
   }
 
-  pub quad_added : {E : Type 0} (r : Result Num E) (q : Quarters) (noted : BTreeMap Quarters Num) → AreKnown (nodes_of old) q → get quarters_order inner q ≡ None →
+  pub quad_added : {E : Type 0} (r : Result Num E) (q : Quarters) (noted : BTreeMap Quarters Num) → AreNodeQuarters (nodes_of old) q → get quarters_order inner q ≡ None →
       IfOk r (λ num. num.0 ≡ suc (length old)) → IfOk r (λ num. new ≡ old ++ record { node = Inner q; future = None } ∷ []) → IfOk r (λ num. Updates quarters_order inner noted q (Some num)) →
       OnErr r (new ≡ old) → OnErr r (IsUnchanged inner noted) → AreSound rule exponent new leaves noted
   quad_added (Ok num) q noted known none number is up same unchanged =

@@ -22,7 +22,7 @@ passed_later upper lower counts column column' h passed = record {
 
 -- the quarters are known in a later book, at the level of the first
 pub quarters_known : (first old : Book) (quarters : List Sq) → length quarters ≡ 4 → Keeps first old → CanJoin first quarters → AllByRecursion (IsKnown old (nth quarters 0).level) quarters
-quarters_known first old quarters size keeps can = from_four (IsKnown old (nth quarters 0).level) quarters size (known_kept keeps can.nw) (known_kept keeps can.ne) (known_kept keeps can.sw) (known_kept keeps can.se)
+quarters_known first old quarters size keeps can = from_four (IsKnown old (nth quarters 0).level) quarters size (known_kept keeps can.known.first) (known_kept keeps can.known.second) (known_kept keeps can.known.third) (known_kept keeps can.known.fourth)
 
 pub joined_more : (first old new : Book) (upper lower row : List Segment) (s : Segment) (quarters : List Sq) (from end : ℕ) → Keeps first old → Keeps old new → CanJoin first quarters →
     Shows new ((nth quarters 0).level + 1) (joined_squares old (nth quarters 0).level quarters) s.sq → s.end ≡ end → ((other : ℕ) → from ≤ other → other < end → AreQuartersIn upper lower other quarters) →
@@ -40,6 +40,6 @@ joined_more first old new upper lower row s quarters from end known later can sh
       read = reads column behind high;
       square = s.sq;
       there = new_column row s from column ends behind (omega (arith, is, high));
-      shown = joined_as old new (nth quarters 0).level quarters _ _ _ _ s.sq refl (known.cells _ can.nw.known) (known.cells _ can.ne.known) (known.cells _ can.sw.known) (known.cells _ can.se.known) shown;
+      shown = joined_as old new (nth quarters 0).level quarters _ _ _ _ s.sq refl (known.cells _ can.known.first.known) (known.cells _ can.known.second.known) (known.cells _ can.known.third.known) (known.cells _ can.known.fourth.known) shown;
     })
     (cases_lt column from)

@@ -5,7 +5,7 @@ use Rattle.std.proofs.lemmas.Bool.{cases_eq, false≢true}
 use Rattle.std.proofs.lemmas.List.{append-nil}
 use Rattle.rule_text.specs.CountRule.{CountRule}
 use Rattle.squares.specs.Book.{IsKnown, IsFuture, Keeps, HasResult, AddsResult, Gains, numbered}
-use Rattle.squares.specs.declared.node.Node.{Node}
+use Rattle.squares.specs.declared.node.PlainNode.{PlainNode}
 use Rattle.squares.specs.declared.node.Record.{Record}
 use Rattle.squares.specs.declared.sq.Num.{Num}
 use Rattle.squares.specs.declared.sq.Sq.{Sq}
@@ -136,5 +136,5 @@ module _ (rule : CountRule) (exponent : ℕ) (records : List Record) (sq : Sq) (
         let k = record_of_node new n m here in
         let kept : k.1.future ≡ Some f = sym (future_of_record new k.0 k.1 k.3) ∙ ap (future_at new) (sym k.2) ∙ has in
         subst (λ i. (3 < level_of m) × IsFuture (plain_book rule exponent new) (numbered (level_of m) i) (numbered (level_of m - 1) f.0)) (sym k.2)
-        (subst (λ (x : Node). (3 < level_of x) × IsFuture (plain_book rule exponent new) (numbered (level_of x) (suc k.0)) (numbered (level_of x - 1) f.0)) k.4 (kept_future k.0 k.1 f k.3 kept known above future futures));
+        (subst (λ (x : PlainNode). (3 < level_of x) × IsFuture (plain_book rule exponent new) (numbered (level_of x) (suc k.0)) (numbered (level_of x - 1) f.0)) k.4 (kept_future k.0 k.1 f k.3 kept known above future futures));
   }

@@ -8,8 +8,8 @@ use Rattle.plane.proofs.Cuts.{joined_within, joined_nw, joined_ne, joined_sw, jo
 use Rattle.plane.proofs.LeafBits.{bits_same, bits_none}
 use Rattle.plane.proofs.Same.{same_refl, same_sym, same_trans}
 use Rattle.squares.specs.declared.sq.Num.{Num}
-use Rattle.squares.specs.declared.node.Node.{Node}
-use Rattle.squares.specs.declared.node.Node.TheVariants.{Leaf, Inner}
+use Rattle.squares.specs.declared.node.PlainNode.{PlainNode}
+use Rattle.squares.specs.declared.node.PlainNode.TheVariants.{Leaf, Inner}
 use Rattle.squares.specs.declared.node.Quarters.{Quarters}
 use Rattle.squares.specs.Nodes.{node_at, level_of, knows_number, leaf_plane, inner_plane, plane_at, IsGood}
 use Rattle.squares.proofs.NodeLists.{stands, lower}
@@ -21,30 +21,30 @@ double more =
     let s : 2 ^ (more + 3) + 2 ^ (more + 3) ≡ 2 ^ suc (more + 3) = omega (arith, two) in
     s ∙ ap (λ n. 2 ^ n) e
 
-leaf_square : (o : Option Node) → IsSquare 8 (leaf_plane o)
+leaf_square : (o : Option PlainNode) → IsSquare 8 (leaf_plane o)
 leaf_square None = record { dead = λ x y e. refl }
 leaf_square (Some (Leaf word)) = record { dead = λ x y e. ap (λ b. b && bit word (8 * unsigned_abs y + unsigned_abs x)) e }
 leaf_square (Some (Inner q)) = record { dead = λ x y e. refl }
 
-inner_square : (plane : ℕ → Plane) (side : ℕ) (o : Option Node) → ((n : ℕ) → IsSquare side (plane n)) → IsSquare (side + side) (inner_plane plane side o)
+inner_square : (plane : ℕ → Plane) (side : ℕ) (o : Option PlainNode) → ((n : ℕ) → IsSquare side (plane n)) → IsSquare (side + side) (inner_plane plane side o)
 inner_square plane side None h = record { dead = λ x y e. refl }
 inner_square plane side (Some (Leaf word)) h = record { dead = λ x y e. refl }
 inner_square plane side (Some (Inner q)) h = joined_within side (plane q.nw.0) (plane q.ne.0) (plane q.sw.0) (plane q.se.0) (h q.nw.0) (h q.ne.0) (h q.sw.0) (h q.se.0)
 
-pub plane_square : (nodes : List Node) (more n : ℕ) → IsSquare (2 ^ (more + 3)) (plane_at nodes more n)
+pub plane_square : (nodes : List PlainNode) (more n : ℕ) → IsSquare (2 ^ (more + 3)) (plane_at nodes more n)
 plane_square nodes zero n = leaf_square (node_at nodes n)
 plane_square nodes (suc more) n = subst (λ side. IsSquare side (plane_at nodes (suc more) n)) (double more) (inner_square (plane_at nodes more) (2 ^ (more + 3)) (node_at nodes n) (plane_square nodes more))
 
-pub zero_plane : (nodes : List Node) (more : ℕ) → IsSame (plane_at nodes more 0) empty
+pub zero_plane : (nodes : List PlainNode) (more : ℕ) → IsSame (plane_at nodes more 0) empty
 zero_plane nodes zero = same_refl empty
 zero_plane nodes (suc more) = same_refl empty
 
 -- what stands under a number, seen in its plane
-pub leaf_is : (nodes : List Node) (n word : ℕ) → node_at nodes n ≡ Some (Leaf word) → IsSame (plane_at nodes zero n) (bits_plane word)
+pub leaf_is : (nodes : List PlainNode) (n word : ℕ) → node_at nodes n ≡ Some (Leaf word) → IsSame (plane_at nodes zero n) (bits_plane word)
 leaf_is nodes n word at = record { same = λ x y. ap (λ o. leaf_plane o x y) at }
 
 -- the cells of four quarters, joined
-module _ (nodes : List Node) (more : ℕ) (q : Quarters) where
+module _ (nodes : List PlainNode) (more : ℕ) (q : Quarters) where
   pub all_joined : Plane
   all_joined = joined (2 ^ (more + 3)) (plane_at nodes more q.nw.0) (plane_at nodes more q.ne.0) (plane_at nodes more q.sw.0) (plane_at nodes more q.se.0)
 
@@ -73,13 +73,13 @@ module _ (nodes : List Node) (more : ℕ) (q : Quarters) where
   at_se = joined_se (2 ^ (more + 3)) _ _ _ _ (plane_square nodes more q.nw.0) (plane_square nodes more q.ne.0) (plane_square nodes more q.sw.0) (plane_square nodes more q.se.0)
 
 -- a number whose square is empty is 0
-empty_leaf : (nodes : List Node) → IsGood nodes → (n : ℕ) (node : Node) → node_at nodes n ≡ Some node → level_of node ≡ 3 → IsSame (plane_at nodes zero n) empty → ⊥
+empty_leaf : (nodes : List PlainNode) → IsGood nodes → (n : ℕ) (node : PlainNode) → node_at nodes n ≡ Some node → level_of node ≡ 3 → IsSame (plane_at nodes zero n) empty → ⊥
 empty_leaf nodes good n (Leaf word) at level same =
     let k = good.leaf n word at in k.0 (bits_none word k.1 (same_trans (same_sym (leaf_is nodes n word at)) same))
 empty_leaf nodes good n (Inner q) at level same = let k = (good.inner n q at).low in omega arith
 
-empty_inner : (nodes : List Node) → IsGood nodes → (more : ℕ) → ((m : ℕ) → IsTrue (knows_number nodes (more + 3) m) → IsSame (plane_at nodes more m) empty → m ≡ 0) →
-    (n : ℕ) (node : Node) → node_at nodes n ≡ Some node → level_of node ≡ suc more + 3 → IsSame (plane_at nodes (suc more) n) empty → ⊥
+empty_inner : (nodes : List PlainNode) → IsGood nodes → (more : ℕ) → ((m : ℕ) → IsTrue (knows_number nodes (more + 3) m) → IsSame (plane_at nodes more m) empty → m ≡ 0) →
+    (n : ℕ) (node : PlainNode) → node_at nodes n ≡ Some node → level_of node ≡ suc more + 3 → IsSame (plane_at nodes (suc more) n) empty → ⊥
 empty_inner nodes good more below n (Leaf word) at level same = omega arith
 empty_inner nodes good more below n (Inner q) at level same =
     let k = good.inner n q at in
@@ -91,20 +91,20 @@ empty_inner nodes good more below n (Inner q) at level same =
     let d : q.se.0 ≡ 0 = below q.se.0 (lower nodes q.level more q.se.0 level k.se) (same_trans (at_se nodes more q) (same_trans (cut_same s s s _ _ all) (cut_empty s s s))) in
     k.some (omega arith)
 
-pub empty_number : (nodes : List Node) → IsGood nodes → (more n : ℕ) → IsTrue (knows_number nodes (more + 3) n) → IsSame (plane_at nodes more n) empty → n ≡ 0
+pub empty_number : (nodes : List PlainNode) → IsGood nodes → (more n : ℕ) → IsTrue (knows_number nodes (more + 3) n) → IsSame (plane_at nodes more n) empty → n ≡ 0
 empty_number nodes good zero n h same = ⊎_elim (λ e. e) (λ t. absurd (empty_leaf nodes good n t.0 t.1 t.2 same)) (stands nodes 3 n h)
 empty_number nodes good (suc more) n h same = ⊎_elim (λ e. e) (λ t. absurd (empty_inner nodes good more (empty_number nodes good more) n t.0 t.1 t.2 same)) (stands nodes (suc more + 3) n h)
 
 -- squares with the same cells have one number
-one_leaf : (nodes : List Node) → IsGood nodes → (n m : ℕ) (x y : Node) → node_at nodes n ≡ Some x → level_of x ≡ 3 → node_at nodes m ≡ Some y → level_of y ≡ 3 → IsSame (plane_at nodes zero n) (plane_at nodes zero m) → n ≡ m
+one_leaf : (nodes : List PlainNode) → IsGood nodes → (n m : ℕ) (x y : PlainNode) → node_at nodes n ≡ Some x → level_of x ≡ 3 → node_at nodes m ≡ Some y → level_of y ≡ 3 → IsSame (plane_at nodes zero n) (plane_at nodes zero m) → n ≡ m
 one_leaf nodes good n m (Leaf w) (Leaf v) at_n ln at_m lm same =
     let e : w ≡ v = bits_same w v (good.leaf n w at_n).1 (good.leaf m v at_m).1 (same_trans (same_sym (leaf_is nodes n w at_n)) (same_trans same (leaf_is nodes m v at_m))) in
     good.distinct n m (Leaf v) (subst (λ u. node_at nodes n ≡ Some (Leaf u)) e at_n) at_m
 one_leaf nodes good n m (Leaf w) (Inner q) at_n ln at_m lm same = let k = (good.inner m q at_m).low in absurd (omega arith)
 one_leaf nodes good n m (Inner q) y at_n ln at_m lm same = let k = (good.inner n q at_n).low in absurd (omega arith)
 
-one_inner : (nodes : List Node) → IsGood nodes → (more : ℕ) → ((a b : ℕ) → IsTrue (knows_number nodes (more + 3) a) → IsTrue (knows_number nodes (more + 3) b) → IsSame (plane_at nodes more a) (plane_at nodes more b) → a ≡ b) →
-    (n m : ℕ) (x y : Node) → node_at nodes n ≡ Some x → level_of x ≡ suc more + 3 → node_at nodes m ≡ Some y → level_of y ≡ suc more + 3 → IsSame (plane_at nodes (suc more) n) (plane_at nodes (suc more) m) → n ≡ m
+one_inner : (nodes : List PlainNode) → IsGood nodes → (more : ℕ) → ((a b : ℕ) → IsTrue (knows_number nodes (more + 3) a) → IsTrue (knows_number nodes (more + 3) b) → IsSame (plane_at nodes more a) (plane_at nodes more b) → a ≡ b) →
+    (n m : ℕ) (x y : PlainNode) → node_at nodes n ≡ Some x → level_of x ≡ suc more + 3 → node_at nodes m ≡ Some y → level_of y ≡ suc more + 3 → IsSame (plane_at nodes (suc more) n) (plane_at nodes (suc more) m) → n ≡ m
 one_inner nodes good more below n m (Leaf w) y at_n ln at_m lm same = absurd (omega arith)
 one_inner nodes good more below n m (Inner q) (Leaf w) at_n ln at_m lm same = absurd (omega arith)
 one_inner nodes good more below n m (Inner q) (Inner r) at_n ln at_m lm same =
@@ -121,10 +121,10 @@ one_inner nodes good more below n m (Inner q) (Inner r) at_n ln at_m lm same =
     let same_quarters : q ≡ r = λ i. record { level = l i; nw = number (a i); ne = number (b i); sw = number (c i); se = number (d i) } in
     good.distinct n m (Inner r) (at_n ∙ ap (λ p. Some (Inner p)) same_quarters) at_m
 
-none_like : (nodes : List Node) (more n m : ℕ) → n ≡ 0 → IsSame (plane_at nodes more n) (plane_at nodes more m) → IsSame (plane_at nodes more m) empty
+none_like : (nodes : List PlainNode) (more n m : ℕ) → n ≡ 0 → IsSame (plane_at nodes more n) (plane_at nodes more m) → IsSame (plane_at nodes more m) empty
 none_like nodes more n m e same = same_trans (same_sym same) (subst (λ k. IsSame (plane_at nodes more k) empty) (sym e) (zero_plane nodes more))
 
-pub one_number : (nodes : List Node) → IsGood nodes → (more n m : ℕ) → IsTrue (knows_number nodes (more + 3) n) → IsTrue (knows_number nodes (more + 3) m) → IsSame (plane_at nodes more n) (plane_at nodes more m) → n ≡ m
+pub one_number : (nodes : List PlainNode) → IsGood nodes → (more n m : ℕ) → IsTrue (knows_number nodes (more + 3) n) → IsTrue (knows_number nodes (more + 3) m) → IsSame (plane_at nodes more n) (plane_at nodes more m) → n ≡ m
 one_number nodes good zero n m h k same =
     ⊎_elim (λ e. e ∙ sym (empty_number nodes good zero m k (none_like nodes zero n m e same)))
     (λ t. ⊎_elim (λ e. empty_number nodes good zero n h (none_like nodes zero m n e (same_sym same)) ∙ sym e)

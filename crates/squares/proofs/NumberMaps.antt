@@ -8,8 +8,8 @@ use Rattle.std.specs.declared.cmp.Ordering.{Ordering}
 use Rattle.std.specs.declared.cmp.Ordering.TheVariants.{Less, Equal, Greater}
 use Rattle.std.proofs.lemmas.Map.Lookups.{CmpEqualImpliesEq, exact_unsigned}
 use Rattle.std.proofs.lemmas.Bool.{false≢true}
-use Rattle.squares.specs.declared.node.Node.{Node}
-use Rattle.squares.specs.declared.node.Node.TheVariants.{Leaf, Inner}
+use Rattle.squares.specs.declared.node.PlainNode.{PlainNode}
+use Rattle.squares.specs.declared.node.PlainNode.TheVariants.{Leaf, Inner}
 use Rattle.squares.specs.declared.node.Quarters.{Quarters}
 use Rattle.squares.specs.declared.sq.Num.{Num}
 use Rattle.squares.specs.Nodes.{node_at, HasNumbers, quarters_order}
@@ -52,8 +52,8 @@ none_some : (o : Option Num) (n : Num) → o ≡ None → o ≡ Some n → ⊥
 none_some o n h k = cc
 
 -- the node of a new key comes last, and the map has it
-pub numbers_added : {Key : Type 0} (order : Key → Key → Ordering) → CmpEqualImpliesEq order → (node : Key → Node) → ((a b : Key) → node a ≡ node b → a ≡ b) →
-    (nodes : List Node) (old new : BTreeMap Key Num) (key : Key) (given : Num) → given.0 ≡ suc (length nodes) → HasNumbers order node nodes old →
+pub numbers_added : {Key : Type 0} (order : Key → Key → Ordering) → CmpEqualImpliesEq order → (node : Key → PlainNode) → ((a b : Key) → node a ≡ node b → a ≡ b) →
+    (nodes : List PlainNode) (old new : BTreeMap Key Num) (key : Key) (given : Num) → given.0 ≡ suc (length nodes) → HasNumbers order node nodes old →
     get order old key ≡ None → Updates order old new key (Some given) → HasNumbers order node (nodes ++ node key ∷ []) new
 numbers_added order exact node apart nodes old new key given is_last h none up = record {
   listed = λ q n at. ⊎_elim
@@ -72,7 +72,7 @@ numbers_added order exact node apart nodes old new key given is_last h none up =
 }
 
 -- a node of another kind comes last
-pub numbers_kept : {Key : Type 0} (order : Key → Key → Ordering) (node : Key → Node) (nodes : List Node) (numbers : BTreeMap Key Num) (last : Node) →
+pub numbers_kept : {Key : Type 0} (order : Key → Key → Ordering) (node : Key → PlainNode) (nodes : List PlainNode) (numbers : BTreeMap Key Num) (last : PlainNode) →
     ((key : Key) → last ≡ node key → ⊥) → HasNumbers order node nodes numbers → HasNumbers order node (nodes ++ last ∷ []) numbers
 numbers_kept order node nodes numbers last other h = record {
   listed = λ q n at. ⊎_elim (λ t. h.listed q n t) (λ t. absurd (other q t.1)) (node_snoc nodes last (node q) n.0 at);
@@ -92,7 +92,7 @@ pub no_inner : (w : ℕ) (q : Quarters) → Leaf w ≡ Inner q → ⊥
 no_inner w q e = cc
 
 -- what is not in the map has no node
-pub not_there : {Key : Type 0} (order : Key → Key → Ordering) (node : Key → Node) (nodes : List Node) (numbers : BTreeMap Key Num) (key : Key) →
+pub not_there : {Key : Type 0} (order : Key → Key → Ordering) (node : Key → PlainNode) (nodes : List PlainNode) (numbers : BTreeMap Key Num) (key : Key) →
     HasNumbers order node nodes numbers → get order numbers key ≡ None → (n : ℕ) → ¬ (node_at nodes n ≡ Some (node key))
 unfolding num
 not_there order node nodes numbers key h none n at = none_some (get order numbers key) (num n) none (h.listed key (num n) at)
@@ -111,7 +111,7 @@ same_look_up : {Key : Type 0} (order : Key → Key → Ordering) (old new : BTre
 same_look_up order old new e key = ap (λ es. lookup (is_at (order key)) es) e
 
 -- a map with the same entries
-pub numbers_same : {Key : Type 0} (order : Key → Key → Ordering) (node : Key → Node) (nodes : List Node) (old new : BTreeMap Key Num) → new.entries ≡ old.entries → HasNumbers order node nodes old → HasNumbers order node nodes new
+pub numbers_same : {Key : Type 0} (order : Key → Key → Ordering) (node : Key → PlainNode) (nodes : List PlainNode) (old new : BTreeMap Key Num) → new.entries ≡ old.entries → HasNumbers order node nodes old → HasNumbers order node nodes new
 numbers_same order node nodes old new e h = record {
   listed = λ q n at. same_look_up order old new e q ∙ h.listed q n at;
   found = λ q n at. h.found q n (sym (same_look_up order old new e q) ∙ at);

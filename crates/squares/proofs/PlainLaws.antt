@@ -9,8 +9,8 @@ use Rattle.plane.specs.Square.{IsSame, IsSquare, bits_plane, cut, empty}
 use Rattle.plane.proofs.Cuts.{cut_same, cut_empty}
 use Rattle.plane.proofs.Same.{same_refl, same_sym, same_trans}
 use Rattle.squares.specs.Book.{IsBook, IsKnown, Shows, IsEmpty, IsFuture, Keeps, AreQuarters, numbered}
-use Rattle.squares.specs.declared.node.Node.{Node}
-use Rattle.squares.specs.declared.node.Node.TheVariants.{Inner, Leaf}
+use Rattle.squares.specs.declared.node.PlainNode.{PlainNode}
+use Rattle.squares.specs.declared.node.PlainNode.TheVariants.{Inner, Leaf}
 use Rattle.squares.specs.declared.node.Quarters.{Quarters}
 use Rattle.squares.specs.declared.node.Record.{Record}
 use Rattle.squares.specs.declared.sq.Num.{Num}
@@ -26,7 +26,7 @@ both : (a b : Bool) → a ≡ true → b ≡ true → (a && b) ≡ true
 both true b h k = k
 both false b h k = absurd (false≢true h)
 
-pub zero_known : (nodes : List Node) (level : ℕ) → 3 ≤ level → level ≤ 65 → IsTrue (knows_number nodes level 0)
+pub zero_known : (nodes : List PlainNode) (level : ℕ) → 3 ≤ level → level ≤ 65 → IsTrue (knows_number nodes level 0)
 zero_known nodes level low high = both (nat_le 3 level) (nat_le level 65) (le-leb 3 level low) (le-leb level 65 high)
 
 -- a number of good nodes is a known square
@@ -81,7 +81,7 @@ book_good rule exponent records is_rule good futures = let nodes = nodes_of reco
 }
 
 -- what is known of some records is known of more
-pub keeps_more : (rule : CountRule) (exponent : ℕ) (old new : List Record) (more : List Node) → IsGood (nodes_of old) → nodes_of new ≡ nodes_of old ++ more →
+pub keeps_more : (rule : CountRule) (exponent : ℕ) (old new : List Record) (more : List PlainNode) → IsGood (nodes_of old) → nodes_of new ≡ nodes_of old ++ more →
     ((sq : Sq) → Contains (results_from 0 old) sq → Contains (results_from 0 new) sq) → Keeps (plain_book rule exponent old) (plain_book rule exponent new)
 keeps_more rule exponent old new more good e results = record {
   rule = refl;
@@ -99,7 +99,7 @@ keeps_more rule exponent old new more good e results = record {
 
 -- the futures of some records are those of more
 pub later_future : (rule : CountRule) (exponent : ℕ) (old new : List Record) → IsGood (nodes_of old) → Keeps (plain_book rule exponent old) (plain_book rule exponent new) →
-    (n : ℕ) (node : Node) (num : Num) → node_at (nodes_of old) n ≡ Some node → n ≢ 0 → IsFuture (plain_book rule exponent old) (numbered (level_of node) n) (numbered (level_of node - 1) num.0) →
+    (n : ℕ) (node : PlainNode) (num : Num) → node_at (nodes_of old) n ≡ Some node → n ≢ 0 → IsFuture (plain_book rule exponent old) (numbered (level_of node) n) (numbered (level_of node - 1) num.0) →
     IsFuture (plain_book rule exponent new) (numbered (level_of node) n) (numbered (level_of node - 1) num.0)
 later_future rule exponent old new good keeps n node num at some is =
     future_kept (plain_book rule exponent old) (plain_book rule exponent new) (numbered (level_of node) n) (numbered (level_of node - 1) num.0) keeps

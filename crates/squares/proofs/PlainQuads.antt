@@ -9,13 +9,13 @@ use Rattle.plane.specs.Square.{IsSame, joined, empty}
 use Rattle.plane.proofs.Cuts.{joined_same}
 use Rattle.plane.proofs.Same.{same_sym, same_trans}
 use Rattle.squares.specs.Book.{IsKnown, IsEmpty, Shows, Keeps, joined_squares, numbered, nth}
-use Rattle.squares.specs.declared.node.Node.{Node}
-use Rattle.squares.specs.declared.node.Node.TheVariants.{Inner}
+use Rattle.squares.specs.declared.node.PlainNode.{PlainNode}
+use Rattle.squares.specs.declared.node.PlainNode.TheVariants.{Inner}
 use Rattle.squares.specs.declared.node.Quarters.{Quarters}
 use Rattle.squares.specs.declared.node.Record.{Record}
 use Rattle.squares.specs.declared.sq.Num.{Num}
 use Rattle.squares.specs.declared.sq.Sq.{Sq}
-use Rattle.squares.specs.Nodes.{nodes_of, node_at, knows_number, plane_at, plain_book, quarters_order, AreKnown, HasNumbers, IsGood}
+use Rattle.squares.specs.Nodes.{nodes_of, node_at, knows_number, plane_at, plain_book, quarters_order, AreNodeQuarters, HasNumbers, IsGood}
 use Rattle.squares.specs.Quarters.{quarters_of}
 use Rattle.squares.proofs.NodeLaws.{node_is, joined_is, zero_plane}
 use Rattle.squares.proofs.NodeLists.{node_known, not_zero}
@@ -41,9 +41,9 @@ pub sum_of_empty : (squares : List Sq) → AllFour IsEmpty squares → (nth squa
 sum_of_empty squares h = let a = h.nw in let b = h.ne in let c = h.sw in let d = h.se in omega arith
 
 -- a node of quarters that had none
-pub good_quad : (nodes : List Node) (inner : BTreeMap Quarters Num) (q : Quarters) → AreKnown nodes q → HasNumbers quarters_order Inner nodes inner → get quarters_order inner q ≡ None → IsGood nodes → IsGood (nodes ++ Inner q ∷ [])
+pub good_quad : (nodes : List PlainNode) (inner : BTreeMap Quarters Num) (q : Quarters) → AreNodeQuarters nodes q → HasNumbers quarters_order Inner nodes inner → get quarters_order inner q ≡ None → IsGood nodes → IsGood (nodes ++ Inner q ∷ [])
 good_quad nodes inner q known listed none good = good_pushed nodes (Inner q) (not_there quarters_order Inner nodes inner q listed none)
-    (λ w e. absurd (no_leaf q w e)) (λ p e. subst (AreKnown nodes) (inner_apart q p e) known) good
+    (λ w e. absurd (no_leaf q w e)) (λ p e. subst (AreNodeQuarters nodes) (inner_apart q p e) known) good
 
 module _ (rule : CountRule) (exponent : ℕ) (records : List Record) (squares : List Sq) (size : length squares ≡ 4) (all : AllByRecursion (IsKnown (plain_book rule exponent records) (nth squares 0).level) squares) where
   known : AllFour (IsKnown (plain_book rule exponent records) (nth squares 0).level) squares
@@ -52,7 +52,7 @@ module _ (rule : CountRule) (exponent : ℕ) (records : List Record) (squares : 
   number_known : (n : ℕ) (sq : Sq) (k : IsKnown (plain_book rule exponent records) (nth squares 0).level sq) → IsTrue (knows_number (nodes_of records) ((nth squares 0).level + 1 - 1) sq.num.0)
   number_known n sq k = subst (λ l. IsTrue (knows_number (nodes_of records) l sq.num.0)) (let is = k.at_level in let e : sq.level ≡ (nth squares 0).level + 1 - 1 = omega arith in e) k.known
 
-  quarters_known : (nth squares 0).level < 65 → (nth squares 0).num.0 + (nth squares 1).num.0 + (nth squares 2).num.0 + (nth squares 3).num.0 ≢ 0 → AreKnown (nodes_of records) (quarters_of squares)
+  quarters_known : (nth squares 0).level < 65 → (nth squares 0).num.0 + (nth squares 1).num.0 + (nth squares 2).num.0 + (nth squares 3).num.0 ≢ 0 → AreNodeQuarters (nodes_of records) (quarters_of squares)
   quarters_known fits some = record {
     low = (let l = known.nw.low in omega arith);
     high = omega arith;
@@ -64,9 +64,9 @@ module _ (rule : CountRule) (exponent : ℕ) (records : List Record) (squares : 
   }
 
   -- the quarters that were tested are known, and not all empty
-  pub tested_known : (q : Quarters) (test : Bool) → (nth squares 0).level < 65 → q ≡ quarters_of squares → (q.nw.0 + q.ne.0 + q.sw.0 + q.se.0 ≡ 0 → test ≡ true) → test ≡ false → AreKnown (nodes_of records) q
+  pub tested_known : (q : Quarters) (test : Bool) → (nth squares 0).level < 65 → q ≡ quarters_of squares → (q.nw.0 + q.ne.0 + q.sw.0 + q.se.0 ≡ 0 → test ≡ true) → test ≡ false → AreNodeQuarters (nodes_of records) q
   tested_known q test fits is tested failed =
-      subst (AreKnown (nodes_of records)) (sym is) (quarters_known fits (λ e. false≢true (sym failed ∙ tested (ap (λ (p : Quarters). p.nw.0 + p.ne.0 + p.sw.0 + p.se.0) is ∙ e))))
+      subst (AreNodeQuarters (nodes_of records)) (sym is) (quarters_known fits (λ e. false≢true (sym failed ∙ tested (ap (λ (p : Quarters). p.nw.0 + p.ne.0 + p.sw.0 + p.se.0) is ∙ e))))
 
   -- a node of these quarters shows their cells
   pub node_shows : (new : List Record) (n : ℕ) → IsGood (nodes_of new) → Keeps (plain_book rule exponent records) (plain_book rule exponent new) → node_at (nodes_of new) n ≡ Some (Inner (quarters_of squares)) →

@@ -6,12 +6,12 @@ use Rattle.std.specs.Ordering.{nat_cmp}
 use Rattle.std.proofs.lemmas.List.{take_at}
 use Rattle.rule_text.specs.CountRule.{CountRule}
 use Rattle.squares.specs.Book.{AddsSquares, IsFuture, Keeps, KeepsResults, numbered}
-use Rattle.squares.specs.declared.node.Node.{Node}
-use Rattle.squares.specs.declared.node.Node.TheVariants.{Leaf, Inner}
+use Rattle.squares.specs.declared.node.PlainNode.{PlainNode}
+use Rattle.squares.specs.declared.node.PlainNode.TheVariants.{Leaf, Inner}
 use Rattle.squares.specs.declared.node.Quarters.{Quarters}
 use Rattle.squares.specs.declared.node.Record.{Record}
 use Rattle.squares.specs.declared.sq.Num.{Num}
-use Rattle.squares.specs.Nodes.{nodes_of, node_at, level_of, plain_book, future_at, AreKnown, AreFutures, HasNumbers, IsGood}
+use Rattle.squares.specs.Nodes.{nodes_of, node_at, level_of, plain_book, future_at, AreNodeQuarters, AreFutures, HasNumbers, IsGood}
 use Rattle.squares.proofs.NodeLists.{known_later, node_snoc}
 use Rattle.squares.proofs.NumberMaps.{leaves_apart, no_inner, not_there}
 use Rattle.squares.proofs.Places.{get_push}
@@ -19,7 +19,7 @@ use Rattle.squares.proofs.PlainLaws.{keeps_more, later_future, nodes_pushed}
 use Rattle.squares.proofs.RecordLists.{push_results, node_of_record, record_of_node, future_of_record}
 
 -- the quarters of a node are known in a longer list
-known_longer : (nodes others : List Node) (q : Quarters) → AreKnown nodes q → AreKnown (nodes ++ others) q
+known_longer : (nodes others : List PlainNode) (q : Quarters) → AreNodeQuarters nodes q → AreNodeQuarters (nodes ++ others) q
 known_longer nodes others q h = record {
   low = h.low;
   high = h.high;
@@ -30,7 +30,7 @@ known_longer nodes others q h = record {
   some = h.some;
 }
 
-pub good_pushed : (nodes : List Node) (last : Node) → ((n : ℕ) → ¬ (node_at nodes n ≡ Some last)) → ((w : ℕ) → last ≡ Leaf w → (w ≢ 0) × (w < 2 ^ 64)) → ((q : Quarters) → last ≡ Inner q → AreKnown nodes q) →
+pub good_pushed : (nodes : List PlainNode) (last : PlainNode) → ((n : ℕ) → ¬ (node_at nodes n ≡ Some last)) → ((w : ℕ) → last ≡ Leaf w → (w ≢ 0) × (w < 2 ^ 64)) → ((q : Quarters) → last ≡ Inner q → AreNodeQuarters nodes q) →
     IsGood nodes → IsGood (nodes ++ last ∷ [])
 good_pushed nodes last new leaf inner h = record {
   leaf = λ n w at. ⊎_elim (λ t. h.leaf n w t) (λ t. leaf w t.1) (node_snoc nodes last (Leaf w) n at);
@@ -42,7 +42,7 @@ good_pushed nodes last new leaf inner h = record {
 }
 
 -- a leaf that had no number
-pub good_leaf : (nodes : List Node) (leaves : BTreeMap ℕ Num) (word : ℕ) → word ≢ 0 → word < 2 ^ 64 → HasNumbers nat_cmp Leaf nodes leaves → get nat_cmp leaves word ≡ None → IsGood nodes → IsGood (nodes ++ Leaf word ∷ [])
+pub good_leaf : (nodes : List PlainNode) (leaves : BTreeMap ℕ Num) (word : ℕ) → word ≢ 0 → word < 2 ^ 64 → HasNumbers nat_cmp Leaf nodes leaves → get nat_cmp leaves word ≡ None → IsGood nodes → IsGood (nodes ++ Leaf word ∷ [])
 good_leaf nodes leaves word some fits listed none good = good_pushed nodes (Leaf word) (not_there nat_cmp Leaf nodes leaves word listed none)
     (λ w e. subst (λ v. (v ≢ 0) × (v < 2 ^ 64)) (leaves_apart word w e) (some, fits)) (λ q e. absurd (no_inner word q e)) good
 
@@ -52,7 +52,7 @@ popped records last pushed rest number len items is size taken =
     let before : length records ≡ number - 1 = omega arith in
     taken ∙ ap (λ n. take (n - 1) pushed) size ∙ ap (take (number - 1)) items ∙ take_at records _ (number - 1) before
 
-module _ (rule : CountRule) (exponent : ℕ) (records : List Record) (node : Node) (good : IsGood (nodes_of records)) where
+module _ (rule : CountRule) (exponent : ℕ) (records : List Record) (node : PlainNode) (good : IsGood (nodes_of records)) where
   pub pushed_results : KeepsResults (plain_book rule exponent records) (plain_book rule exponent (records ++ record { node = node; future = None } ∷ []))
   pushed_results = record { results = push_results 0 records (record { node = node; future = None }) refl; learned = refl }
 
@@ -80,5 +80,5 @@ module _ (rule : CountRule) (exponent : ℕ) (records : List Record) (node : Nod
         (λ t. let none : None ≡ Some num = ap (λ (r : Record). r.future) t.1 ∙ kept in let no : ⊥ = cc in absurd no)
         (get_push records (record { node = node; future = None }) k.1 k.0 k.3) in
         subst (λ i. (3 < level_of m) × IsFuture (plain_book rule exponent new) (numbered (level_of m) i) (numbered (level_of m - 1) num.0)) (sym k.2)
-        (subst (λ (x : Node). (3 < level_of x) × IsFuture (plain_book rule exponent new) (numbered (level_of x) (suc k.0)) (numbered (level_of x - 1) num.0)) k.4 was);
+        (subst (λ (x : PlainNode). (3 < level_of x) × IsFuture (plain_book rule exponent new) (numbered (level_of x) (suc k.0)) (numbered (level_of x - 1) num.0)) k.4 was);
   }

@@ -3,7 +3,7 @@ use Rattle.std.proofs.Common.{◌≡◌, ℕ, zero, suc, ◌+◌, ◌-◌, ◌<�
 use Rattle.std.specs.Prelude.{Option, Some, is_some, slice_get, slice_set, slice_index_or, Contains, option_map, option_and_then}
 use Rattle.std.proofs.lemmas.Bool.{false≢true}
 use Rattle.std.proofs.lemmas.Bool.{cases_eq}
-use Rattle.squares.specs.declared.node.Node.{Node}
+use Rattle.squares.specs.declared.node.PlainNode.{PlainNode}
 use Rattle.squares.specs.declared.node.Record.{Record}
 use Rattle.squares.specs.declared.sq.Sq.{Sq}
 use Rattle.squares.proofs.Places.{set_same, set_other}
@@ -174,7 +174,7 @@ node_of_record [] i r h = let no : ⊥ = cc in absurd no
 node_of_record (x ∷ xs) zero r h = ap (λ (o : Option Record). option_map (λ (s : Record). s.node) o) h
 node_of_record (x ∷ xs) (suc i) r h = node_of_record xs i r h
 
-pub record_of_node : (records : List Record) (n : ℕ) (node : Node) → node_at (nodes_of records) n ≡ Some node → (i : ℕ) × (r : Record) × (n ≡ suc i) × (slice_get records i ≡ Some r) × (r.node ≡ node)
+pub record_of_node : (records : List Record) (n : ℕ) (node : PlainNode) → node_at (nodes_of records) n ≡ Some node → (i : ℕ) × (r : Record) × (n ≡ suc i) × (slice_get records i ≡ Some r) × (r.node ≡ node)
 record_of_node records zero node h = let no : ⊥ = cc in absurd no
 record_of_node [] (suc i) node h = let no : ⊥ = cc in absurd no
 record_of_node (x ∷ xs) (suc zero) node h = (0, x, refl, refl, cc)
@@ -184,7 +184,7 @@ pub future_of_record : (records : List Record) (i : ℕ) (r : Record) → slice_
 future_of_record records i r h = ap (λ (o : Option Record). option_and_then (λ (s : Record). s.future) o) h
 
 -- the record under a number that stands for a square
-pub record_there : (records : List Record) (n : ℕ) (node : Node) → node_at (nodes_of records) n ≡ Some node → (r : Record) × (slice_get records (n - 1) ≡ Some r) × (r.node ≡ node)
+pub record_there : (records : List Record) (n : ℕ) (node : PlainNode) → node_at (nodes_of records) n ≡ Some node → (r : Record) × (slice_get records (n - 1) ≡ Some r) × (r.node ≡ node)
 record_there records n node h =
     let k = record_of_node records n node h in
     let place : k.0 ≡ n - 1 = let e = k.2 in omega arith in

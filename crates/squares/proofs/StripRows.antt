@@ -120,10 +120,12 @@ have_quarters book level width top below plane other upper lower high above unde
       let se = (shown_there book level (2 * width) below other lower (2 * column + 1) (nth quarters 3) under (omega (arith, less)) read.se).known in
       let e : level ≡ (nth quarters 0).level = sym nw.at_level in record {
         level = subst (λ n. n < 65) e high;
-        nw = subst (λ n. IsKnown book n (nth quarters 0)) e nw;
-        ne = subst (λ n. IsKnown book n (nth quarters 1)) e ne;
-        sw = subst (λ n. IsKnown book n (nth quarters 2)) e sw;
-        se = subst (λ n. IsKnown book n (nth quarters 3)) e se;
+        known = record {
+          first = subst (λ n. IsKnown book n (nth quarters 0)) e nw;
+          second = subst (λ n. IsKnown book n (nth quarters 1)) e ne;
+          third = subst (λ n. IsKnown book n (nth quarters 2)) e sw;
+          fourth = subst (λ n. IsKnown book n (nth quarters 3)) e se;
+        };
       };
 }
 

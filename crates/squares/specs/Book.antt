@@ -1,5 +1,6 @@
 -- What a book of squares knows.
 use Rattle.std.specs.Prelude.{◌≡◌, ℕ, suc, ◌+◌, ◌-◌, ◌*◌, ◌<◌, ◌≤◌, ◌^◌, ◌⊎◌, ◌↔◌, Bool, IsTrue, List, [], length, Some, Contains, slice_index_or, slice_get}
+use Rattle.plane.specs.declared.cell.TheConstants.{HIGHEST_LEVEL}
 use Rattle.rule_text.specs.CountRule.{CountRule, IsRule}
 use Rattle.plane.specs.Plane.{Plane}
 use Rattle.plane.specs.Square.{IsSame, IsSquare, cut, joined, subsquare, empty, future}
@@ -32,12 +33,12 @@ pub record Book : Type 0 where
   pub takes_memory : Bool
   pub store : Store
 
--- a known square of this level, which is from 3 to 65
+-- a known square of this level, which is from 3 to the highest
 pub record IsKnown (book : Book) (level : ℕ) (sq : Sq) : Type 0 where
   pub known : IsTrue (book.knows sq)
   pub at_level : sq.level ≡ level
   pub low : 3 ≤ level
-  pub high : level ≤ 65
+  pub high : level ≤ HIGHEST_LEVEL
 
 -- a known square of this level with these cells
 pub record Shows (book : Book) (level : ℕ) (plane : Plane) (sq : Sq) : Type 0 where
@@ -64,11 +65,11 @@ HasResult book sq = IsEmpty sq ⊎ Contains book.results sq
 -- the laws of a book
 pub record IsBook (book : Book) : Type 0 where
   pub rule : IsRule book.rule
-  pub levels : (sq : Sq) → IsTrue (book.knows sq) → (3 ≤ sq.level) × (sq.level ≤ 65)
+  pub levels : (sq : Sq) → IsTrue (book.knows sq) → (3 ≤ sq.level) × (sq.level ≤ HIGHEST_LEVEL)
   pub square : (sq : Sq) → IsTrue (book.knows sq) → IsSquare (2 ^ sq.level) (book.cells sq)
   pub one_number : (a b : Sq) → IsTrue (book.knows a) → IsTrue (book.knows b) → a.level ≡ b.level →
       IsSame (book.cells a) (book.cells b) → a ≡ b
-  pub zero_known : (level : ℕ) → 3 ≤ level → level ≤ 65 → IsTrue (book.knows (numbered level 0))
+  pub zero_known : (level : ℕ) → 3 ≤ level → level ≤ HIGHEST_LEVEL → IsTrue (book.knows (numbered level 0))
   pub zero_empty : (level : ℕ) → IsSame (book.cells (numbered level 0)) empty
   pub results : (sq : Sq) → Contains book.results sq →
       IsTrue (book.knows sq) × (3 < sq.level) × (¬ IsEmpty sq)
@@ -135,6 +136,13 @@ LacksMemoryOr Refuses refusal = (refusal ≡ NoMemory) ⊎ Refuses refusal
 -- one of some squares
 abbrev pub nth : List Sq → ℕ → Sq
 nth squares i = slice_index_or squares i (numbered 0 0)
+
+-- four known squares of this level
+pub record AreKnown (book : Book) (level : ℕ) (squares : List Sq) : Type 0 where
+  pub first : IsKnown book level (nth squares 0)
+  pub second : IsKnown book level (nth squares 1)
+  pub third : IsKnown book level (nth squares 2)
+  pub fourth : IsKnown book level (nth squares 3)
 
 -- the four quarters of a square of this level with these cells
 pub record AreQuarters (book : Book) (level : ℕ) (plane : Plane) (quarters : List Sq) : Type 0 where

@@ -2,9 +2,10 @@
 use Rattle.std.specs.Prelude.{◌≡◌, ℕ, ◌+◌, ◌*◌, ◌<◌, ◌≤◌, ◌^◌, nat_lt, List, length, slice_index, take, Option, Some}
 use Rattle.std.specs.List.{AllByRecursion, find}
 use Rattle.std.specs.Option.{option_map}
+use Rattle.plane.specs.declared.cell.TheConstants.{HIGHEST_LEVEL}
 use Rattle.plane.specs.Plane.{Plane}
 use Rattle.plane.specs.Square.{cut}
-use Rattle.squares.specs.Book.{Book, IsKnown, Shows, joined_squares, nth}
+use Rattle.squares.specs.Book.{AreKnown, Book, Shows, joined_squares, nth}
 use Rattle.squares.specs.declared.square_rows.Segment.{Segment}
 use Rattle.squares.specs.declared.sq.Sq.{Sq}
 
@@ -40,13 +41,10 @@ pub record AreQuartersIn (upper lower : List Segment) (column : ℕ)
   pub sw : square_at lower (2 * column) ≡ Some (nth quarters 2)
   pub se : square_at lower (2 * column + 1) ≡ Some (nth quarters 3)
 
--- the four squares are known, and of one level below 65
+-- the four squares are known, and of one level below the highest
 pub record CanJoin (book : Book) (quarters : List Sq) : Type 0 where
-  pub level : (nth quarters 0).level < 65
-  pub nw : IsKnown book (nth quarters 0).level (nth quarters 0)
-  pub ne : IsKnown book (nth quarters 0).level (nth quarters 1)
-  pub sw : IsKnown book (nth quarters 0).level (nth quarters 2)
-  pub se : IsKnown book (nth quarters 0).level (nth quarters 3)
+  pub level : (nth quarters 0).level < HIGHEST_LEVEL
+  pub known : AreKnown book (nth quarters 0).level quarters
 
 -- two rows have the quarters of so many squares
 pub record HaveQuarters (book : Book) (width : ℕ) (upper lower : List Segment) : Type 0 where

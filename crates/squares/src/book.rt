@@ -2,6 +2,7 @@
 
 ghost use Rattle.std.specs.Prelude.{◌≡◌, ◌<◌, ◌+◌, ◌-◌, IfOk, OnOk, OnErr, IfErr, IfSome, IfNone, IsOk, Some, MatchOption, All};
 ghost use Rattle.std.specs.List.{AllByRecursion};
+ghost use Rattle.plane.specs.declared.cell.TheConstants.{HIGHEST_LEVEL};
 ghost use Rattle.plane.specs.Square.{bits_plane};
 ghost use Rattle.squares.specs.Book.{AddsResult, AddsSquares, AreQuarters, AreSubsquares, Book, HasResult, IsBook, IsEmpty, IsFuture, IsKnown, Keeps, KeepsResults, Learns, MayRefuse, Shows, joined_squares, nth, numbered};
 ghost use Rattle.squares.specs.Overlaps.{AreOverlaps};
@@ -69,7 +70,7 @@ pub trait Squares {
     /// The square with these quarters: upper left, upper right, lower left, lower right. That of
     /// four empty ones is never refused.
     fn quad(&mut self, quarters: [Sq; 4]) -> Result<Sq, Refusal>
-        requires level { (nth quarters 0).level < 65 }
+        requires level { (nth quarters 0).level < HIGHEST_LEVEL }
         requires known { AllByRecursion (IsKnown (book self.old) (nth quarters 0).level) quarters }
         ensures ok { IfOk result (Shows (book self.new) ((nth quarters 0).level + 1)
             (joined_squares (book self.old) (nth quarters 0).level quarters)) }
@@ -130,7 +131,7 @@ pub trait Squares {
     /// with fewer searches has a body of its own.
     fn overlaps(&mut self, level: u8, nine: [Sq; 9]) -> Result<[Sq; 4], Refusal>
         requires known { All (IsKnown (book self.old) level) nine }
-        requires level { level < 65 }
+        requires level { level < HIGHEST_LEVEL }
         ensures ok { IfOk result (AreOverlaps (book self.new) level nine) }
         ensures refusal { IfErr result (MayRefuse (book self.new)) }
         ensures adds { AddsSquares (book self.old) (book self.new) }

@@ -2,6 +2,7 @@
 
 ghost use Rattle.std.specs.Prelude.{◌≤◌, IfErr, IfOk};
 ghost use Rattle.plane.specs.Plane.{Plane};
+ghost use Rattle.squares.specs.declared.sq.TheConstants.{HIGHEST_ROOT_LEVEL};
 ghost use Rattle.squares.specs.Book.{AddsSquares, LacksMemoryOr, MayRefuse};
 ghost use Rattle.squares.specs.Rounds.{IsRound};
 
@@ -22,7 +23,7 @@ pub trait Build {
     fn build<S: Squares>(&self, alloc: Global, book: &mut S) -> Result<Sq, Refusal>
         requires { is_lawful self.now }
         ensures ok { IfOk result (IsRound (S.book book.new) (live self.now)) }
-        ensures level { IfOk result (λ root. root.level ≤ 63) }
+        ensures level { IfOk result (λ root. root.level ≤ HIGHEST_ROOT_LEVEL) }
         ensures refusal { IfErr result (LacksMemoryOr (MayRefuse (S.book book.new))) }
         ensures adds { AddsSquares (S.book book.old) (S.book book.new) };
 }

@@ -7,7 +7,6 @@
 #![tactic(auto)]
 
 mod book;
-mod borders;
 mod build;
 mod copies;
 mod leaf_rows;
@@ -24,7 +23,6 @@ mod subsquares;
 mod tally;
 
 pub use book::{Look, Squares};
-pub use borders::has_empty_border;
 pub use build::Build;
 pub use copies::{copy_between, copy_square};
 pub use leaves::{join_leaves, leaf_centre, read_leaves};
@@ -32,7 +30,7 @@ pub use plain_book::PlainBook;
 pub use plane::LEAF_LEVEL;
 pub use reading::{Looked, Reading};
 pub use runs::{cells_to_square, runs_to_square};
-pub use sq::{HIGHEST_ROOT_LEVEL, LOWEST_ROOT_LEVEL, Num, Sq, half_side};
-pub use strips::{LiveRuns, ordered_runs_to_square};
-pub use subsquares::{centre, nine};
+pub use sq::{HIGHEST_ROOT_LEVEL, LOWEST_ROOT_LEVEL, Num, Sq, half_side, side};
+pub use strips::{RunSequence, ordered_runs_to_square};
+pub use subsquares::{centre, has_empty_border, nine};
 pub use tally::Tally;

@@ -4,11 +4,11 @@ ghost use Rattle.std.specs.Prelude.{◌≡◌, ◌-◌, suc, length, vec_len, Is
 ghost use Rattle.std.specs.BTreeMap.{IsUnchanged, Updates};
 ghost use Rattle.squares.specs.Book.{IsBook, IsFresh};
 ghost use Rattle.squares.specs.Nodes.{AreFutures, HasNumbers, IsGood, node_at, nodes_of, plain_book, quarters_order, with_node};
-ghost use Rattle.squares.specs.declared.node.Node.TheVariants.{Leaf, Inner};
+ghost use Rattle.squares.specs.declared.node.PlainNode.TheVariants.{Leaf, Inner};
 ghost use Rattle.std.specs.Ordering.{nat_cmp};
 
 use crate::book::{Look, Squares};
-use crate::node::{Node, Quarters, Record};
+use crate::node::{PlainNode, Quarters, Record};
 use crate::sq::{Num, Sq};
 use plane::{LEAF_LEVEL, Refusal};
 use rule_text::Rule;
@@ -32,7 +32,7 @@ pub struct PlainBook {
 }
 
 // Gives the node the next number.
-fn push_node(records: &mut Vec<Record>, node: Node) -> Result<Num, AllocError>
+fn push_node(records: &mut Vec<Record>, node: PlainNode) -> Result<Num, AllocError>
     ensures number { IfOk result (λ num. num.0 ≡ suc (length records.old.items)) }
     ensures len { IfOk result (λ num. vec_len records.new ≡ num.0) }
     ensures ok { IfOk result (λ _. records.new.items ≡ with_node records.old.items node) }
@@ -50,7 +50,7 @@ fn push_node(records: &mut Vec<Record>, node: Node) -> Result<Num, AllocError>
 fn add_node<K: Ord + Drop>(
     records: &mut Vec<Record>,
     numbers: &mut BTreeMap<K, Num>,
-    node: Node,
+    node: PlainNode,
     key: K,
 ) -> Result<Num, AllocError>
     ensures number { IfOk result (λ num. num.0 ≡ suc (length records.old.items)) }
@@ -99,8 +99,8 @@ impl Look for PlainBook {
             return 0;
         }
         match self.record(sq.num).node {
-            Node::Leaf(word) => word,
-            Node::Inner(_) => unreachable!(),
+            PlainNode::Leaf(word) => word,
+            PlainNode::Inner(_) => unreachable!(),
         }
     }
 
@@ -110,8 +110,8 @@ impl Look for PlainBook {
             return [Sq::empty(level); 4];
         }
         match self.record(sq.num).node {
-            Node::Leaf(_) => unreachable!(),
-            Node::Inner(quarters) => [
+            PlainNode::Leaf(_) => unreachable!(),
+            PlainNode::Inner(quarters) => [
                 Sq {
                     level,
                     num: quarters.nw,
@@ -164,7 +164,12 @@ impl Squares for PlainBook {
                 num: *num,
             });
         }
-        let num = add_node(&mut self.records, &mut self.leaves, Node::Leaf(word), word)?;
+        let num = add_node(
+            &mut self.records,
+            &mut self.leaves,
+            PlainNode::Leaf(word),
+            word,
+        )?;
         Ok(Sq {
             level: LEAF_LEVEL,
             num,
@@ -180,7 +185,12 @@ impl Squares for PlainBook {
         if let Some(num) = self.inner.get(&node) {
             return Ok(Sq { level, num: *num });
         }
-        let num = add_node(&mut self.records, &mut self.inner, Node::Inner(node), node)?;
+        let num = add_node(
+            &mut self.records,
+            &mut self.inner,
+            PlainNode::Inner(node),
+            node,
+        )?;
         Ok(Sq { level, num })
     }
 

@@ -15,7 +15,7 @@ ghost use Rattle.squares.specs.Strips.{AreInReadingOrder};
 use crate::book::Squares;
 use crate::spans::distance;
 use crate::sq::{HIGHEST_ROOT_LEVEL, LOWEST_ROOT_LEVEL, Sq, half_side};
-use crate::strips::{LiveRuns, ordered_runs_to_square};
+use crate::strips::{RunSequence, ordered_runs_to_square};
 use plane::{Cell, CellSet, Refusal};
 use std::alloc::{AllocError, Global};
 
@@ -38,7 +38,7 @@ fn smallest_level(runs: &[(Cell, u64)]) -> u8
     requires { AllByRecursion IsRun runs.now }
     ensures smallest { IsSmallestLevel result (runs_plane runs.now) }
     ensures fits { AllByRecursion (FitsRound (2 ^ (result - 1))) runs.now }
-    ensures high { result ≤ 63 }
+    ensures high { result ≤ HIGHEST_ROOT_LEVEL }
 {
     for level in LOWEST_ROOT_LEVEL..HIGHEST_ROOT_LEVEL {
         let half = half_side(level);
@@ -66,7 +66,7 @@ struct SliceRuns<'a> {
     runs: &'a [(Cell, u64)],
 }
 
-impl LiveRuns for SliceRuns<'_> {
+impl RunSequence for SliceRuns<'_> {
     ghost left = { λ slice. slice.runs.now };
 
     fn next_run(&mut self) -> Option<(Cell, u64)> {
@@ -86,7 +86,7 @@ pub fn runs_to_square<S: Squares>(
 ) -> Result<Sq, Refusal>
     requires { AllByRecursion IsRun runs.now }
     ensures ok { IfOk result (IsRound (S.book book.new) (runs_plane runs.now)) }
-    ensures high { IfOk result (λ sq. sq.level ≤ 63) }
+    ensures high { IfOk result (λ sq. sq.level ≤ HIGHEST_ROOT_LEVEL) }
     ensures refusal { IfErr result (LacksMemoryOr (MayRefuse (S.book book.new))) }
     ensures adds { AddsSquares (S.book book.old) (S.book book.new) }
 {
@@ -115,7 +115,7 @@ pub fn cells_to_square<S: Squares>(
     cells: &CellSet,
 ) -> Result<Sq, Refusal>
     ensures ok { IfOk result (IsRound (S.book book.new) (plane_of cells.now)) }
-    ensures high { IfOk result (λ sq. sq.level ≤ 63) }
+    ensures high { IfOk result (λ sq. sq.level ≤ HIGHEST_ROOT_LEVEL) }
     ensures refusal { IfErr result (LacksMemoryOr (MayRefuse (S.book book.new))) }
     ensures adds { AddsSquares (S.book book.old) (S.book book.new) }
 {

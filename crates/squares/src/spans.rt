@@ -12,9 +12,9 @@ use plane::Cell;
 /// and cells are counted from the square's upper left corner.
 #[derive(Clone, Copy)]
 pub(crate) struct Span {
-    pub row: u64,
-    pub first: u64,
-    pub end: u64,
+    pub(crate) row: u64,
+    pub(crate) first: u64,
+    pub(crate) end: u64,
 }
 
 /// The distance of a coordinate from the left or upper side of a square of this half side round
@@ -31,7 +31,7 @@ pub(crate) fn distance(coordinate: i64, half: u64) -> u64
 
 impl Span {
     /// The run, counted from a corner so far to the left of and above (0,0).
-    pub fn of(run: (Cell, u64), half: u64) -> Self
+    pub(crate) fn of(run: (Cell, u64), half: u64) -> Self
         requires half { half ≤ 2 ^ 62 }
         requires fits { FitsRound half run }
         ensures { result ≡ span_of half run }
@@ -69,21 +69,21 @@ impl Span {
     }
 
     /// Whether it lies above the row, or in it and before this cell.
-    pub fn ends_before(self, row: u64, left: u64) -> bool
+    pub(crate) fn ends_before(self, row: u64, left: u64) -> bool
         ensures { IsTrue result ↔ EndsBefore row left self }
     {
         self.row < row || self.row == row && self.end <= left
     }
 
     /// Whether it lies below the row, or in it and behind this cell.
-    pub fn begins_behind(self, row: u64, last: u64) -> bool
+    pub(crate) fn begins_behind(self, row: u64, last: u64) -> bool
         ensures { IsTrue result ↔ BeginsBehind row last self }
     {
         self.row > row || self.row == row && self.first > last
     }
 
     /// The bits of the cells that it has of the leaf that begins so far to the right and down.
-    pub fn bits_in(self, left: u64, top: u64) -> u64
+    pub(crate) fn bits_in(self, left: u64, top: u64) -> u64
         requires wide { left + 8 < 2 ^ 64 }
         requires tall { top + 8 < 2 ^ 64 }
         ensures { (x y : ℕ) → x < 8 → y < 8 →

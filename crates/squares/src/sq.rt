@@ -12,7 +12,7 @@ pub const HIGHEST_ROOT_LEVEL: u8 = 63;
 /// Half the side of a square of this level, which is from 1 to 63: 2^(level - 1), so at most 2^62.
 /// The square around (0,0) has the coordinates from -2^(level - 1) to 2^(level - 1) - 1.
 pub fn half_side(level: u8) -> u64
-    requires { (1 ≤ level) × (level ≤ 63) }
+    requires { (1 ≤ level) × (level ≤ HIGHEST_ROOT_LEVEL) }
     ensures value { result ≡ 2 ^ (level - 1) }
     ensures bound { result ≤ 2 ^ 62 }
 {
@@ -20,8 +20,8 @@ pub fn half_side(level: u8) -> u64
 }
 
 /// The side of a square of this level, which is at most 63.
-pub(crate) fn side(level: u8) -> u64
-    requires { level ≤ 63 }
+pub fn side(level: u8) -> u64
+    requires { level ≤ HIGHEST_ROOT_LEVEL }
     ensures { result ≡ 2 ^ level }
 {
     1 << level

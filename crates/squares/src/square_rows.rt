@@ -14,8 +14,8 @@ use std::alloc::{AllocError, Global};
 /// one of them. Columns are counted from the left, in squares of the row's level.
 #[derive(Clone, Copy)]
 pub(crate) struct Segment {
-    pub end: u64,
-    pub sq: Sq,
+    pub(crate) end: u64,
+    pub(crate) sq: Sq,
 }
 
 // The quarters of the square in a column, and the column up to which each square has the same.

@@ -5,6 +5,7 @@ ghost use Rattle.std.specs.List.{AllByRecursion};
 ghost use Rattle.plane.specs.Runs.{runs_plane};
 ghost use Rattle.plane.specs.Square.{IsSame};
 ghost use Rattle.plane.specs.declared.cell.Cell.{Cell as LiveCell};
+ghost use Rattle.squares.specs.declared.sq.TheConstants.{HIGHEST_ROOT_LEVEL};
 ghost use Rattle.squares.specs.Book.{AddsSquares, IsKnown, LacksMemoryOr, MayRefuse};
 ghost use Rattle.squares.specs.Rounds.{square_plane};
 ghost use Rattle.squares.specs.Spans.{FitsRound, in_spans, marked, span_of};
@@ -20,7 +21,7 @@ use plane::{Cell, LEAF_LEVEL, Refusal};
 use std::alloc::{AllocError, Global};
 
 /// Runs of live cells, one after the other.
-pub trait LiveRuns {
+pub trait RunSequence {
     // The runs that are left.
     ghost left: { Self → List (LiveCell × ℕ) };
 
@@ -40,7 +41,7 @@ struct Strips<R> {
 }
 
 // The span of the next run in a square of this half side around (0,0).
-fn next_span<R: LiveRuns>(runs: &mut R, half: u64) -> Option<Span>
+fn next_span<R: RunSequence>(runs: &mut R, half: u64) -> Option<Span>
     requires half { half ≤ 2 ^ 62 }
     requires fit { AllByRecursion (FitsRound half) (R.left runs.old) }
     ensures fit { AllByRecursion (FitsRound half) (R.left runs.new) }
@@ -52,7 +53,7 @@ fn next_span<R: LiveRuns>(runs: &mut R, half: u64) -> Option<Span>
 }
 
 // The next spans that lie above this row.
-fn take_spans<R: LiveRuns + Drop>(
+fn take_spans<R: RunSequence + Drop>(
     alloc: Global,
     strips: &mut Strips<R>,
     bottom: u64,
@@ -86,7 +87,7 @@ fn lies_below(next: Option<Span>, row: u64) -> bool
 }
 
 // The row of the squares of this level whose first row of cells is `top`.
-fn strip_row<S: Squares, R: LiveRuns + Drop>(
+fn strip_row<S: Squares, R: RunSequence + Drop>(
     alloc: Global,
     book: &mut S,
     strips: &mut Strips<R>,
@@ -94,9 +95,9 @@ fn strip_row<S: Squares, R: LiveRuns + Drop>(
     top: u64,
     width: u64,
 ) -> Result<Vec<Segment>, Refusal>
-    requires level { (3 ≤ level) × (level ≤ 63) }
-    requires tall { top + 2 ^ level ≤ 2 ^ 63 }
-    requires wide { width ≤ 2 ^ (63 - level) }
+    requires level { (3 ≤ level) × (level ≤ HIGHEST_ROOT_LEVEL) }
+    requires tall { top + 2 ^ level ≤ 2 ^ HIGHEST_ROOT_LEVEL }
+    requires wide { width ≤ 2 ^ (HIGHEST_ROOT_LEVEL - level) }
     requires left { AreLeft strips.old.half top strips.old.next (R.left strips.old.runs) }
     ensures ok { IfOk result (λ row. IsRow (S.book book.new) level width top
         (marked (in_spans (spans_left strips.old.half strips.old.next (R.left strips.old.runs))))
@@ -125,13 +126,13 @@ fn strip_row<S: Squares, R: LiveRuns + Drop>(
 
 /// The square of this level around (0,0) that has the cells of the runs, which come in the order of
 /// reading. Runs may share cells. `NoMemory` where memory ran out, and what the book refuses.
-pub fn ordered_runs_to_square<S: Squares, R: LiveRuns + Drop>(
+pub fn ordered_runs_to_square<S: Squares, R: RunSequence + Drop>(
     alloc: Global,
     book: &mut S,
     mut runs: R,
     level: u8,
 ) -> Result<Sq, Refusal>
-    requires level { (4 ≤ level) × (level ≤ 63) }
+    requires level { (4 ≤ level) × (level ≤ HIGHEST_ROOT_LEVEL) }
     requires fit { AllByRecursion (FitsRound (2 ^ (level - 1))) (R.left runs) }
     requires order { AreInReadingOrder (R.left runs) }
     ensures known { IfOk result (IsKnown (S.book book.new) level) }

@@ -2,6 +2,7 @@
 -- blocks of rank r: beside one another where r is even, below one another where r is odd. So a
 -- square of level k has rank 2 (k - 3), and two of them side by side, a half, have the next rank.
 use Rattle.std.specs.Prelude.{◌≢◌, ℕ, zero, suc, ◌+◌, ◌-◌, ◌*◌, ◌/◌, ◌%◌, ◌^◌, ◌==◌, if◌then◌else◌}
+use Rattle.plane.specs.declared.cell.TheConstants.{HIGHEST_LEVEL}
 use Rattle.plane.specs.Plane.{Plane}
 use Rattle.plane.specs.Square.{IsSame, empty, bits_plane}
 use Rattle.plane.specs.Block.{beside, below}
@@ -15,9 +16,9 @@ Words = ℕ → ℕ
 abbrev pub square_rank : ℕ → ℕ
 square_rank level = 2 * (level - 3)
 
--- the rank of the largest squares, those of level 65
+-- the rank of the largest squares, those of the highest level
 abbrev pub largest_rank : ℕ
-largest_rank = 124
+largest_rank = square_rank HIGHEST_LEVEL
 
 abbrev pub width : ℕ → ℕ
 width rank = 2 ^ ((rank + 1) / 2 + 3)

@@ -27,7 +27,7 @@ pub record IsFutureOf (key : Key) (words : Words) (index number : ℕ) : Type 0 
   pub shown : ShowsBlock key.shape.bits words (square_rank (level - 1)) number
       (future key.rule key.exponent level (cells_of words (square_rank level) index))
 
--- the pair at the index is a finite block, of at most a square of level 65
+-- the pair at the index is a finite block, of at most a square of the highest level
 abbrev pub IsPairBlock : ℕ → Words → ℕ → Type 0
 IsPairBlock bits words index =
     (rank : ℕ) × (rank < largest_rank) × IsBlock bits words (suc rank) index
@@ -61,7 +61,7 @@ pub record AreGoodWords (key : Key) (words : List ℕ) : Type 0 where
 pub record KeepsWords (old new : Words) : Type 0 where
   pub kept : (index : ℕ) → old index ≢ 0 → new index ≡ old index
 
--- the parts of a pair's word stand for blocks of one rank, that of less than a square of level 65
+-- the parts of a pair's word stand for blocks of one rank, below that of the largest squares
 abbrev pub PartsStand : ℕ → Words → Kind → ℕ → Type 0
 PartsStand bits words Leaf word = Unit {0}
 PartsStand bits words Pair word =

@@ -69,8 +69,8 @@ pub record IsTrueOf (bits : ℕ) (words : Words) (known : Knowledge) : Type 0 wh
   pub once : HasEachOnce known.results
 
 -- what a desk knows agrees with itself: a number shows one block, at the index of a leaf or a pair,
--- of at most a square of level 65, and a block has one number; each result is of a square that it
--- knows, which has no second one
+-- of at most the rank of the largest squares, and a block has one number; each result is of a
+-- square that it knows, which has no second one
 pub record IsConsistent (bits : ℕ) (known : Knowledge) : Type 0 where
   pub one_block : (rank other number : ℕ) (plane also : Plane) → number ≢ 0 →
       KnowsBlock known rank number plane → KnowsBlock known other number also →

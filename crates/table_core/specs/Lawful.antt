@@ -17,8 +17,7 @@ pub record KnowsBoth (known : Knowledge) (rank word : ℕ) (one two : Plane) : T
   pub first : KnowsBlock known rank (first_part word) one
   pub second : KnowsBlock known rank (second_part word) two
 
--- it knows both parts of a pair's word, as blocks of one rank, that of less than a square of level
--- 65
+-- it knows both parts of a pair's word, as blocks of one rank, below that of the largest squares
 pub record KnowsParts (known : Knowledge) (word : ℕ) : Type 0 where
   pub rank : ℕ
   pub low : rank < largest_rank

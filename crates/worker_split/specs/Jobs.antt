@@ -1,5 +1,5 @@
 -- What a job is, what came of it, and what is counted.
-use Rattle.std.specs.Prelude.{◌≡◌, ◌+◌, ◌-◌, ◌*◌, ◌<◌, ◌≤◌, ◌⊎◌, ℕ, All, IsTrue, List, Vec, length}
+use Rattle.std.specs.Prelude.{◌≡◌, ◌+◌, ◌-◌, ◌*◌, ◌<◌, ◌≤◌, ◌⊎◌, ℕ, IsTrue, List, Vec, length}
 use Rattle.std.specs.List.{AllZip}
 use Rattle.std.specs.declared.alloc.Global.{Global}
 use Rattle.plane.specs.declared.refusal.Refusal.{Refusal}
@@ -10,10 +10,6 @@ use Rattle.node_table.specs.declared.desk.Desk.{Desk}
 use Rattle.node_table.specs.declared.table.NodeTable.{NodeTable}
 use Rattle.node_table.specs.Desks.{IsDeskOf, book_at, expansions_of}
 use Rattle.node_table.specs.DesksAtWork.{KnowsAllOf}
-
--- known squares of this level
-abbrev pub AreKnown : Book → ℕ → List Sq → Type 0
-AreKnown book level squares = All (IsKnown book level) squares
 
 -- a known square that has a future
 pub record IsJob (book : Book) (sq : Sq) : Type 0 where

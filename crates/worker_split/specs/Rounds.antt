@@ -10,7 +10,7 @@ use Rattle.worker_split.specs.Jobs.{HasFuture, IsJob, RefusesFull}
 use Rattle.worker_split.specs.declared.members.Answer.{Answer}
 use Rattle.worker_split.specs.declared.members.Member.{Member}
 use Rattle.worker_split.specs.declared.members.Solver.{Solver}
-use Rattle.worker_split.specs.declared.recruiting.Room.{Room}
+use Rattle.worker_split.specs.declared.members.Room.{Room}
 use Rattle.worker_split.specs.Shares.{AreShares, shares_of}
 use Rattle.worker_split.specs.Work.{Works}
 

@@ -1,18 +1,18 @@
 //! The future of one square, by whole batches of the squares that it takes.
-ghost use Rattle.std.specs.Prelude.{◌<◌, ◌≤◌, IfOk, IfErr};
-ghost use Rattle.squares.specs.Book.{Keeps};
+ghost use Rattle.std.specs.Prelude.{◌<◌, ◌≤◌, All, IfOk, IfErr};
+ghost use Rattle.run_options.specs.declared.options.TheConstants.{MOST_WORKERS};
+ghost use Rattle.squares.specs.Book.{IsKnown, Keeps};
 ghost use Rattle.node_table.specs.Desks.{IsDeskOf, book_at};
 ghost use Rattle.node_table.specs.DesksAtWork.{book_here};
-ghost use Rattle.worker_split.specs.Jobs.{AreKnown, ComesBack, HasFuture, IsJob, Refuses};
+ghost use Rattle.worker_split.specs.Jobs.{ComesBack, HasFuture, IsJob, Refuses};
 ghost use Rattle.worker_split.specs.Work.{Continues};
 
-use crate::gate::Gate;
 use crate::jobs::future_of;
-use crate::recruiting::room_for;
+use crate::members::room_for;
 use crate::rounds::carry_out;
-use crate::team::Team;
+use crate::team::{Gate, Team};
 use crate::working::{come_back, set_out};
-use hashlife_step::{Tally, replace_by_futures};
+use hashlife_step::{BASE_LEVEL, Tally, replace_by_futures};
 use node_table::{At, Desk, NodeTable};
 use plane::Refusal;
 use squares::{Sq, Squares};
@@ -21,8 +21,9 @@ use std::collections::BTreeSet;
 use std::sync::Wait;
 use std::thread::Threads;
 
-// The lowest level of the squares that are expanded.
-const LOWEST: u8 = 8;
+// The lowest level of the squares that are expanded. The futures of squares of the level below are
+// made of those of smaller ones.
+const LOWEST: u8 = BASE_LEVEL + 2;
 
 // Those of the squares whose result isn't found, each once.
 fn unknown_of(
@@ -31,9 +32,9 @@ fn unknown_of(
     level: u8,
     squares: &[Sq],
 ) -> Result<Vec<Sq>, AllocError>
-    requires known { AreKnown (book_here at.old) level squares.now }
+    requires known { All (IsKnown (book_here at.old) level) squares.now }
     requires low { 3 < level }
-    ensures ok { IfOk result (λ unknown. AreKnown (book_here at.new) level unknown.items) }
+    ensures ok { IfOk result (λ unknown. All (IsKnown (book_here at.new) level) unknown.items) }
     ensures keeps { Keeps (book_here at.old) (book_here at.new) }
 {
     let mut seen = BTreeSet::new(alloc);
@@ -55,7 +56,7 @@ fn batch<R: Threads + Wait + Sync, G: Gate>(
     squares: &[Sq],
     tally: &mut Tally,
 ) -> Result<(), Refusal>
-    requires known { AreKnown (book_here at.old) level squares.now }
+    requires known { All (IsKnown (book_here at.old) level) squares.now }
     requires low { 3 < level }
     ensures refusal { IfErr result (Refuses (book_here at.new)) }
     ensures continues { Continues team.now.workers at.old at.new tally.old tally.new }
@@ -76,9 +77,9 @@ fn overlaps_of_futures(
     nine: [Sq; 9],
     tally: &mut Tally,
 ) -> Result<[Sq; 4], Refusal>
-    requires known { AreKnown (book_here at.old) level nine }
+    requires known { All (IsKnown (book_here at.old) level) nine }
     requires low { 3 < level }
-    ensures ok { IfOk result (AreKnown (book_here at.new) level) }
+    ensures ok { IfOk result (All (IsKnown (book_here at.new) level)) }
     ensures refusal { IfErr result (Refuses (book_here at.new)) }
     ensures continues { Continues 1 at.old at.new tally.old tally.new }
 {
@@ -95,7 +96,7 @@ fn expand<R: Threads + Wait + Sync, G: Gate>(
     tally: &mut Tally,
 ) -> Result<(), Refusal>
     requires sq { IsJob (book_here at.old) sq }
-    requires low { 8 ≤ sq.level }
+    requires low { LOWEST ≤ sq.level }
     ensures refusal { IfErr result (Refuses (book_here at.new)) }
     ensures continues { Continues team.now.workers at.old at.new tally.old tally.new }
 {
@@ -162,7 +163,7 @@ pub fn batch_future<R: Threads + Wait + Sync, G: Gate>(
 ) -> (Desk, Result<Sq, Refusal>)
     requires desk { IsDeskOf table.now desk }
     requires sq { IsJob (book_at table.now desk) sq }
-    requires workers { (1 ≤ workers) × (workers ≤ 64) }
+    requires workers { (1 ≤ workers) × (workers ≤ MOST_WORKERS) }
     // The square is the future, and the desk that comes back knows it as the result.
     ensures ok { IfOk result.1 (HasFuture (book_at table.now result.0) sq) }
     // Memory ran out, or the desk that comes back knows a full shard.

@@ -6,8 +6,8 @@ ghost use Rattle.worker_split.specs.Jobs.{HaveFutures, IsJob, RefusesFull};
 ghost use Rattle.worker_split.specs.Rounds.{IsSettled, PlacesFit};
 ghost use Rattle.worker_split.specs.Work.{Continues};
 
-use crate::gate::Gate;
 use crate::jobs::{Shared, settle};
+use crate::team::Gate;
 use hashlife_step::Tally;
 use node_table::At;
 use plane::Refusal;

@@ -5,9 +5,9 @@ ghost use Rattle.worker_split.specs.Jobs.{HasFuture, IsJob, RefusesFull};
 ghost use Rattle.worker_split.specs.Rounds.{CanSolve, IsSettled};
 ghost use Rattle.worker_split.specs.Work.{Continues};
 
-use crate::gate::Gate;
 use crate::members::{Answer, Solver};
-use hashlife_step::{Order, Tally, future_in_order};
+use crate::team::Gate;
+use hashlife_step::{EvaluationOrder, Tally, future_in_order};
 use node_table::At;
 use plane::Refusal;
 use squares::Sq;
@@ -25,7 +25,7 @@ pub(crate) struct Shared<'a, R, G> {
 pub(crate) fn future_of(
     at: &mut At<'_>,
     sq: Sq,
-    order: Option<Order>,
+    order: Option<EvaluationOrder>,
     tally: &mut Tally,
 ) -> Result<Sq, Refusal>
     requires { IsJob (book_here at.old) sq }
@@ -41,7 +41,7 @@ pub(crate) fn settle<R, G: Gate>(
     shared: &Shared<'_, R, G>,
     at: &mut At<'_>,
     job: usize,
-    order: Option<Order>,
+    order: Option<EvaluationOrder>,
     tally: &mut Tally,
 ) -> Result<Sq, Refusal>
     requires job { job < length shared.now.jobs.now }

@@ -4,13 +4,10 @@
 
 mod batches;
 mod filling;
-mod gate;
 mod gathering;
-mod helping;
 mod jobs;
 mod laws;
 mod members;
-mod recruiting;
 mod rounds;
 mod serving;
 mod steps;
@@ -18,8 +15,7 @@ mod team;
 mod working;
 
 pub use batches::batch_future;
-pub use gate::{Gate, OpenGate};
 pub use laws::{every_expansion_has_its_slot, every_refusal_stays};
 pub use rounds::round;
 pub use steps::step;
-pub use team::{MOST_WORKERS, Team};
+pub use team::{Gate, OpenGate, Team};

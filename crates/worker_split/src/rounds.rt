@@ -1,5 +1,6 @@
 //! A round: all jobs, by a team.
 ghost use Rattle.std.specs.Prelude.{◌≡◌, ◌<◌, ◌≤◌, ◌⊎◌, All, IfOk, IfErr, IsTrue, length};
+ghost use Rattle.run_options.specs.declared.options.TheConstants.{MOST_WORKERS};
 ghost use Rattle.plane.specs.declared.refusal.Refusal.TheVariants.{NoMemory, NodesFull};
 ghost use Rattle.squares.specs.Book.{Book};
 ghost use Rattle.node_table.specs.Desks.{IsDeskOf, book_at};
@@ -9,14 +10,11 @@ ghost use Rattle.worker_split.specs.Rounds.{FindsMore, HasQueues, HasRoom, HasRu
 ghost use Rattle.worker_split.specs.Work.{Continues};
 
 use crate::filling::fill;
-use crate::gate::Gate;
 use crate::gathering::{gather, hand_out};
-use crate::helping::help;
 use crate::jobs::Shared;
-use crate::members::Member;
-use crate::recruiting::{Room, room_for};
-use crate::serving::{other_shares, own_share};
-use crate::team::Team;
+use crate::members::{Member, Room, room_for};
+use crate::serving::{help, other_shares, own_share};
+use crate::team::{Gate, Team};
 use crate::working::{come_back, set_out};
 use hashlife_step::Tally;
 use node_table::{At, Desk, NodeTable};
@@ -107,7 +105,7 @@ pub fn round<R: Threads + Wait + Sync, G: Gate>(
 ) -> (Desk, Result<Vec<Sq>, Refusal>)
     requires desk { IsDeskOf table.now desk }
     requires jobs { All (IsJob (book_at table.now desk)) jobs.now }
-    requires workers { (1 ≤ workers) × (workers ≤ 64) }
+    requires workers { (1 ≤ workers) × (workers ≤ MOST_WORKERS) }
     // At each job's place stands its future, and the desk that comes back knows it as the job's
     // result.
     ensures ok { IfOk result.1 (HaveFutures (book_at table.now result.0) jobs.now) }

@@ -1,5 +1,6 @@
 //! One step of a run, by a team.
 ghost use Rattle.std.specs.Prelude.{◌+◌, ◌≤◌, max, IfOk, IfErr};
+ghost use Rattle.plane.specs.declared.cell.TheConstants.{HIGHEST_LEVEL};
 ghost use Rattle.squares.specs.Book.{IsKnown};
 ghost use Rattle.node_table.specs.Desks.{IsDeskOf, book_at};
 ghost use Rattle.node_table.specs.DesksAtWork.{book_here};
@@ -8,8 +9,7 @@ ghost use Rattle.hashlife_step.specs.Round.{IsStepOf};
 ghost use Rattle.worker_split.specs.Work.{Continues};
 
 use crate::batches::team_future;
-use crate::gate::Gate;
-use crate::team::Team;
+use crate::team::{Gate, Team};
 use crate::working::{come_back, set_out};
 use hashlife_step::{Tally, pad, trim};
 use node_table::{At, Desk, NodeTable};
@@ -26,7 +26,7 @@ fn advance<R: Threads + Wait + Sync, G: Gate>(
     tally: &mut Tally,
 ) -> Result<Sq, Refusal>
     requires known { IsKnown (book_here at.old) root.level root }
-    requires high { max (root.level + 2) ((book_here at.old).exponent + 3) ≤ 65 }
+    requires high { max (root.level + 2) ((book_here at.old).exponent + 3) ≤ HIGHEST_LEVEL }
     ensures ok { IfOk result (IsStepOf (book_here at.old) (book_here at.new) root) }
     ensures refusal { IfErr result (Refuses (book_here at.new)) }
     ensures continues { Continues team.now.workers at.old at.new tally.old tally.new }
@@ -53,7 +53,7 @@ pub fn step<R: Threads + Wait + Sync, G: Gate>(
 ) -> (Desk, Result<Sq, Refusal>)
     requires desk { IsDeskOf table.now desk }
     requires known { IsKnown (book_at table.now desk) root.level root }
-    requires high { max (root.level + 2) ((book_at table.now desk).exponent + 3) ≤ 65 }
+    requires high { max (root.level + 2) ((book_at table.now desk).exponent + 3) ≤ HIGHEST_LEVEL }
     ensures ok { IfOk result.1
         (IsStepOf (book_at table.now desk) (book_at table.now result.0) root) }
     // Memory ran out, or the desk that comes back knows a full shard.

@@ -1,10 +1,25 @@
-//! The workers of a round, and what they work with.
+//! The workers of a round, what they work with, and what they call before and after each job.
 ghost use Rattle.std.specs.Prelude.{◌≡◌, ◌≤◌, min};
+ghost use Rattle.run_options.specs.declared.options.TheConstants.{MOST_WORKERS};
 
 use std::alloc::Global;
 
-/// The largest number of workers of a team.
-pub const MOST_WORKERS: usize = 64;
+/// What is called before and after each job, with the job's place in the list of its round.
+pub trait Gate: Sync {
+    fn before(&self, job: usize);
+
+    fn after(&self, job: usize);
+}
+
+/// The gate that does nothing.
+#[derive(Clone, Copy, Debug)]
+pub struct OpenGate;
+
+impl Gate for OpenGate {
+    fn before(&self, _job: usize) {}
+
+    fn after(&self, _job: usize) {}
+}
 
 /// The workers of a round: how many, and what they work with. Each is a thread of its own as far as
 /// the system gives threads.
@@ -19,7 +34,7 @@ pub struct Team<'a, R, G> {
     /// Is called before and after each job.
     pub gate: &'a G,
     ghost some: { 1 ≤ workers },
-    ghost few: { workers ≤ 64 },
+    ghost few: { workers ≤ MOST_WORKERS },
 }
 
 impl<'a, R, G> Team<'a, R, G> {

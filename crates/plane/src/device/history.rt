@@ -9,8 +9,8 @@ use std::marker::Model;
 /// The bytes that went through a device, in order. It takes no memory, and its calls do nothing at
 /// run time.
 #[derive(Drop)]
-pub struct History {
-    pub ghost bytes: { List ℕ },
+pub(crate) struct History {
+    pub(crate) ghost bytes: { List ℕ },
 }
 
 impl Model for History {

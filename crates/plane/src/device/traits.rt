@@ -1,11 +1,12 @@
-//! What bytes are read from and written to.
+//! What bytes are read from and written to, and all of some bytes, written.
 
-ghost use Rattle.std.specs.Prelude.{◌≡◌, ℕ, ◌<◌, List, None, Option, Result, Some, codes, length, IfOk};
+ghost use Rattle.std.specs.Prelude.{◌≡◌, ℕ, ◌<◌, List, None, OnErr, OnOk, Option, Result, Some, codes, length, IfOk};
 ghost use Rattle.std.specs.Io.{ReadsAtMost, WritesAtMost};
-ghost use Rattle.std.specs.Io.KnownBytes.{ReadConsumes, WriteAppends};
-ghost use Rattle.plane.specs.Device.{FindsEnd, ReadGives, failures_after};
+ghost use Rattle.std.specs.Io.KnownBytes.{Appends, ReadConsumes, WriteAppends};
+ghost use Rattle.plane.specs.Device.{AppendsBeginning, FindsEnd, ReadGives, TellsFailure, failures_after};
 ghost use Rattle.plane.specs.declared.device.traits.Failed.{Failed};
 
+use crate::refusal::Refusal;
 use std::error::Error;
 use std::fmt;
 
@@ -83,4 +84,22 @@ pub trait Sink {
     /// How many calls have failed, or 2^64 - 1 for any more.
     fn failures(&self) -> u64
         ensures { result ≡ failure_count self.now };
+}
+
+/// Writes all of the bytes. `WriteFailed` where the sink failed in this call; it took the first of
+/// them then, or none, and never all.
+pub fn write_all<W: Sink>(sink: &mut W, bytes: &[u8]) -> Result<(), Refusal>
+    ensures written { OnOk result (Appends (W.taken sink.old) (W.taken sink.new) bytes.now) }
+    ensures beginning { OnErr result
+        (AppendsBeginning (W.taken sink.old) (W.taken sink.new) bytes.now) }
+    ensures failure { TellsFailure (W.failure_count sink.old) (W.failure_count sink.new) result }
+{
+    let mut written = 0;
+    while written < bytes.len() {
+        let Ok(count) = sink.write_some(&bytes[written..]) else {
+            return Err(Refusal::WriteFailed);
+        };
+        written += count;
+    }
+    Ok(())
 }

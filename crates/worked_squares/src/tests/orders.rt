@@ -4,7 +4,7 @@ ghost use Rattle.std.specs.Prelude.{IfOk};
 ghost use Rattle.squares.specs.Book.{IsKnown};
 
 use crate::tests::books::book_of;
-use hashlife_step::{Order, Tally, future_in_order, pad};
+use hashlife_step::{EvaluationOrder, Tally, future_in_order, pad};
 use plane::Refusal;
 use sample_patterns::R_PENTOMINO_LEAVES;
 use squares::{PlainBook, Sq, Squares, copy_square, join_leaves};
@@ -13,7 +13,7 @@ use std::alloc::Global;
 // The future of the padded R-pentomino.
 fn future_of_pentomino<S: Squares>(
     book: &mut S,
-    order: Option<Order>,
+    order: Option<EvaluationOrder>,
     tally: &mut Tally,
 ) -> Result<Sq, Refusal>
     ensures { IfOk result (λ sq. IsKnown (S.book book.new) sq.level sq) }
@@ -28,7 +28,7 @@ fn future_of_pentomino<S: Squares>(
 fn asked_in_order(
     alloc: Global,
     first: &mut PlainBook,
-    order: Option<Order>,
+    order: Option<EvaluationOrder>,
 ) -> Result<(Sq, u64), Refusal> {
     let mut book = book_of(alloc, "B3/S23", 6)?;
     let mut tally = Tally { expansions: 0 };
@@ -42,7 +42,7 @@ fn all_orders_give_one_future(rt: HostRuntime) -> Result<(), Refusal> {
     let in_turn = asked_in_order(rt.alloc(), &mut first, None)?;
     assert!(rt; in_turn.1 > 0);
     for worker in 1..=64 {
-        let order = Order::of_worker(worker);
+        let order = EvaluationOrder::of_worker(worker);
         assert_eq!(rt; asked_in_order(rt.alloc(), &mut first, order)?, in_turn);
     }
     Ok(())

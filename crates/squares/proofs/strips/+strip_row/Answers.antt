@@ -18,12 +18,12 @@ use Rattle.squares.proofs.strips.+strip_row.Goals.{In_ok-empty_row, In_ok-lower}
 use Rattle.squares.proofs.strips.+strip_row.Goals as goal
 
 -- nothing that is left lies above the bottom
-below : (g : Over) (t : ℕ) (c : In_ok-empty_row g t) → AllByRecursion (λ (span : Span). c.args.top + 2 ^ c.args.level ≤ span.row) (spans_left c.args.strips.now.half c.args.strips.now.next (g.R.LiveRuns.left c.args.strips.now.runs))
-below g t c = left_below_at c.args.strips.now.half (c.args.top + 2 ^ c.args.level) c.args.strips.now.next (g.R.LiveRuns.left c.args.strips.now.runs) c.requires.left.ended c.requires.left.order (subst (λ n. MatchOption c.args.strips.now.next ⊤ (λ (span : Span). c.args.top + n ≤ span.row)) c.side.ensures (c.lies_below.ensures.0 c.if-lies_below.true))
+below : (g : Over) (t : ℕ) (c : In_ok-empty_row g t) → AllByRecursion (λ (span : Span). c.args.top + 2 ^ c.args.level ≤ span.row) (spans_left c.args.strips.now.half c.args.strips.now.next (g.R.RunSequence.left c.args.strips.now.runs))
+below g t c = left_below_at c.args.strips.now.half (c.args.top + 2 ^ c.args.level) c.args.strips.now.next (g.R.RunSequence.left c.args.strips.now.runs) c.requires.left.ended c.requires.left.order (subst (λ n. MatchOption c.args.strips.now.next ⊤ (λ (span : Span). c.args.top + n ≤ span.row)) c.side.ensures (c.lies_below.ensures.0 c.if-lies_below.true))
 
 pub returns-then-lies_below-clause-ok : goal.returns-then-lies_below-clause-ok
 returns-then-lies_below-clause-ok g t c =
-    let left = spans_left c.args.strips.now.half c.args.strips.now.next (g.R.LiveRuns.left c.args.strips.now.runs) in
+    let left = spans_left c.args.strips.now.half c.args.strips.now.next (g.R.RunSequence.left c.args.strips.now.runs) in
     let book = g.S.Squares.book c.args.book.now in
     let high = c.requires.level.1 in
     subst (λ (row : List Segment). IsRow book c.args.level c.args.width c.args.top (marked (in_spans left)) row) (sym c.in_ok-empty_row.ensures)
@@ -43,13 +43,13 @@ leaf_row-requires-clause-order g t c = subst AreInOrder (sym c.deref.ensures.val
 
 pub returns-then-level-eq-LEAF_LEVEL-clause-ok : goal.returns-then-level-eq-LEAF_LEVEL-clause-ok
 returns-then-level-eq-LEAF_LEVEL-clause-ok g t c =
-    let left = spans_left c.args.strips.now.half c.args.strips.now.next (g.R.LiveRuns.left c.args.strips.now.runs) in
+    let left = spans_left c.args.strips.now.half c.args.strips.now.next (g.R.RunSequence.left c.args.strips.now.runs) in
     let book = g.S.Squares.book c.leaf_row.new.book in
     let spans = c.in_ok-spans.spans.items in
     let is : c.args.level ≡ 3 = c.if-level-eq-LEAF_LEVEL.true in
     IfOk-weaker c.leaf_row.result _ _ (λ row shown. subst (λ n. IsRow book n c.args.width c.args.top (marked (in_spans left)) row.items) (sym is)
     (row_same book 3 c.args.width c.args.top (in_spans spans) (in_spans left) row.items
-    (λ x y low high. taken_cells (c.args.top + 2 ^ c.args.level) x y left _ spans (subst (λ n. IsTaken (c.args.top + n) left (spans_left c.take_spans.new.strips.half c.take_spans.new.strips.next (g.R.LiveRuns.left c.take_spans.new.strips.runs)) spans) c.side.ensures c.in_ok-spans.ensures.taken) (subst (λ n. y < c.args.top + 2 ^ n) (sym is) high))
+    (λ x y low high. taken_cells (c.args.top + 2 ^ c.args.level) x y left _ spans (subst (λ n. IsTaken (c.args.top + n) left (spans_left c.take_spans.new.strips.half c.take_spans.new.strips.next (g.R.RunSequence.left c.take_spans.new.strips.runs)) spans) c.side.ensures c.in_ok-spans.ensures.taken) (subst (λ n. y < c.args.top + 2 ^ n) (sym is) high))
     (subst (λ (ss : List Span). IsRow book 3 c.args.width c.args.top (marked (in_spans ss)) row.items) c.deref.ensures.value shown)))
     c.leaf_row.ensures.ok
 
@@ -92,7 +92,7 @@ strip_row-requires-2 g t c κs within =
               omega (arith, tall, half),
               (
                 wider c.args.width c.args.level low high c.requires.wide,
-                subst (λ n. AreLeft c.strip_row.new.strips.half (c.args.top + n) c.strip_row.new.strips.next (g.R.LiveRuns.left c.strip_row.new.strips.runs)) (sym half) c.in_ok-upper.ensures.left,
+                subst (λ n. AreLeft c.strip_row.new.strips.half (c.args.top + n) c.strip_row.new.strips.next (g.R.RunSequence.left c.strip_row.new.strips.runs)) (sym half) c.in_ok-upper.ensures.left,
               ),
             ),
           ),
@@ -105,17 +105,17 @@ join_rows-requires-clause-wide g t c = at_most c.args.width c.args.level c.requi
 
 -- both rows in the book that has both, by the cells that were left at first
 upper_row : (g : Over) (t : ℕ) (c : In_ok-lower g t) → IsRow (g.S.Squares.book c.strip_row-2.new.book) (c.args.level - 1) (2 * c.args.width) c.args.top
-    (marked (in_spans (spans_left c.args.strips.now.half c.args.strips.now.next (g.R.LiveRuns.left c.args.strips.now.runs)))) c.in_ok-upper.upper.items
+    (marked (in_spans (spans_left c.args.strips.now.half c.args.strips.now.next (g.R.RunSequence.left c.args.strips.now.runs)))) c.in_ok-upper.upper.items
 upper_row g t c = row_kept (g.S.Squares.book c.strip_row.new.book) (g.S.Squares.book c.strip_row-2.new.book) (c.args.level - 1) (2 * c.args.width) c.args.top
-    (marked (in_spans (spans_left c.args.strips.now.half c.args.strips.now.next (g.R.LiveRuns.left c.args.strips.now.runs)))) c.in_ok-upper.upper.items c.strip_row-2.ensures.adds.keeps c.in_ok-upper.ensures.ok
+    (marked (in_spans (spans_left c.args.strips.now.half c.args.strips.now.next (g.R.RunSequence.left c.args.strips.now.runs)))) c.in_ok-upper.upper.items c.strip_row-2.ensures.adds.keeps c.in_ok-upper.ensures.ok
 
 lower_row : (g : Over) (t : ℕ) (c : In_ok-lower g t) → IsRow (g.S.Squares.book c.strip_row-2.new.book) (c.args.level - 1) (2 * c.args.width) (c.args.top + 2 ^ (c.args.level - 1))
-    (marked (in_spans (spans_left c.args.strips.now.half c.args.strips.now.next (g.R.LiveRuns.left c.args.strips.now.runs)))) c.in_ok-lower.lower.items
+    (marked (in_spans (spans_left c.args.strips.now.half c.args.strips.now.next (g.R.RunSequence.left c.args.strips.now.runs)))) c.in_ok-lower.lower.items
 lower_row g t c =
     let book = g.S.Squares.book c.strip_row-2.new.book in
     let middle = c.args.top + 2 ^ (c.args.level - 1) in
-    let before = spans_left c.args.strips.now.half c.args.strips.now.next (g.R.LiveRuns.left c.args.strips.now.runs) in
-    let after = spans_left c.strip_row.new.strips.half c.strip_row.new.strips.next (g.R.LiveRuns.left c.strip_row.new.strips.runs) in
+    let before = spans_left c.args.strips.now.half c.args.strips.now.next (g.R.RunSequence.left c.args.strips.now.runs) in
+    let after = spans_left c.strip_row.new.strips.half c.strip_row.new.strips.next (g.R.RunSequence.left c.strip_row.new.strips.runs) in
     row_same book (c.args.level - 1) (2 * c.args.width) middle (in_spans after) (in_spans before) c.in_ok-lower.lower.items
     (λ x y low high. left_cells_below middle x y before after c.in_ok-upper.ensures.taken.0 c.in_ok-upper.ensures.taken.1 low)
     (subst (λ n. IsRow book (c.args.level - 1) (2 * c.args.width) (c.args.top + n) (marked (in_spans after)) c.in_ok-lower.lower.items) c.half_side.ensures.value c.in_ok-lower.ensures.ok)
@@ -124,7 +124,7 @@ pub join_rows-requires-clause-quarters : goal.join_rows-requires-clause-quarters
 join_rows-requires-clause-quarters g t c =
     let book = g.S.Squares.book c.strip_row-2.new.book in
     let high = c.requires.level.1 in
-    let plane = marked (in_spans (spans_left c.args.strips.now.half c.args.strips.now.next (g.R.LiveRuns.left c.args.strips.now.runs))) in
+    let plane = marked (in_spans (spans_left c.args.strips.now.half c.args.strips.now.next (g.R.RunSequence.left c.args.strips.now.runs))) in
     subst (λ (rows : List Segment). HaveQuarters book c.args.width rows c.deref-3.result.now) (sym c.deref-2.ensures.value)
     (subst (λ (rows : List Segment). HaveQuarters book c.args.width c.in_ok-upper.upper.items rows) (sym c.deref-3.ensures.value)
     (have_quarters book (c.args.level - 1) c.args.width c.args.top (c.args.top + 2 ^ (c.args.level - 1)) plane plane c.in_ok-upper.upper.items c.in_ok-lower.lower.items (omega (arith, high)) (upper_row g t (goal.at.join_rows-requires-clause-quarters g t c).In_ok-lower) (lower_row g t (goal.at.join_rows-requires-clause-quarters g t c).In_ok-lower)))
@@ -133,7 +133,7 @@ pub returns-clause-ok : goal.returns-clause-ok
 returns-clause-ok g t c =
     let old = g.S.Squares.book c.strip_row-2.new.book in
     let new = g.S.Squares.book c.join_rows.new.book in
-    let plane = marked (in_spans (spans_left c.args.strips.now.half c.args.strips.now.next (g.R.LiveRuns.left c.args.strips.now.runs))) in
+    let plane = marked (in_spans (spans_left c.args.strips.now.half c.args.strips.now.next (g.R.RunSequence.left c.args.strips.now.runs))) in
     let low = c.requires.level.0 in
     IfOk-weaker c.join_rows.result _ _ (λ row made. rows_joined old new c.args.level c.args.width c.args.top plane c.in_ok-upper.upper.items c.in_ok-lower.lower.items row.items (omega (arith, low))
     (upper_row g t (goal.at.returns-clause-ok g t c).In_ok-lower) (lower_row g t (goal.at.returns-clause-ok g t c).In_ok-lower)
@@ -146,9 +146,9 @@ returns-clause-taken g t c =
     let top = c.args.top in
     let level = c.args.level in
     let h = 2 ^ (level - 1) in
-    let first = spans_left c.args.strips.now.half c.args.strips.now.next (g.R.LiveRuns.left c.args.strips.now.runs) in
-    let second = spans_left c.strip_row.new.strips.half c.strip_row.new.strips.next (g.R.LiveRuns.left c.strip_row.new.strips.runs) in
-    let third = spans_left c.strip_row-2.new.strips.half c.strip_row-2.new.strips.next (g.R.LiveRuns.left c.strip_row-2.new.strips.runs) in
+    let first = spans_left c.args.strips.now.half c.args.strips.now.next (g.R.RunSequence.left c.args.strips.now.runs) in
+    let second = spans_left c.strip_row.new.strips.half c.strip_row.new.strips.next (g.R.RunSequence.left c.strip_row.new.strips.runs) in
+    let third = spans_left c.strip_row-2.new.strips.half c.strip_row-2.new.strips.next (g.R.RunSequence.left c.strip_row-2.new.strips.runs) in
     let low = c.requires.level.0 in
     let twice = twice_half level (omega (arith, low)) in
     let half = c.half_side.ensures.value in

@@ -13,8 +13,8 @@ use Rattle.squares.proofs.strips.ordered_runs_to_square.Goals as goal
 pub strip_row-requires-clause-left : goal.strip_row-requires-clause-left
 strip_row-requires-clause-left g c =
     let half = c.half_side-half.ensures.value in
-    let fit = subst (λ n. AllByRecursion (FitsRound n) (g.R.LiveRuns.left c.args.runs)) (sym half) c.requires.fit in
-    left_first c.half_side-half.result c.next_span-next.result (g.R.LiveRuns.left c.args.runs) _ c.half_side-half.ensures.bound c.next_span-next.ensures.fit c.next_span-next.ensures.ended c.next_span-next.ensures.spans fit c.requires.order
+    let fit = subst (λ n. AllByRecursion (FitsRound n) (g.R.RunSequence.left c.args.runs)) (sym half) c.requires.fit in
+    left_first c.half_side-half.result c.next_span-next.result (g.R.RunSequence.left c.args.runs) _ c.half_side-half.ensures.bound c.next_span-next.ensures.fit c.next_span-next.ensures.ended c.next_span-next.ensures.spans fit c.requires.order
 
 pub square_at-requires : goal.square_at-requires
 square_at-requires g c = subst (λ (rows : List Segment). HasColumns 1 rows) (sym c.deref.ensures.value) (λ column less. let had = c.in_ok-row.ensures.ok column less in (had.0, had.1))
@@ -23,7 +23,7 @@ pub returns-clause-cells : goal.returns-clause-cells
 returns-clause-cells g c =
     let book = g.S.Squares.book c.strip_row.new.book in
     let level = c.args.level in
-    let runs = g.R.LiveRuns.left c.args.runs in
+    let runs = g.R.RunSequence.left c.args.runs in
     let spans = c.next_span-next.ensures.spans ∙ ap (λ half. map (span_of half) runs) c.half_side-half.ensures.value in
     let row = subst (λ ss. IsRow book level 1 0 (marked (in_spans ss)) c.in_ok-row.row.items) spans c.in_ok-row.ensures.ok in
     let there = subst (λ (rows : List Segment). square_at rows 0 ≡ Some c.square_at.result) c.deref.ensures.value c.square_at.ensures in

@@ -7,11 +7,11 @@ use Rattle.squares.proofs.strips.take_spans.Given.{Over}
 use Rattle.squares.proofs.strips.take_spans.Goals.{Joined-strips, in-Some+then-span-bottom, in_default}
 use Rattle.squares.proofs.strips.take_spans.Goals as goal
 
-order : (g : Over) (c : Joined-strips g) → AreInOrder (spans_left c.loop-strips.strips.half c.loop-strips.strips.next (g.R.LiveRuns.left c.loop-strips.strips.runs))
+order : (g : Over) (c : Joined-strips g) → AreInOrder (spans_left c.loop-strips.strips.half c.loop-strips.strips.next (g.R.RunSequence.left c.loop-strips.strips.runs))
 order g c = order_after c.loop-strips.spans.items _ (subst AreInOrder c.loop-strips.invariant.whole c.requires.left.order)
 
-below : (g : Over) (c : Joined-strips g) → AllByRecursion (λ (span : Span). c.args.bottom ≤ span.row) (spans_left c.loop-strips.strips.half c.loop-strips.strips.next (g.R.LiveRuns.left c.loop-strips.strips.runs))
-below g c = left_below c.loop-strips.strips.half c.args.bottom c.loop-strips.strips.next (g.R.LiveRuns.left c.loop-strips.strips.runs) c.loop-strips.invariant.ended (order g c)
+below : (g : Over) (c : Joined-strips g) → AllByRecursion (λ (span : Span). c.args.bottom ≤ span.row) (spans_left c.loop-strips.strips.half c.loop-strips.strips.next (g.R.RunSequence.left c.loop-strips.strips.runs))
+below g c = left_below c.loop-strips.strips.half c.args.bottom c.loop-strips.strips.next (g.R.RunSequence.left c.loop-strips.strips.runs) c.loop-strips.invariant.ended (order g c)
     (elim c.match-strips.branch [
       | in-Some+then-span-bottom w ↦ inr (w.in-Some.span, w.in-Some.is, w.if-span-bottom.true)
       | in_default w ↦ inl w.in_default.is

@@ -9,11 +9,11 @@ use Rattle.squares.proofs.strips.take_spans.Given as goal
 abbrev pub invariant-loop-strips : goal.invariant-loop-strips
 invariant-loop-strips g l = record {
   half : l.strips.half ≡ l.initial.strips.half;
-  fit : AllByRecursion (FitsRound l.strips.half) (g.R.LiveRuns.left l.strips.runs);
-  ended : l.strips.next ≡ None → g.R.LiveRuns.left l.strips.runs ≡ [];
-  whole : spans_left l.initial.strips.half l.initial.strips.next (g.R.LiveRuns.left l.initial.strips.runs) ≡ l.spans.items ++ spans_left l.strips.half l.strips.next (g.R.LiveRuns.left l.strips.runs);
+  fit : AllByRecursion (FitsRound l.strips.half) (g.R.RunSequence.left l.strips.runs);
+  ended : l.strips.next ≡ None → g.R.RunSequence.left l.strips.runs ≡ [];
+  whole : spans_left l.initial.strips.half l.initial.strips.next (g.R.RunSequence.left l.initial.strips.runs) ≡ l.spans.items ++ spans_left l.strips.half l.strips.next (g.R.RunSequence.left l.strips.runs);
   above : AllByRecursion (λ (span : Span). span.row < l.bottom) l.spans.items;
 }
 
 abbrev pub decreases-loop-strips : goal.decreases-loop-strips
-decreases-loop-strips g l = length (spans_left l.strips.half l.strips.next (g.R.LiveRuns.left l.strips.runs))
+decreases-loop-strips g l = length (spans_left l.strips.half l.strips.next (g.R.RunSequence.left l.strips.runs))

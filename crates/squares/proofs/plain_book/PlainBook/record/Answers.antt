@@ -2,7 +2,7 @@ use Rattle.std.proofs.Common.{◌≡◌, ◌-◌, true, Some, arith, rules, sym,
 use Rattle.std.specs.Prelude.{Option, None, is_some}
 use Rattle.std.proofs.lemmas.Bool.{false≢true}
 use Rattle.std.proofs.lemmas.Option.{slice_get_within}
-use Rattle.squares.specs.declared.node.Node.{Node}
+use Rattle.squares.specs.declared.node.PlainNode.{PlainNode}
 use Rattle.squares.specs.declared.node.Record.{Record}
 use Rattle.squares.specs.Nodes.{nodes_of}
 use Rattle.squares.proofs.NodeLists.{not_zero}
@@ -10,7 +10,7 @@ use Rattle.squares.proofs.Places.{read_there}
 use Rattle.squares.proofs.RecordLists.{record_there}
 use Rattle.squares.proofs.plain_book.PlainBook.record.Goals as goal
 
-some_node : (o : Option Node) → is_some o ≡ true → (node : Node) × (o ≡ Some node)
+some_node : (o : Option PlainNode) → is_some o ≡ true → (node : PlainNode) × (o ≡ Some node)
 some_node None e = absurd (false≢true e)
 some_node (Some node) e = (node, refl)
 

@@ -1,6 +1,6 @@
 use Rattle.std.proofs.Common.{◌∙◌, ap, Some, arith, ◌≡◌}
 use Rattle.squares.specs.Nodes.{nodes_of, level_of}
-use Rattle.squares.specs.declared.node.Node.TheVariants.{Inner}
+use Rattle.squares.specs.declared.node.PlainNode.TheVariants.{Inner}
 use Rattle.squares.proofs.NodeLists.{level_at}
 use Rattle.squares.proofs.plain_book.PlainBookLook.bits.Goals as goal
 

@@ -4,7 +4,7 @@ use Rattle.std.specs.Ordering.{nat_cmp}
 use Rattle.std.proofs.lemmas.Bool.{false≢true}
 use Rattle.squares.specs.Book.{IsFuture}
 use Rattle.squares.specs.Nodes.{plain_book, quarters_order, HasNumbers}
-use Rattle.squares.specs.declared.node.Node.TheVariants.{Leaf, Inner}
+use Rattle.squares.specs.declared.node.PlainNode.TheVariants.{Leaf, Inner}
 use Rattle.squares.proofs.Kept.{keeps_none}
 use Rattle.squares.proofs.KeptResults.{record_of_square, kept_good, kept_nodes, kept_adds, kept_keeps, kept_futures}
 use Rattle.squares.proofs.PlainLaws.{book_good}

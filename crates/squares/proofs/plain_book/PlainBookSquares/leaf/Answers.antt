@@ -1,7 +1,7 @@
 use Rattle.std.proofs.Common.{◌≡◌, subst, sym, rules, None, Some}
 use Rattle.std.specs.BTreeMap.{get}
 use Rattle.std.specs.Ordering.{nat_cmp}
-use Rattle.squares.specs.declared.node.Node.TheVariants.{Leaf}
+use Rattle.squares.specs.declared.node.PlainNode.TheVariants.{Leaf}
 use Rattle.squares.specs.Book.{AddsSquares}
 use Rattle.squares.specs.Nodes.{nodes_of, plain_book, IsGood}
 use Rattle.squares.proofs.Added.{added_there, leaf_added, one_more}

@@ -2,7 +2,7 @@ use Rattle.std.proofs.Common.{◌≡◌, Bool, true, false, ◌+◌, subst, sym,
 use Rattle.std.specs.BTreeMap.{get}
 use Rattle.std.specs.List.{AllByRecursion}
 use Rattle.std.proofs.lemmas.Bool.{false≢true}
-use Rattle.squares.specs.declared.node.Node.TheVariants.{Inner}
+use Rattle.squares.specs.declared.node.PlainNode.TheVariants.{Inner}
 use Rattle.squares.specs.declared.node.Quarters.{Quarters}
 use Rattle.squares.specs.declared.sq.Sq.{Sq}
 use Rattle.squares.specs.Book.{AddsSquares, IsEmpty, Keeps, Shows, joined_squares, numbered, nth}

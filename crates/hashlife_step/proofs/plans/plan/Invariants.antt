@@ -1,5 +1,0 @@
-use Rattle.hashlife_step.proofs.Planned.{IsPlanned}
-use Rattle.hashlife_step.proofs.plans.plan.Given as goal
-
-abbrev pub invariant-loop-exponent : goal.invariant-loop-exponent
-invariant-loop-exponent l = IsPlanned l.generations l.exponent l.exponents.items
