@@ -1,9 +1,11 @@
--- The cells of the nodes of a file.
-use Rattle.std.specs.Prelude.{ℕ, zero, suc, ◌-◌, ◌^◌, List, [], ◌∷◌, ◌++◌, length, map, slice_index, slice_index_or}
+-- The cells of the nodes of a file, and the pattern that a file means.
+use Rattle.std.specs.Prelude.{ℕ, zero, suc, ◌-◌, ◌^◌, List, [], ◌∷◌, ◌++◌, length, map, slice_index, slice_index_or, Result}
 use Rattle.plane.specs.Centred.{centred}
 use Rattle.plane.specs.Plane.{Plane}
 use Rattle.plane.specs.Square.{empty, joined, bits_plane}
-use Rattle.macrocell_reader.specs.Meaning.{Meaning}
+use Rattle.plane.specs.declared.fault.Fault.{Fault}
+use Rattle.text_lines.specs.Meaning as pattern
+use Rattle.macrocell_reader.specs.Meaning.{Meaning, judged}
 use Rattle.macrocell_reader.specs.Nodes.{level_of}
 use Rattle.macrocell_reader.specs.declared.node.Node.{Node}
 use Rattle.macrocell_reader.specs.declared.node.Node.TheVariants.{Leaf, Inner}
@@ -42,3 +44,17 @@ root_plane nodes = centred (root_level nodes) (plane_at (planes_of nodes) (lengt
 -- the cells that a meaning makes live
 abbrev pub live_plane : Meaning → Plane
 live_plane meaning = root_plane (map (λ written. written.node) meaning.nodes)
+
+-- the meaning without what only this format has
+abbrev pub as_pattern : Meaning → pattern.Meaning
+as_pattern meaning = record {
+  generation = meaning.generation;
+  rule = meaning.rule;
+  rule_place = meaning.rule_place;
+  comments = meaning.comments;
+  live = live_plane meaning;
+}
+
+-- the pattern in a text, or the text's first fault
+abbrev pub pattern_in : List ℕ → Result pattern.Meaning Fault
+pattern_in text = pattern.seen_as as_pattern (judged text)

@@ -3,6 +3,7 @@
 ghost use Rattle.std.specs.Prelude.{◌≤◌, IfOk, IsOkUnless};
 ghost use Rattle.plane.specs.Centred.{centred};
 ghost use Rattle.squares.specs.Book.{IsKnown};
+ghost use Rattle.squares.specs.declared.sq.TheConstants.{HIGHEST_ROOT_LEVEL};
 ghost use Rattle.pattern_picture.specs.Drawings.{IsDrawingOf};
 ghost use Rattle.pattern_picture.specs.Scale.{IsShown, IsSize};
 
@@ -37,7 +38,7 @@ pub fn picture<L: Look>(
     size: u32,
 ) -> Result<Drawing, Refusal>
     requires known { IsKnown (L.book look.now) sq.level sq }
-    requires level { sq.level ≤ 63 }
+    requires level { sq.level ≤ HIGHEST_ROOT_LEVEL }
     requires shown { IsShown shown }
     requires size { IsSize size }
     ensures drawn { IfOk result (IsDrawingOf

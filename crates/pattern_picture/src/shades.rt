@@ -3,6 +3,7 @@
 ghost use Rattle.std.specs.Prelude.{◌≡◌, ◌≤◌, ◌++◌, map, IfOk, IsOkUnless, OnOk};
 ghost use Rattle.plane.specs.Centred.{centred};
 ghost use Rattle.squares.specs.Book.{IsKnown};
+ghost use Rattle.squares.specs.declared.sq.TheConstants.{HIGHEST_ROOT_LEVEL};
 ghost use Rattle.viewport.specs.Blocks.{IsBlockRange};
 ghost use Rattle.pattern_picture.specs.Shades.{block_shades, shade_of};
 
@@ -32,7 +33,7 @@ pub fn block_shades<L: Look>(
     blocks: Blocks,
 ) -> Result<Vec<u8>, Refusal>
     requires known { IsKnown (L.book look.now) sq.level sq }
-    requires level { sq.level ≤ 63 }
+    requires level { sq.level ≤ HIGHEST_ROOT_LEVEL }
     requires exponent { blocks.exponent ≤ 62 }
     requires columns { IsBlockRange blocks.exponent blocks.left blocks.width }
     requires rows { IsBlockRange blocks.exponent blocks.top blocks.height }

@@ -8,8 +8,7 @@ use Rattle.std.proofs.lemmas.Bool.Decides.{Decides-eqb}
 use Rattle.std.proofs.lemmas.Nat.Bits.{bit_at_lowest, bit_at-suc, bit_at_cat_low}
 use Rattle.plane.specs.Square.{bits_plane}
 use Rattle.squares.proofs.NumberMaps.{by_cases}
-use Rattle.pattern_writers.specs.Bits.{bits_text, low_bits}
-use Rattle.pattern_writers.specs.LeafText.{cell_byte, eight, is_nothing, leaf_text, onto_rest, row_text, without_end}
+use Rattle.pattern_writers.specs.LeafText.{bits_text, cell_byte, eight, is_nothing, leaf_text, low_bits, onto_rest, row_text, without_end}
 
 -- ---- up to the last live cell
 

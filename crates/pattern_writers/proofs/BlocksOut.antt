@@ -4,7 +4,7 @@ use Rattle.std.proofs.lemmas.Bool.{false≢true}
 use Rattle.std.specs.Prelude.{Option, Result, Ok, Err, IfErr, IsErr, IsErrAnd, OnErr}
 use Rattle.std.specs.Io.KnownBytes.{Appends}
 use Rattle.std.proofs.KnownBytes.{Appends-nil, Appends-trans}
-use Rattle.pattern_writers.specs.OutputBlock.{AppendsBuffered}
+use Rattle.pattern_writers.specs.Output.{AppendsBuffered}
 use Rattle.pattern_writers.proofs.BodyText.{drop_step}
 use Rattle.plane.proofs.Beginnings.{beginning_as, beginning_of_more, text_and_beginning}
 use Rattle.plane.specs.Device.{AppendsBeginning, IsWriteRefusal, TellsFailure}

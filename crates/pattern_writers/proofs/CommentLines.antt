@@ -10,12 +10,11 @@ use Rattle.squares.proofs.NumberMaps.{by_cases}
 use Rattle.text_lines.specs.Bytes.{begins_with, ends_with}
 use Rattle.text_lines.specs.Comments.{is_blank_line, is_kept, is_comment, is_settings_line}
 use Rattle.text_lines.specs.Lines.{without_return, is_line_feed}
-use Rattle.rle_reader.specs.Bytes.{words}
+use Rattle.rle_reader.specs.Words.{word_of, words}
 use Rattle.rle_reader.specs.Opening.{stands_before_header}
 use Rattle.rle_reader.specs.Settings.{after_line, after_readings}
-use Rattle.rle_reader.specs.Words.{word_of}
 use Rattle.rle_reader.specs.declared.settings.Settings.{Settings}
-use Rattle.pattern_writers.specs.WrittenComments.{IsComment, HasNoReturn}
+use Rattle.pattern_writers.specs.Reading.{IsComment, HasNoReturn}
 
 -- ---- what a kept comment begins with
 

@@ -21,8 +21,8 @@ use Rattle.pattern_writers.specs.McText.{inner_text, square_text}
 use Rattle.pattern_writers.specs.NodeLines.{node_text}
 use Rattle.pattern_writers.specs.Subsquares.{Square, if_alive, is_dead, is_listed, is_same_square, nw_of, ne_of, sw_of, se_of, number_in, squares_in, with_new}
 use Rattle.pattern_writers.specs.declared.mc_text.listing.NodeList.{NodeList}
-use Rattle.pattern_writers.specs.declared.mc_text.node.Node.{Node}
-use Rattle.pattern_writers.specs.declared.mc_text.node.Node.TheVariants.{Leaf, Inner}
+use Rattle.pattern_writers.specs.declared.mc_text.node.ListedNode.{ListedNode}
+use Rattle.pattern_writers.specs.declared.mc_text.node.ListedNode.TheVariants.{Leaf, Inner}
 use Rattle.pattern_writers.proofs.ListedSquares.{alive_known, empty_adds, empty_number, found_number, not_found, number_kept, number_later, number_listed, one_more_listed}
 use Rattle.pattern_writers.proofs.Repeats.{not_new, nothing_again, with_new-append, with_one-new}
 use Rattle.pattern_writers.proofs.Subsquares.{levels_in, other_level, square_equal, squares_in_quarters}
@@ -153,7 +153,7 @@ number_noted list sq some = cond-false (sq.num.0 == 0) (Some 0) (value_of list.n
 
 module _ (book : Book) (laws : IsBook book) where
   -- the list after a square was added behind others
-  added : (listed before : List Square) (old new : NodeList) (sq : Sq) (node : Node) (number : ℕ) → IsKnown book sq.level sq → (sq.num.0 ≡ 0 → ⊥) → AreListed book before old →
+  added : (listed before : List Square) (old new : NodeList) (sq : Sq) (node : ListedNode) (number : ℕ) → IsKnown book sq.level sq → (sq.num.0 ≡ 0 → ⊥) → AreListed book before old →
       is_listed before (square_of book sq) ≡ false → number ≡ length old.nodes.items + 1 → new.nodes.items ≡ old.nodes.items ++ node ∷ [] →
       Updates is_same_key old.numbers new.numbers (sq.level, sq.num.0) (Some number) →
       ((more : List Square) → square_text ((before ++ square_of book sq ∷ []) ++ more) (square_of book sq) ≡ node_text node) →

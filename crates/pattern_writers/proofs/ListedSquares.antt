@@ -20,7 +20,7 @@ use Rattle.pattern_writers.specs.McText.{square_text}
 use Rattle.pattern_writers.specs.NodeLines.{node_text}
 use Rattle.pattern_writers.specs.Subsquares.{Square, is_dead, is_listed, is_same_square, number_in, squares_in, with_new}
 use Rattle.pattern_writers.specs.declared.mc_text.listing.NodeList.{NodeList}
-use Rattle.pattern_writers.specs.declared.mc_text.node.Node.{Node}
+use Rattle.pattern_writers.specs.declared.mc_text.node.ListedNode.{ListedNode}
 use Rattle.pattern_writers.proofs.Repeats.{last_listed, listed_before, place-kept, place-new, same_self, with_new-grows}
 use Rattle.pattern_writers.proofs.Subsquares.{dead_empty, empty_dead, none_in_empty, same_square}
 
@@ -96,7 +96,7 @@ found_last listed square alive new =
     ∙ ap (λ n. Some n) (sym (ap (λ l. number_in l square) (append-nil (listed ++ square ∷ []))) ∙ (number_of_last listed square alive new).numbered [])
 
 -- the texts of squares after one more was added
-pub texts_after : (listed : List Square) (old new : List Node) (square : Square) (node : Node) → ((more : List Square) → map (square_text (listed ++ more)) listed ≡ map node_text old) →
+pub texts_after : (listed : List Square) (old new : List ListedNode) (square : Square) (node : ListedNode) → ((more : List Square) → map (square_text (listed ++ more)) listed ≡ map node_text old) →
     new ≡ old ++ node ∷ [] → ((more : List Square) → square_text ((listed ++ square ∷ []) ++ more) square ≡ node_text node) → (more : List Square) →
     map (square_text ((listed ++ square ∷ []) ++ more)) (listed ++ square ∷ []) ≡ map node_text new
 texts_after listed old new square node are added text more =
@@ -172,7 +172,7 @@ module _ (book : Book) (laws : IsBook book) where
       ap (λ l. listed_with book l q) (append_assoc listed (square_of book sq ∷ []) more) ∙ are.no_more q known_q before (square_of book sq ∷ more) ∙ sym (append_assoc listed (square_of book sq ∷ []) more))
 
   -- one more square is listed with its node and its number
-  pub one_more_listed : (listed : List Square) (old new : NodeList) (sq : Sq) (node : Node) (number : ℕ) → AreListed book listed old → IsTrue (book.knows sq) →
+  pub one_more_listed : (listed : List Square) (old new : NodeList) (sq : Sq) (node : ListedNode) (number : ℕ) → AreListed book listed old → IsTrue (book.knows sq) →
       is_dead (square_of book sq) ≡ false → is_listed listed (square_of book sq) ≡ false → number ≡ length old.nodes.items + 1 → new.nodes.items ≡ old.nodes.items ++ node ∷ [] →
       Updates is_same_key old.numbers new.numbers (sq.level, sq.num.0) (Some number) →
       ((more : List Square) → square_text ((listed ++ square_of book sq ∷ []) ++ more) (square_of book sq) ≡ node_text node) →

@@ -22,7 +22,7 @@ use Rattle.macrocell_reader.specs.Settings.{Said, after_line, generation_of, sai
 use Rattle.macrocell_reader.specs.declared.node.Node.{Node}
 use Rattle.macrocell_reader.proofs.MeaningLemmas.{no_node_line}
 use Rattle.macrocell_reader.proofs.NodeLemmas.{node_of-other}
-use Rattle.pattern_writers.specs.WrittenComments.{IsComment}
+use Rattle.pattern_writers.specs.Reading.{IsComment}
 use Rattle.pattern_writers.proofs.CommentLines.{kept_begins, return_left}
 use Rattle.pattern_writers.proofs.McLines.{AreFine, AreSilent}
 use Rattle.pattern_writers.proofs.TextLines.{IsPlain, blank_cut, plain_from_test, plain_marks}

@@ -21,6 +21,7 @@ use Rattle.macrocell_reader.specs.Nodes.{begins_leaf, node_of}
 use Rattle.macrocell_reader.specs.declared.node.Node.TheVariants.{Leaf}
 use Rattle.macrocell_reader.proofs.LeafBits.{leaf_bit}
 use Rattle.pattern_writers.specs.LeafText.{cell_byte, eight, is_nothing, leaf_text, onto_rest, row_text, without_end}
+use Rattle.pattern_writers.proofs.Subsquares.{nothing_is}
 use Rattle.pattern_writers.proofs.TextLines.{IsMark, ended_parts-all, ends_with_marks}
 
 -- the rows that are written
@@ -153,10 +154,6 @@ at_cell (cell ∷ cells) (suc x) = at_cell cells x
 not_live : (cell : Bool) → not cell ≡ true → cell ≡ false
 not_live true is = sym is
 not_live false is = refl
-
-nothing_is : (row : List ℕ) → is_nothing row ≡ true → row ≡ []
-nothing_is [] is = refl
-nothing_is (b ∷ row) is = absurd (false≢true is)
 
 cell_at : (plane : Plane) (x y : ℕ) → x < 8 → get_or (map (λ x. plane (pos x) (pos y)) eight) x false ≡ plane (pos x) (pos y)
 cell_at plane zero y low = refl

@@ -12,18 +12,18 @@ use Rattle.plane.specs.Square.{IsSame, IsSquare}
 use Rattle.plane.proofs.Elements.{AllByRecursion-weaker, AllByRecursion-append}
 use Rattle.text_lines.specs.Comments.{comments_of, is_kept}
 use Rattle.text_lines.specs.Lines.{is_line_feed, lines, placed_lines, raw_lines, without_return}
+use Rattle.text_lines.specs.Meaning.{seen_as}
 use Rattle.text_lines.proofs.LineLemmas.{placed_lines-cons}
 use Rattle.macrocell_reader.specs.Meaning.{body_of, first_fault, meaning_with}
 use Rattle.macrocell_reader.specs.Nodes.{node_of, nodes_of}
-use Rattle.macrocell_reader.specs.Planes.{root_plane}
+use Rattle.macrocell_reader.specs.Planes.{as_pattern, root_plane}
 use Rattle.macrocell_reader.specs.Settings.{Said, after_line, after_lines, nothing_said}
 use Rattle.macrocell_reader.proofs.MeaningLemmas.{judged-accepted, no_node_line}
 use Rattle.macrocell_reader.proofs.NodeLemmas.{node_of-other}
 use Rattle.pattern_writers.specs.LeafText.{leaf_text}
-use Rattle.pattern_writers.specs.McReading.{FitsMc, IsReadFromMc}
+use Rattle.pattern_writers.specs.Reading.{FitsMc, HasNoReturn, IsComment, IsReadFromMc}
 use Rattle.pattern_writers.specs.McText.{from_corner, inner_text, mc_text, square_text}
 use Rattle.pattern_writers.specs.Subsquares.{Square, listed_in, nw_of, ne_of, sw_of, se_of, number_in}
-use Rattle.pattern_writers.specs.WrittenComments.{HasNoReturn, IsComment}
 use Rattle.pattern_writers.proofs.CommentLines.{comment_feeds, comments_kept}
 use Rattle.pattern_writers.proofs.McKinds.{IsQuiet, comment_quiet, fine_nodes, fine_quiet, found_nodes, generation_line, generation_no_node, generation_not_kept, generation_plain, generation_said, generation_unfaulted, head_plain, kept_nodes, rule_line, rule_no_node, rule_not_kept, rule_plain, rule_said, rule_unfaulted, silent_nodes}
 use Rattle.pattern_writers.proofs.McLeaves.{leaf_marks}
@@ -126,7 +126,7 @@ mc_read comments rule generation level plane fits =
     let text : List ℕ = mc_text comments rule generation level plane in
     let least = fits.smallest.least in
     let high = fits.high in
-    let in_range = fits.in_range in
+    let in_range = fits.heading.in_range in
     let few : length listed < 4294967296 = fits.numbers in
     let small : generation < 2 ^ 64 = omega (arith, in_range) in
     let within = corner_square level plane fits.smallest.holds in
@@ -137,7 +137,7 @@ mc_read comments rule generation level plane fits =
     let plain = texts_plain listed listed few are.good in
     let nodes_are = text_nodes listed are in
     let cs : List (List ℕ) = map without_return comments in
-    let quiet = comments_quiet comments fits.are_comments in
+    let quiet = comments_quiet comments fits.heading.are_comments in
     let feed = λ (line : List ℕ) (is : AllByRecursion IsPlain line). AllByRecursion-weaker IsPlain (λ b. is_line_feed b ≡ false) plain_no_feed line is in
     let raw : raw_lines text ≡ codes "[M2] (lifebatch 1)" ∷ body =
     ap raw_lines (text_lines_are comments rule generation level plane)
@@ -147,7 +147,7 @@ mc_read comments rule generation level plane fits =
         feed (rule_line rule) (rule_plain rule),
         (
           feed (generation_line generation) (generation_plain generation small),
-          AllByRecursion-append (AllByRecursion (λ b. is_line_feed b ≡ false)) comments texts (comment_feeds comments fits.are_comments) (no_feeds texts plain),
+          AllByRecursion-append (AllByRecursion (λ b. is_line_feed b ≡ false)) comments texts (comment_feeds comments fits.heading.are_comments) (no_feeds texts plain),
         ),
       ),
     ) in
@@ -185,15 +185,15 @@ mc_read comments rule generation level plane fits =
     ap comments_of body_is ∙ comments_placed place body ∙ ap (filter is_kept) read_is
     ∙ ap (λ t. cond t (rule_line rule ∷ filter is_kept (generation_line generation ∷ (cs ++ texts))) (filter is_kept (generation_line generation ∷ (cs ++ texts)))) (rule_not_kept rule)
     ∙ ap (λ t. cond t (generation_line generation ∷ filter is_kept (cs ++ texts)) (filter is_kept (cs ++ texts))) (generation_not_kept generation)
-    ∙ comments_kept comments texts fits.are_comments none ∙ ap (λ l. comments ++ l) (kept_nodes texts are.nodes nodes_are) ∙ append-nil comments in
+    ∙ comments_kept comments texts fits.heading.are_comments none ∙ ap (λ l. comments ++ l) (kept_nodes texts are.nodes nodes_are) ∙ append-nil comments in
     let found : bare (nodes_of (body_of text)) ≡ are.nodes =
     ap (λ l. bare (nodes_of l)) body_is ∙ nodes_placed place body ∙ ap (filter_map node_of) read_is
     ∙ ap (λ o. cons_option o (filter_map node_of (generation_line generation ∷ (cs ++ texts)))) (node_of-other (rule_line rule) (rule_no_node rule))
     ∙ ap (λ o. cons_option o (filter_map node_of (cs ++ texts))) (node_of-other (generation_line generation) (generation_no_node generation))
     ∙ quiet_found cs texts quiet ∙ found_nodes texts are.nodes nodes_are in
     record {
-      meaning = meaning_with (after_lines nothing_said (body_of text)) (body_of text);
-      accepted = judged-accepted text refl no_fault;
+      meaning = as_pattern (meaning_with (after_lines nothing_said (body_of text)) (body_of text));
+      accepted = ap (seen_as as_pattern) (judged-accepted text refl no_fault);
       same_generation = ap (λ s. s.generation) said_is;
       same_rule = ap (λ s. s.rule) said_is;
       same_comments = kept_is;

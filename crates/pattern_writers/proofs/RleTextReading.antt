@@ -15,9 +15,10 @@ use Rattle.plane.proofs.Elements.{AllByRecursion-weaker}
 use Rattle.text_lines.specs.Comments.{comments_of, is_kept}
 use Rattle.text_lines.specs.Faults.{at_place, unless, ◌>>=◌}
 use Rattle.text_lines.specs.Lines.{Line, is_line_feed, lines, placed_lines, raw_lines, without_return}
+use Rattle.text_lines.specs.Meaning.{seen_as}
 use Rattle.rle_reader.specs.Body.{stripped}
 use Rattle.rle_reader.specs.Header.{header_rule}
-use Rattle.rle_reader.specs.Meaning.{body_fault, first_fault_from, judged, live_plane, meaning_of}
+use Rattle.rle_reader.specs.Meaning.{as_pattern, body_fault, first_fault_from, judged, live_plane, meaning_of}
 use Rattle.rle_reader.specs.Opening.{Opening, after_lines, before_header, from_header, may_stand, opening_of, stands_before_header, with_header}
 use Rattle.rle_reader.specs.Settings.{after_line, nothing_said}
 use Rattle.rle_reader.specs.State.{start_at}
@@ -25,9 +26,8 @@ use Rattle.rle_reader.specs.declared.settings.Settings.{Settings}
 use Rattle.pattern_writers.specs.Frame.{frame_of}
 use Rattle.pattern_writers.specs.Layout.{body_text}
 use Rattle.pattern_writers.specs.Opening.{header_text, position_text}
-use Rattle.pattern_writers.specs.RleReading.{IsReadable, IsReadFromRle}
+use Rattle.pattern_writers.specs.Reading.{IsComment, IsReadable, IsReadFromRle}
 use Rattle.pattern_writers.specs.RleText.{comment_lines, rle_text}
-use Rattle.pattern_writers.specs.WrittenComments.{IsComment}
 use Rattle.pattern_writers.specs.declared.rle_text.frame.Frame.{Frame}
 use Rattle.pattern_writers.specs.declared.rle_text.items.Item.{Item}
 use Rattle.pattern_writers.proofs.BodySpots.{body_bytes}
@@ -208,7 +208,7 @@ module _ (comments : List (List ℕ)) (rule : CountRule) (generation : ℕ) (pla
   settings = record { pos = corner; generation = generation }
 
   position : IsPosition corner.x corner.y generation
-  position = let at_corner = in_frame.corner in record { column = at_corner.x; row = at_corner.y; low = readable.in_range }
+  position = let at_corner = in_frame.corner in record { column = at_corner.x; row = at_corner.y; low = readable.heading.in_range }
 
   first_is_plain : AllByRecursion IsPlain first
   first_is_plain = position_plain corner.x corner.y generation position
@@ -225,14 +225,14 @@ module _ (comments : List (List ℕ)) (rule : CountRule) (generation : ℕ) (pla
     said = position_said corner.x corner.y generation position;
     stops = header_stops frame.width frame.height (canonical_text rule) in_frame.width in_frame.height (rule_marks rule);
     names = header_read frame.width frame.height (canonical_text rule) in_frame.width in_frame.height (rule_marks rule);
-    are_comments = readable.are_comments;
+    are_comments = readable.heading.are_comments;
   }
 
   abbrev opening : Opening
   opening = opening_with (length text) first header (canonical_text rule) settings comments body opening_is (filter is_kept (map without_return comments))
 
   text_lines : lines 0 text ≡ placed_lines 0 (first ∷ (comments ++ header ∷ body))
-  text_lines = ap (placed_lines 0) (text_cut first header (body_text items) comments first_is_plain header_is_plain readable.are_comments)
+  text_lines = ap (placed_lines 0) (text_cut first header (body_text items) comments first_is_plain header_is_plain readable.heading.are_comments)
 
   abbrev found : reader.Items
   found = reader.items_of (stripped opening.body)
@@ -264,11 +264,11 @@ module _ (comments : List (List ℕ)) (rule : CountRule) (generation : ℕ) (pla
   pub rle_read : IsReadFromRle comments rule generation plane text
   unfolding meaning_of
   rle_read = record {
-    meaning = meaning_of text opening;
-    accepted = judged_by text (placed_lines 0 (first ∷ (comments ++ header ∷ body))) opening text_lines
-        (opening_found (length text) first header (canonical_text rule) settings comments body opening_is) no_body_fault;
+    meaning = as_pattern (meaning_of text opening);
+    accepted = ap (seen_as as_pattern) (judged_by text (placed_lines 0 (first ∷ (comments ++ header ∷ body))) opening text_lines
+        (opening_found (length text) first header (canonical_text rule) settings comments body opening_is) no_body_fault);
     same_generation = refl;
     same_rule = refl;
-    same_comments = λ none. ap (filter is_kept) (sym (append-nil (map without_return comments))) ∙ comments_kept comments [] readable.are_comments none ∙ append-nil comments;
+    same_comments = λ none. ap (filter is_kept) (sym (append-nil (map without_return comments))) ∙ comments_kept comments [] readable.heading.are_comments none ∙ append-nil comments;
     same_cells = cells_are;
   }

@@ -22,8 +22,8 @@ use Rattle.pattern_writers.specs.NodeLines.{node_line, node_text}
 use Rattle.pattern_writers.specs.Roots.{IsRoot}
 use Rattle.pattern_writers.specs.Subsquares.{Square, if_alive, is_dead, is_same_square, listed_in, nw_of, ne_of, sw_of, se_of, number_in, with_new}
 use Rattle.pattern_writers.specs.declared.mc_text.listing.NodeList.{NodeList}
-use Rattle.pattern_writers.specs.declared.mc_text.node.Node.{Node}
-use Rattle.pattern_writers.specs.declared.mc_text.node.Node.TheVariants.{Inner}
+use Rattle.pattern_writers.specs.declared.mc_text.node.ListedNode.{ListedNode}
+use Rattle.pattern_writers.specs.declared.mc_text.node.ListedNode.TheVariants.{Inner}
 use Rattle.pattern_writers.specs.declared.mc_text.root.Root.{Root}
 use Rattle.pattern_writers.proofs.ListedQuarters.{added_by_parts, alive_itself, has_parts, not_in_parts, text_behind_parts}
 use Rattle.pattern_writers.proofs.ListedSquares.{number_of_empty, texts_after}
@@ -69,7 +69,7 @@ part_empty level left top plane none =
 
 -- ---- lines from texts
 
-lines_from : (listed : List Square) (nodes : List Node) → map (square_text listed) listed ≡ map node_text nodes → flat_map node_line nodes ≡ node_lines listed
+lines_from : (listed : List Square) (nodes : List ListedNode) → map (square_text listed) listed ≡ map node_text nodes → flat_map node_line nodes ≡ node_lines listed
 lines_from listed nodes same =
     sym (flat_map-map (λ text. text ++ codes "\n") node_text nodes) ∙ ap (flat_map (λ text. text ++ codes "\n")) (sym same) ∙ flat_map-map (λ text. text ++ codes "\n") (square_text listed) listed
 
@@ -89,10 +89,10 @@ zeros a b c d all =
     let same : (a ∷ b ∷ c ∷ d ∷ []) ≡ (0 ∷ 0 ∷ 0 ∷ 0 ∷ []) = (bytes_eq-Decides (a ∷ b ∷ c ∷ d ∷ []) (0 ∷ 0 ∷ 0 ∷ 0 ∷ [])).0 all in
     (cc, cc, cc, cc)
 
-without_root : (level : ℕ) (quarters : List ℕ) (nodes : List Node) → are_zero quarters ≡ true → nodes ++ root_node level quarters ≡ nodes
+without_root : (level : ℕ) (quarters : List ℕ) (nodes : List ListedNode) → are_zero quarters ≡ true → nodes ++ root_node level quarters ≡ nodes
 without_root level quarters nodes zero = ap (λ t. nodes ++ cond t [] (Inner level quarters ∷ [])) zero ∙ append-nil nodes
 
-with_root : (level : ℕ) (quarters : List ℕ) (nodes : List Node) → are_zero quarters ≡ false → nodes ++ root_node level quarters ≡ nodes ++ Inner level quarters ∷ []
+with_root : (level : ℕ) (quarters : List ℕ) (nodes : List ListedNode) → are_zero quarters ≡ false → nodes ++ root_node level quarters ≡ nodes ++ Inner level quarters ∷ []
 with_root level quarters nodes some = ap (λ t. nodes ++ cond t [] (Inner level quarters ∷ [])) some
 
 dead_adds : (listed : List Square) (square : Square) → is_dead square ≡ true → with_new listed (if_alive square) ≡ listed
@@ -103,7 +103,7 @@ dead_adds listed square dead = ap (λ t. with_new listed (cond t [] (square ∷ 
 module _ (book : Book) (laws : IsBook book) (plane : Plane) (root : Root) (is : IsRoot book plane root) (l0 l1 l2 l3 l4 : NodeList) (a b c d : ℕ)
     (none : l0.nodes.items ≡ []) (unknown : (sq : Sq) → value_of l0.numbers sq ≡ None)
     (is_a : Lists book (nth root.quarters 0) l0 l1 a) (is_b : Lists book (nth root.quarters 1) l1 l2 b) (is_c : Lists book (nth root.quarters 2) l2 l3 c) (is_d : Lists book (nth root.quarters 3) l3 l4 d) where
-  nodes_of_each : (nodes : List Node) → nodes ≡ l4.nodes.items ++ root_node root.level (a ∷ b ∷ c ∷ d ∷ []) → AreNodes plane nodes
+  nodes_of_each : (nodes : List ListedNode) → nodes ≡ l4.nodes.items ++ root_node root.level (a ∷ b ∷ c ∷ d ∷ []) → AreNodes plane nodes
   nodes_of_each nodes grown =
       let level : ℕ = root.level in
       let whole : Square = record { level = level; plane = from_corner level plane } in
@@ -146,7 +146,7 @@ module _ (book : Book) (laws : IsBook book) (plane : Plane) (root : Root) (is : 
       lines_from (listed ++ whole ∷ []) nodes (ap (λ l. map (square_text l) (listed ++ whole ∷ [])) (sym (append-nil (listed ++ whole ∷ []))) ∙ all_texts) ∙ ap node_lines (sym one)) in
       record { level = level; smallest = is.smallest; lines = lines }
 
-pub nodes_of_root : (book : Book) (laws : IsBook book) (plane : Plane) (root : Root) (old new : NodeList) (quarters : List ℕ) (nodes : List Node) → IsRoot book plane root → old.nodes.items ≡ [] →
+pub nodes_of_root : (book : Book) (laws : IsBook book) (plane : Plane) (root : Root) (old new : NodeList) (quarters : List ℕ) (nodes : List ListedNode) → IsRoot book plane root → old.nodes.items ≡ [] →
     ((sq : Sq) → value_of old.numbers sq ≡ None) → ListsFour book root.quarters old new quarters → nodes ≡ new.nodes.items ++ root_node root.level quarters → AreNodes plane nodes
 nodes_of_root book laws plane root old new quarters nodes is none unknown four grown =
     nodes_of_each book laws plane root is old four.with_nw four.with_ne four.with_sw new four.number_nw four.number_ne four.number_sw four.number_se none unknown

@@ -13,10 +13,10 @@ use Rattle.plane.proofs.Cuts.{and_case, cut_cut}
 use Rattle.plane.proofs.Paddings.{holds_more, square_held, twice_half}
 use Rattle.plane.proofs.Same.{plane_equal, same_refl, same_sym, same_trans}
 use Rattle.squares.specs.Borders.{border_of}
-use Rattle.squares.specs.Book.{Book, IsBook, IsEmpty, IsKnown, Shows, AreQuarters, nth, numbered}
+use Rattle.squares.specs.Book.{Book, AreKnown, IsBook, IsEmpty, IsKnown, Shows, AreQuarters, nth, numbered}
 use Rattle.squares.specs.declared.sq.Sq.{Sq}
 use Rattle.pattern_writers.specs.McText.{from_corner}
-use Rattle.pattern_writers.specs.Roots.{AreKnown, HasRoot, IsRoot}
+use Rattle.pattern_writers.specs.Roots.{HasRoot, IsRoot}
 use Rattle.pattern_writers.specs.declared.mc_text.root.Root.{Root}
 
 -- ---- to the corner and back
@@ -158,7 +158,7 @@ module _ (book : Book) (laws : IsBook book) where
 
 -- the quarters of a square around (0,0) are known
 pub quarters_known : (book : Book) (plane : Plane) (level : ℕ) (quarters : List Sq) → AreQuarters book level plane quarters → AreKnown book (level - 1) quarters
-quarters_known book plane level quarters are = record { nw = are.nw.known; ne = are.ne.known; sw = are.sw.known; se = are.se.known }
+quarters_known book plane level quarters are = record { first = are.nw.known; second = are.ne.known; third = are.sw.known; fourth = are.se.known }
 
 -- the square of a book is a square around (0,0)
 pub first_root : (book : Book) (sq : Sq) (parts : List Sq) → IsBook book → IsKnown book sq.level sq → 4 ≤ sq.level → AreQuarters book sq.level (book.cells sq) parts →

@@ -19,7 +19,8 @@ use Rattle.plane.proofs.Populations.{empty_cells}
 use Rattle.plane.proofs.Same.{plane_equal}
 use Rattle.plane.proofs.Elements.{AllByRecursion-weaker}
 use Rattle.plane.proofs.Windows.{square_listing}
-use Rattle.pattern_writers.specs.Subsquares.{Square, if_alive, is_dead, is_none, is_same_cell, is_same_square, live_cells, nw_of, ne_of, sw_of, se_of, squares_in}
+use Rattle.pattern_writers.specs.LeafText.{is_nothing}
+use Rattle.pattern_writers.specs.Subsquares.{Square, if_alive, is_dead, is_same_cell, is_same_square, live_cells, nw_of, ne_of, sw_of, se_of, squares_in}
 
 -- ---- the same square
 
@@ -51,17 +52,17 @@ other_level a b less =
 -- ---- empty squares
 
 pub empty_dead : (level : ℕ) → is_dead (record { level = level; plane = empty }) ≡ true
-empty_dead level = ap is_none (empty_cells (pos 0) (pos 0) (2 ^ level) (2 ^ level))
+empty_dead level = ap is_nothing (empty_cells (pos 0) (pos 0) (2 ^ level) (2 ^ level))
 
-none_are : (cells : List Cell) → is_none cells ≡ true → cells ≡ []
-none_are [] is = refl
-none_are (cell ∷ cells) is = absurd (false≢true is)
+pub nothing_is : {A : Type 0} (list : List A) → is_nothing list ≡ true → list ≡ []
+nothing_is [] is = refl
+nothing_is (first ∷ rest) is = absurd (false≢true is)
 
 pub dead_empty : (square : Square) → IsSquare (2 ^ square.level) square.plane → is_dead square ≡ true → square.plane ≡ empty
 unfolding plane_of
 dead_empty square is dead =
     plane_equal square.plane empty (record {
-      same = λ x y. sym ((square_listing (2 ^ square.level) square.plane is).live x y) ∙ ap (λ l. plane_of l x y) (none_are (live_cells square) dead);
+      same = λ x y. sym ((square_listing (2 ^ square.level) square.plane is).live x y) ∙ ap (λ l. plane_of l x y) (nothing_is (live_cells square) dead);
     })
 
 -- ---- the squares in a square

@@ -8,11 +8,10 @@ use Rattle.plane.specs.Centred.{IsSmallestLevel}
 use Rattle.plane.specs.Plane.{Plane}
 use Rattle.plane.specs.declared.cell.Cell.{Cell}
 use Rattle.plane.proofs.Uniqueness.{one_listing_lem}
-use Rattle.pattern_writers.specs.McReading.{IsReadBackFromMc, IsReadFromMc}
 use Rattle.pattern_writers.specs.McText.{WritesMc, mc_text}
-use Rattle.pattern_writers.specs.RleReading.{IsReadBackFromRle, IsReadFromRle}
+use Rattle.pattern_writers.specs.Reading.{IsReadBackFromMc, IsReadBackFromRle, IsReadFromMc, IsReadFromRle}
 use Rattle.pattern_writers.specs.RleText.{WritesRle, rle_text}
-use Rattle.pattern_writers.specs.Taken.{IfTaken}
+use Rattle.pattern_writers.specs.Output.{IfTaken}
 use Rattle.pattern_writers.proofs.McTextReading.{mc_read}
 use Rattle.pattern_writers.proofs.RleTextReading.{rle_read}
 

@@ -1,5 +1,5 @@
 -- The text of a leaf: the rows of a square of 8 by 8 cells.
-use Rattle.std.specs.Prelude.{ℕ, pos, Bool, true, false, not, if◌then◌else◌, List, [], ◌∷◌, ◌++◌, map, codes}
+use Rattle.std.specs.Prelude.{ℕ, pos, Bool, true, false, not, if◌then◌else◌, List, [], ◌∷◌, ◌++◌, map, codes, zero, suc, ◌/◌, ◌%◌, ◌==◌}
 use Rattle.std.specs.List.{flat_map}
 use Rattle.std.specs.Str.{byte}
 use Rattle.plane.specs.Plane.{Plane}
@@ -26,10 +26,20 @@ eight = 0 ∷ 1 ∷ 2 ∷ 3 ∷ 4 ∷ 5 ∷ 6 ∷ 7 ∷ []
 abbrev pub row_text : Plane → ℕ → List ℕ
 row_text plane y = map cell_byte (without_end not (map (λ x. plane (pos x) (pos y)) eight))
 
-abbrev pub is_nothing : List ℕ → Bool
+-- the list has no element
+abbrev pub is_nothing : {A : Type 0} → List A → Bool
 is_nothing [] = true
 is_nothing (first ∷ rest) = false
 
 -- the rows up to the last with a live cell, each ended by `$`
 abbrev pub leaf_text : Plane → List ℕ
 leaf_text plane = flat_map (λ row. row ++ codes "$") (without_end is_nothing (map (row_text plane) eight))
+
+-- so many of the lowest bits, from the lowest on
+unfoldable pub low_bits : ℕ → ℕ → List Bool
+low_bits zero row = []
+low_bits (suc more) row = (row % 2 == 1) ∷ low_bits more (row / 2)
+
+-- the cells of so many bits, up to the last live one
+abbrev pub bits_text : ℕ → ℕ → List ℕ
+bits_text count row = map cell_byte (without_end not (low_bits count row))

@@ -11,8 +11,8 @@ use Rattle.pattern_writers.specs.McText.{from_corner, node_lines, square_text}
 use Rattle.pattern_writers.specs.NodeLines.{node_line, node_text}
 use Rattle.pattern_writers.specs.Subsquares.{Square, is_listed, listed_in, number_in, squares_in, with_new}
 use Rattle.pattern_writers.specs.declared.mc_text.listing.NodeList.{NodeList}
-use Rattle.pattern_writers.specs.declared.mc_text.node.Node.{Node}
-use Rattle.pattern_writers.specs.declared.mc_text.node.Node.TheVariants.{Inner}
+use Rattle.pattern_writers.specs.declared.mc_text.node.ListedNode.{ListedNode}
+use Rattle.pattern_writers.specs.declared.mc_text.node.ListedNode.TheVariants.{Inner}
 
 -- a square of a book, by its cells
 abbrev pub square_of : Book → Sq → Square
@@ -69,7 +69,7 @@ pub record ListsFour (book : Book) (squares : List Sq) (old new : NodeList)
   pub se : Lists book (nth squares 3) with_sw new number_se
 
 -- the nodes of the plane's squares
-pub record AreNodes (plane : Plane) (nodes : List Node) : Type 0 where
+pub record AreNodes (plane : Plane) (nodes : List ListedNode) : Type 0 where
   pub level : ℕ
   pub smallest : IsSmallestLevel level plane
   pub lines : flat_map node_line nodes ≡ node_lines (listed_in level (from_corner level plane))
@@ -79,5 +79,5 @@ abbrev pub are_zero : List ℕ → Bool
 are_zero quarters = pointwise nat_eq quarters (0 ∷ 0 ∷ 0 ∷ 0 ∷ [])
 
 -- the node of a root with these quarters, unless they are all empty
-abbrev pub root_node : ℕ → List ℕ → List Node
+abbrev pub root_node : ℕ → List ℕ → List ListedNode
 root_node level quarters = if are_zero quarters then [] else (Inner level quarters ∷ [])

@@ -1,18 +1,10 @@
 -- The square around (0,0) that a macrocell file has as its last.
-use Rattle.std.specs.Prelude.{ℕ, ◌≤◌, List}
+use Rattle.std.specs.Prelude.{◌≤◌}
 use Rattle.plane.specs.Centred.{Holds, IsSmallestLevel}
 use Rattle.plane.specs.Plane.{Plane}
-use Rattle.squares.specs.Book.{Book, AreQuarters, IsKnown, nth}
-use Rattle.squares.specs.declared.sq.Sq.{Sq}
+use Rattle.squares.specs.Book.{Book, AreQuarters}
 use Rattle.pattern_writers.specs.McText.{from_corner}
 use Rattle.pattern_writers.specs.declared.mc_text.root.Root.{Root}
-
--- the four quarters are known squares of this level
-pub record AreKnown (book : Book) (level : ℕ) (quarters : List Sq) : Type 0 where
-  pub nw : IsKnown book level (nth quarters 0)
-  pub ne : IsKnown book level (nth quarters 1)
-  pub sw : IsKnown book level (nth quarters 2)
-  pub se : IsKnown book level (nth quarters 3)
 
 -- the quarters of a square around (0,0) that has all the plane's cells
 pub record HasRoot (book : Book) (plane : Plane) (root : Root) : Type 0 where

@@ -1,6 +1,6 @@
 -- The squares that a macrocell file lists: those of side 8 and more in a square, without empty ones
 -- and repeats.
-use Rattle.std.specs.Prelude.{ℕ, zero, suc, ◌+◌, ◌-◌, ◌^◌, ◌==◌, ◌&&◌, Bool, true, false, if◌then◌else◌, List, [], ◌∷◌, ◌++◌}
+use Rattle.std.specs.Prelude.{ℕ, zero, suc, ◌+◌, ◌-◌, ◌^◌, ◌==◌, ◌&&◌, Bool, if◌then◌else◌, List, [], ◌∷◌, ◌++◌}
 use Rattle.std.specs.Cmp.Lexicographic.{pointwise}
 use Rattle.std.specs.List.{list_any, position_or_len}
 use Rattle.plane.specs.Listing.{is_at}
@@ -8,6 +8,7 @@ use Rattle.plane.specs.Plane.{Plane}
 use Rattle.plane.specs.Square.{cut}
 use Rattle.plane.specs.Window.{square_cells}
 use Rattle.plane.specs.declared.cell.Cell.{Cell}
+use Rattle.pattern_writers.specs.LeafText.{is_nothing}
 
 -- the cells of a square of side 2^level, which is moved to the corner (0,0)
 pub record Square : Type 0 where
@@ -18,13 +19,9 @@ pub record Square : Type 0 where
 abbrev pub live_cells : Square → List Cell
 live_cells square = square_cells (2 ^ square.level) square.plane
 
-abbrev pub is_none : List Cell → Bool
-is_none [] = true
-is_none (first ∷ rest) = false
-
 -- whether it has no live cell
 abbrev pub is_dead : Square → Bool
-is_dead square = is_none (live_cells square)
+is_dead square = is_nothing (live_cells square)
 
 abbrev pub is_same_cell : Cell → Cell → Bool
 is_same_cell a b = is_at a.x a.y b

@@ -2,7 +2,7 @@
 
 ghost use Rattle.std.specs.Prelude.{◌++◌, OnErr, OnOk};
 ghost use Rattle.plane.specs.Device.{AppendsBeginning, TellsFailure};
-ghost use Rattle.pattern_writers.specs.OutputBlock.{AppendsBuffered};
+ghost use Rattle.pattern_writers.specs.Output.{AppendsBuffered};
 ghost use Rattle.pattern_writers.specs.RleText.{comment_lines};
 
 use crate::output_block::{OutputBlock, put};
@@ -13,7 +13,7 @@ use rle_reader::Comments;
 pub(crate) fn begin<V: Sink>(
     file: &mut V,
     block: &mut OutputBlock,
-    opening: &str,
+    opening: &[u8],
     comments: Comments<'_>,
 ) -> Result<(), Refusal>
     ensures written { OnOk result (AppendsBuffered (V.taken file.old) block.old.items
@@ -22,7 +22,7 @@ pub(crate) fn begin<V: Sink>(
         (block.old.items ++ (opening.now ++ comment_lines comments.entry))) }
     ensures failure { TellsFailure (V.failure_count file.old) (V.failure_count file.new) result }
 {
-    put(file, block, opening.as_bytes())?;
+    put(file, block, opening)?;
     write_comments(file, block, comments)
 }
 

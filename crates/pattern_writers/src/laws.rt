@@ -6,9 +6,8 @@ ghost use Rattle.plane.specs.Listing.{IsListing};
 ghost use Rattle.plane.specs.Plane.{Plane};
 ghost use Rattle.plane.specs.declared.cell.Cell.{Cell};
 ghost use Rattle.rule_text.specs.CountRule.{CountRule};
-ghost use Rattle.pattern_writers.specs.McReading.{FitsMc, IsReadFromMc};
 ghost use Rattle.pattern_writers.specs.McText.{mc_text};
-ghost use Rattle.pattern_writers.specs.RleReading.{IsReadable, IsReadFromRle};
+ghost use Rattle.pattern_writers.specs.Reading.{FitsMc, IsReadFromMc, IsReadFromRle, IsReadable};
 ghost use Rattle.pattern_writers.specs.RleText.{rle_text};
 
 /// The text of a pattern depends only on its live cells.

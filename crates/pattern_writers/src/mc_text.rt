@@ -1,31 +1,34 @@
 //! The text of a pattern as a macrocell file.
 
 ghost use Rattle.std.specs.Prelude.{◌≡◌, ◌⊎◌, ◌≤◌, OnOk, IfErr};
+ghost use Rattle.rule_text.specs.RuleText.{canonical_text};
 ghost use Rattle.plane.specs.Device.{IsWriteRefusal};
 ghost use Rattle.squares.specs.Book.{IsKnown};
-ghost use Rattle.pattern_writers.specs.McReading.{IsReadBackFromMc};
-ghost use Rattle.pattern_writers.specs.McText.{BeginsMc, WritesMc};
+ghost use Rattle.pattern_writers.specs.Reading.{IsReadBackFromMc};
+ghost use Rattle.pattern_writers.specs.McText.{BeginsMc, WritesMc, mc_opening};
 ghost use Rattle.squares.specs.Rounds.{square_plane};
-ghost use Rattle.pattern_writers.specs.Taken.{IfTaken};
+ghost use Rattle.squares.specs.declared.sq.TheConstants.{HIGHEST_ROOT_LEVEL};
+ghost use Rattle.pattern_writers.specs.Output.{IfTaken};
 
 mod leaf;
 mod listing;
 mod node;
-mod opening;
 mod root;
 mod whole;
 
 use crate::comments::begin;
 use arrayvec::ArrayVec;
 use node::write_nodes;
-use opening::opening_lines;
-use plane::{Refusal, Sink, write_all};
+use plane::{Refusal, Sink, TextLine, write_all};
 use rle_reader::Comments;
 use rule_text::Rule;
 use squares::{Look, Sq};
 use std::alloc::Global;
 use std::thread::Threads;
 use whole::pattern_nodes;
+
+// Room for the first line, a rule and a number of up to 40 digits.
+const OPENING_ROOM: usize = 100;
 
 /// Writes the cells of a square of a level from 3 to 63, whose centre corner is (0,0), with the
 /// comments, the rule and the generation. The root in the file has the smallest level of at least 4
@@ -47,7 +50,7 @@ pub fn write_mc<R: Threads + Sync, B: Look, V: Sink>(
     file: &mut V,
 ) -> Result<(), Refusal>
     requires known { IsKnown (B.book book.now) sq.level sq }
-    requires high { sq.level ≤ 63 }
+    requires high { sq.level ≤ HIGHEST_ROOT_LEVEL }
     ensures written { OnOk result (WritesMc (square_plane (B.book book.now) sq)
         comments.entry rule.now generation (V.taken file.old) (V.taken file.new)) }
     ensures read_back { OnOk result (IfTaken (V.taken file.old) (V.taken file.new)
@@ -60,9 +63,22 @@ pub fn write_mc<R: Threads + Sync, B: Look, V: Sink>(
         comments.entry rule.now generation (V.taken file.old) (V.taken file.new))) }
 {
     let nodes = pattern_nodes(alloc, book, sq, rule)?;
-    let opening = opening_lines(rule.text().as_str(), generation);
+    let opening = opening_lines(rule, generation);
     let mut block = ArrayVec::new();
-    begin(file, &mut block, opening.as_str(), comments)?;
+    begin(file, &mut block, opening.as_bytes(), comments)?;
     write_nodes(file, &mut block, nodes.as_slice())?;
     write_all(file, block.as_slice())
+}
+
+// The first line, the rule and the generation.
+fn opening_lines(rule: &Rule, generation: u64) -> TextLine<OPENING_ROOM>
+    ensures { result ≡ mc_opening (canonical_text rule.now) generation }
+{
+    let mut lines = TextLine::new();
+    lines.push("[M2] (lifebatch 1)\n#R ");
+    lines.push(rule.text().as_str());
+    lines.push("\n#G ");
+    lines.push_number(generation);
+    lines.push("\n");
+    lines
 }

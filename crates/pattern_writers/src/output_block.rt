@@ -2,7 +2,7 @@
 
 ghost use Rattle.std.specs.Prelude.{◌++◌, OnErr, OnOk};
 ghost use Rattle.plane.specs.Device.{AppendsBeginning, TellsFailure};
-ghost use Rattle.pattern_writers.specs.OutputBlock.{AppendsBuffered};
+ghost use Rattle.pattern_writers.specs.Output.{AppendsBuffered};
 
 use arrayvec::ArrayVec;
 use plane::{Refusal, Sink, write_all};

@@ -4,11 +4,11 @@ ghost use Rattle.std.specs.Prelude.{◌≡◌, ◌≤◌, OnErr, OnOk, IfErr};
 ghost use Rattle.plane.specs.Device.{AppendsBeginning, TellsFailure};
 ghost use Rattle.squares.specs.Book.{IsKnown};
 ghost use Rattle.std.specs.Io.KnownBytes.{Appends};
-ghost use Rattle.pattern_writers.specs.RleReading.{IsReadBackFromRle};
+ghost use Rattle.pattern_writers.specs.Reading.{IsReadBackFromRle};
 ghost use Rattle.pattern_writers.specs.RleText.{BeginsRle, IsTooLarge, WritesRle, items_text};
 ghost use Rattle.squares.specs.Rounds.{square_plane};
-ghost use Rattle.pattern_writers.specs.Taken.{IfTaken};
-ghost use Rattle.pattern_writers.specs.WriterRefusal.{IsWriterRefusal};
+ghost use Rattle.squares.specs.declared.sq.TheConstants.{HIGHEST_ROOT_LEVEL};
+ghost use Rattle.pattern_writers.specs.Output.{IfTaken, IsWriterRefusal};
 
 mod bands;
 mod frame;
@@ -53,7 +53,7 @@ pub fn write_rle<R: Threads + Sync, B: Look + Sync, V: Sink>(
     file: &mut V,
 ) -> Result<(), Refusal>
     requires known { IsKnown (B.book book.now) sq.level sq }
-    requires level { sq.level ≤ 63 }
+    requires level { sq.level ≤ HIGHEST_ROOT_LEVEL }
     ensures written { OnOk result (WritesRle (square_plane (B.book book.now) sq)
         comments.entry rule.now generation (V.taken file.old) (V.taken file.new)) }
     ensures read_back { OnOk result (IfTaken (V.taken file.old) (V.taken file.new)
@@ -86,9 +86,9 @@ fn write_items<V: Sink>(
 {
     let position = position_line(frame.corner, generation);
     let mut block = ArrayVec::new();
-    begin(file, &mut block, position.as_str(), comments)?;
-    let header = header_line(frame.width, frame.height, rule.text().as_str());
-    put(file, &mut block, header.as_str().as_bytes())?;
+    begin(file, &mut block, position.as_bytes(), comments)?;
+    let header = header_line(frame.width, frame.height, rule);
+    put(file, &mut block, header.as_bytes())?;
     write_body(file, &mut block, items)?;
     write_all(file, block.as_slice())
 }

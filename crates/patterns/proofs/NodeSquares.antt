@@ -19,7 +19,7 @@ use Rattle.hashlife_step.specs.Round.{ShowsRound}
 use Rattle.squares.specs.Rounds.{IsRound}
 use Rattle.squares.specs.declared.sq.Sq.{Sq}
 use Rattle.squares.proofs.Kept.{known_kept}
-use Rattle.patterns.specs.NodeSquares.{AreKnown, ShowNodes, levels_of, numbered_square, quarters_of, shown_planes}
+use Rattle.patterns.specs.NodeSquares.{AreKnownAtLevels, ShowNodes, levels_of, numbered_square, quarters_of, shown_planes}
 
 -- ---- the squares of an inner node
 
@@ -38,7 +38,7 @@ pub record IsQuarter (book : Book) (squares : List Sq) (level number : ℕ) : Ty
   pub cells : book.cells (numbered_square squares (level - 1) number) ≡ plane_at (shown_planes book squares) number
   pub within : number ≤ length squares
 
-quarter_at : (book : Book) (level : ℕ) (squares : List Sq) (before : ℕ) → AreKnown book squares → is_child (levels_of squares) level (suc before) ≡ true → IsQuarter book squares level (suc before)
+quarter_at : (book : Book) (level : ℕ) (squares : List Sq) (before : ℕ) → AreKnownAtLevels book squares → is_child (levels_of squares) level (suc before) ≡ true → IsQuarter book squares level (suc before)
 quarter_at book level [] before known is = cc
 quarter_at book level (sq ∷ squares) zero known is =
     let lower : sq.level + 1 ≡ level = grind (arith, nat_tests) in
@@ -52,7 +52,7 @@ quarter_at book level (sq ∷ squares) (suc before) known is =
     let later = quarter_at book level squares before known.1 is in
     record { known = later.known; cells = later.cells; within = omega (arith, later.within) }
 
-pub quarter : (book : Book) → IsBook book → (squares : List Sq) (level number : ℕ) → AreKnown book squares → 4 ≤ level → level ≤ 63 → is_child (levels_of squares) level number ≡ true →
+pub quarter : (book : Book) → IsBook book → (squares : List Sq) (level number : ℕ) → AreKnownAtLevels book squares → 4 ≤ level → level ≤ 63 → is_child (levels_of squares) level number ≡ true →
     IsQuarter book squares level number
 quarter book laws squares level zero known low high is = record {
   known = record { known = laws.zero_known (level - 1) (omega (arith, low)) (omega (arith, high)); at_level = refl; low = omega (arith, low); high = omega (arith, high) };
@@ -62,7 +62,7 @@ quarter book laws squares level zero known low high is = record {
 quarter book laws squares level (suc before) known low high is = quarter_at book level squares before known is
 
 -- the squares that an inner node without a fault names
-pub inner_quarter : (book : Book) → IsBook book → (squares : List Sq) (level : ℕ) (kids : List ℕ) (i : ℕ) → AreKnown book squares → fault_among (levels_of squares) (Some (Inner level kids)) ≡ None →
+pub inner_quarter : (book : Book) → IsBook book → (squares : List Sq) (level : ℕ) (kids : List ℕ) (i : ℕ) → AreKnownAtLevels book squares → fault_among (levels_of squares) (Some (Inner level kids)) ≡ None →
     IsQuarter book squares level (slice_index kids i)
 inner_quarter book laws squares level kids i known lawful =
     let inner = accepted_inner (levels_of squares) level kids lawful in
@@ -79,13 +79,13 @@ map-append f [] ys = refl
 map-append f (x ∷ xs) ys = ap (λ l. f x ∷ l) (map-append f xs ys)
 
 -- what squares show stays
-pub planes_kept : (old new : Book) (squares : List Sq) → Keeps old new → AreKnown old squares → shown_planes new squares ≡ shown_planes old squares
+pub planes_kept : (old new : Book) (squares : List Sq) → Keeps old new → AreKnownAtLevels old squares → shown_planes new squares ≡ shown_planes old squares
 planes_kept old new [] keeps known = refl
 planes_kept old new (sq ∷ squares) keeps known =
     ap (λ (p : Plane). p ∷ shown_planes new squares) (plane_equal _ _ (keeps.cells sq known.0.known))
     ∙ ap (λ (ps : List Plane). old.cells sq ∷ ps) (planes_kept old new squares keeps known.1)
 
-all_kept : (old new : Book) (squares : List Sq) → Keeps old new → AreKnown old squares → AreKnown new squares
+all_kept : (old new : Book) (squares : List Sq) → Keeps old new → AreKnownAtLevels old squares → AreKnownAtLevels new squares
 all_kept old new [] keeps known = tt
 all_kept old new (sq ∷ squares) keeps known = (known_kept keeps known.0, all_kept old new squares keeps known.1)
 
@@ -103,7 +103,7 @@ one_more_shown old new nodes squares node sq keeps shown is = record {
 
 -- ---- what the square of an inner node shows
 
-module _ (book : Book) (laws : IsBook book) (squares : List Sq) (level : ℕ) (kids : List ℕ) (known : AreKnown book squares)
+module _ (book : Book) (laws : IsBook book) (squares : List Sq) (level : ℕ) (kids : List ℕ) (known : AreKnownAtLevels book squares)
     (lawful : fault_among (levels_of squares) (Some (Inner level kids)) ≡ None) where
   at : (i : ℕ) → IsQuarter book squares level (slice_index kids i)
   at i = inner_quarter book laws squares level kids i known lawful
@@ -174,7 +174,7 @@ index_found d [] i x found = cc
 index_found d (y ∷ ys) zero x found = cc
 index_found d (y ∷ ys) (suc i) x found = index_found d ys i x found
 
-known_at : (book : Book) (squares : List Sq) (i : ℕ) (sq : Sq) → AreKnown book squares → slice_get squares i ≡ Some sq → IsKnown book sq.level sq
+known_at : (book : Book) (squares : List Sq) (i : ℕ) (sq : Sq) → AreKnownAtLevels book squares → slice_get squares i ≡ Some sq → IsKnown book sq.level sq
 known_at book [] i sq known found = cc
 known_at book (first ∷ squares) zero sq known found = let same : first ≡ sq = cc in subst (λ (s : Sq). IsKnown book s.level s) same known.0
 known_at book (first ∷ squares) (suc i) sq known found = known_at book squares i sq known.1 found

@@ -15,12 +15,12 @@ levels_of squares = map (λ (sq : Sq). sq.level) squares
 abbrev pub shown_planes : Book → List Sq → List Plane
 shown_planes book squares = map book.cells squares
 
-abbrev pub AreKnown : Book → List Sq → Type 0
-AreKnown book squares = AllByRecursion (λ (sq : Sq). IsKnown book sq.level sq) squares
+abbrev pub AreKnownAtLevels : Book → List Sq → Type 0
+AreKnownAtLevels book squares = AllByRecursion (λ (sq : Sq). IsKnown book sq.level sq) squares
 
 -- these squares of a book show these nodes, one by one
 pub record ShowNodes (book : Book) (nodes : List Node) (squares : List Sq) : Type 0 where
-  pub known : AreKnown book squares
+  pub known : AreKnownAtLevels book squares
   pub levels : levels_of squares ≡ map level_of nodes
   pub planes : shown_planes book squares ≡ planes_of nodes
 

@@ -9,7 +9,8 @@ use hashlife_step::trim;
 use plane::{Cell, Refusal};
 use rle_reader::RleFile;
 use squares::{
-    HIGHEST_ROOT_LEVEL, LOWEST_ROOT_LEVEL, LiveRuns, Sq, Squares, half_side, ordered_runs_to_square,
+    HIGHEST_ROOT_LEVEL, LOWEST_ROOT_LEVEL, RunSequence, Sq, Squares, half_side,
+    ordered_runs_to_square,
 };
 use std::alloc::Global;
 
@@ -19,7 +20,7 @@ struct FileRuns<'a> {
     runs: rle_reader::LiveRuns<'a>,
 }
 
-impl LiveRuns for FileRuns<'_> {
+impl RunSequence for FileRuns<'_> {
     ghost left = { λ file. file.runs };
 
     fn next_run(&mut self) -> Option<(Cell, u64)> {
@@ -35,7 +36,7 @@ pub(crate) fn live_runs_to_square<S: Squares>(
     file: &RleFile<'_>,
 ) -> Result<Sq, Refusal>
     ensures ok { IfOk result (IsRound (S.book book.new) (live_plane file.now)) }
-    ensures high { IfOk result (λ sq. sq.level ≤ 63) }
+    ensures high { IfOk result (λ sq. sq.level ≤ HIGHEST_ROOT_LEVEL) }
     ensures refusal { IfErr result (LacksMemoryOr (MayRefuse (S.book book.new))) }
     ensures adds { AddsSquares (S.book book.old) (S.book book.new) }
 {
@@ -51,7 +52,7 @@ pub(crate) fn live_runs_to_square<S: Squares>(
 fn level_round(reach: u64) -> u8
     requires { reach ≤ 2 ^ 62 }
     ensures low { 4 ≤ result }
-    ensures high { result ≤ 63 }
+    ensures high { result ≤ HIGHEST_ROOT_LEVEL }
     ensures far { reach ≤ 2 ^ (result - 1) }
 {
     for level in LOWEST_ROOT_LEVEL..HIGHEST_ROOT_LEVEL {

@@ -6,7 +6,8 @@ ghost use Rattle.macrocell_reader.specs.Nodes.{level_of};
 ghost use Rattle.macrocell_reader.specs.Planes.{node_plane, root_plane};
 ghost use Rattle.squares.specs.Book.{AddsSquares, LacksMemoryOr, MayRefuse, Shows};
 ghost use Rattle.squares.specs.Rounds.{IsRound};
-ghost use Rattle.patterns.specs.NodeSquares.{AreKnown, ShowNodes, levels_of, numbered_square, quarters_of, shown_planes};
+ghost use Rattle.squares.specs.declared.sq.TheConstants.{HIGHEST_ROOT_LEVEL};
+ghost use Rattle.patterns.specs.NodeSquares.{AreKnownAtLevels, ShowNodes, levels_of, numbered_square, quarters_of, shown_planes};
 
 use hashlife_step::trim;
 use macrocell_reader::{Node, NodeLines};
@@ -24,7 +25,7 @@ pub(crate) fn nodes_to_square<S: Squares>(
     requires { StandInOrder [] (map (λ line. line.node) lines) }
     ensures ok { IfOk result
         (IsRound (S.book book.new) (root_plane (map (λ line. line.node) lines.entry))) }
-    ensures high { IfOk result (λ sq. sq.level ≤ 63) }
+    ensures high { IfOk result (λ sq. sq.level ≤ HIGHEST_ROOT_LEVEL) }
     ensures refusal { IfErr result (LacksMemoryOr (MayRefuse (S.book book.new))) }
     ensures adds { AddsSquares (S.book book.old) (S.book book.new) }
 {
@@ -48,7 +49,7 @@ fn squares_of<S: Squares>(
     ensures adds { AddsSquares (S.book book.old) (S.book book.new) }
 {
     let mut squares = Vec::new(alloc);
-    'lines: for line in lines {
+    for line in lines {
         let sq = node_square(book, squares.as_slice(), line.node)?;
         squares.push(sq)?;
     }
@@ -57,7 +58,7 @@ fn squares_of<S: Squares>(
 
 // The square of a node, from those of the earlier nodes.
 fn node_square<S: Squares>(book: &mut S, squares: &[Sq], node: Node) -> Result<Sq, Refusal>
-    requires known { AreKnown (S.book book.old) squares.now }
+    requires known { AreKnownAtLevels (S.book book.old) squares.now }
     requires lawful { fault_among (levels_of squares.now) (Some node) ≡ None }
     ensures ok { IfOk result (Shows (S.book book.new) (level_of node)
         (node_plane (shown_planes (S.book book.old) squares.now) node)) }

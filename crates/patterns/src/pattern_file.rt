@@ -3,8 +3,7 @@
 ghost use Rattle.std.specs.Prelude.{◌≡◌, ◌⊎◌, true, Ok, Err, IfOk, IfErr, ⊤};
 ghost use Rattle.std.specs.Option.{option_copied};
 ghost use Rattle.plane.specs.Fault.{placeless};
-ghost use Rattle.patterns.specs.Meaning.{is_macrocell, judged};
-ghost use Rattle.patterns.specs.PatternFile.{meaning_of};
+ghost use Rattle.patterns.specs.Meaning.{is_macrocell, judged, meaning_of};
 
 use crate::live_runs::live_runs_to_square;
 use crate::nodes::nodes_to_square;

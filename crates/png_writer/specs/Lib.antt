@@ -8,6 +8,5 @@ pub mod Items
 pub mod Picture
 pub mod Pixels
 pub mod Repeats
-pub mod Rows
 pub mod Sends
 pub mod Zlib

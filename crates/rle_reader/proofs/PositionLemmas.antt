@@ -9,7 +9,7 @@ use Rattle.plane.specs.declared.fault.Fault.{Fault}
 use Rattle.plane.specs.Limits.{coordinate_limit}
 use Rattle.plane.specs.declared.refusal.Refusal.{Refusal}
 use Rattle.plane.specs.declared.refusal.Refusal.TheVariants.{OutOfRange}
-use Rattle.rle_reader.specs.Bytes.{words}
+use Rattle.rle_reader.specs.Words.{cell_at, generation_at, is_coordinate, position_of, word_of, words}
 use Rattle.text_lines.specs.Bytes.{begins_with, is_byte}
 use Rattle.text_lines.specs.Faults.{at_place, ◌>>=◌}
 use Rattle.rle_reader.specs.Header.{header_rule}
@@ -20,7 +20,6 @@ use Rattle.rle_reader.specs.Opening.{Opening, opening_of, after_lines, with_head
 use Rattle.text_lines.specs.Comments.{comments_of}
 use Rattle.rle_reader.specs.Settings.{nothing_said, after_word, after_readings, after_line, unless_refused, lowest}
 use Rattle.text_lines.specs.Comments.{is_settings_line}
-use Rattle.rle_reader.specs.Words.{is_coordinate, cell_at, position_of, generation_at, word_of}
 use Rattle.rle_reader.specs.Seen.{opening_seen}
 use Rattle.rle_reader.specs.declared.preamble.Preamble.{Preamble}
 use Rattle.rle_reader.specs.declared.settings.Settings.{Settings}

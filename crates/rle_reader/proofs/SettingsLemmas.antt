@@ -6,11 +6,10 @@ use Rattle.std.specs.Option.{option_map}
 use Rattle.std.specs.Result.{result_ok, result_err}
 use Rattle.plane.specs.declared.refusal.Refusal.{Refusal}
 use Rattle.rle_reader.specs.Settings.{after_readings, after_word, lower, unless_refused}
-use Rattle.rle_reader.specs.Bytes.{words}
+use Rattle.rle_reader.specs.Words.{cell_at, generation_at, is_coordinate, position_of, word_of, words}
 use Rattle.text_lines.specs.Bytes.{is_byte, is_blank}
 use Rattle.rle_reader.specs.Numbers.{clamped, integer_of}
 use Rattle.text_lines.specs.Numbers.{capped, number_of}
-use Rattle.rle_reader.specs.Words.{word_of, is_coordinate, cell_at, generation_at, position_of}
 use Rattle.plane.specs.declared.refusal.Refusal.TheVariants.{OutOfRange, BadGen, BadHeader}
 use Rattle.plane.specs.declared.cell.Cell.{Cell}
 use Rattle.std.proofs.lemmas.Bool.Decides.{nat_tests}

@@ -1,5 +1,4 @@
 pub mod Range
-pub mod Bytes
 pub mod Numbers
 pub mod Words
 pub mod Settings

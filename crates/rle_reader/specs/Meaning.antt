@@ -11,6 +11,7 @@ use Rattle.plane.specs.declared.refusal.Refusal.TheVariants.{BadCount}
 use Rattle.plane.specs.Plane.{Plane}
 use Rattle.text_lines.specs.Faults.{fault_at, unless, ◌>>=◌}
 use Rattle.text_lines.specs.Lines.{lines}
+use Rattle.text_lines.specs.Meaning as pattern
 use Rattle.rle_reader.specs.Opening.{Opening, opening_of}
 use Rattle.rle_reader.specs.Body.{stripped}
 use Rattle.rle_reader.specs.declared.body.LocatedByte.{LocatedByte}
@@ -102,6 +103,20 @@ is_covered left state (run ∷ runs) x y =
 -- the cells that the items make live
 abbrev pub live_plane : Meaning → Plane
 live_plane meaning = is_covered meaning.pos.x (start_at meaning.pos) meaning.runs
+
+-- the meaning without what only this format has
+abbrev pub as_pattern : Meaning → pattern.Meaning
+as_pattern meaning = record {
+  generation = meaning.generation;
+  rule = meaning.rule;
+  rule_place = meaning.rule_place;
+  comments = meaning.comments;
+  live = live_plane meaning;
+}
+
+-- the pattern in a text, or the text's first fault
+abbrev pub pattern_in : List ℕ → Result pattern.Meaning Fault
+pattern_in text = pattern.seen_as as_pattern (judged text)
 
 -- how many cells the items make live
 abbrev pub live_cells : List ItemSlice → ℕ

@@ -1,3 +1,4 @@
+-- The range of coordinates, with the end behind the last.
 use Rattle.std.specs.Prelude.{ℤ, neg_ℤ, ◌≤ℤ◌}
 use Rattle.plane.specs.Limits.{coordinate_limit}
 

@@ -5,9 +5,8 @@ use Rattle.std.specs.List.{filter_map}
 use Rattle.std.specs.Result.{result_ok, result_err}
 use Rattle.plane.specs.Refusal.{number_of}
 use Rattle.plane.specs.declared.refusal.Refusal.{Refusal}
-use Rattle.rle_reader.specs.Bytes.{words}
+use Rattle.rle_reader.specs.Words.{word_of, words}
 use Rattle.text_lines.specs.Comments.{is_settings_line}
-use Rattle.rle_reader.specs.Words.{word_of}
 use Rattle.rle_reader.specs.declared.settings.Settings.{Settings}
 use Rattle.rle_reader.specs.declared.settings.Word.{Word}
 use Rattle.rle_reader.specs.declared.settings.Word.TheVariants.{Pos, Gen, Other}

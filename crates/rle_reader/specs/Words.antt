@@ -1,18 +1,21 @@
--- What a word of a `#CXRLE` line says.
-use Rattle.std.specs.Prelude.{ℕ, ℤ, Bool, neg_ℤ, int_le, int_lt, ◌&&◌, nat_le, if◌then◌else◌, List, drop, Option, None, Some, codes}
-use Rattle.std.specs.Prelude.{Result, Ok, Err}
-use Rattle.std.specs.List.{before_first, after_first}
+-- The words of a text, and what a word of a `#CXRLE` line says.
+use Rattle.std.specs.Prelude.{ℕ, List, ℤ, Bool, neg_ℤ, int_le, int_lt, ◌&&◌, nat_le, if◌then◌else◌, drop, Option, None, Some, codes, Result, Ok, Err}
+use Rattle.std.specs.List.{slice_split, before_first, after_first}
+use Rattle.text_lines.specs.Bytes.{is_blank, begins_with, is_byte}
 use Rattle.std.specs.Result.{result_map_both}
 use Rattle.std.specs.Str.{byte}
 use Rattle.plane.specs.declared.cell.Cell.{Cell}
 use Rattle.plane.specs.declared.refusal.Refusal.{Refusal}
 use Rattle.plane.specs.declared.refusal.Refusal.TheVariants.{BadHeader, OutOfRange, BadGen}
 use Rattle.plane.specs.Limits.{coordinate_limit, largest_generation}
-use Rattle.text_lines.specs.Bytes.{begins_with, is_byte}
 use Rattle.rle_reader.specs.Numbers.{integer_of}
 use Rattle.text_lines.specs.Numbers.{number_of}
 use Rattle.rle_reader.specs.declared.settings.Word.{Word}
 use Rattle.rle_reader.specs.declared.settings.Word.TheVariants.{Pos, Gen, Other}
+
+-- the parts between the blanks of a text
+abbrev pub words : List ℕ → List (List ℕ)
+words text = slice_split is_blank text
 
 -- whether the number is in the range of coordinates
 abbrev pub is_coordinate : ℤ → Bool

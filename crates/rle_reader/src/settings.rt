@@ -2,10 +2,9 @@
 
 ghost use Rattle.std.specs.Prelude.{◌≡◌, ◌∷◌, ◌<◌, length, map, IfSome};
 ghost use Rattle.std.specs.Option.{option_copied};
-ghost use Rattle.rle_reader.specs.Bytes.{words};
+ghost use Rattle.rle_reader.specs.Words.{cell_at, generation_at, position_of, word_of, words};
 ghost use Rattle.text_lines.specs.Faults.{at_place};
 ghost use Rattle.text_lines.specs.Numbers.{number_of};
-ghost use Rattle.rle_reader.specs.Words.{word_of, position_of, generation_at, cell_at};
 ghost use Rattle.rle_reader.specs.Settings.{nothing_said, after_word, after_readings, after_line, lower, words_left};
 
 use crate::bytes::split_at_byte;

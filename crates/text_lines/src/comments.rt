@@ -31,10 +31,10 @@ pub fn is_settings_line(line: &[u8]) -> bool
     begins_with(line, b"#CXRLE")
 }
 
-/// Whether the line is a comment that is kept: it begins with `#C`, `#D`, `#N` or `#O`, and not
-/// with `#CXRLE`.
+// Whether the line is a comment that is kept: it begins with `#C`, `#D`, `#N` or `#O`, and not with
+// `#CXRLE`.
 #[tactic(auto, unfolding(crate::specs::Comments::is_kept))]
-pub fn is_kept(line: &[u8]) -> bool
+fn is_kept(line: &[u8]) -> bool
     ensures { result ≡ is_kept line.now }
 {
     !is_settings_line(line)

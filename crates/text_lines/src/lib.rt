@@ -10,7 +10,7 @@ mod lines;
 mod numbers;
 
 pub use bytes::{begins_with, first_blank, trim, trim_end};
-pub use comments::{Comments, is_blank_line, is_comment, is_kept, is_settings_line};
+pub use comments::{Comments, is_blank_line, is_comment, is_settings_line};
 pub use faults::fault_at;
 pub use laws::lines_are_slices;
 pub use lines::{Line, Lines, line_length};

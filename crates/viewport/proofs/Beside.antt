@@ -3,7 +3,7 @@ use Rattle.std.proofs.Common.{◌≡◌, ℕ, ℤ, pos, ◌+ℤ◌, ◌-ℤ◌, 
 use Rattle.std.specs.Prelude.{unsigned_abs}
 use Rattle.std.specs.Int.{int_min, int_max}
 use Rattle.std.proofs.lemmas.Int.{ints}
-use Rattle.viewport.specs.Strips.{AreBeside}
+use Rattle.viewport.specs.BlockSpans.{AreBeside}
 
 -- a column, as the sum of its parts left of a square, in it and right of it
 record IsPlaced (z half low mid high : ℤ) : Type 0 where

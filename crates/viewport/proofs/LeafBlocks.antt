@@ -62,10 +62,10 @@ block_fits e c small low =
     let whole = ap (λ n. 2 ^ n) sum ∙ pow-add 2 (3 - e) e in
     let fits = room c (2 ^ (3 - e)) (2 ^ e) low in omega (arith, whole, fits)
 
--- a strip of a leaf with one block more
-pub strip_more : (word e row from column count : ℕ) (old found : List ℕ) → from ≤ column → found ≡ old ++ block_counts (bits_plane word) e (pos row) (pos from) (column - from) →
+-- a span of a leaf with one block more
+pub span_more : (word e row from column count : ℕ) (old found : List ℕ) → from ≤ column → found ≡ old ++ block_counts (bits_plane word) e (pos row) (pos from) (column - from) →
     count ≡ block_count (bits_plane word) e (pos column) (pos row) → found ++ count ∷ [] ≡ old ++ block_counts (bits_plane word) e (pos row) (pos from) (column + 1 - from)
-strip_more word e row from column count old found order so_far is =
+span_more word e row from column count old found order so_far is =
     let f = λ (z : ℤ). block_count (bits_plane word) e z (pos row) in
     let before : column + 1 - from ≡ (column - from) + 1 = omega arith in
     let there : pos column ≡ pos from +ℤ pos (column - from) = omega (arith, ints) in
@@ -73,6 +73,6 @@ strip_more word e row from column count old found order so_far is =
     ∙ append_assoc old (block_counts (bits_plane word) e (pos row) (pos from) (column - from)) (f (pos from +ℤ pos (column - from)) ∷ [])
     ∙ ap (λ l. old ++ l) (sym (map_one_more f (pos from) (column - from)) ∙ ap (block_counts (bits_plane word) e (pos row) (pos from)) (sym before))
 
-pub strip_begun : (word e row from : ℕ) (old : List ℕ) → old ≡ old ++ block_counts (bits_plane word) e (pos row) (pos from) (from - from)
+pub span_begun : (word e row from : ℕ) (old : List ℕ) → old ≡ old ++ block_counts (bits_plane word) e (pos row) (pos from) (from - from)
 unfolding coordinates
-strip_begun word e row from old = let none : from - from ≡ 0 = omega arith in sym (ap (λ n. old ++ block_counts (bits_plane word) e (pos row) (pos from) n) none ∙ append-nil old)
+span_begun word e row from old = let none : from - from ≡ 0 = omega arith in sym (ap (λ n. old ++ block_counts (bits_plane word) e (pos row) (pos from) n) none ∙ append-nil old)

@@ -21,9 +21,9 @@ pub mod PictureLines
 pub mod Products
 pub mod Quarters
 pub mod QuartersAtSides
+pub mod RowsOfBlocks
+pub mod RowsOfHalves
 pub mod RowsOfSquares
 pub mod RunsBeside
 pub mod RunsOfLeaves
-pub mod RowsOfBlocks
-pub mod RowsOfHalves
-pub mod StripCounts
+pub mod SpanCounts

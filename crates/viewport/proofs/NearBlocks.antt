@@ -5,7 +5,7 @@ use Rattle.std.proofs.lemmas.Int.{ints}
 use Rattle.std.proofs.lemmas.Nat.{pow_pos}
 use Rattle.squares.proofs.NumberMaps.{by_cases}
 use Rattle.viewport.specs.Blocks.{IsBlockRange}
-use Rattle.viewport.specs.Strips.{IsNearRange}
+use Rattle.viewport.specs.BlockSpans.{IsNearRange}
 use Rattle.viewport.proofs.Products.{above_times, below_times}
 
 is_less : (a b : ℤ) → int_lt a b ≡ true → a <ℤ b

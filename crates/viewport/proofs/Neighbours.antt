@@ -3,7 +3,7 @@ use Rattle.std.proofs.Common.{◌≡◌, ℕ, zero, suc, ◌+◌, ◌-◌, ◌<�
 use Rattle.std.proofs.lemmas.Int.{ints}
 use Rattle.std.proofs.lemmas.List.{map-append}
 use Rattle.viewport.specs.Picture.{coordinates}
-use Rattle.viewport.specs.Strips.{AreBeside}
+use Rattle.viewport.specs.BlockSpans.{AreBeside}
 use Rattle.viewport.specs.declared.blocks.Columns.{Columns}
 
 on_place : (a : ℤ) → a ≡ a +ℤ pos 0

@@ -7,7 +7,7 @@ use Rattle.plane.specs.Laws.{moved}
 use Rattle.plane.specs.Plane.{Plane}
 use Rattle.plane.specs.Square.{IsSame, IsSquare}
 use Rattle.plane.proofs.Same.{plane_equal}
-use Rattle.squares.specs.Book.{Book, IsBook, IsKnown, Keeps, AreQuarters, nth}
+use Rattle.squares.specs.Book.{AreKnown, AreQuarters, Book, IsBook, IsKnown, Keeps, nth}
 use Rattle.squares.specs.declared.sq.Sq.{Sq}
 use Rattle.squares.proofs.Kept.{known_kept}
 use Rattle.viewport.specs.declared.gaps.Side.{Side}
@@ -149,13 +149,6 @@ side_halves Top h book p quarters is =
 side_halves Bottom h book p quarters is =
     halved Bottom h p _ _ _ _ _ _ _ _ _ _ _ _ (sw_at Bottom h _ p _ _ _ _ is (nothing_left h)) (se_at Bottom h _ p _ _ _ _ is (nothing_left h)) (nw_at Bottom h _ p _ _ _ _ is (from_nothing (pos h))) (ne_at Bottom h _ p _ _ _ _ is (from_nothing (pos h)))
     (λ x y live. each_quarter h p _ _ _ _ is x y live (λ e. inr (inl e)) (λ e. inr (inr e)) (λ e. inl (inl e)) (λ e. inl (inr e)))
-
--- four known squares of a level
-pub record AreKnown (book : Book) (level : ℕ) (squares : List Sq) : Type 0 where
-  pub first : IsKnown book level (nth squares 0)
-  pub second : IsKnown book level (nth squares 1)
-  pub third : IsKnown book level (nth squares 2)
-  pub fourth : IsKnown book level (nth squares 3)
 
 near_known : (side : Side) (book : Book) (level : ℕ) (p : Plane) (quarters : List Sq) → AreQuarters book level p quarters → AreKnown book (level - 1) (near_first side quarters)
 near_known Left book level p quarters are = record { first = are.nw.known; second = are.sw.known; third = are.ne.known; fourth = are.se.known }

@@ -8,11 +8,11 @@ use Rattle.plane.specs.Square.{IsSquare, spans}
 use Rattle.plane.proofs.Paddings.{twice_half}
 use Rattle.squares.proofs.NumberMaps.{by_cases}
 use Rattle.viewport.specs.Blocks.{block_count, block_counts}
-use Rattle.viewport.specs.Strips.{AreBeside, IsInBlocks}
+use Rattle.viewport.specs.BlockSpans.{AreBeside, IsInBlocks}
 use Rattle.viewport.specs.declared.blocks.Columns.{Columns}
 use Rattle.viewport.proofs.CentredBlocks.{block_above, block_below, block_left, block_right, centred_block, centred_within, fitted_block}
 use Rattle.viewport.proofs.Neighbours.{map_beside, map_dead}
-use Rattle.viewport.proofs.StripCounts.{side_of_blocks}
+use Rattle.viewport.proofs.SpanCounts.{side_of_blocks}
 
 low_row : (n : ℕ) (j : ℤ) → int_lt j (pos 0 -ℤ pos n) ≡ true → j <ℤ (pos 0 -ℤ pos n)
 low_row n j e = grind (arith, ints)
@@ -58,9 +58,9 @@ three_added old one two new first second third whole a b c all =
     c ∙ ap (λ l. l ++ third) (b ∙ ap (λ l. l ++ second) a ∙ append_assoc old first second) ∙ append_assoc old (first ++ second) third ∙ ap (λ l. old ++ l) (sym all)
 
 -- the square's own part of a row
-pub inside_strip : (level f row : ℕ) (left half : ℤ) (width : ℕ) (columns : Columns) → 1 ≤ level - f → half ≡ pos (2 ^ (level - f - 1)) → AreBeside left width half columns →
+pub inside_span : (level f row : ℕ) (left half : ℤ) (width : ℕ) (columns : Columns) → 1 ≤ level - f → half ≡ pos (2 ^ (level - f - 1)) → AreBeside left width half columns →
     row < 2 ^ (level - f) → IsInBlocks (2 ^ (level - f)) (record { row = row; from = columns.from; end = columns.end })
-inside_strip level f row left half width columns some side are low =
+inside_span level f row left half width columns some side are low =
     let twice = twice_half (level - f) some in
     let end = are.end in
     record { row = low; order = are.order; end = omega (arith, ints, twice, side, end) }

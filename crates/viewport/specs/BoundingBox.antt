@@ -1,10 +1,10 @@
 -- The smallest box round the live cells of planes and squares.
 use Rattle.std.specs.Prelude.{◌≡◌, ℕ, ℤ, pos, ◌+ℤ◌, ◌≤ℤ◌, ◌<ℤ◌, true, List, Option, None, Some, FitsSigned}
-use Rattle.std.specs.Int.{int_min, int_max, w64}
+use Rattle.std.specs.Int.{w64}
 use Rattle.std.specs.Option.{option_map}
 use Rattle.plane.specs.declared.cell.Cell.{Cell}
 use Rattle.plane.specs.declared.cell.Bounds.{Bounds}
-use Rattle.plane.specs.Bounds.{bounds_of}
+use Rattle.plane.specs.Bounds.{bounds_of, box_union}
 use Rattle.plane.specs.Listing.{IsListing}
 use Rattle.plane.specs.Plane.{Plane}
 use Rattle.plane.specs.Square.{IsSame, empty}
@@ -57,13 +57,8 @@ pub record FitsMoved (right down : ℤ) (box : Bounds) : Type 0 where
   pub at_right : FitsSigned w64 (box.right +ℤ right)
   pub at_bottom : FitsSigned w64 (box.bottom +ℤ down)
 
--- the smallest box round two boxes
+-- the smallest box round two boxes, either of which may hold nothing
 abbrev pub box_round : Option Bounds → Option Bounds → Option Bounds
 box_round None b = b
 box_round (Some a) None = Some a
-box_round (Some a) (Some b) = Some (record {
-  left = int_min a.left b.left;
-  top = int_min a.top b.top;
-  right = int_max a.right b.right;
-  bottom = int_max a.bottom b.bottom;
-})
+box_round (Some a) (Some b) = Some (box_union a b)

@@ -1,3 +1,4 @@
+pub mod BlockSpans
 pub mod Blocks
 pub mod BoundingBox
 pub mod Gaps
@@ -7,4 +8,3 @@ pub mod Places
 pub mod Population
 pub mod RowRuns
 pub mod Rows
-pub mod Strips

@@ -3,13 +3,14 @@
 ghost use Rattle.std.specs.Prelude.{◌≡◌, ◌≤◌, ◌++◌, ◌^◌, pos, ◌≤ℤ◌, OnOk};
 ghost use Rattle.plane.specs.Centred.{centred};
 ghost use Rattle.squares.specs.Book.{IsKnown, Keeps};
+ghost use Rattle.squares.specs.declared.sq.TheConstants.{HIGHEST_ROOT_LEVEL};
 ghost use Rattle.viewport.specs.Blocks.{block_counts};
 ghost use Rattle.viewport.specs.Population.{AreCounts};
-ghost use Rattle.viewport.specs.Strips.{AreBeside, IsNearRange};
+ghost use Rattle.viewport.specs.BlockSpans.{AreBeside, IsNearRange};
 
+use crate::block_spans::{BlockSpan, add_dead, count_span};
 use crate::populations::Counts;
 use crate::sides::{place, signed_half_side};
-use crate::strips::{Strip, add_dead, count_strip};
 use squares::{Reading, Sq};
 use std::alloc::AllocError;
 
@@ -42,7 +43,7 @@ pub fn count_blocks<R: Reading>(
     found: &mut Vec<u128>,
 ) -> Result<(), AllocError>
     requires known { IsKnown (R.book from.old) sq.level sq }
-    requires level { sq.level ≤ 63 }
+    requires level { sq.level ≤ HIGHEST_ROOT_LEVEL }
     requires columns { IsNearRange blocks.now.left blocks.now.width }
     requires counted { AreCounts (R.book from.old) counts.old }
     ensures ok { OnOk result (found.new.items ≡ found.old.items
@@ -57,13 +58,13 @@ pub fn count_blocks<R: Reading>(
         return add_dead(u64::from(blocks.width), found);
     };
     let columns = columns_beside(blocks.left, blocks.width, signed_half_side(level));
-    let strip = Strip {
+    let span = BlockSpan {
         row,
         from: columns.from,
         end: columns.end,
     };
     add_dead(columns.before, found)?;
-    count_strip(from, sq, exponent, strip, counts, found)?;
+    count_span(from, sq, exponent, span, counts, found)?;
     add_dead(columns.behind, found)
 }
 

@@ -4,13 +4,14 @@ ghost use Rattle.std.specs.Prelude.{◌≡◌, ◌≤◌, ◌-◌, ◌^◌, IfOk
 ghost use Rattle.std.specs.Option.{ForSome};
 ghost use Rattle.plane.specs.Centred.{centred};
 ghost use Rattle.squares.specs.Book.{AddsSquares, IsKnown};
+ghost use Rattle.squares.specs.declared.sq.TheConstants.{HIGHEST_ROOT_LEVEL};
 ghost use Rattle.viewport.specs.BoundingBox.{FitsMoved, HasBounds, IsLocalBox, moved_box};
 ghost use Rattle.viewport.specs.Gaps.{IsGap};
 
 use crate::gaps::{Side, gap};
-use crate::sides::{side, signed_half_side};
+use crate::sides::signed_half_side;
 use plane::{Bounds, Refusal};
-use squares::{Look, Looked, Reading, Sq};
+use squares::{Look, Looked, Reading, Sq, side};
 use std::alloc::{AllocError, Global};
 use std::collections::HashMap;
 
@@ -19,7 +20,7 @@ use std::collections::HashMap;
 /// once. `NoMemory` where there is no room for one more gap.
 pub fn bounds<B: Look>(alloc: Global, book: &B, sq: Sq) -> Result<Option<Bounds>, Refusal>
     requires known { IsKnown (B.book book.now) sq.level sq }
-    requires level { sq.level ≤ 63 }
+    requires level { sq.level ≤ HIGHEST_ROOT_LEVEL }
     ensures ok { IfOk result (HasBounds (centred sq.level ((B.book book.now).cells sq))) }
     ensures memory { IsOkUnless result Refusal.NoMemory }
 {
@@ -32,7 +33,7 @@ pub fn bounds<B: Look>(alloc: Global, book: &B, sq: Sq) -> Result<Option<Bounds>
 /// is no room for one more gap.
 pub fn bounds_at<R: Reading>(alloc: Global, book: &mut R, sq: Sq) -> Result<Option<Bounds>, Refusal>
     requires known { IsKnown (R.book book.old) sq.level sq }
-    requires level { sq.level ≤ 63 }
+    requires level { sq.level ≤ HIGHEST_ROOT_LEVEL }
     ensures ok { IfOk result (HasBounds (centred sq.level ((R.book book.old).cells sq))) }
     ensures memory { IsOkUnless result Refusal.NoMemory }
     ensures adds { AddsSquares (R.book book.old) (R.book book.new) }
@@ -45,7 +46,7 @@ pub fn bounds_at<R: Reading>(alloc: Global, book: &mut R, sq: Sq) -> Result<Opti
 // The box of the square's live cells, from its upper left corner, by the gaps at its sides.
 fn local_box<R: Reading>(alloc: Global, book: &mut R, sq: Sq) -> Result<Option<Bounds>, AllocError>
     requires known { IsKnown (R.book book.old) sq.level sq }
-    requires level { sq.level ≤ 63 }
+    requires level { sq.level ≤ HIGHEST_ROOT_LEVEL }
     ensures ok { IfOk result (IsLocalBox (2 ^ sq.level) ((R.book book.old).cells sq)) }
     ensures adds { AddsSquares (R.book book.old) (R.book book.new) }
 {
@@ -78,7 +79,7 @@ fn side_gap<R: Reading>(
     side: Side,
 ) -> Result<Option<u64>, AllocError>
     requires known { IsKnown (R.book book.old) sq.level sq }
-    requires level { sq.level ≤ 63 }
+    requires level { sq.level ≤ HIGHEST_ROOT_LEVEL }
     ensures ok { IfOk result (IsGap side (2 ^ sq.level) ((R.book book.old).cells sq)) }
     ensures adds { AddsSquares (R.book book.old) (R.book book.new) }
 {

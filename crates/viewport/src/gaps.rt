@@ -4,10 +4,12 @@ ghost use Rattle.std.specs.Prelude.{◌≡◌, ◌+◌, ◌≤◌, ◌<◌, ◌^
 ghost use Rattle.std.specs.Option.{ForSome, option_map};
 ghost use Rattle.plane.specs.Square.{bits_plane};
 ghost use Rattle.squares.specs.Book.{AddsSquares, IsKnown};
+ghost use Rattle.squares.specs.declared.sq.TheConstants.{HIGHEST_ROOT_LEVEL};
 ghost use Rattle.viewport.specs.Gaps.{AreGaps, IsGap, lesser, near_first};
 ghost use Rattle.viewport.specs.Halves.{either};
 
 use crate::leaf_boxes::leaf_box;
+use crate::populations::LOWEST_NOTED;
 use squares::{LEAF_LEVEL, Reading, Sq, half_side};
 use std::alloc::AllocError;
 use std::collections::HashMap;
@@ -24,10 +26,6 @@ pub(crate) enum Side {
 /// The gaps of squares at one side, by level and number.
 pub(crate) type Gaps = HashMap<(u8, u32), Option<u64>>;
 
-// The lowest level of which gaps are noted. Looking for the gap of a lower square again costs no
-// more than its note.
-const LOWEST_NOTED: u8 = 6;
-
 /// How many columns or rows without a live cell lie between a side of the square and its first live
 /// cell from there, by the gaps at that side that are known; it adds what it finds to them. None
 /// where no cell is live.
@@ -39,7 +37,7 @@ pub(crate) fn gap<R: Reading>(
     gaps: &mut Gaps,
 ) -> Result<Option<u64>, AllocError>
     requires known { IsKnown (R.book book.old) sq.level sq }
-    requires level { sq.level ≤ 63 }
+    requires level { sq.level ≤ HIGHEST_ROOT_LEVEL }
     requires noted { AreGaps (R.book book.old) side gaps.old }
     ensures ok { IfOk result (IsGap side (2 ^ sq.level) ((R.book book.old).cells sq)) }
     ensures noted { AreGaps (R.book book.new) side gaps.new }
@@ -74,7 +72,7 @@ fn quarters_gap<R: Reading>(
 ) -> Result<Option<u64>, AllocError>
     requires known { IsKnown (R.book book.old) sq.level sq }
     requires low { 3 < sq.level }
-    requires high { sq.level ≤ 63 }
+    requires high { sq.level ≤ HIGHEST_ROOT_LEVEL }
     requires noted { AreGaps (R.book book.old) side gaps.old }
     ensures ok { IfOk result (IsGap side (2 ^ sq.level) ((R.book book.old).cells sq)) }
     ensures noted { AreGaps (R.book book.new) side gaps.new }
@@ -101,7 +99,7 @@ fn half_gap<R: Reading>(
 ) -> Result<Option<u64>, AllocError>
     requires first { IsKnown (R.book book.old) first.level first }
     requires second { IsKnown (R.book book.old) first.level second }
-    requires level { first.level ≤ 63 }
+    requires level { first.level ≤ HIGHEST_ROOT_LEVEL }
     requires noted { AreGaps (R.book book.old) side gaps.old }
     ensures ok { IfOk result (IsGap side (2 ^ first.level)
         (either ((R.book book.old).cells first) ((R.book book.old).cells second))) }

@@ -2,6 +2,7 @@
 
 ghost use Rattle.std.specs.Prelude.{◌≡◌, ◌<◌, ◌≤◌, ◌+◌, ◌-◌, ◌^◌};
 ghost use Rattle.squares.specs.Book.{IsKnown, Keeps, nth};
+ghost use Rattle.squares.specs.declared.sq.TheConstants.{HIGHEST_ROOT_LEVEL};
 ghost use Rattle.viewport.specs.Halves.{IsHalfOfBlocks, IsHalfRow};
 
 use squares::{Look, Reading, Sq, half_side};
@@ -10,7 +11,7 @@ use squares::{Look, Reading, Sq, half_side};
 pub(crate) fn half_with_row<B: Look>(book: &B, sq: Sq, y: u64) -> (Sq, Sq, u64)
     requires known { IsKnown (B.book book.now) sq.level sq }
     requires low { 3 < sq.level }
-    requires high { sq.level ≤ 63 }
+    requires high { sq.level ≤ HIGHEST_ROOT_LEVEL }
     requires row { y < 2 ^ sq.level }
     ensures first { IsKnown (B.book book.now) (sq.level - 1) result.0 }
     ensures second { IsKnown (B.book book.now) (sq.level - 1) result.1 }

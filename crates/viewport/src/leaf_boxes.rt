@@ -11,12 +11,7 @@ fn round(a: Option<Bounds>, b: Option<Bounds>) -> Option<Bounds>
     ensures { result ≡ box_round a b }
 {
     match (a, b) {
-        (Some(a), Some(b)) => Some(Bounds {
-            left: a.left.min(b.left),
-            top: a.top.min(b.top),
-            right: a.right.max(b.right),
-            bottom: a.bottom.max(b.bottom),
-        }),
+        (Some(a), Some(b)) => Some(a.union(b)),
         (None, b) => b,
         (a, None) => a,
     }

@@ -5,6 +5,7 @@
 //! for it, however many cells they have.
 #![tactic(auto)]
 
+mod block_spans;
 mod blocks;
 mod boxes;
 mod gaps;
@@ -16,12 +17,11 @@ mod populations;
 mod rows;
 mod runs;
 mod sides;
-mod strips;
 
 pub use blocks::{Blocks, count_blocks};
 pub use boxes::{bounds, bounds_at};
 pub use laws::one_list_of_runs;
 pub use pictures::picture;
-pub use populations::{Counts, population, population_at};
+pub use populations::{population, population_at};
 pub use rows::first_row;
 pub use runs::row_runs;

@@ -5,6 +5,7 @@ ghost use Rattle.std.specs.Io.KnownBytes.{Appends};
 ghost use Rattle.plane.specs.Centred.{centred};
 ghost use Rattle.plane.specs.Device.{AppendsBeginning, TellsFailure};
 ghost use Rattle.squares.specs.Book.{IsKnown};
+ghost use Rattle.squares.specs.declared.sq.TheConstants.{HIGHEST_ROOT_LEVEL};
 ghost use Rattle.viewport.specs.Picture.{mark_of, picture_text, row_text};
 
 use crate::halves::half_with_row;
@@ -26,7 +27,7 @@ pub fn picture<B: Look, W: Sink>(
     sink: &mut W,
 ) -> Result<(), Refusal>
     requires known { IsKnown (B.book book.now) sq.level sq }
-    requires level { sq.level ≤ 63 }
+    requires level { sq.level ≤ HIGHEST_ROOT_LEVEL }
     ensures drawn { OnOk result (Appends (W.taken sink.old) (W.taken sink.new)
         (picture_text (centred sq.level ((B.book book.now).cells sq)) window.now)) }
     ensures beginning { OnErr result (AppendsBeginning (W.taken sink.old) (W.taken sink.new)
@@ -45,7 +46,7 @@ pub fn picture<B: Look, W: Sink>(
 // Draws a row of the window, counted from its first one, and the line end behind it.
 fn draw_row<B: Look>(book: &B, sq: Sq, window: &Window, row: u32, line: &mut [u8])
     requires known { IsKnown (B.book book.now) sq.level sq }
-    requires level { sq.level ≤ 63 }
+    requires level { sq.level ≤ HIGHEST_ROOT_LEVEL }
     requires row { row < window.now.height }
     requires line { length line.old ≡ window.now.width + 1 }
     ensures { line.new ≡ row_text (centred sq.level ((B.book book.now).cells sq))
@@ -69,7 +70,7 @@ fn mark(live: bool) -> u8
 // Whether the cell (x, y) is live; outside the square none is.
 fn is_live<B: Look>(book: &B, sq: Sq, x: i64, y: i64) -> bool
     requires known { IsKnown (B.book book.now) sq.level sq }
-    requires level { sq.level ≤ 63 }
+    requires level { sq.level ≤ HIGHEST_ROOT_LEVEL }
     ensures { result ≡ centred sq.level ((B.book book.now).cells sq) x y }
 {
     let Some(column) = place(x, sq.level) else {
@@ -84,7 +85,7 @@ fn is_live<B: Look>(book: &B, sq: Sq, x: i64, y: i64) -> bool
 // Whether the cell is live that lies so far from the left side and from the top of the square.
 fn has_cell<B: Look>(book: &B, sq: Sq, x: u64, y: u64) -> bool
     requires known { IsKnown (B.book book.now) sq.level sq }
-    requires level { sq.level ≤ 63 }
+    requires level { sq.level ≤ HIGHEST_ROOT_LEVEL }
     requires column { x < 2 ^ sq.level }
     requires row { y < 2 ^ sq.level }
     ensures { result ≡ (B.book book.now).cells sq (pos x) (pos y) }

@@ -4,6 +4,7 @@ ghost use Rattle.std.specs.Prelude.{◌≡◌, ◌≤◌, ◌<◌, IfOk, IsOkUnl
 ghost use Rattle.plane.specs.Centred.{centred};
 ghost use Rattle.plane.specs.Square.{bits_plane};
 ghost use Rattle.squares.specs.Book.{AddsSquares, IsKnown};
+ghost use Rattle.squares.specs.declared.sq.TheConstants.{HIGHEST_ROOT_LEVEL};
 ghost use Rattle.viewport.specs.Population.{AreCounts, HasPopulation, IsCount, cell_count};
 
 use plane::Refusal;
@@ -12,17 +13,17 @@ use std::alloc::{AllocError, Global};
 use std::collections::HashMap;
 
 /// The numbers of live cells of squares, by level and number.
-pub type Counts = HashMap<(u8, u32), u128>;
+pub(crate) type Counts = HashMap<(u8, u32), u128>;
 
-// The lowest level of which counts are noted. Counting a lower square again costs no more than its
-// note.
-const LOWEST_NOTED: u8 = 6;
+/// The lowest level of which counts and gaps are noted. Finding that of a lower square again costs
+/// no more than its note.
+pub(crate) const LOWEST_NOTED: u8 = 6;
 
 /// How many live cells a square of a level up to 63 has: up to 2^126. Each number above level 5 is
 /// counted once. `NoMemory` where there is no room for one more count.
 pub fn population<L: Look>(alloc: Global, look: &L, sq: Sq) -> Result<u128, Refusal>
     requires known { IsKnown (L.book look.now) sq.level sq }
-    requires level { sq.level ≤ 63 }
+    requires level { sq.level ≤ HIGHEST_ROOT_LEVEL }
     ensures ok { IfOk result (HasPopulation (centred sq.level ((L.book look.now).cells sq))) }
     ensures memory { IsOkUnless result Refusal.NoMemory }
 {
@@ -34,7 +35,7 @@ pub fn population<L: Look>(alloc: Global, look: &L, sq: Sq) -> Result<u128, Refu
 /// goes on knowing what it knew. `NoMemory` where there is no room for one more count.
 pub fn population_at<R: Reading>(alloc: Global, book: &mut R, sq: Sq) -> Result<u128, Refusal>
     requires known { IsKnown (R.book book.old) sq.level sq }
-    requires level { sq.level ≤ 63 }
+    requires level { sq.level ≤ HIGHEST_ROOT_LEVEL }
     ensures ok { IfOk result (HasPopulation (centred sq.level ((R.book book.old).cells sq))) }
     ensures memory { IsOkUnless result Refusal.NoMemory }
     ensures adds { AddsSquares (R.book book.old) (R.book book.new) }
@@ -51,7 +52,7 @@ pub(crate) fn count<R: Reading>(
     counts: &mut Counts,
 ) -> Result<u128, AllocError>
     requires known { IsKnown (R.book from.old) sq.level sq }
-    requires level { sq.level ≤ 63 }
+    requires level { sq.level ≤ HIGHEST_ROOT_LEVEL }
     requires counted { AreCounts (R.book from.old) counts.old }
     ensures ok { IfOk result (IsCount (R.book from.old) sq) }
     ensures counted { AreCounts (R.book from.new) counts.new }
@@ -80,7 +81,7 @@ pub(crate) fn count<R: Reading>(
 fn count_quarters<R: Reading>(from: &mut R, sq: Sq, counts: &mut Counts) -> Result<u128, AllocError>
     requires known { IsKnown (R.book from.old) sq.level sq }
     requires low { 3 < sq.level }
-    requires high { sq.level ≤ 63 }
+    requires high { sq.level ≤ HIGHEST_ROOT_LEVEL }
     requires counted { AreCounts (R.book from.old) counts.old }
     ensures ok { IfOk result (IsCount (R.book from.old) sq) }
     ensures counted { AreCounts (R.book from.new) counts.new }

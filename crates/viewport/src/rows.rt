@@ -4,18 +4,19 @@ ghost use Rattle.std.specs.Prelude.{◌≤◌, ◌^◌};
 ghost use Rattle.plane.specs.Centred.{centred};
 ghost use Rattle.plane.specs.Square.{bits_plane};
 ghost use Rattle.squares.specs.Book.{IsKnown};
+ghost use Rattle.squares.specs.declared.sq.TheConstants.{HIGHEST_ROOT_LEVEL};
 ghost use Rattle.viewport.specs.Halves.{side_by_side};
 ghost use Rattle.viewport.specs.Rows.{IsFirstRow, IsFirstRowBelow};
 
-use crate::sides::{row_at, rows_above, side, signed_half_side};
-use squares::{LEAF_LEVEL, Look, Sq, half_side};
+use crate::sides::{row_at, rows_above, signed_half_side};
+use squares::{LEAF_LEVEL, Look, Sq, half_side, side};
 
 /// The first row, from row y on downwards, in which a square of a level up to 63 has a live cell.
 /// Empty squares are passed over, so that its time follows what the square has near the rows from y
 /// to that one, and not how many rows lie between.
 pub fn first_row<B: Look>(book: &B, sq: Sq, y: i64) -> Option<i64>
     requires known { IsKnown (B.book book.now) sq.level sq }
-    requires level { sq.level ≤ 63 }
+    requires level { sq.level ≤ HIGHEST_ROOT_LEVEL }
     ensures { IsFirstRow (centred sq.level ((B.book book.now).cells sq)) y result }
 {
     let half = signed_half_side(sq.level);
@@ -32,7 +33,7 @@ pub fn first_row<B: Look>(book: &B, sq: Sq, y: i64) -> Option<i64>
 #[cycle(first_row_below)]
 fn first_row_below<B: Look>(book: &B, sq: Sq, from: u64, end: u64) -> Option<u64>
     requires known { IsKnown (B.book book.now) sq.level sq }
-    requires level { sq.level ≤ 63 }
+    requires level { sq.level ≤ HIGHEST_ROOT_LEVEL }
     ensures { IsFirstRowBelow ((B.book book.now).cells sq) from end result }
 {
     if sq.is_empty() || end <= from {
@@ -58,7 +59,7 @@ fn first_row_below<B: Look>(book: &B, sq: Sq, from: u64, end: u64) -> Option<u64
 fn first_row_beside<B: Look>(book: &B, left: Sq, right: Sq, from: u64, end: u64) -> Option<u64>
     requires left { IsKnown (B.book book.now) left.level left }
     requires right { IsKnown (B.book book.now) left.level right }
-    requires level { left.level ≤ 63 }
+    requires level { left.level ≤ HIGHEST_ROOT_LEVEL }
     ensures { IsFirstRowBelow (side_by_side (2 ^ left.level)
         ((B.book book.now).cells left) ((B.book book.now).cells right)) from end result }
 {

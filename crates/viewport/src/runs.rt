@@ -4,6 +4,7 @@ ghost use Rattle.std.specs.Prelude.{◌≡◌, ◌≤◌, ◌<◌, ◌^◌, ◌+
 ghost use Rattle.plane.specs.Centred.{centred};
 ghost use Rattle.plane.specs.Square.{bits_plane};
 ghost use Rattle.squares.specs.Book.{IsKnown};
+ghost use Rattle.squares.specs.declared.sq.TheConstants.{HIGHEST_ROOT_LEVEL};
 ghost use Rattle.viewport.specs.RowRuns.{AddsCells, AreRowRuns, EndBy, cells_at, end_of, is_in_some, run_cells};
 
 use crate::halves::half_with_row;
@@ -22,7 +23,7 @@ pub fn row_runs<B: Look>(
     y: i64,
 ) -> Result<Vec<(i64, u64)>, Refusal>
     requires known { IsKnown (B.book book.now) sq.level sq }
-    requires level { sq.level ≤ 63 }
+    requires level { sq.level ≤ HIGHEST_ROOT_LEVEL }
     ensures ok { IfOk result (λ runs.
         AreRowRuns (centred sq.level ((B.book book.now).cells sq)) y runs.items) }
     ensures memory { IsOkUnless result Refusal.NoMemory }
@@ -44,7 +45,7 @@ fn add_row<B: Look>(
     runs: &mut Vec<(i64, u64)>,
 ) -> Result<(), AllocError>
     requires known { IsKnown (B.book book.now) sq.level sq }
-    requires level { sq.level ≤ 63 }
+    requires level { sq.level ≤ HIGHEST_ROOT_LEVEL }
     requires row { y < 2 ^ sq.level }
     requires room { (left +ℤ pos (2 ^ sq.level)) ≤ℤ pos (2 ^ 62) }
     requires before { EndBy left runs.old.items }

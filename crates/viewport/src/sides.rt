@@ -3,21 +3,14 @@
 ghost use Rattle.std.specs.Prelude.{◌≡◌, ◌≤◌, ◌<◌, ◌-◌, ◌^◌, pos, ◌+ℤ◌, ◌-ℤ◌, ◌≤ℤ◌, ◌<ℤ◌};
 ghost use Rattle.std.specs.Int.{int_max};
 ghost use Rattle.viewport.specs.Places.{IsPlace};
+ghost use Rattle.squares.specs.declared.sq.TheConstants.{HIGHEST_ROOT_LEVEL};
 
 use squares::half_side;
-
-/// The side of a square of this level.
-pub(crate) fn side(level: u8) -> u64
-    requires { level ≤ 63 }
-    ensures { result ≡ 2 ^ level }
-{
-    1 << level
-}
 
 /// Half the side of a square of this level, as a coordinate.
 pub(crate) fn signed_half_side(level: u8) -> i64
     requires low { 1 ≤ level }
-    requires high { level ≤ 63 }
+    requires high { level ≤ HIGHEST_ROOT_LEVEL }
     ensures side { result ≡ pos (2 ^ (level - 1)) }
     ensures small { 2 ^ (level - 1) ≤ 2 ^ 62 }
 {
@@ -28,7 +21,7 @@ pub(crate) fn signed_half_side(level: u8) -> i64
 /// the square has it.
 pub(crate) fn place(z: i64, level: u8) -> Option<u64>
     requires low { 1 ≤ level }
-    requires high { level ≤ 63 }
+    requires high { level ≤ HIGHEST_ROOT_LEVEL }
     ensures { IsPlace level z result }
 {
     let half = signed_half_side(level);

@@ -2,13 +2,12 @@
 
 ghost use Rattle.std.specs.Prelude.{◌≡◌, ◌+◌, ◌≤◌, [], ◌∷◌, ◌++◌, length, IfOk, OnOk, Some};
 ghost use Rattle.std.specs.HashMap.{Updates};
-ghost use Rattle.squares.specs.Book.{IsKnown, nth};
+ghost use Rattle.squares.specs.Book.{AreKnown, IsKnown, nth};
 ghost use Rattle.squares.specs.Noted.{is_same_key};
 ghost use Rattle.pattern_writers.specs.ListedNodes.{AreNodes, Lists, ListsFour, number_of, root_node};
-ghost use Rattle.pattern_writers.specs.Roots.{AreKnown};
 ghost use Rattle.squares.specs.Rounds.{square_plane};
 
-use super::node::Node;
+use super::node::ListedNode;
 use super::root::Root;
 use squares::{LEAF_LEVEL, Look, Sq};
 use std::alloc::{AllocError, Global};
@@ -18,7 +17,7 @@ use std::collections::HashMap;
 // book.
 #[derive(Drop)]
 struct NodeList {
-    nodes: Vec<Node>,
+    nodes: Vec<ListedNode>,
     numbers: HashMap<(u8, u32), u64>,
 }
 
@@ -35,7 +34,7 @@ impl NodeList {
     }
 
     // Adds the node of a square, and gives its number.
-    fn add(&mut self, sq: Sq, node: Node) -> Result<u64, AllocError>
+    fn add(&mut self, sq: Sq, node: ListedNode) -> Result<u64, AllocError>
         ensures node { OnOk result (self.new.nodes.items ≡ self.old.nodes.items ++ node ∷ []) }
         ensures number { IfOk result (λ number. number ≡ length self.old.nodes.items + 1) }
         ensures noted { IfOk result (λ number. Updates is_same_key
@@ -54,7 +53,7 @@ pub(crate) fn listed_nodes<B: Look>(
     alloc: Global,
     book: &B,
     sq: Sq,
-) -> Result<Vec<Node>, AllocError>
+) -> Result<Vec<ListedNode>, AllocError>
     requires known { IsKnown (B.book book.now) sq.level sq }
     requires low { 4 ≤ sq.level }
     ensures { IfOk result (λ nodes. AreNodes (square_plane (B.book book.now) sq) nodes.items) }
@@ -69,13 +68,17 @@ pub(crate) fn listed_nodes<B: Look>(
 }
 
 // The nodes with that of the root, unless it is empty.
-fn with_root(mut nodes: Vec<Node>, level: u8, quarters: [u64; 4]) -> Result<Vec<Node>, AllocError>
+fn with_root(
+    mut nodes: Vec<ListedNode>,
+    level: u8,
+    quarters: [u64; 4],
+) -> Result<Vec<ListedNode>, AllocError>
     ensures { IfOk result (λ all. all.items ≡ nodes.items ++ root_node level quarters) }
 {
     if quarters == [0; 4] {
         return Ok(nodes);
     }
-    nodes.push(Node::Inner { level, quarters })?;
+    nodes.push(ListedNode::Inner { level, quarters })?;
     Ok(nodes)
 }
 
@@ -89,12 +92,12 @@ fn number<B: Look>(book: &B, sq: Sq, list: &mut NodeList) -> Result<u64, AllocEr
         return Ok(number);
     }
     if sq.level == LEAF_LEVEL {
-        return list.add(sq, Node::Leaf(book.bits(sq)));
+        return list.add(sq, ListedNode::Leaf(book.bits(sq)));
     }
     let quarters = numbers(book, book.parts(sq), list)?;
     list.add(
         sq,
-        Node::Inner {
+        ListedNode::Inner {
             level: sq.level,
             quarters,
         },

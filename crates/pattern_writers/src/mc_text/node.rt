@@ -1,24 +1,21 @@
 //! Nodes of a macrocell file, and their lines.
 
-ghost use Rattle.std.specs.Prelude.{◌≡◌, ◌+◌, ◌≤◌, ◌++◌, codes, decimal, OnErr, OnOk};
-ghost use Rattle.arrayvec.specs.ArrayString.{array_string_len};
+ghost use Rattle.std.specs.Prelude.{◌≡◌, ◌+◌, ◌≤◌, ◌++◌, codes, decimal, length, OnErr, OnOk};
 ghost use Rattle.std.specs.List.{flat_map};
 ghost use Rattle.plane.specs.Device.{AppendsBeginning, TellsFailure};
 ghost use Rattle.pattern_writers.specs.NodeLines.{node_line};
-ghost use Rattle.pattern_writers.specs.OutputBlock.{AppendsBuffered};
+ghost use Rattle.pattern_writers.specs.Output.{AppendsBuffered};
 
 use super::leaf::leaf_text;
 use crate::output_block::{OutputBlock, put};
-use arrayvec::ArrayString;
-use itoa::Buffer;
-use plane::{Refusal, Sink};
+use plane::{Refusal, Sink, TextLine};
 
 // Room for five numbers of 40 digits, each with the byte behind it.
 const LINE_ROOM: usize = 205;
 
 /// A square that is listed.
 #[derive(Clone, Copy)]
-pub(crate) enum Node {
+pub(crate) enum ListedNode {
     // Bit 8y + x is the cell (x, y).
     Leaf(u64),
     Inner {
@@ -28,56 +25,56 @@ pub(crate) enum Node {
     },
 }
 
-impl Node {
+impl ListedNode {
     // Its rows, or its level and the numbers of its quarters, and the end of the line.
-    fn line(self) -> ArrayString<LINE_ROOM>
-        ensures { result.bytes ≡ node_line self }
+    fn line(self) -> TextLine<LINE_ROOM>
+        ensures { result ≡ node_line self }
     {
         match self {
-            Node::Leaf(word) => leaf_line(word),
-            Node::Inner { level, quarters } => inner_line(level, quarters),
+            ListedNode::Leaf(word) => leaf_line(word),
+            ListedNode::Inner { level, quarters } => inner_line(level, quarters),
         }
     }
 }
 
-fn leaf_line(word: u64) -> ArrayString<LINE_ROOM>
-    ensures { result.bytes ≡ node_line (Node.Leaf word) }
+fn leaf_line(word: u64) -> TextLine<LINE_ROOM>
+    ensures { result ≡ node_line (ListedNode.Leaf word) }
 {
-    let mut line = ArrayString::new();
-    line.push_str(leaf_text(word).as_str());
-    line.push_str("\n");
+    let mut line = TextLine::new();
+    line.push(leaf_text(word).as_str());
+    line.push("\n");
     line
 }
 
-fn inner_line(level: u8, quarters: [u64; 4]) -> ArrayString<LINE_ROOM>
-    ensures { result.bytes ≡ node_line (Node.Inner level quarters) }
+fn inner_line(level: u8, quarters: [u64; 4]) -> TextLine<LINE_ROOM>
+    ensures { result ≡ node_line (ListedNode.Inner level quarters) }
 {
     let [nw, ne, sw, se] = quarters;
-    let mut line = ArrayString::new();
-    line.push_str(Buffer::new().format(level));
-    push_number(&mut line, nw);
-    push_number(&mut line, ne);
-    push_number(&mut line, sw);
-    push_number(&mut line, se);
-    line.push_str("\n");
+    let mut line = TextLine::new();
+    line.push_number(level);
+    push_next(&mut line, nw);
+    push_next(&mut line, ne);
+    push_next(&mut line, sw);
+    push_next(&mut line, se);
+    line.push("\n");
     line
 }
 
 // Adds a blank and a number.
-fn push_number(line: &mut ArrayString<LINE_ROOM>, number: u64)
-    requires { array_string_len line.old + 41 ≤ 205 }
-    ensures text { line.new.bytes ≡ line.old.bytes ++ codes " " ++ decimal number }
-    ensures short { array_string_len line.new ≤ array_string_len line.old + 41 }
+fn push_next(line: &mut TextLine<LINE_ROOM>, number: u64)
+    requires { length line.old + 41 ≤ 205 }
+    ensures text { line.new ≡ line.old ++ codes " " ++ decimal number }
+    ensures short { length line.new ≤ length line.old + 41 }
 {
-    line.push_str(" ");
-    line.push_str(Buffer::new().format(number));
+    line.push(" ");
+    line.push_number(number);
 }
 
 /// Writes each node as a line.
 pub(crate) fn write_nodes<V: Sink>(
     file: &mut V,
     block: &mut OutputBlock,
-    nodes: &[Node],
+    nodes: &[ListedNode],
 ) -> Result<(), Refusal>
     ensures written { OnOk result (AppendsBuffered (V.taken file.old) block.old.items
         (V.taken file.new) block.new.items (flat_map node_line nodes.now)) }
@@ -86,7 +83,7 @@ pub(crate) fn write_nodes<V: Sink>(
     ensures failure { TellsFailure (V.failure_count file.old) (V.failure_count file.new) result }
 {
     for node in nodes {
-        put(file, block, node.line().as_str().as_bytes())?;
+        put(file, block, node.line().as_bytes())?;
     }
     Ok(())
 }

@@ -8,7 +8,7 @@ ghost use Rattle.pattern_writers.specs.ListedNodes.{AreNodes};
 ghost use Rattle.squares.specs.Rounds.{square_plane};
 
 use super::listing::listed_nodes;
-use super::node::Node;
+use super::node::ListedNode;
 use hashlife_step::trim;
 use plane::Refusal;
 use rule_text::Rule;
@@ -22,7 +22,7 @@ pub(crate) fn pattern_nodes<B: Look>(
     book: &B,
     sq: Sq,
     rule: &Rule,
-) -> Result<Vec<Node>, Refusal>
+) -> Result<Vec<ListedNode>, Refusal>
     requires known { IsKnown (B.book book.now) sq.level sq }
     ensures ok { IfOk result (λ nodes. AreNodes (square_plane (B.book book.now) sq) nodes.items) }
     ensures memory { IsOkUnless result Refusal.NoMemory }
@@ -34,7 +34,7 @@ pub(crate) fn pattern_nodes<B: Look>(
 }
 
 // The nodes of a leaf: in a book of its own it comes into the middle of a square of level 4.
-fn leaf_nodes(alloc: Global, rule: &Rule, word: u64) -> Result<Vec<Node>, Refusal>
+fn leaf_nodes(alloc: Global, rule: &Rule, word: u64) -> Result<Vec<ListedNode>, Refusal>
     ensures ok { IfOk result (λ nodes. AreNodes (centred 3 (bits_plane word)) nodes.items) }
     ensures memory { IsOkUnless result Refusal.NoMemory }
 {

@@ -6,6 +6,7 @@ ghost use Rattle.pattern_writers.specs.Frame.{HasRoom, band_row};
 ghost use Rattle.pattern_writers.specs.RleText.{HasFrame, HasRuns};
 ghost use Rattle.pattern_writers.specs.RowRuns.{rows_between};
 ghost use Rattle.squares.specs.Rounds.{square_plane};
+ghost use Rattle.squares.specs.declared.sq.TheConstants.{HIGHEST_ROOT_LEVEL};
 
 use super::frame::{BANDS, Frame};
 use super::row_run::{RowRun, runs_between};
@@ -24,7 +25,7 @@ pub(crate) fn banded_runs<R: Threads + Sync, B: Look + Sync>(
     frame: Frame,
 ) -> Result<Vec<Vec<RowRun>>, AllocError>
     requires known { IsKnown (B.book book.now) sq.level sq }
-    requires level { sq.level ≤ 63 }
+    requires level { sq.level ≤ HIGHEST_ROOT_LEVEL }
     requires frame { HasFrame (square_plane (B.book book.now) sq) frame }
     requires room { HasRoom frame }
     ensures { IfOk result (λ bands. HasRuns (square_plane (B.book book.now) sq)
@@ -37,7 +38,7 @@ pub(crate) fn banded_runs<R: Threads + Sync, B: Look + Sync>(
             move |band: u64| -> Result<Vec<RowRun>, AllocError>
                 requires band { band < 64 }
                 requires known { IsKnown (B.book book.now) sq.level sq }
-                requires level { sq.level ≤ 63 }
+                requires level { sq.level ≤ HIGHEST_ROOT_LEVEL }
                 requires room { HasRoom frame }
                 ensures { IfOk result (λ runs.
                     HasRuns (rows_between (band_row frame band) (band_row frame (band + 1))

@@ -6,7 +6,7 @@ ghost use Rattle.pattern_writers.specs.Frame.{FitsRle, HasRoom, band_row, frame_
 use plane::{Bounds, Cell, Refusal};
 
 // A box that is written has sides below this.
-const SIDE_LIMIT: u64 = 1 << 31;
+const RLE_SIDE_LIMIT: u64 = 1 << 31;
 
 /// How many bands the rows of a frame are cut into.
 pub(crate) const BANDS: u64 = 64;
@@ -64,7 +64,7 @@ fn side(first: i64, last: i64) -> Option<u64>
     ensures { SomeIff result (side first last < 2 ^ 31) (side first last) }
 {
     let steps = last.abs_diff(first);
-    if steps < SIDE_LIMIT - 1 {
+    if steps < RLE_SIDE_LIMIT - 1 {
         Some(steps + 1)
     } else {
         None

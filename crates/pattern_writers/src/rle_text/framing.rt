@@ -5,6 +5,7 @@ ghost use Rattle.squares.specs.Book.{IsKnown};
 ghost use Rattle.pattern_writers.specs.Frame.{HasRoom};
 ghost use Rattle.pattern_writers.specs.RleText.{HasFrame, HasItems, IsFrameRefusal};
 ghost use Rattle.squares.specs.Rounds.{square_plane};
+ghost use Rattle.squares.specs.declared.sq.TheConstants.{HIGHEST_ROOT_LEVEL};
 
 use super::bands::banded_runs;
 use super::frame::Frame;
@@ -23,7 +24,7 @@ pub(crate) fn framed_items<R: Threads + Sync, B: Look + Sync>(
     sq: Sq,
 ) -> Result<(Frame, Vec<Item>), Refusal>
     requires known { IsKnown (B.book book.now) sq.level sq }
-    requires level { sq.level ≤ 63 }
+    requires level { sq.level ≤ HIGHEST_ROOT_LEVEL }
     ensures ok { IfOk result (λ framed.
         HasItems (square_plane (B.book book.now) sq) framed.0 framed.1.items) }
     ensures refused { IfErr result (IsFrameRefusal (square_plane (B.book book.now) sq)) }
@@ -37,7 +38,7 @@ pub(crate) fn framed_items<R: Threads + Sync, B: Look + Sync>(
 // The frame of a square's cells.
 fn cells_frame<B: Look>(alloc: Global, book: &B, sq: Sq) -> Result<Frame, Refusal>
     requires known { IsKnown (B.book book.now) sq.level sq }
-    requires level { sq.level ≤ 63 }
+    requires level { sq.level ≤ HIGHEST_ROOT_LEVEL }
     ensures frame { IfOk result (HasFrame (square_plane (B.book book.now) sq)) }
     ensures room { IfOk result HasRoom }
     ensures refused { IfErr result (IsFrameRefusal (square_plane (B.book book.now) sq)) }

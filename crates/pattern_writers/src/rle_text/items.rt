@@ -1,12 +1,10 @@
 //! The items of an RLE body: counts of dead cells, live cells and row ends.
 
-ghost use Rattle.std.specs.Prelude.{◌≡◌, ◌≤◌, ◌++◌, flat_map, length, IfOk, OnOk};
+ghost use Rattle.std.specs.Prelude.{◌≡◌, ◌++◌, flat_map, IfOk, OnOk};
 ghost use Rattle.pattern_writers.specs.Items.{cell_after, counted, item_text, items_of, run_items};
 
 use super::row_run::RowRun;
-use arrayvec::ArrayString;
-use itoa::Buffer;
-use plane::Cell;
+use plane::{Cell, TextLine};
 use rle_reader::Tag;
 use std::alloc::{AllocError, Global};
 
@@ -22,15 +20,14 @@ pub(crate) struct Item {
 
 impl Item {
     /// Its count, if that is not 1, and its tag.
-    pub(crate) fn text(self) -> ArrayString<ITEM_ROOM>
-        ensures text { result.bytes ≡ item_text self }
-        ensures short { length result.bytes ≤ 41 }
+    pub(crate) fn text(self) -> TextLine<ITEM_ROOM>
+        ensures { result ≡ item_text self }
     {
-        let mut text = ArrayString::new();
+        let mut text = TextLine::new();
         if self.count != 1 {
-            text.push_str(Buffer::new().format(self.count));
+            text.push_number(self.count);
         }
-        text.push_str(match self.tag {
+        text.push(match self.tag {
             Tag::Dead => "b",
             Tag::Live => "o",
             Tag::Row => "$",
@@ -51,7 +48,7 @@ pub(crate) fn items(
 {
     let mut items = Vec::new(alloc);
     let mut next = corner;
-    'bands: for band in bands {
+    for band in bands {
         next = push_runs(&mut items, corner.x, next, band)?;
     }
     Ok(items)
@@ -69,7 +66,7 @@ fn push_runs(
     ensures next { IfOk result (λ next. next ≡ cell_after start runs.now) }
 {
     let mut next = start;
-    'runs: for run in runs {
+    for run in runs {
         push_run(items, left, next, *run)?;
         next = run.next_cell();
     }

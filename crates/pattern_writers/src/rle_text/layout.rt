@@ -4,7 +4,7 @@ ghost use Rattle.std.specs.Prelude.{◌≡◌, ℕ, ◌≤◌, List, [], ◌∷�
 ghost use Rattle.arrayvec.specs.ArrayString.{array_string_len};
 ghost use Rattle.plane.specs.Device.{AppendsBeginning, TellsFailure};
 ghost use Rattle.pattern_writers.specs.Layout.{body_text, LaysOut};
-ghost use Rattle.pattern_writers.specs.OutputBlock.{AppendsBuffered};
+ghost use Rattle.pattern_writers.specs.Output.{AppendsBuffered};
 
 use super::items::Item;
 use crate::output_block::{OutputBlock, put};

@@ -7,6 +7,7 @@ ghost use Rattle.pattern_writers.specs.Items.{next_cell};
 ghost use Rattle.pattern_writers.specs.RleText.{HasRuns};
 ghost use Rattle.pattern_writers.specs.RowRuns.{AddsRow, rows_between, run_in};
 ghost use Rattle.squares.specs.Rounds.{square_plane};
+ghost use Rattle.squares.specs.declared.sq.TheConstants.{HIGHEST_ROOT_LEVEL};
 ghost use Rattle.viewport.specs.Rows.{IsFirstRow};
 
 use plane::Cell;
@@ -58,13 +59,13 @@ pub(crate) fn runs_between<B: Look>(
     end: i64,
 ) -> Result<Vec<RowRun>, AllocError>
     requires known { IsKnown (B.book book.now) sq.level sq }
-    requires level { sq.level ≤ 63 }
+    requires level { sq.level ≤ HIGHEST_ROOT_LEVEL }
     ensures { IfOk result (λ runs.
         HasRuns (rows_between from end (square_plane (B.book book.now) sq)) runs.items) }
 {
     let mut runs = Vec::new(alloc);
     let mut next = next_row(book, sq, from, end);
-    'rows: while let Some(row) = next {
+    while let Some(row) = next {
         add_row(alloc, book, sq, row, &mut runs)?;
         next = next_row(book, sq, row + 1, end);
     }
@@ -74,7 +75,7 @@ pub(crate) fn runs_between<B: Look>(
 // The first row with a live cell among those from `from` to before `end`.
 fn next_row<B: Look>(book: &B, sq: Sq, from: i64, end: i64) -> Option<i64>
     requires known { IsKnown (B.book book.now) sq.level sq }
-    requires level { sq.level ≤ 63 }
+    requires level { sq.level ≤ HIGHEST_ROOT_LEVEL }
     ensures { IsFirstRow (rows_between from end (square_plane (B.book book.now) sq)) from result }
 {
     let row = first_row(book, sq, from)?;
@@ -90,14 +91,14 @@ fn add_row<B: Look>(
     runs: &mut Vec<RowRun>,
 ) -> Result<(), AllocError>
     requires known { IsKnown (B.book book.now) sq.level sq }
-    requires level { sq.level ≤ 63 }
+    requires level { sq.level ≤ HIGHEST_ROOT_LEVEL }
     ensures { OnOk result
         (AddsRow (square_plane (B.book book.now) sq) row runs.old.items runs.new.items) }
 {
     let Ok(found) = viewport::row_runs(alloc, book, sq, row) else {
         return Err(AllocError);
     };
-    'found: for run in &found {
+    for run in &found {
         runs.push(RowRun::in_row(row, run.0, run.1))?;
     }
     Ok(())

@@ -1,5 +1,5 @@
 use Rattle.std.proofs.Common.{◌≡◌, ℕ, List, ◌++◌}
-use Rattle.pattern_writers.specs.OutputBlock.{AppendsBuffered}
+use Rattle.pattern_writers.specs.Output.{AppendsBuffered}
 use Rattle.pattern_writers.specs.RleText.{comment_lines}
 use Rattle.pattern_writers.proofs.comments.write_comments.Given as goal
 

@@ -15,8 +15,7 @@ use Rattle.pattern_writers.proofs.mc_text.write_mc.Goals as goal
 pub returns-clause-written : goal.returns-clause-written
 returns-clause-written g c =
     let nodes = c.in_ok-nodes.ensures.ok in
-    let opening : c.as_str-2.result.now ≡ mc_opening (canonical_text c.args.rule.now) c.args.generation =
-    c.as_str-2.ensures.value ∙ c.opening_lines-opening.ensures ∙ ap (λ rule. mc_opening rule c.args.generation) (c.as_str.ensures.value ∙ c.text.ensures.text) in
+    let opening : c.as_bytes.result.now ≡ mc_opening (canonical_text c.args.rule.now) c.args.generation = c.as_bytes.ensures.bytes ∙ c.opening_lines-opening.ensures in
     let begun = rw opening at c.in_ok-begin.ensures.written in
     let lines = rw c.as_slice.ensures.value at c.in_ok-write_nodes.ensures.written in
     let whole = ap (λ l. mc_opening (canonical_text c.args.rule.now) c.args.generation ++ comment_lines c.args.comments ++ l) nodes.lines in
@@ -35,8 +34,7 @@ returns-clause-read_back g c = on_ok_weaker c.write_all.result (λ writes. mc_wr
 pub returns-in_err-begin-clause-refused : goal.returns-in_err-begin-clause-refused
 returns-in_err-begin-clause-refused g c =
     let nodes = c.in_ok-nodes.ensures.ok in
-    let opening : c.as_str-2.result.now ≡ mc_opening (canonical_text c.args.rule.now) c.args.generation =
-    c.as_str-2.ensures.value ∙ c.opening_lines-opening.ensures ∙ ap (λ rule. mc_opening rule c.args.generation) (c.as_str.ensures.value ∙ c.text.ensures.text) in
+    let opening : c.as_bytes.result.now ≡ mc_opening (canonical_text c.args.rule.now) c.args.generation = c.as_bytes.ensures.bytes ∙ c.opening_lines-opening.ensures in
     let begun = rw opening at c.in_err-begin.ensures.beginning in
     let first = mc_opening (canonical_text c.args.rule.now) c.args.generation ++ comment_lines c.args.comments in
     let whole = ap (λ l. first ++ l) nodes.lines in
@@ -53,8 +51,7 @@ returns-in_err-begin-clause-refused g c =
 pub returns-in_err-write_nodes-clause-refused : goal.returns-in_err-write_nodes-clause-refused
 returns-in_err-write_nodes-clause-refused g c =
     let nodes = c.in_ok-nodes.ensures.ok in
-    let opening : c.as_str-2.result.now ≡ mc_opening (canonical_text c.args.rule.now) c.args.generation =
-    c.as_str-2.ensures.value ∙ c.opening_lines-opening.ensures ∙ ap (λ rule. mc_opening rule c.args.generation) (c.as_str.ensures.value ∙ c.text.ensures.text) in
+    let opening : c.as_bytes.result.now ≡ mc_opening (canonical_text c.args.rule.now) c.args.generation = c.as_bytes.ensures.bytes ∙ c.opening_lines-opening.ensures in
     let before = rw opening at c.in_ok-begin.ensures.written in
     let begun = rw c.as_slice.ensures.value at c.in_err-write_nodes.ensures.beginning in
     let first = mc_opening (canonical_text c.args.rule.now) c.args.generation ++ comment_lines c.args.comments in
@@ -72,8 +69,7 @@ returns-in_err-write_nodes-clause-refused g c =
 pub returns-clause-refused : goal.returns-clause-refused
 returns-clause-refused g c =
     let nodes = c.in_ok-nodes.ensures.ok in
-    let opening : c.as_str-2.result.now ≡ mc_opening (canonical_text c.args.rule.now) c.args.generation =
-    c.as_str-2.ensures.value ∙ c.opening_lines-opening.ensures ∙ ap (λ rule. mc_opening rule c.args.generation) (c.as_str.ensures.value ∙ c.text.ensures.text) in
+    let opening : c.as_bytes.result.now ≡ mc_opening (canonical_text c.args.rule.now) c.args.generation = c.as_bytes.ensures.bytes ∙ c.opening_lines-opening.ensures in
     let begun = rw opening at c.in_ok-begin.ensures.written in
     let lines = rw c.as_slice.ensures.value at c.in_ok-write_nodes.ensures.written in
     let whole = ap (λ l. mc_opening (canonical_text c.args.rule.now) c.args.generation ++ comment_lines c.args.comments ++ l) nodes.lines in

@@ -11,9 +11,8 @@ use Rattle.pattern_writers.proofs.rle_text.write_items.Goals as goal
 pub returns-clause-written : goal.returns-clause-written
 returns-clause-written g c =
     let frame = c.args.frame in
-    let position : c.as_str.result.now ≡ position_line frame.corner.x frame.corner.y c.args.generation = c.as_str.ensures.value ∙ c.position_line-position.ensures in
-    let header : c.as_bytes.result.now ≡ header_line frame.width frame.height (canonical_text c.args.rule.now) =
-    c.as_bytes.ensures.value ∙ c.as_str-3.ensures.value ∙ c.header_line-header.ensures ∙ ap (header_line frame.width frame.height) (c.as_str-2.ensures.value ∙ c.text.ensures.text) in
+    let position : c.as_bytes.result.now ≡ position_line frame.corner.x frame.corner.y c.args.generation = c.as_bytes.ensures.bytes ∙ c.position_line-position.ensures in
+    let header : c.as_bytes-2.result.now ≡ header_line frame.width frame.height (canonical_text c.args.rule.now) = c.as_bytes-2.ensures.bytes ∙ c.header_line-header.ensures in
     let begun = rw position at c.in_ok-begin.ensures.written in
     let headed = rw header at c.in_ok-put.ensures.written in
     on_ok_weaker c.write_all.result
@@ -23,9 +22,8 @@ returns-clause-written g c =
 pub returns-clause-beginning : goal.returns-clause-beginning
 returns-clause-beginning g c =
     let frame = c.args.frame in
-    let position : c.as_str.result.now ≡ position_line frame.corner.x frame.corner.y c.args.generation = c.as_str.ensures.value ∙ c.position_line-position.ensures in
-    let header : c.as_bytes.result.now ≡ header_line frame.width frame.height (canonical_text c.args.rule.now) =
-    c.as_bytes.ensures.value ∙ c.as_str-3.ensures.value ∙ c.header_line-header.ensures ∙ ap (header_line frame.width frame.height) (c.as_str-2.ensures.value ∙ c.text.ensures.text) in
+    let position : c.as_bytes.result.now ≡ position_line frame.corner.x frame.corner.y c.args.generation = c.as_bytes.ensures.bytes ∙ c.position_line-position.ensures in
+    let header : c.as_bytes-2.result.now ≡ header_line frame.width frame.height (canonical_text c.args.rule.now) = c.as_bytes-2.ensures.bytes ∙ c.header_line-header.ensures in
     let begun = rw position at c.in_ok-begin.ensures.written in
     let headed = rw header at c.in_ok-put.ensures.written in
     on_err_weaker c.write_all.result
@@ -35,7 +33,7 @@ returns-clause-beginning g c =
 pub returns-in_err-begin-clause-beginning : goal.returns-in_err-begin-clause-beginning
 returns-in_err-begin-clause-beginning g c =
     let frame = c.args.frame in
-    let position : c.as_str.result.now ≡ position_line frame.corner.x frame.corner.y c.args.generation = c.as_str.ensures.value ∙ c.position_line-position.ensures in
+    let position : c.as_bytes.result.now ≡ position_line frame.corner.x frame.corner.y c.args.generation = c.as_bytes.ensures.bytes ∙ c.position_line-position.ensures in
     let begun = rw position at c.in_err-begin.ensures.beginning in
     let opening = position_line frame.corner.x frame.corner.y c.args.generation ++ comment_lines c.args.comments in
     let header = header_line frame.width frame.height (canonical_text c.args.rule.now) in
@@ -46,9 +44,8 @@ returns-in_err-begin-clause-beginning g c =
 pub returns-in_err-put-clause-beginning : goal.returns-in_err-put-clause-beginning
 returns-in_err-put-clause-beginning g c =
     let frame = c.args.frame in
-    let position : c.as_str.result.now ≡ position_line frame.corner.x frame.corner.y c.args.generation = c.as_str.ensures.value ∙ c.position_line-position.ensures in
-    let header : c.as_bytes.result.now ≡ header_line frame.width frame.height (canonical_text c.args.rule.now) =
-    c.as_bytes.ensures.value ∙ c.as_str-3.ensures.value ∙ c.header_line-header.ensures ∙ ap (header_line frame.width frame.height) (c.as_str-2.ensures.value ∙ c.text.ensures.text) in
+    let position : c.as_bytes.result.now ≡ position_line frame.corner.x frame.corner.y c.args.generation = c.as_bytes.ensures.bytes ∙ c.position_line-position.ensures in
+    let header : c.as_bytes-2.result.now ≡ header_line frame.width frame.height (canonical_text c.args.rule.now) = c.as_bytes-2.ensures.bytes ∙ c.header_line-header.ensures in
     let opened = rw position at c.in_ok-begin.ensures.written in
     let begun = rw header at c.in_err-put.ensures.beginning in
     let opening = position_line frame.corner.x frame.corner.y c.args.generation ++ comment_lines c.args.comments in
@@ -59,9 +56,8 @@ returns-in_err-put-clause-beginning g c =
 pub returns-in_err-write_body-clause-beginning : goal.returns-in_err-write_body-clause-beginning
 returns-in_err-write_body-clause-beginning g c =
     let frame = c.args.frame in
-    let position : c.as_str.result.now ≡ position_line frame.corner.x frame.corner.y c.args.generation = c.as_str.ensures.value ∙ c.position_line-position.ensures in
-    let header : c.as_bytes.result.now ≡ header_line frame.width frame.height (canonical_text c.args.rule.now) =
-    c.as_bytes.ensures.value ∙ c.as_str-3.ensures.value ∙ c.header_line-header.ensures ∙ ap (header_line frame.width frame.height) (c.as_str-2.ensures.value ∙ c.text.ensures.text) in
+    let position : c.as_bytes.result.now ≡ position_line frame.corner.x frame.corner.y c.args.generation = c.as_bytes.ensures.bytes ∙ c.position_line-position.ensures in
+    let header : c.as_bytes-2.result.now ≡ header_line frame.width frame.height (canonical_text c.args.rule.now) = c.as_bytes-2.ensures.bytes ∙ c.header_line-header.ensures in
     let opened = rw position at c.in_ok-begin.ensures.written in
     let headed = rw header at c.in_ok-put.ensures.written in
     let first = position_line frame.corner.x frame.corner.y c.args.generation ++ comment_lines c.args.comments ++ header_line frame.width frame.height (canonical_text c.args.rule.now) in

@@ -10,18 +10,18 @@ use Rattle.patterns.specs.NodeSquares.{shown_planes}
 use Rattle.patterns.proofs.NodeSquares.{HaveRead, next_read}
 use Rattle.patterns.proofs.nodes.squares_of.Goals as goal
 
-pub lines-preserved : goal.lines-preserved
-lines-preserved g c =
-    let old = g.S.Squares.book c.lines.book in
+pub loop-line-preserved : goal.loop-line-preserved
+loop-line-preserved g c =
+    let old = g.S.Squares.book c.loop-line.book in
     let new = g.S.Squares.book c.node_square.new.book in
     let all = map (λ (line : WrittenNode). line.node) c.into_iter-line-iterator.result in
-    let step : c.lines.line-iterator ≡ written_seen c.in-Some.line ∷ c.next.new.self = search rules in
-    let read = subst (λ (l : List WrittenNode). HaveRead old all (map (λ line. line.node) l) c.lines.squares.items) step c.lines.invariant.read in
-    let pushed : c.push.new.self.items ≡ c.lines.squares.items ++ c.in_ok-sq.sq ∷ [] = search rules in
+    let step : c.loop-line.line-iterator ≡ written_seen c.in-Some.line ∷ c.next.new.self = search rules in
+    let read = subst (λ (l : List WrittenNode). HaveRead old all (map (λ line. line.node) l) c.loop-line.squares.items) step c.loop-line.invariant.read in
+    let pushed : c.push.new.self.items ≡ c.loop-line.squares.items ++ c.in_ok-sq.sq ∷ [] = search rules in
     let shows = subst (λ (sqs : List Sq). Shows new (level_of c.in-Some.line.node) (node_plane (shown_planes old sqs) c.in-Some.line.node) c.in_ok-sq.sq) c.as_slice.ensures.value c.in_ok-sq.ensures.ok in
     record {
       read = subst (λ (sqs : List Sq). HaveRead new all (map (λ line. line.node) c.next.new.self) sqs) (sym pushed)
-          (next_read old new all (map (λ line. line.node) c.next.new.self) c.in-Some.line.node c.lines.squares.items c.in_ok-sq.sq c.node_square.ensures.adds.keeps read shows);
-      keeps = keeps_trans c.lines.invariant.keeps c.node_square.ensures.adds.keeps;
-      results = results_trans c.lines.invariant.results c.node_square.ensures.adds.results;
+          (next_read old new all (map (λ line. line.node) c.next.new.self) c.in-Some.line.node c.loop-line.squares.items c.in_ok-sq.sq c.node_square.ensures.adds.keeps read shows);
+      keeps = keeps_trans c.loop-line.invariant.keeps c.node_square.ensures.adds.keeps;
+      results = results_trans c.loop-line.invariant.results c.node_square.ensures.adds.results;
     }

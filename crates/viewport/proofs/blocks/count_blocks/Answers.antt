@@ -1,9 +1,9 @@
 use Rattle.std.proofs.Common.{◌≡◌, ℕ, ℤ, pos, ◌+ℤ◌, ◌-ℤ◌, ap, ◌∙◌, ◌++◌, sym, arith, rules, w64, SFits, replicate}
 use Rattle.std.proofs.lemmas.Int.{ints, to_z-of_z}
 use Rattle.std.proofs.lemmas.Result.{on_ok_weaker}
-use Rattle.viewport.specs.Strips.{strip_counts}
+use Rattle.viewport.specs.BlockSpans.{span_counts}
 use Rattle.viewport.proofs.Quarters.{known_square}
-use Rattle.viewport.proofs.RowsOfBlocks.{beside_counts, inside_strip, outside_counts, three_added}
+use Rattle.viewport.proofs.RowsOfBlocks.{beside_counts, inside_span, outside_counts, three_added}
 use Rattle.viewport.proofs.blocks.count_blocks.Goals as goal
 
 pub returns-in_default-clause-ok : goal.returns-in_default-clause-ok
@@ -20,14 +20,14 @@ returns-in_default-clause-ok g c =
     c.args.blocks.now.left c.args.j c.args.blocks.now.width (simp to_z-of_z at c.in_default.ensures))))
     c.add_dead.ensures.ok
 
-pub count_strip-requires-clause-strip : goal.count_strip-requires-clause-strip
-count_strip-requires-clause-strip g c =
+pub count_span-requires-clause-span : goal.count_span-requires-clause-span
+count_span-requires-clause-span g c =
     let low = c.requires.known.low in
     let least = c.min-exponent.ensures in
     let left : SFits w64 c.args.blocks.now.left = omega (arith, ints) in
     let half : SFits w64 c.signed_half_side.result = search rules in
     let are = simp to_z-of_z at c.columns_beside-columns.ensures in
-    inside_strip c.args.sq.level c.min-exponent.result c.in-Some.row c.args.blocks.now.left c.signed_half_side.result c.args.blocks.now.width c.columns_beside-columns.result
+    inside_span c.args.sq.level c.min-exponent.result c.in-Some.row c.args.blocks.now.left c.signed_half_side.result c.args.blocks.now.width c.columns_beside-columns.result
     (omega (arith, low, least)) c.signed_half_side.ensures.side are c.in-Some.ensures.1
 
 row_place : (row n : ℕ) (j half : ℤ) → pos row ≡ j +ℤ pos n → half ≡ pos n → j ≡ pos row -ℤ half
@@ -44,9 +44,9 @@ returns-clause-ok g c =
     let half : SFits w64 c.signed_half_side.result = search rules in
     let are = simp to_z-of_z at c.columns_beside-columns.ensures in
     on_ok_weaker c.add_dead-3.result
-    (λ last. three_added c.args.found.now.items c.add_dead-2.new.found.items c.count_strip.new.found.items c.add_dead-3.new.found.items
-    (replicate columns.before 0) (strip_counts (book.cells c.args.sq) c.min-exponent.result (record { row = c.in-Some.row; from = columns.from; end = columns.end })) (replicate columns.behind 0) _
-    c.in_ok-add_dead.ensures.ok c.in_ok-count_strip.ensures.ok last
+    (λ last. three_added c.args.found.now.items c.add_dead-2.new.found.items c.count_span.new.found.items c.add_dead-3.new.found.items
+    (replicate columns.before 0) (span_counts (book.cells c.args.sq) c.min-exponent.result (record { row = c.in-Some.row; from = columns.from; end = columns.end })) (replicate columns.behind 0) _
+    c.in_ok-add_dead.ensures.ok c.in_ok-count_span.ensures.ok last
     (beside_counts c.args.sq.level c.args.blocks.now.exponent c.min-exponent.result (book.cells c.args.sq) (omega (arith, low)) c.min-exponent.ensures square
     c.args.blocks.now.left c.args.j c.signed_half_side.result c.args.blocks.now.width c.in-Some.row columns c.signed_half_side.ensures.side
     (row_place c.in-Some.row _ c.args.j c.signed_half_side.result (simp to_z-of_z at c.in-Some.ensures.0) c.signed_half_side.ensures.side) are))

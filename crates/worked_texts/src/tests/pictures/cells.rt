@@ -4,10 +4,10 @@ ghost use Rattle.std.specs.Prelude.{◌≡◌, ◌≤◌, ◌*◌, length, IfOk,
 ghost use Rattle.pattern_picture.specs.Scale.{IsShown, IsSize};
 ghost use Rattle.png_writer.specs.Picture.{IsSide};
 
-use crate::tests::pictures::files::length_and_checksum;
+use crate::tests::pictures::length_and_checksum;
 use pattern_picture::{Drawing, picture};
 use plane::Bounds;
-use png_writer::{Image, SIDE_LIMIT};
+use png_writer::{IMAGE_SIDE_LIMIT, Image};
 use rule_text::Rule;
 use squares::{PlainBook, join_leaves};
 use std::process::Abort;
@@ -62,7 +62,7 @@ fn is_side(zoom: u32, blocks: u32) -> bool
     ensures { IsTrue result → IsSide (zoom * blocks) }
 {
     let pixels = u64::from(zoom) * u64::from(blocks);
-    1 <= pixels && pixels <= u64::from(SIDE_LIMIT)
+    1 <= pixels && pixels <= u64::from(IMAGE_SIDE_LIMIT)
 }
 
 const fn sides(left: i64, top: i64, right: i64, bottom: i64) -> Bounds

@@ -3,9 +3,9 @@
 ghost use Rattle.std.specs.Prelude.{◌≡◌, length, IfOk};
 ghost use Rattle.png_writer.specs.Picture.{IsSide};
 
-use crate::tests::pictures::files::length_and_checksum;
+use crate::tests::pictures::length_and_checksum;
 use plane::{FailAt, Memory, Refusal, Sink};
-use png_writer::{Image, SIDE_LIMIT};
+use png_writer::{IMAGE_SIDE_LIMIT, Image};
 use std::alloc::{AllocError, Global};
 use std::test::Fail;
 
@@ -59,7 +59,9 @@ fn larger_pictures(rt: HostRuntime) -> Result<(), Fail> {
         (300, 250, (46_019, 0x3beb_f398)),
         (4096, 32, (6993, 0x04b4_b3f8)),
     ] {
-        assert!(rt; 1 <= width && width <= SIDE_LIMIT && 1 <= height && height <= SIDE_LIMIT);
+        assert!(rt;
+            1 <= width && width <= IMAGE_SIDE_LIMIT && 1 <= height && height <= IMAGE_SIDE_LIMIT
+        );
         let image = picture(rt.alloc(), width, height)?;
         assert_eq!(rt; length_and_checksum(rt.alloc(), &image)?, expected);
     }

@@ -1,6 +1,6 @@
 use Rattle.std.proofs.Common.{◌≡◌, ℕ, List, ◌++◌, flat_map, drop}
 use Rattle.pattern_writers.specs.NodeLines.{node_line}
-use Rattle.pattern_writers.specs.OutputBlock.{AppendsBuffered}
+use Rattle.pattern_writers.specs.Output.{AppendsBuffered}
 use Rattle.pattern_writers.proofs.mc_text.node.write_nodes.Given as goal
 
 abbrev pub invariant-loop-node : goal.invariant-loop-node

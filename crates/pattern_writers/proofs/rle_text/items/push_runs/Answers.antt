@@ -6,33 +6,33 @@ use Rattle.pattern_writers.specs.Items.{cell_after}
 use Rattle.pattern_writers.proofs.BodyText.{all_pushed, cell_after-more, items_of-more}
 use Rattle.pattern_writers.proofs.rle_text.items.push_runs.Goals as goal
 
-pub runs-preserved : goal.runs-preserved
-runs-preserved c =
+pub loop-run-preserved : goal.loop-run-preserved
+loop-run-preserved c =
     let left = to_z-of_z w64 c.args.left c.ranges.left in
-    let before = rw left at c.runs.invariant in
+    let before = rw left at c.loop-run.invariant in
     let pushed = rw left at c.in_ok-push_run.ensures in
     rw left (
       before.0
-          ∙ items_of-more c.args.left c.runs.next c.args.runs.now c.runs.run-index (record { row = pos 0; first = pos 0; end = pos 0 }) c.runs.items.items (search rules)
+          ∙ items_of-more c.args.left c.loop-run.next c.args.runs.now c.loop-run.run-index (record { row = pos 0; first = pos 0; end = pos 0 }) c.loop-run.items.items (search rules)
           ∙ (search rules),
       before.1
-          ∙ cell_after-more c.runs.next c.args.runs.now c.runs.run-index (record { row = pos 0; first = pos 0; end = pos 0 }) (search rules)
+          ∙ cell_after-more c.loop-run.next c.args.runs.now c.loop-run.run-index (record { row = pos 0; first = pos 0; end = pos 0 }) (search rules)
           ∙ (search rules),
     )
 
-pub runs-init : goal.runs-init
-runs-init c = (refl, refl)
+pub loop-run-init : goal.loop-run-init
+loop-run-init c = (refl, refl)
 
 pub returns-clause-items : goal.returns-clause-items
 returns-clause-items c =
     let runs = c.args.runs.now in
-    let none = all_pushed c.args.left c.runs.next runs c.runs.run-index c.runs.items.items c.runs-test.false in
-    sym ((rw (to_z-of_z w64 c.args.left c.ranges.left) at c.runs.invariant.0) ∙ none)
+    let none = all_pushed c.args.left c.loop-run.next runs c.loop-run.run-index c.loop-run.items.items c.loop-run-test.false in
+    sym ((rw (to_z-of_z w64 c.args.left c.ranges.left) at c.loop-run.invariant.0) ∙ none)
 
 pub returns-clause-next : goal.returns-clause-next
 returns-clause-next c =
-    let none = drop_all c.runs.run-index c.args.runs.now c.runs-test.false in
-    sym (c.runs.invariant.1 ∙ ap (cell_after c.runs.next) none)
+    let none = drop_all c.loop-run.run-index c.args.runs.now c.loop-run-test.false in
+    sym (c.loop-run.invariant.1 ∙ ap (cell_after c.loop-run.next) none)
 
 pub returns-in_err-push_run-clause-items : goal.returns-in_err-push_run-clause-items
 returns-in_err-push_run-clause-items c = IfOk-from_err c.from_residual.result _ c.from_residual.ensures.0

@@ -15,7 +15,7 @@ loop-item-preserved g c =
       (
         before.0 ++ put.0,
         buffered_more before.1 put.1,
-        LaysOut-more c.args.items.now c.loop-item.item-index _ c.as_str.result.now _ _ before.0 put.0 (search rules) (c.as_str.ensures.value ∙ c.text.ensures.text) before.2 put.2,
+        LaysOut-more c.args.items.now c.loop-item.item-index _ c.as_str.result.now _ _ before.0 put.0 (search rules) (c.as_str.ensures.bytes ∙ c.text.ensures) before.2 put.2,
       ),
     )
 
@@ -37,11 +37,6 @@ loop-item-init g c =
       refl,
       ([], buffered_none _ _, λ rest. ap (λ l. laid_out l rest) (sym empty)),
     )
-
-pub add_to_line-requires-clause-piece : goal.add_to_line-requires-clause-piece
-add_to_line-requires-clause-piece g c =
-    let same = ap length c.as_str.ensures.value in
-    let short = c.text.ensures.short in omega (arith, same, short)
 
 pub returns-in_err-add_to_line-clause-written : goal.returns-in_err-add_to_line-clause-written
 returns-in_err-add_to_line-clause-written g c = IfOk-from_err c.from_residual.result _ c.from_residual.ensures.0
@@ -67,7 +62,7 @@ returns-in_err-add_to_line-clause-beginning g c =
     let items = c.args.items.now in
     let before = c.loop-item.invariant.2 in
     let begun = c.in_err-add_to_line.ensures.beginning in
-    let so_far = LaysOut-more items c.loop-item.item-index _ c.as_str.result.now _ _ before.0 begun.0 (search rules) (c.as_str.ensures.value ∙ c.text.ensures.text) before.2 begun.2 in
+    let so_far = LaysOut-more items c.loop-item.item-index _ c.as_str.result.now _ _ before.0 begun.0 (search rules) (c.as_str.ensures.bytes ∙ c.text.ensures) before.2 begun.2 in
     let whole = body_text-so_far items (c.loop-item.item-index + 1) c.as_str.result.now (before.0 ++ begun.0) so_far in
     on_err c.from_residual.result (broken_off begun.0 _ (body_text items) before.1 begun.1 (whole ∙ append_assoc before.0 begun.0 _))
 

@@ -1,7 +1,7 @@
 use Rattle.std.proofs.Common.{◌≡◌, ℕ, ◌≤◌, List, [], length, map, take}
 use Rattle.pattern_writers.specs.Items.{item_text}
 use Rattle.pattern_writers.specs.Layout.{LaysOut}
-use Rattle.pattern_writers.specs.OutputBlock.{AppendsBuffered}
+use Rattle.pattern_writers.specs.Output.{AppendsBuffered}
 use Rattle.pattern_writers.proofs.rle_text.layout.write_body.Given as goal
 
 abbrev pub invariant-loop-item : goal.invariant-loop-item

@@ -14,11 +14,11 @@ in_row-requires g c =
     let held = square_in_range book c.args.sq (g.met.B.Look.is_book c.args.book.now) c.requires.known c.requires.level in
     let row : SFits w64 c.args.row = c.ranges.row in
     let of_row : AreRowRuns plane c.args.row c.deref-run-items.result.now = subst (AreRowRuns plane c.args.row) (sym c.deref-run-items.ensures.value) (rw (to_z-of_z w64 c.args.row row) at c.in-Ok.ensures.ok) in
-    let fits = runs_fit plane c.args.row c.deref-run-items.result.now c.found.run-index held of_row c.found-test.true in
-    rw (to_z-of_z w64 (get_or c.deref-run-items.result.now c.found.run-index (pos 0, 0)).0 fits.first) fits.end
+    let fits = runs_fit plane c.args.row c.deref-run-items.result.now c.loop-run.run-index held of_row c.loop-run-test.true in
+    rw (to_z-of_z w64 (get_or c.deref-run-items.result.now c.loop-run.run-index (pos 0, 0)).0 fits.first) fits.end
 
-pub found-preserved : goal.found-preserved
-found-preserved g c =
+pub loop-run-preserved : goal.loop-run-preserved
+loop-run-preserved g c =
     let book = g.B.Look.book c.args.book.now in
     let plane = centred c.args.sq.level (book.cells c.args.sq) in
     let held = square_in_range book c.args.sq (g.met.B.Look.is_book c.args.book.now) c.requires.known c.requires.level in
@@ -26,11 +26,11 @@ found-preserved g c =
     let here = to_z-of_z w64 c.args.row row in
     let runs = c.deref-run-items.result.now in
     let of_row : AreRowRuns plane c.args.row runs = subst (AreRowRuns plane c.args.row) (sym c.deref-run-items.ensures.value) (rw here at c.in-Ok.ensures.ok) in
-    let fits = runs_fit plane c.args.row runs c.found.run-index held of_row c.found-test.true in
-    let run : c.in_row.result ≡ run_in c.args.row (get_or runs c.found.run-index (pos 0, 0)) =
-    rw (here, to_z-of_z w64 (get_or runs c.found.run-index (pos 0, 0)).0 fits.first) at c.in_row.ensures in
-    let pushed : c.push.new.self.items ≡ c.found.runs.items ++ c.in_row.result ∷ [] = search rules in
-    rw here (run_more c.args.row c.args.runs.now.items c.found.runs.items c.push.new.self.items runs c.found.run-index c.in_row.result c.found-test.true (rw here at c.found.invariant) run pushed)
+    let fits = runs_fit plane c.args.row runs c.loop-run.run-index held of_row c.loop-run-test.true in
+    let run : c.in_row.result ≡ run_in c.args.row (get_or runs c.loop-run.run-index (pos 0, 0)) =
+    rw (here, to_z-of_z w64 (get_or runs c.loop-run.run-index (pos 0, 0)).0 fits.first) at c.in_row.ensures in
+    let pushed : c.push.new.self.items ≡ c.loop-run.runs.items ++ c.in_row.result ∷ [] = search rules in
+    rw here (run_more c.args.row c.args.runs.now.items c.loop-run.runs.items c.push.new.self.items runs c.loop-run.run-index c.in_row.result c.loop-run-test.true (rw here at c.loop-run.invariant) run pushed)
 
 pub returns : goal.returns
 returns g c =
@@ -39,9 +39,9 @@ returns g c =
     let row : SFits w64 c.args.row = c.ranges.row in
     let here = to_z-of_z w64 c.args.row row in
     let of_row : AreRowRuns plane c.args.row c.deref-run-items.result.now = subst (AreRowRuns plane c.args.row) (sym c.deref-run-items.ensures.value) (rw here at c.in-Ok.ensures.ok) in
-    let all = take_all c.found.run-index c.deref-run-items.result.now c.found-test.false in
+    let all = take_all c.loop-run.run-index c.deref-run-items.result.now c.loop-run-test.false in
     record {
       runs = c.deref-run-items.result.now;
       of_row = of_row;
-      added = (rw here at c.found.invariant) ∙ ap (λ l. c.args.runs.now.items ++ map (run_in c.args.row) l) all;
+      added = (rw here at c.loop-run.invariant) ∙ ap (λ l. c.args.runs.now.items ++ map (run_in c.args.row) l) all;
     }

@@ -1,8 +1,7 @@
 use Rattle.std.proofs.Common.{◌∙◌, sym, ap, map}
 use Rattle.std.specs.Option.{option_copied}
-use Rattle.rle_reader.specs.Bytes.{words}
+use Rattle.rle_reader.specs.Words.{word_of, words}
 use Rattle.rle_reader.specs.Settings.{words_left, unless_refused}
-use Rattle.rle_reader.specs.Words.{word_of}
 use Rattle.rle_reader.proofs.SettingsLemmas.{reading_on, reading_on-start, reading_on-word, reading_on-refused, reading_on-end}
 use Rattle.rle_reader.proofs.settings.Settings.after_words.Goals as goal
 

@@ -1,8 +1,7 @@
 use Rattle.std.proofs.Common.{◌≡◌, ◌+◌, length, map}
 use Rattle.std.specs.Option.{option_copied, option_map_or}
-use Rattle.rle_reader.specs.Bytes.{words}
+use Rattle.rle_reader.specs.Words.{word_of, words}
 use Rattle.rle_reader.specs.Settings.{after_readings, words_left}
-use Rattle.rle_reader.specs.Words.{word_of}
 use Rattle.rle_reader.proofs.SettingsLemmas.{reading_on}
 use Rattle.rle_reader.proofs.settings.Settings.after_words.Given as goal
 

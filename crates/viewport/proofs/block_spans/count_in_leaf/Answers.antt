@@ -4,7 +4,7 @@ use Rattle.plane.specs.Square.{bits_plane}
 use Rattle.plane.specs.Window.{cells_in}
 use Rattle.viewport.proofs.BlocksOfPlanes.{block_at}
 use Rattle.viewport.proofs.LeafBlocks.{block_fits, masked_few, no_rows, row_more}
-use Rattle.viewport.proofs.strips.count_in_leaf.Goals as goal
+use Rattle.viewport.proofs.block_spans.count_in_leaf.Goals as goal
 
 small : (e : ℕ) → e < 3 → 2 ^ e < 64
 small e low = let most : 2 ^ e ≤ 2 ^ 2 = pow_mono {i = e} {j = 2} (omega arith) in omega (arith, most)

@@ -1,7 +1,7 @@
 use Rattle.std.proofs.Common.{◌≡◌, ◌*◌, ◌^◌, ◌≤◌, pos, length}
 use Rattle.plane.specs.Square.{bits_plane}
 use Rattle.plane.specs.Window.{cells_in}
-use Rattle.viewport.proofs.strips.count_in_leaf.Given as goal
+use Rattle.viewport.proofs.block_spans.count_in_leaf.Given as goal
 
 abbrev pub invariant-loop-step : goal.invariant-loop-step
 invariant-loop-step l =

@@ -3,18 +3,18 @@ use Rattle.std.specs.Prelude.{◌≡◌, ℕ, ◌+◌, ◌-◌, ◌<◌, ◌≤�
 use Rattle.plane.specs.Plane.{Plane}
 use Rattle.viewport.specs.Blocks.{block_counts}
 use Rattle.viewport.specs.declared.blocks.Columns.{Columns}
-use Rattle.viewport.specs.declared.strips.Strip.{Strip}
+use Rattle.viewport.specs.declared.block_spans.BlockSpan.{BlockSpan}
 
--- the strip lies in a square of so many blocks a side
-pub record IsInBlocks (side : ℕ) (strip : Strip) : Type 0 where
-  pub row : strip.row < side
-  pub order : strip.from ≤ strip.end
-  pub end : strip.end ≤ side
+-- the span lies in a square of so many blocks a side
+pub record IsInBlocks (side : ℕ) (span : BlockSpan) : Type 0 where
+  pub row : span.row < side
+  pub order : span.from ≤ span.end
+  pub end : span.end ≤ side
 
--- how many live cells each block of the strip has
-abbrev pub strip_counts : Plane → ℕ → Strip → List ℕ
-strip_counts plane exponent strip =
-    block_counts plane exponent (pos strip.row) (pos strip.from) (strip.end - strip.from)
+-- how many live cells each block of the span has
+abbrev pub span_counts : Plane → ℕ → BlockSpan → List ℕ
+span_counts plane exponent span =
+    block_counts plane exponent (pos span.row) (pos span.from) (span.end - span.from)
 
 -- so many columns from the first one on are not too far away for 64 bits
 pub record IsNearRange (first : ℤ) (count : ℕ) : Type 0 where
