@@ -10,9 +10,9 @@ use Rattle.table_core.specs.Good.{TellsFuture, IsFutureOf, IsGood}
 use Rattle.table_core.proofs.Comparisons.{same_or_other}
 use Rattle.table_core.proofs.Ways.{not_head}
 use Rattle.node_sweep.specs.Copies.{IsCopy, IsCopyOf, IsSomeBlock, IsWantedCopy}
-use Rattle.node_sweep.specs.Ends.{AreEndsCopied, IsEndCopied}
+use Rattle.node_sweep.specs.RootSets.{AreRootPairsCopied, IsRootPairCopied}
 use Rattle.node_sweep.specs.Keeping.{IsCopiedResult, IsKeeping}
-use Rattle.node_sweep.specs.Reaching.{Reaches, IsCollected, IsEnd, the_root, low_pair, high_pair, high_result}
+use Rattle.node_sweep.specs.Reaching.{Reaches, IsCollected, IsInRootSet, the_root, low_pair, high_pair, high_result}
 use Rattle.node_sweep.specs.Copying.{IsCopying}
 use Rattle.node_sweep.specs.WantedCopies.{CopiesWanted, IsResultCopiedOrGone}
 use Rattle.node_sweep.proofs.Futures.{copy_at, keeping_start, no_copy_of_zero}
@@ -121,11 +121,11 @@ record IsCopiedBlock (bits : ℕ) (old : Words) (copies : List ℕ) (n : ℕ) : 
 
 -- the small pairs have copies, and the large ones that have results, with these, and the root
 module _ (key : Key) (old : Words) (root low high rank : ℕ) (copies : List ℕ) (good : IsGood key old) (block : IsBlock key.shape.bits old rank root) (noted : (root ≡ 0) ⊎ (slice_index copies root ≢ 0))
-    (ends : AreEndsCopied key.shape.bits old low high copies (2 ^ key.shape.bits)) where
-  end_at : (pair : ℕ) → IsSlot key.shape.bits Pair pair → IsEndCopied key.shape.bits old low high copies pair
+    (ends : AreRootPairsCopied key.shape.bits old low high copies (2 ^ key.shape.bits)) where
+  end_at : (pair : ℕ) → IsSlot key.shape.bits Pair pair → IsRootPairCopied key.shape.bits old low high copies pair
   end_at pair slot = ends.copied pair slot (let below = slot.below in omega arith)
 
-  end_copied : (n : ℕ) → IsEnd key.shape.bits old root low high n → IsCopiedBlock key.shape.bits old copies n
+  end_copied : (n : ℕ) → IsInRootSet key.shape.bits old root low high n → IsCopiedBlock key.shape.bits old copies n
   end_copied n the_root = record { rank = rank; block = block; there = noted }
   end_copied n (low_pair r pair slot b less) = record { rank = r; block = b; there = inr ((end_at pair slot).small.copied r b less) }
   end_copied n (high_pair r pair future f above) = record { rank = r; block = f.block; there = inr ((end_at pair f.slot).finished.copied r future f above) }

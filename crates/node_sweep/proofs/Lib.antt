@@ -13,7 +13,7 @@ pub mod AllBlocks
 pub mod Carried
 pub mod Transferred
 pub mod Ranked
-pub mod Ending
+pub mod RootSets
 pub mod Gathered
 pub mod Tallies
 pub mod Begins

@@ -12,7 +12,7 @@ use Rattle.table_core.proofs.Comparisons.{same_or_other}
 use Rattle.table_core.proofs.Lists.{length_set}
 use Rattle.table_core.proofs.Ways.{not_head}
 use Rattle.node_sweep.specs.Copies.{IsLowBlock, IsSomeBlock}
-use Rattle.node_sweep.specs.Ends.{IsEndCopied, IsFinishedCopied, IsFinishedFrom, IsSmallCopied, IsUnfinished}
+use Rattle.node_sweep.specs.RootSets.{IsRootPairCopied, IsFinishedCopied, IsFinishedFrom, IsSmallCopied, IsUnfinished}
 use Rattle.node_sweep.specs.Marks.{AreMarks, ArePartsMarked, AreVisited, GetsMarks, IsMarked, IsMarkSet, IsVisited, KeepsMarks}
 use Rattle.node_sweep.specs.Orders.{IsListed, IsOrderOf}
 use Rattle.node_sweep.specs.Reaching.{IsAny, IsFinished}
@@ -83,8 +83,8 @@ finished_marked bits words high pair old new kept h = record {
   result = λ rank future f above. ⊎_elim (λ z. inl z) (λ some. inr (kept future some)) (h.result rank future f above);
 }
 
-pub end_marked : (bits : ℕ) (words : Words) (low high pair : ℕ) (old new : List ℕ) → ((number : ℕ) → IsMarked old number → IsMarked new number) → IsEndCopied bits words low high old pair →
-    IsEndCopied bits words low high new pair
+pub end_marked : (bits : ℕ) (words : Words) (low high pair : ℕ) (old new : List ℕ) → ((number : ℕ) → IsMarked old number → IsMarked new number) → IsRootPairCopied bits words low high old pair →
+    IsRootPairCopied bits words low high new pair
 end_marked bits words low high pair old new kept h = record { small = small_marked bits words low pair old new kept h.small; finished = finished_marked bits words high pair old new kept h.finished }
 
 pub none_finished : (bits : ℕ) (words : Words) (high pair : ℕ) (marks : List ℕ) → IsUnfinished bits words high pair → IsFinishedCopied bits words high marks pair
@@ -220,8 +220,8 @@ part_of_marked transfer marks rank pair part h p has is =
       block = b;
       low = (rank - 1, omega arith, b);
       wanted = ⊎_elim
-          (λ e. subst (wants transfer) (sym e) (wanted_first (old_bits transfer) (old_words transfer) transfer.keep transfer.ends pair p.slot (h.wanted pair has)))
-          (λ e. subst (wants transfer) (sym e) (wanted_second (old_bits transfer) (old_words transfer) transfer.keep transfer.ends pair p.slot (h.wanted pair has)))
+          (λ e. subst (wants transfer) (sym e) (wanted_first (old_bits transfer) (old_words transfer) transfer.keep transfer.roots pair p.slot (h.wanted pair has)))
+          (λ e. subst (wants transfer) (sym e) (wanted_second (old_bits transfer) (old_words transfer) transfer.keep transfer.roots pair p.slot (h.wanted pair has)))
           is;
     }
 

@@ -1,26 +1,27 @@
 -- What is copied out of words at rest.
-use Rattle.std.proofs.Common.{◌≡◌, ◌⊎◌, ◌∙◌, ℕ, List, sym, ap, subst, inl, inr, ⊎_elim}
-use Rattle.std.specs.Prelude.{Result, Ok, Err, IfErr, IsOkUnless, slice_index}
+use Rattle.std.proofs.Common.{◌≡◌, ◌⊎◌, ℕ, List, refl, sym, subst, inl, inr, ⊎_elim}
+use Rattle.std.specs.Prelude.{Result, Ok, Err, IfErr, IfOk, IsOkUnless, slice_index}
 use Rattle.plane.specs.declared.refusal.Refusal.{Refusal}
 use Rattle.plane.specs.declared.refusal.Refusal.TheVariants.{NodesFull, NoMemory}
+use Rattle.squares.specs.Book.{IsKnown}
 use Rattle.squares.specs.declared.sq.Sq.{Sq}
 use Rattle.table_core.specs.declared.key.Key.{Key}
-use Rattle.table_core.specs.Blocks.{IsBlock}
+use Rattle.table_core.specs.Blocks.{IsBlock, square_rank}
 use Rattle.node_table.specs.declared.still.Still.{Still}
-use Rattle.node_table.specs.Stills.{key_of, items_of, words_of}
+use Rattle.node_table.specs.Stills.{HasWords, book_in, key_of, items_of, words_of}
 use Rattle.node_sweep.specs.Copies.{HasNoRoomForWanted, IsCopyOf}
-use Rattle.node_sweep.specs.CopiedStills.{HasNoRoomFor, HasNoRoomToCopy, IsResized, ReachesFewWords}
-use Rattle.node_sweep.specs.Filled.{CopiesInto}
-use Rattle.node_sweep.specs.FromStills.{AreWordsOf, IsTransferFrom}
+use Rattle.node_sweep.specs.CopiedStills.{CopiesStill, HasNoRoomFor, HasNoRoomToKeep, IsResized, ReachesFewWords, is_kept}
+use Rattle.node_sweep.specs.Plans.{IsFilled, IsTransferOf}
 use Rattle.node_sweep.specs.Reaching.{IsWanted}
-use Rattle.node_sweep.specs.OldWords.{HasRanks}
-use Rattle.node_sweep.specs.Transfers.{HasNoRoomLeft, IsCopyMade, old_bits, old_words}
+use Rattle.node_sweep.specs.Transfers.{HasNoRoomLeft, old_bits, old_words}
 use Rattle.node_sweep.specs.WantedCopies.{CopiesWanted}
 use Rattle.node_sweep.specs.declared.keep.Keep.{Keep}
-use Rattle.node_sweep.specs.declared.transfer.Ends.{Ends}
-use Rattle.node_sweep.specs.declared.transfer.OldWords.{OldWords}
+use Rattle.node_sweep.specs.declared.stills.Copied.{Copied}
 use Rattle.node_sweep.specs.declared.transfer.Transfer.{Transfer}
+use Rattle.std.proofs.lemmas.Result.{IfOk-weaker}
+use Rattle.node_sweep.proofs.Carried.{copy_in, holds_wanted, root_copy}
 use Rattle.node_sweep.proofs.Few.{room_for_few}
+use Rattle.node_sweep.proofs.Squares.{known_shows}
 
 -- what is refused for one reason is refused for another that follows from it
 pub refused_as : {T : Type 0} (P Q : Type 0) (r : Result T Refusal) → (P → Q) → IfErr r (λ refusal. (refusal ≡ NoMemory) ⊎ ((refusal ≡ NodesFull) × P)) →
@@ -33,60 +34,61 @@ pub only_memory : {T : Type 0} (P : Type 0) (r : Result T Refusal) → (P → �
 only_memory P (Ok x) none h = tt
 only_memory P (Err e) none h = ⊎_elim (λ memory. memory) (λ full. absurd (none full.1)) h
 
--- out of the words of a closed table, what is kept of the root, into words of so many pair slots
-pub record IsTransferOf (still : Still) (keep : Keep) (root pairs : ℕ) (transfer : Transfer) : Type 0 where
-  pub key : transfer.old.key.now ≡ key_of still
-  pub words : transfer.old.words.now ≡ items_of still
-  pub kept : transfer.keep ≡ keep
-  pub same_root : transfer.ends.root ≡ root
-  pub resized : IsResized (key_of still) transfer.to pairs
+-- a known root is a block in the words of the table
+pub block_as : (still : Still) (root : Sq) (key : Key) (words : List ℕ) (number : ℕ) → IsKnown (book_in still) root.level root → key ≡ key_of still → words ≡ items_of still → number ≡ root.num.0 →
+    IsBlock key.shape.bits (slice_index words) (square_rank root.level) number
+block_as still root key words number known same_key same_words same =
+    subst (λ (k : Key). IsBlock k.shape.bits (slice_index words) (square_rank root.level) number) (sym same_key)
+    (subst (λ (ws : List ℕ). IsBlock (key_of still).shape.bits (slice_index ws) (square_rank root.level) number) (sym same_words)
+    (subst (IsBlock (key_of still).shape.bits (words_of still) (square_rank root.level)) (sym same) (known_shows still root known).stands))
 
-pub transfer_of : (still : Still) (old : OldWords) (keep : Keep) (ends : Ends) (root pairs : ℕ) (transfer : Transfer) → IsTransferFrom old keep ends pairs transfer → AreWordsOf still old → ends.root ≡ root →
-    IsTransferOf still keep root pairs transfer
-transfer_of still old keep ends root pairs transfer is are same = record {
-  key = ap (λ (o : OldWords). o.key.now) is.same_old ∙ are.key;
-  words = ap (λ (o : OldWords). o.words.now) is.same_old ∙ are.words;
-  kept = is.same_keep;
-  same_root = ap (λ (e : Ends). e.root) is.same_ends ∙ same;
-  resized = subst (λ (k : Key). IsResized k transfer.to pairs) are.key is.resized;
-}
-
--- the ranks are those of the words of the transfer
-pub same_ranks : (old : OldWords) (keep : Keep) (ends : Ends) (pairs : ℕ) (transfer : Transfer) (ranks : List ℕ) → IsTransferFrom old keep ends pairs transfer → HasRanks keep old ranks →
-    HasRanks transfer.keep transfer.old ranks
-same_ranks old keep ends pairs transfer ranks is all =
-    subst (λ (k : Keep). HasRanks k transfer.old ranks) (sym is.same_keep) (subst (λ (o : OldWords). HasRanks keep o ranks) (sym is.same_old) all)
-
-module _ (still : Still) (keep : Keep) (root pairs : ℕ) (transfer : Transfer) (is : IsTransferOf still keep root pairs transfer) where
+module _ (still : Still) (keep : Keep) (root : ℕ) (to : Key) (transfer : Transfer) (is : IsTransferOf still keep root to transfer) where
   -- what holds of the words of the transfer holds of the words at rest
-  at_rest : (P : Key → List ℕ → Keep → ℕ → Type 0) → P transfer.old.key.now transfer.old.words.now transfer.keep transfer.ends.root → P (key_of still) (items_of still) keep root
+  at_rest : (P : Key → List ℕ → Keep → ℕ → Type 0) → P transfer.old.key.now transfer.old.words.now transfer.keep transfer.roots.root → P (key_of still) (items_of still) keep root
   at_rest P p =
       subst (P (key_of still) (items_of still) keep) is.same_root
-      (subst (λ k. P (key_of still) (items_of still) k transfer.ends.root) is.kept
-      (subst (λ ws. P (key_of still) ws transfer.keep transfer.ends.root) is.words
-      (subst (λ k. P k transfer.old.words.now transfer.keep transfer.ends.root) is.key p)))
+      (subst (λ k. P (key_of still) (items_of still) k transfer.roots.root) is.kept
+      (subst (λ ws. P (key_of still) ws transfer.keep transfer.roots.root) is.words
+      (subst (λ k. P k transfer.old.words.now transfer.keep transfer.roots.root) is.key p)))
 
-  -- a block at rest is one of the words of the transfer
-  pub root_block : (rank : ℕ) → IsBlock (key_of still).shape.bits (words_of still) rank root → IsBlock (old_bits transfer) (old_words transfer) rank transfer.ends.root
-  root_block rank b =
-      subst (λ k. IsBlock k.shape.bits (old_words transfer) rank transfer.ends.root) (sym is.key)
-      (subst (λ (ws : List ℕ). IsBlock (key_of still).shape.bits (slice_index ws) rank transfer.ends.root) (sym is.words)
-      (subst (IsBlock (key_of still).shape.bits (words_of still) rank) (sym is.same_root) b))
+-- what such a copy is for its caller
+module _ (still : Still) (root : Sq) (keep : Keep) (pairs : ℕ) (to : Key) (transfer : Transfer) (known : IsKnown (book_in still) root.level root) (resized : IsResized (key_of still) to pairs)
+    (is : IsTransferOf still keep root.num.0 to transfer) where
+  -- the root is a block of the transfer's words
+  pub root_there : IsBlock (old_bits transfer) (old_words transfer) (square_rank root.level) transfer.roots.root
+  root_there = block_as still root transfer.old.key.now transfer.old.words.now transfer.roots.root known is.key is.words is.same_root
 
-  pub copies_at_rest : (made : List ℕ) → CopiesInto transfer made →
-      CopiesWanted (key_of still) transfer.to (words_of still) (IsWanted (key_of still).shape.bits (words_of still) keep root transfer.ends.low transfer.ends.high) made
-  copies_at_rest made =
-      at_rest (λ key words kept number. CopiesWanted key transfer.to (slice_index words) (IsWanted key.shape.bits (slice_index words) kept number transfer.ends.low transfer.ends.high) made)
+  copies_still : (now : Still) (copy : Sq) → IsFilled transfer root.level now copy → CopiesStill still root keep pairs now copy
+  copies_still now copy filled =
+      let has : HasWords now transfer.to (items_of now) = record { same_key = filled.same_key; same_words = refl } in
+      let size : IsResized (key_of still) transfer.to pairs = subst (λ (k : Key). IsResized (key_of still) k pairs) (sym is.same_to) resized in
+      record {
+        low = transfer.roots.low;
+        high = transfer.roots.high;
+        all = holds_wanted still transfer.to (items_of now) now has (is_kept still root keep transfer.roots.low transfer.roots.high) pairs size
+            (at_rest still keep root.num.0 to transfer is (λ key words kept number. CopiesWanted key transfer.to (slice_index words) (IsWanted key.shape.bits (slice_index words) kept number transfer.roots.low transfer.roots.high) (items_of now)) filled.all);
+        copied_root = root_copy still now root copy known filled.same_level (copy_in still transfer.to (items_of now) now has root.num.0 copy.num.0
+            (at_rest still keep root.num.0 to transfer is (λ key words kept number. IsCopyOf key.shape.bits transfer.to.shape.bits (slice_index words) (words_of now) number copy.num.0) filled.made));
+      }
 
-  pub made_at_rest : (made : List ℕ) (copy : ℕ) → IsCopyMade transfer made transfer.ends.root copy → IsCopyOf (key_of still).shape.bits transfer.to.shape.bits (words_of still) (slice_index made) root copy
-  made_at_rest made copy = at_rest (λ key words kept number. IsCopyOf key.shape.bits transfer.to.shape.bits (slice_index words) (slice_index made) number copy)
-
-  pub no_room_to_copy : HasNoRoomLeft transfer → HasNoRoomToCopy still (IsWanted (key_of still).shape.bits (words_of still) keep root transfer.ends.low transfer.ends.high) pairs
-  no_room_to_copy h = record {
-    to = transfer.to;
-    resized = is.resized;
-    full = at_rest (λ key words kept number. HasNoRoomForWanted key transfer.to (slice_index words) (IsWanted key.shape.bits (slice_index words) kept number transfer.ends.low transfer.ends.high)) h;
+  no_room_to_keep : HasNoRoomLeft transfer → HasNoRoomToKeep still root keep pairs
+  no_room_to_keep none = record {
+    low = transfer.roots.low;
+    high = transfer.roots.high;
+    full = record {
+      to = transfer.to;
+      resized = subst (λ (k : Key). IsResized (key_of still) k pairs) (sym is.same_to) resized;
+      full = at_rest still keep root.num.0 to transfer is
+          (λ key words kept number. HasNoRoomForWanted key transfer.to (slice_index words) (IsWanted key.shape.bits (slice_index words) kept number transfer.roots.low transfer.roots.high)) none;
+    };
   }
+
+  pub all_copied : (made : Result Copied Refusal) → IfOk made (λ copied. IsFilled transfer root.level copied.still copied.root) → IfOk made (λ copied. CopiesStill still root keep pairs copied.still copied.root)
+  all_copied made = IfOk-weaker made _ _ (λ copied. copies_still copied.still copied.root)
+
+  pub none_copied : {T : Type 0} (made : Result T Refusal) → IfErr made (λ refusal. (refusal ≡ NoMemory) ⊎ ((refusal ≡ NodesFull) × HasNoRoomLeft transfer)) →
+      IfErr made (λ refusal. (refusal ≡ NoMemory) ⊎ ((refusal ≡ NodesFull) × HasNoRoomToKeep still root keep pairs))
+  none_copied made = refused_as (HasNoRoomLeft transfer) (HasNoRoomToKeep still root keep pairs) made no_room_to_keep
 
 -- what a root that reaches few words needs always has room
 pub room_to_sweep : (still : Still) (root : Sq) (pairs : ℕ) → ReachesFewWords still root → HasNoRoomFor still root pairs → ⊥

@@ -1,7 +1,6 @@
 -- Fresh words that were filled.
-use Rattle.std.specs.Prelude.{◌≡◌, ◌≢◌, ℕ, ◌^◌, ◌⊎◌, List, slice_index}
+use Rattle.std.specs.Prelude.{◌≢◌, ℕ, List, slice_index}
 use Rattle.table_core.specs.Blocks.{IsBlock}
-use Rattle.node_sweep.specs.Ends.{AreEndsCopied}
 use Rattle.node_sweep.specs.Transfers.{old_bits, old_words, wants}
 use Rattle.node_sweep.specs.WantedCopies.{CopiesWanted}
 use Rattle.node_sweep.specs.declared.transfer.Fresh.{Fresh}
@@ -16,15 +15,3 @@ CopiesInto transfer new =
 pub record AreWantedCopied (transfer : Transfer) (fresh : Fresh) : Type 0 where
   pub copied : (rank number : ℕ) → IsBlock (old_bits transfer) (old_words transfer) rank number →
       wants transfer number → number ≢ 0 → slice_index fresh.copies.items number ≢ 0
-
--- the root is the empty square or has a copy
-abbrev pub IsRootCopied : Transfer → Fresh → Type 0
-IsRootCopied transfer fresh =
-    (transfer.ends.root ≡ 0) ⊎ (slice_index fresh.copies.items transfer.ends.root ≢ 0)
-
--- what a collection keeps beside what is reached has copies
-abbrev pub AreAllEndsCopied : Transfer → Fresh → Type 0
-AreAllEndsCopied transfer fresh =
-    AreEndsCopied (old_bits transfer)
-    (old_words transfer) transfer.ends.low transfer.ends.high fresh.copies.items
-    (2 ^ old_bits transfer)

@@ -2,15 +2,15 @@ pub mod Blocks
 pub mod CopiedStills
 pub mod Copies
 pub mod Copying
-pub mod Ends
 pub mod Filled
-pub mod FromStills
 pub mod Keeping
 pub mod Marks
 pub mod OldWords
 pub mod Orders
 pub mod Placing
+pub mod Plans
 pub mod Ranks
 pub mod Reaching
+pub mod RootSets
 pub mod Transfers
 pub mod WantedCopies

@@ -4,7 +4,7 @@ use Rattle.table_core.specs.declared.shape.Kind.TheVariants.{Pair}
 use Rattle.table_core.specs.Layout.{IsSlot, start}
 use Rattle.table_core.specs.Blocks.{Words, IsBlock}
 use Rattle.node_sweep.specs.Copies.{IsLowBlock, IsSomeBlock}
-use Rattle.node_sweep.specs.Ends.{IsEndCopied, IsFinishedCopied, IsFinishedFrom, IsSmallCopied, IsUnfinished}
+use Rattle.node_sweep.specs.RootSets.{IsRootPairCopied, IsFinishedCopied, IsFinishedFrom, IsSmallCopied, IsUnfinished}
 use Rattle.node_sweep.specs.Orders.{IsOrderOf}
 use Rattle.node_sweep.specs.Ranks.{IsPart}
 use Rattle.node_sweep.specs.Transfers.{number_count, old_bits, old_words, wants}
@@ -40,7 +40,7 @@ pub record ArePartsMarked (words : Words) (marks : List ℕ) (pair : ℕ) : Type
 -- have marks if it has one
 pub record IsVisited (bits : ℕ) (words : Words) (low high : ℕ) (marks : List ℕ)
     (pair : ℕ) : Type 0 where
-  pub end : IsEndCopied bits words low high marks pair
+  pub end : IsRootPairCopied bits words low high marks pair
   pub parts : ArePartsMarked words marks pair
 
 -- so it is with each pair above this rank
@@ -77,22 +77,22 @@ pub record AreKept (transfer : Transfer) (root low high : ℕ)
 -- the result of a pair of this rank, which is large
 abbrev pub IsLargeResult : Transfer → (rank pair future : ℕ) → Type 0
 IsLargeResult transfer rank pair future =
-    IsFinishedFrom (old_bits transfer) (old_words transfer) transfer.ends.high rank pair future
+    IsFinishedFrom (old_bits transfer) (old_words transfer) transfer.roots.high rank pair future
 
 -- the pair isn't large or has no result
 abbrev pub HasNoLargeResult : Transfer → ℕ → Type 0
 HasNoLargeResult transfer pair =
-    IsUnfinished (old_bits transfer) (old_words transfer) transfer.ends.high pair
+    IsUnfinished (old_bits transfer) (old_words transfer) transfer.roots.high pair
 
 -- the pair has a mark, if it is small
 abbrev pub IsMarkedIfSmall : Transfer → List ℕ → ℕ → Type 0
 IsMarkedIfSmall transfer marks pair =
-    IsSmallCopied (old_bits transfer) (old_words transfer) transfer.ends.low marks pair
+    IsSmallCopied (old_bits transfer) (old_words transfer) transfer.roots.low marks pair
 
 -- the pair and its result have marks, if it is large and has one
 abbrev pub IsMarkedIfFinished : Transfer → List ℕ → ℕ → Type 0
 IsMarkedIfFinished transfer marks pair =
-    IsFinishedCopied (old_bits transfer) (old_words transfer) transfer.ends.high marks pair
+    IsFinishedCopied (old_bits transfer) (old_words transfer) transfer.roots.high marks pair
 
 -- no mark is gone; a new one is that of the pair of this rank or of a block of a lower one
 abbrev pub MarksAtMost : Transfer → (rank pair : ℕ) → (old new : List ℕ) → Type 0
@@ -103,13 +103,13 @@ MarksAtMost transfer rank pair old new =
 abbrev pub IsPairVisited : Transfer → List ℕ → ℕ → Type 0
 IsPairVisited transfer marks pair =
     IsVisited (old_bits transfer)
-    (old_words transfer) transfer.ends.low transfer.ends.high marks pair
+    (old_words transfer) transfer.roots.low transfer.roots.high marks pair
 
 -- each pair above this rank was visited
 abbrev pub ArePairsVisited : Transfer → List ℕ → ℕ → Type 0
 ArePairsVisited transfer marks rank =
     AreVisited (old_bits transfer)
-    (old_words transfer) transfer.ends.low transfer.ends.high marks rank
+    (old_words transfer) transfer.roots.low transfer.roots.high marks rank
 
 -- of all ranks only those of marked pairs are left
 abbrev pub KeepsMarkedRanks : Transfer → List ℕ → (old new : List ℕ) → Type 0
@@ -119,4 +119,4 @@ KeepsMarkedRanks transfer marks old new =
 -- what is wanted has marks, and its pairs stand in order
 abbrev pub KeepsWanted : Transfer → Kept → Type 0
 KeepsWanted transfer kept =
-    AreKept transfer transfer.ends.root transfer.ends.low transfer.ends.high kept.marks.items kept.order.slots.items kept.order.ends
+    AreKept transfer transfer.roots.root transfer.roots.low transfer.roots.high kept.marks.items kept.order.slots.items kept.order.ends

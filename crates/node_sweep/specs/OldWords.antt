@@ -4,7 +4,7 @@ use Rattle.table_core.specs.Blocks.{Words}
 use Rattle.node_sweep.specs.Orders.{IsOrderOf}
 use Rattle.node_sweep.specs.Ranks.{AreAllRanks}
 use Rattle.node_sweep.specs.Reaching.{IsAny}
-use Rattle.node_sweep.specs.declared.census.Survey.{Survey}
+use Rattle.node_sweep.specs.declared.survey.Survey.{Survey}
 use Rattle.node_sweep.specs.declared.keep.Keep.{Keep}
 use Rattle.node_sweep.specs.declared.keep.Keep.TheVariants.{CellsAlone, Collected, Everything}
 use Rattle.node_sweep.specs.declared.order.Order.{Order}
@@ -34,5 +34,5 @@ HasRanks Everything old ranks = AreRanksOf old ranks
 
 -- what is to be known before this is kept of a root
 pub record IsSurveyed (old : OldWords) (keep : Keep) (root : ℕ) (survey : Survey) : Type 0 where
-  pub same_root : survey.ends.root ≡ root
+  pub same_root : survey.roots.root ≡ root
   pub ranks : HasRanks keep old survey.ranks.items

@@ -34,7 +34,7 @@ number_count transfer = start (old_bits transfer) Pair + 2 ^ old_bits transfer
 abbrev pub wants : Transfer → ℕ → Type 0
 wants transfer =
     IsWanted (old_bits transfer)
-    (old_words transfer) transfer.keep transfer.ends.root transfer.ends.low transfer.ends.high
+    (old_words transfer) transfer.keep transfer.roots.root transfer.roots.low transfer.roots.high
 
 -- the fresh words hold the copies that are noted, and nothing else; there is a note for each old
 -- leaf and pair

@@ -3,7 +3,6 @@
 #![tactic(auto)]
 
 mod blocks;
-mod census;
 mod collecting;
 mod copying;
 mod filling;
@@ -15,8 +14,9 @@ mod placing;
 mod ranks;
 mod results;
 mod stills;
+mod survey;
 mod transfer;
 
-pub use census::Finished;
 pub use keep::{Keep, Shares};
-pub use stills::{Copied, copy, sweep};
+pub use stills::{Copied, copy, copy_beside, sweep};
+pub use survey::Finished;

@@ -29,7 +29,7 @@ impl Transfer<'_> {
         ensures some { IfSome result (IsLargeResult self.now rank pair) }
         ensures none { IfNone result (HasNoLargeResult self.now pair) }
     {
-        if rank < self.ends.high {
+        if rank < self.roots.high {
             return None;
         }
         let result = self.old.result_beside(pair);
@@ -49,7 +49,7 @@ impl Transfer<'_> {
         ensures small { IsMarkedIfSmall self.now marks.new pair }
         ensures gets { MarksAtMost self.now rank pair marks.old marks.new }
     {
-        if rank > self.ends.low {
+        if rank > self.roots.low {
             return;
         }
         mark(marks, pair);
@@ -124,13 +124,13 @@ impl Transfer<'_> {
     fn mark_wanted(&self, marks: &mut [u8], order: &Order)
         requires keep { IsCollection self.now.keep }
         requires marks { AreMarks self.now marks.old }
-        requires block { IsSomeBlock (old_bits self.now) (old_words self.now) self.now.ends.root }
+        requires block { IsSomeBlock (old_bits self.now) (old_words self.now) self.now.roots.root }
         requires order { IsOrderOfAll self.now.old order.now }
         ensures marks { AreMarks self.now marks.new }
-        ensures root { IsMarked marks.new self.now.ends.root }
+        ensures root { IsMarked marks.new self.now.roots.root }
         ensures visited { ArePairsVisited self.now marks.new 0 }
     {
-        mark(marks, self.ends.root);
+        mark(marks, self.roots.root);
         for above in 0..LARGEST_RANK {
             self.mark_rank(marks, order, LARGEST_RANK - 1 - above);
         }
@@ -139,10 +139,10 @@ impl Transfer<'_> {
     /// A mark for each number that is wanted.
     pub(crate) fn marks(&self, alloc: Global, order: &Order) -> Result<Vec<u8>, AllocError>
         requires keep { IsCollection self.now.keep }
-        requires block { IsSomeBlock (old_bits self.now) (old_words self.now) self.now.ends.root }
+        requires block { IsSomeBlock (old_bits self.now) (old_words self.now) self.now.roots.root }
         requires order { IsOrderOfAll self.now.old order.now }
         ensures marks { IfOk result (λ marks. AreMarks self.now marks.items) }
-        ensures root { IfOk result (λ marks. IsMarked marks.items self.now.ends.root) }
+        ensures root { IfOk result (λ marks. IsMarked marks.items self.now.roots.root) }
         ensures visited { IfOk result (λ marks. ArePairsVisited self.now marks.items 0) }
     {
         let mut marks = vec![in alloc; 0u8; self.number_count()]?;

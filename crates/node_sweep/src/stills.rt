@@ -1,21 +1,45 @@
 //! The words of a closed table, copied into fresh ones.
 
-ghost use Rattle.std.specs.Prelude.{IfOk, IfErr, IsOkUnless};
+ghost use Rattle.std.specs.Prelude.{◌≡◌, ◌≤◌, IfOk, IfErr, IsOkUnless};
 ghost use Rattle.squares.specs.Book.{IsKnown, LacksMemoryOr};
+ghost use Rattle.table_core.specs.Blocks.{IsBlock, square_rank};
 ghost use Rattle.table_core.specs.Sizes.{IsPairCount};
-ghost use Rattle.node_table.specs.Stills.{book_in};
+ghost use Rattle.node_table.specs.Stills.{book_in, key_of};
 ghost use Rattle.node_sweep.specs.CopiedStills.{CopiesStill, HasNoRoomFor, HasNoRoomToKeep, IsResized, IsSwept, ReachesFewWords};
 ghost use Rattle.node_sweep.specs.Copies.{SaysFull};
-ghost use Rattle.node_sweep.specs.FromStills.{AreWordsOf, IsTransferFrom};
+ghost use Rattle.node_sweep.specs.Copying.{AreBlankWords};
+ghost use Rattle.node_sweep.specs.Plans.{IsFilled, IsPlanOf, IsTransferOf};
+ghost use Rattle.node_sweep.specs.Transfers.{SaysNoRoom, old_bits, old_words};
 
-use crate::census::{Finished, Survey};
+use crate::filling::{CopyPlan, blank_words};
 use crate::keep::Keep;
-use crate::transfer::{Ends, OldWords, Transfer};
+use crate::survey::{Finished, Survey};
+use crate::transfer::{OldWords, Transfer};
 use node_table::Still;
 use plane::Refusal;
 use squares::{Num, Sq};
-use std::alloc::Global;
-use table_core::{Key, Shape, square_rank};
+use std::alloc::{AllocError, Global};
+use std::thread::{Threads, join};
+use table_core::{Key, Kind, Shape, square_rank};
+
+/// What was copied into fresh words.
+#[derive(Drop)]
+pub struct Copied {
+    /// The fresh words.
+    pub still: Still,
+    /// The root in them.
+    pub root: Sq,
+    /// What was finished before, if the words were collected.
+    pub finished: Option<Finished>,
+}
+
+// What is copied out of the words of a closed table, found out before there are fresh words.
+#[derive(Drop)]
+struct Prepared<'a> {
+    transfer: Transfer<'a>,
+    plan: CopyPlan,
+    finished: Option<Finished>,
+}
 
 // The head of a table of so many pair slots, under the same rule and exponent.
 fn resize(from: &Key, pairs: u32) -> Key
@@ -29,42 +53,70 @@ fn resize(from: &Key, pairs: u32) -> Key
     }
 }
 
-impl<'a> OldWords<'a> {
-    // The words of a closed table.
-    fn of_still(still: &'a Still) -> OldWords<'a>
-        ensures { AreWordsOf still.now result }
+impl<'a> Prepared<'a> {
+    // What is copied where this is kept of a root, into words under this head.
+    fn of_still(
+        alloc: Global,
+        still: &'a Still,
+        root: Sq,
+        keep: Keep,
+        to: Key,
+    ) -> Result<Prepared<'a>, AllocError>
+        requires known { IsKnown (book_in still.now) root.level root }
+        requires rule { to.rule ≡ (key_of still.now).rule }
+        requires exponent { to.exponent ≡ (key_of still.now).exponent }
+        ensures transfer { IfOk result
+            (λ prepared. IsTransferOf still.now keep root.num.0 to prepared.transfer) }
+        ensures plan { IfOk result (λ prepared. IsPlanOf prepared.transfer prepared.plan) }
     {
-        OldWords {
+        let old = OldWords {
             key: still.key(),
             words: still.words(),
-        }
-    }
-}
-
-impl<'a> Transfer<'a> {
-    // From words into those of so many pair slots.
-    fn new(old: OldWords<'a>, keep: Keep, ends: Ends, pairs: u32) -> Transfer<'a>
-        requires { IsPairCount pairs }
-        ensures { IsTransferFrom old.entry keep ends pairs result }
-    {
-        Transfer {
+        };
+        let Survey {
+            roots,
+            ranks,
+            finished,
+        } = old.survey(alloc, keep, root.num.0, to.shape.slot_count(Kind::Pair))?;
+        let transfer = Transfer {
             old,
             keep,
-            ends,
-            to: resize(old.key, pairs),
-        }
+            roots,
+            to,
+        };
+        let plan = transfer.plan(alloc, ranks, square_rank(root.level))?;
+        Ok(Prepared {
+            transfer,
+            plan,
+            finished,
+        })
     }
-}
 
-/// What was copied into fresh words.
-#[derive(Drop)]
-pub struct Copied {
-    /// The fresh words.
-    pub still: Still,
-    /// The root in them.
-    pub root: Sq,
-    /// What was finished before, if the words were collected.
-    pub finished: Option<Finished>,
+    // That, copied into these words. The root has this level.
+    fn fill(self, alloc: Global, words: Vec<u64>, level: u8) -> Result<Copied, Refusal>
+        requires words { AreBlankWords self.transfer.to words.items }
+        requires plan { IsPlanOf self.transfer self.plan }
+        requires level { (3 ≤ level) × (level ≤ 65) }
+        requires block { IsBlock (old_bits self.transfer) (old_words self.transfer)
+            (square_rank level) self.transfer.roots.root }
+        ensures ok { IfOk result (λ made. IsFilled self.entry.transfer level made.still made.root) }
+        ensures refusal { IfErr result (LacksMemoryOr (SaysNoRoom self.entry.transfer)) }
+    {
+        let Prepared {
+            transfer,
+            plan,
+            finished,
+        } = self;
+        let (words, number) = transfer.fill(alloc, words, plan, square_rank(level))?;
+        Ok(Copied {
+            still: Still::of_words(transfer.to, words),
+            root: Sq {
+                level,
+                num: Num(number),
+            },
+            finished,
+        })
+    }
 }
 
 /// Copies into fresh words of `pairs` pair slots, under the same rule and exponent, the square and
@@ -88,23 +140,34 @@ pub fn copy(
     ensures refusal { IfErr result (LacksMemoryOr (SaysFull
         (HasNoRoomToKeep still.now root keep pairs))) }
 {
-    let level = root.level;
-    let old = OldWords::of_still(still);
-    let Survey {
-        ends,
-        ranks,
-        finished,
-    } = old.survey(alloc, keep, root.num.0, pairs)?;
-    let transfer = Transfer::new(old, keep, ends, pairs);
-    let (words, number) = transfer.fill(alloc, ranks, square_rank(level))?;
-    Ok(Copied {
-        still: Still::of_words(transfer.to, words),
-        root: Sq {
-            level,
-            num: Num(number),
-        },
-        finished,
-    })
+    let to = resize(still.key(), pairs);
+    let prepared = Prepared::of_still(alloc, still, root, keep, to)?;
+    let words = blank_words(alloc, &to)?;
+    prepared.fill(alloc, words, root.level)
+}
+
+/// As `copy`; but a second thread makes the fresh words, while this one finds out what to copy.
+pub fn copy_beside<R: Threads>(
+    rt: &R,
+    alloc: Global,
+    still: &Still,
+    root: Sq,
+    keep: Keep,
+    pairs: u32,
+) -> Result<Copied, Refusal>
+    requires known { IsKnown (book_in still.now) root.level root }
+    requires pairs { IsPairCount pairs }
+    ensures ok { IfOk result (λ made. CopiesStill still.now root keep pairs made.still made.root) }
+    ensures refusal { IfErr result (LacksMemoryOr (SaysFull
+        (HasNoRoomToKeep still.now root keep pairs))) }
+{
+    let to = resize(still.key(), pairs);
+    let (words, prepared) = join(
+        rt,
+        move || blank_words(alloc, &to),
+        || Prepared::of_still(alloc, still, root, keep, to),
+    );
+    prepared?.fill(alloc, words?, root.level)
 }
 
 /// Copies the square and all that it reaches into fresh words of `pairs` pair slots, under the same

@@ -8,9 +8,9 @@ use crate::keep::Keep;
 use node_table::Held;
 use table_core::Key;
 
-/// Where a copy begins, and between which ranks a collection keeps only what others reach.
+/// From where all that is reached is kept: the root, and in a collection pairs of these ranks too.
 #[derive(Clone, Copy)]
-pub(crate) struct Ends {
+pub(crate) struct RootSet {
     /// The number of the root.
     pub(crate) root: u32,
     /// A collection keeps each pair of at most this rank.
@@ -37,7 +37,7 @@ pub(crate) struct Transfer<'a> {
     /// What is copied.
     pub(crate) keep: Keep,
     /// Where the copy begins.
-    pub(crate) ends: Ends,
+    pub(crate) roots: RootSet,
     /// The head of the fresh words.
     pub(crate) to: Key,
     ghost same_rule: { to.rule ≡ old.key.now.rule },

@@ -2,7 +2,6 @@
 
 ghost use Rattle.std.specs.Prelude.{◌≤◌};
 
-use crate::collections::{FINISHED_SHARE, SLOTS_AN_EXPANSION};
 use crate::sizes::{GrowthFactor, LARGE_BITS};
 use node_sweep::Finished;
 
@@ -18,6 +17,13 @@ const STEPS_OF_GROWTH: u32 = 4;
 // A step of at most this many expansions is short: threads would take more time to start than they
 // save.
 const FEW_EXPANSIONS: u64 = 16384;
+
+// One more collection for a step helps only if one more in so many large squares is finished than
+// at the last.
+const FINISHED_SHARE: u64 = 32;
+
+// A step that expanded fewer squares than one for this many pair slots had too little room.
+const SLOTS_AN_EXPANSION: u64 = 16;
 
 // What was collected from full tables for the step that comes next.
 #[derive(Clone, Copy)]

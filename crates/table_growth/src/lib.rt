@@ -3,12 +3,10 @@
 //! answers: that decides how fast it is.
 #![tactic(auto)]
 
-mod collections;
 mod history;
 mod retries;
 mod sizes;
 
-pub use collections::COLLECTION_SHARES;
 pub use history::TableHistory;
-pub use retries::{Retry, RetryPlan};
+pub use retries::{COLLECTION_SHARES, Retry, RetryPlan};
 pub use sizes::{GrowthFactor, expected_shape, larger, pair_count, smallest};

@@ -4,7 +4,18 @@ ghost use Rattle.std.specs.Prelude.{◌≡◌, Some, IfNone, IfSome};
 
 use crate::history::TableHistory;
 use crate::sizes::larger;
+use node_sweep::Shares;
 use table_core::Shape;
+
+/// How much a collection keeps beside what the root reaches: small squares in a quarter of the pair
+/// slots, and large ones that have results in one in 128. No small squares are kept where pairs of
+/// leaves take more than one pair slot in 16: their leaves would leave too few leaf slots for
+/// others.
+pub const COLLECTION_SHARES: Shares = Shares {
+    small: 4,
+    large: 128,
+    leaves: 16,
+};
 
 // So many workers make the squares of a first step again faster than one thread copies them.
 const LARGE_TEAM: usize = 8;

@@ -119,7 +119,7 @@ impl Universe {
         let exponent = self.here.table.key().exponent;
         let history = self.here.history;
         let start = self.here.close(self.root);
-        match start.copy(team.alloc, shape, keep, history)? {
+        match start.copy(team, shape, keep, history)? {
             Some((fresh, history)) => {
                 drop(start);
                 let universe = fresh.open_at(team.alloc, exponent, history, others)?;

@@ -1,22 +1,29 @@
 //! Live cells as a square in the words of a closed table.
 
-ghost use Rattle.std.specs.Prelude.{◌≡◌, ◌<◌, ◌≤◌, ◌+◌, ◌^◌, IfOk, IsOkUnless};
+ghost use Rattle.std.specs.Prelude.{◌≡◌, ◌<◌, ◌≤◌, ◌+◌, ◌^◌, IfErr, IfOk, IsOkUnless};
 ghost use Rattle.node_table.specs.Stills.{book_in, key_of};
-ghost use Rattle.squares.specs.Book.{IsKnown};
+ghost use Rattle.node_sweep.specs.CopiedStills.{CopiesStill, HasNoRoomToKeep};
+ghost use Rattle.node_sweep.specs.Copies.{SaysFull};
+ghost use Rattle.squares.specs.Book.{IsKnown, LacksMemoryOr};
 ghost use Rattle.viewport.specs.BoundingBox.{HasBounds};
 
 use crate::other_tables::OtherTables;
 use crate::refusals::unless_full;
 use crate::tables::OpenTable;
 use crate::universe::Universe;
-use node_sweep::{Keep, copy, sweep};
+use node_sweep::{Copied, Keep, copy, copy_beside, sweep};
 use node_table::Still;
 use plane::{Bounds, Refusal};
 use squares::Sq;
 use std::alloc::{AllocError, Global};
+use std::thread::Threads;
 use table_core::{Kind, Shape};
 use table_growth::{GrowthFactor, TableHistory, larger, smallest};
 use viewport::bounds;
+use worker_split::Team;
+
+// From how many pair slots on two workers share the work of a copy: one makes the new words.
+const SHARED_COPY_PAIRS: u32 = 1 << 22;
 
 /// Live cells in the range, as a square in the words of a closed table. The square's centre is the
 /// corner (0,0).
@@ -79,9 +86,9 @@ impl RootedStill {
 
     /// The cells in new words of this shape, and the history of a table of these. `None` where they
     /// have no room for what is kept, or where nothing was finished since the last collection.
-    pub(crate) fn copy(
+    pub(crate) fn copy<R: Threads, G>(
         &self,
-        alloc: Global,
+        team: &Team<'_, R, G>,
         shape: Shape,
         keep: Keep,
         history: TableHistory,
@@ -93,11 +100,10 @@ impl RootedStill {
             → IfNoRoom result (HasNoRoomToSweep self.now (2 ^ shape.bits)) }
     {
         if let Keep::CellsAlone = keep {
-            let made = self.sweep(alloc, shape)?;
+            let made = self.sweep(team.alloc, shape)?;
             return Ok(made.map(|fresh| (fresh, history.for_new_table(shape.bits))));
         }
-        let pairs = shape.slot_count(Kind::Pair);
-        let made = copy(alloc, &self.still, self.root, keep, pairs);
+        let made = self.copy_by(team, shape, keep);
         let Some(copied) = unless_full(made)? else {
             return Ok(None);
         };
@@ -112,6 +118,25 @@ impl RootedStill {
         };
         let (still, root) = (copied.still, copied.root);
         Ok(Some((RootedStill { still, root }, history)))
+    }
+
+    // What is kept, in new words of this shape. If they are many, a second worker makes them.
+    fn copy_by<R: Threads, G>(
+        &self,
+        team: &Team<'_, R, G>,
+        shape: Shape,
+        keep: Keep,
+    ) -> Result<Copied, Refusal>
+        ensures ok { IfOk result (λ made. CopiesStill (still_of self.now) (root_of self.now) keep
+            (2 ^ shape.bits) made.still made.root) }
+        ensures refusal { IfErr result (LacksMemoryOr (SaysFull
+            (HasNoRoomToKeep (still_of self.now) (root_of self.now) keep (2 ^ shape.bits)))) }
+    {
+        let (alloc, pairs) = (team.alloc, shape.slot_count(Kind::Pair));
+        if team.workers == 1 || pairs < SHARED_COPY_PAIRS {
+            return copy(alloc, &self.still, self.root, keep, pairs);
+        }
+        copy_beside(team.runtime, alloc, &self.still, self.root, keep, pairs)
     }
 
     /// Only the cells, in as few words as have room for them, or else all of the old words.

@@ -7,7 +7,7 @@ ghost use Rattle.node_table.specs.Stills.{book_in};
 use crate::tests::leaves::make_leaves;
 use crate::tests::tables::{PAIRS, empty_table, open_table};
 use hashlife_step::{Tally, future, step};
-use node_sweep::{Finished, Keep, copy, sweep};
+use node_sweep::{Finished, Keep, copy, copy_beside, sweep};
 use node_table::Still;
 use plane::Refusal;
 use rule_text::Rule;
@@ -280,7 +280,7 @@ fn step_again<S: Squares>(book: &mut S) -> Result<u64, Refusal>
 fn a_step_is_recalled_in_a_larger_table(rt: HostRuntime) -> Result<(), Fail> {
     let (words, root) = words_of(&rt, Made::Step, 262144, 10)?;
     assert!(rt; Shape::is_pair_count(524288));
-    let larger = copy(rt.alloc(), &words, root, Keep::Everything, 524288)?.still;
+    let larger = copy_beside(&rt, rt.alloc(), &words, root, Keep::Everything, 524288)?.still;
     let (table, desk) = open_table(rt.alloc(), larger, Rule::read(b"B3/S23")?, 10)?;
     let mut at = table.at(desk);
     assert!(rt; at.exponent() <= 62);

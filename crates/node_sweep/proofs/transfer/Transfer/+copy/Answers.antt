@@ -50,7 +50,7 @@ copy-requires t c =
         c.requires.underway,
         (
           first_low from old c.args.height n some high c.requires.block c.parts-first.result.0 first,
-          first_wanted from old c.args.height n some high c.requires.block c.args.self.now.keep c.args.self.now.ends c.parts-first.result.0 first c.requires.wanted,
+          first_wanted from old c.args.height n some high c.requires.block c.args.self.now.keep c.args.self.now.roots c.parts-first.result.0 first c.requires.wanted,
         ),
       ),
     )
@@ -71,7 +71,7 @@ copy-requires-2 t c =
         c.copy.ensures.underway,
         (
           second_low from old c.args.height n some high c.requires.block c.parts-first.result.1 second,
-          second_wanted from old c.args.height n some high c.requires.block c.args.self.now.keep c.args.self.now.ends c.parts-first.result.1 second c.requires.wanted,
+          second_wanted from old c.args.height n some high c.requires.block c.args.self.now.keep c.args.self.now.roots c.parts-first.result.1 second c.requires.wanted,
         ),
       ),
     )

@@ -1,10 +1,14 @@
 use Rattle.std.proofs.Common.{List, ℕ, sym, subst}
 use Rattle.std.specs.Prelude.{slice_index}
+use Rattle.std.proofs.lemmas.Result.{on_ok_weaker}
 use Rattle.table_core.specs.declared.shape.Kind.TheVariants.{Pair}
 use Rattle.table_core.specs.Layout.{start}
+use Rattle.node_sweep.specs.Blocks.{AreCopiedTo}
 use Rattle.node_sweep.specs.Copying.{AreCopied}
 use Rattle.node_sweep.specs.Marks.{AreMarks, IsMarked}
-use Rattle.node_sweep.specs.Transfers.{old_bits, old_words}
+use Rattle.node_sweep.specs.Transfers.{old_bits, old_words, wants}
+use Rattle.node_sweep.proofs.RootSets.{is_collected}
+use Rattle.node_sweep.proofs.Gathered.{collected}
 use Rattle.node_sweep.proofs.Ordered.{ends_there, kept_at, marked_before, root_there}
 use Rattle.node_sweep.proofs.Underway.{copied_later}
 use Rattle.node_sweep.proofs.transfer.Transfer.copy_kept.Goals as goal
@@ -18,11 +22,11 @@ copy_ranks-requires-clause-order c = c.requires.kept.order.ranked
 pub copy_ranks-requires-clause-before : goal.copy_ranks-requires-clause-before
 copy_ranks-requires-clause-before c =
     let transfer = c.args.self.now in
-    let ends = c.args.self.now.ends in
+    let roots = c.args.self.now.roots in
     let kept = c.args.kept in
     let fresh = c.copy_marked_leaves.new.fresh in
     let leaves = subst (λ (ms : List ℕ). AreCopied (slice_index ms) fresh.copies.items (start (old_bits transfer) Pair)) c.as_slice.ensures.value c.in_ok-copy_marked_leaves.ensures.all in
-    marked_before transfer ends.root ends.low ends.high kept.marks.items kept.order.slots.items kept.order.ends fresh.copies.items c.requires.kept leaves
+    marked_before transfer roots.root roots.low roots.high kept.marks.items kept.order.slots.items kept.order.ends fresh.copies.items c.requires.kept leaves
 
 pub copy_ranks-requires-clause-wanted : goal.copy_ranks-requires-clause-wanted
 copy_ranks-requires-clause-wanted c =
@@ -33,24 +37,22 @@ copy_ranks-requires-clause-wanted c =
           (kept_at (old_bits transfer) (old_words transfer) (IsMarked kept.marks.items) kept.order.slots.items kept.order.ends place c.requires.kept.order less);
     }
 
-pub returns-clause-root : goal.returns-clause-root
-returns-clause-root c =
+pub returns-clause-copied : goal.returns-clause-copied
+returns-clause-copied c =
     let transfer = c.args.self.now in
-    let ends = c.args.self.now.ends in
+    let old = old_words transfer in
+    let roots = transfer.roots in
     let kept = c.args.kept in
     let first = c.copy_marked_leaves.new.fresh in
     let last = c.copy_ranks.new.fresh in
     let leaves = subst (λ (ms : List ℕ). AreCopied (slice_index ms) first.copies.items (start (old_bits transfer) Pair)) c.as_slice.ensures.value c.in_ok-copy_marked_leaves.ensures.all in
     let later = copied_later transfer first last c.copy_marked_leaves.ensures.underway c.copy_ranks.ensures.underway c.copy_ranks.ensures.keeps (slice_index kept.marks.items) (start (old_bits transfer) Pair) leaves in
-    root_there transfer ends.root ends.low ends.high kept.marks.items kept.order.slots.items kept.order.ends last.copies.items c.requires.kept later c.in_ok-copy_ranks.ensures.copied.copied
-
-pub returns-clause-ends : goal.returns-clause-ends
-returns-clause-ends c =
-    let transfer = c.args.self.now in
-    let ends = c.args.self.now.ends in
-    let kept = c.args.kept in
-    let first = c.copy_marked_leaves.new.fresh in
-    let last = c.copy_ranks.new.fresh in
-    let leaves = subst (λ (ms : List ℕ). AreCopied (slice_index ms) first.copies.items (start (old_bits transfer) Pair)) c.as_slice.ensures.value c.in_ok-copy_marked_leaves.ensures.all in
-    let later = copied_later transfer first last c.copy_marked_leaves.ensures.underway c.copy_ranks.ensures.underway c.copy_ranks.ensures.keeps (slice_index kept.marks.items) (start (old_bits transfer) Pair) leaves in
-    ends_there transfer ends.root ends.low ends.high kept.marks.items kept.order.slots.items kept.order.ends last.copies.items c.requires.kept later c.in_ok-copy_ranks.ensures.copied.copied
+    let root = root_there transfer roots.root roots.low roots.high kept.marks.items kept.order.slots.items kept.order.ends last.copies.items c.requires.kept later in
+    let all = ends_there transfer roots.root roots.low roots.high kept.marks.items kept.order.slots.items kept.order.ends last.copies.items c.requires.kept later in
+    let block = c.requires.kept.are_marks.blocks roots.root c.requires.kept.root_marked in
+    on_ok_weaker _ (λ (pairs : AreCopiedTo transfer kept.order.slots.items last.copies.items (slice_index kept.order.ends 124)). record {
+      copied = λ rank n is_block is some. collected transfer.old.key.now old roots.root roots.low roots.high block.0 last.copies.items transfer.old.good.good block.1
+          (root pairs.copied) (all pairs.copied)
+          transfer.to (wants transfer) last.words.items transfer.same_rule transfer.same_exponent c.copy_ranks.ensures.underway.copying
+          n (is_collected (old_bits transfer) old transfer.keep roots n c.requires.keep is) some;
+    }) c.copy_ranks.ensures.copied

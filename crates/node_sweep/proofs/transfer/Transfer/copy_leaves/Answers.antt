@@ -11,7 +11,7 @@ use Rattle.node_sweep.proofs.transfer.Transfer.copy_leaves.Goals.{then-word-ne0+
 use Rattle.node_sweep.proofs.transfer.Transfer.copy_leaves.Goals as goal
 
 pub note-requires-clause-wanted : goal.note-requires-clause-wanted
-note-requires-clause-wanted c = all_wanted (old_bits c.args.self.now) (old_words c.args.self.now) c.args.self.now.keep c.args.self.now.ends.root c.args.self.now.ends.low c.args.self.now.ends.high c.loop-number.number c.requires.all
+note-requires-clause-wanted c = all_wanted (old_bits c.args.self.now) (old_words c.args.self.now) c.args.self.now.keep c.args.self.now.roots.root c.args.self.now.roots.low c.args.self.now.roots.high c.loop-number.number c.requires.all
 
 pub note-requires-clause-word : goal.note-requires-clause-word
 note-requires-clause-word c =

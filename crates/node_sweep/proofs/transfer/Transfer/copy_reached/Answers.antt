@@ -10,20 +10,20 @@ use Rattle.node_sweep.proofs.transfer.Transfer.copy_reached.Goals as goal
 pub copy-requires-clause-wanted : goal.copy-requires-clause-wanted
 copy-requires-clause-wanted c =
     let transfer = c.args.self.now in
-    let ends = transfer.ends in
-    subst (λ (keep : Keep). IsWanted (old_bits transfer) (old_words transfer) keep ends.root ends.low ends.high ends.root) (sym c.requires.keep) itself
+    let roots = transfer.roots in
+    subst (λ (keep : Keep). IsWanted (old_bits transfer) (old_words transfer) keep roots.root roots.low roots.high roots.root) (sym c.requires.keep) itself
 
 pub returns-clause-copied : goal.returns-clause-copied
 returns-clause-copied c =
     let transfer = c.args.self.now in
-    let ends = transfer.ends in
+    let roots = transfer.roots in
     let from = transfer.old.key.now in
     let old = old_words transfer in
     let fresh = c.copy.new.fresh in
-    let there = copy_there transfer fresh c.copy.ensures.underway ends.root c.in_ok-copy.field-0 c.args.rank c.in_ok-copy.ensures.ok c.requires.block in
+    let there = copy_there transfer fresh c.copy.ensures.underway roots.root c.in_ok-copy.field-0 c.args.rank c.in_ok-copy.ensures.ok c.requires.block in
     record {
       copied = λ rank n block is some. reached_copied from transfer.to old (wants transfer) fresh.copies.items fresh.words.items transfer.old.good.good transfer.same_rule transfer.same_exponent
           0 (keeping_start from transfer.to old (wants transfer) fresh.words.items fresh.copies.items transfer.old.good.good c.copy.ensures.underway.copying)
-          c.args.rank ends.root n c.requires.block there
-          (subst (λ (keep : Keep). IsWanted (old_bits transfer) old keep ends.root ends.low ends.high n) c.requires.keep is) some;
+          c.args.rank roots.root n c.requires.block there
+          (subst (λ (keep : Keep). IsWanted (old_bits transfer) old keep roots.root roots.low roots.high n) c.requires.keep is) some;
     }

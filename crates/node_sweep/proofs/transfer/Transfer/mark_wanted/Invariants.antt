@@ -6,6 +6,6 @@ use Rattle.node_sweep.proofs.transfer.Transfer.mark_wanted.Given as goal
 abbrev pub invariant-loop-above : goal.invariant-loop-above
 invariant-loop-above l = record {
   marks : AreMarks l.fn.self l.marks;
-  root : IsMarked l.marks l.fn.self.ends.root;
-  visited : AreVisited (old_bits l.fn.self) (old_words l.fn.self) l.fn.self.ends.low l.fn.self.ends.high l.marks (124 - l.above);
+  root : IsMarked l.marks l.fn.self.roots.root;
+  visited : AreVisited (old_bits l.fn.self) (old_words l.fn.self) l.fn.self.roots.low l.fn.self.roots.high l.marks (124 - l.above);
 }

@@ -28,7 +28,7 @@ returns-clause-marks c =
 pub returns-clause-root : goal.returns-clause-root
 returns-clause-root c =
     let same = with_items_is c.in_ok-marks.marks c.mark_wanted.new.marks (c.mark_wanted.auto.marks ∙ c.as_mut_slice.ensures.len) in
-    subst (λ marks. IsMarked marks c.args.self.now.ends.root) (sym same) c.mark_wanted.ensures.root
+    subst (λ marks. IsMarked marks c.args.self.now.roots.root) (sym same) c.mark_wanted.ensures.root
 
 pub returns-clause-visited : goal.returns-clause-visited
 returns-clause-visited c =

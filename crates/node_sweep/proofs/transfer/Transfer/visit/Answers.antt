@@ -12,9 +12,9 @@ returns-clause-visited c =
     let three = c.mark_parts.new.marks in
     record {
       end = record {
-        small = small_marked bits old c.args.self.now.ends.low pair two three c.mark_parts.ensures.gets.kept
-            (small_marked bits old c.args.self.now.ends.low pair one two c.mark_finished.ensures.gets.kept c.mark_small.ensures.small);
-        finished = finished_marked bits old c.args.self.now.ends.high pair two three c.mark_parts.ensures.gets.kept c.mark_finished.ensures.finished;
+        small = small_marked bits old c.args.self.now.roots.low pair two three c.mark_parts.ensures.gets.kept
+            (small_marked bits old c.args.self.now.roots.low pair one two c.mark_finished.ensures.gets.kept c.mark_small.ensures.small);
+        finished = finished_marked bits old c.args.self.now.roots.high pair two three c.mark_parts.ensures.gets.kept c.mark_finished.ensures.finished;
       };
       parts = c.mark_parts.ensures.parts;
     }

@@ -19,16 +19,16 @@ pub record IsFinishedCopied (bits : ℕ) (words : Words) (high : ℕ) (copies : 
       (future ≡ 0) ⊎ (slice_index copies future ≢ 0)
 
 -- both
-pub record IsEndCopied (bits : ℕ) (words : Words) (low high : ℕ) (copies : List ℕ)
+pub record IsRootPairCopied (bits : ℕ) (words : Words) (low high : ℕ) (copies : List ℕ)
     (pair : ℕ) : Type 0 where
   pub small : IsSmallCopied bits words low copies pair
   pub finished : IsFinishedCopied bits words high copies pair
 
 -- so it is with each pair before this slot
-pub record AreEndsCopied (bits : ℕ) (words : Words) (low high : ℕ) (copies : List ℕ)
+pub record AreRootPairsCopied (bits : ℕ) (words : Words) (low high : ℕ) (copies : List ℕ)
     (done : ℕ) : Type 0 where
   pub copied : (pair : ℕ) → IsSlot bits Pair pair → pair < start bits Pair + done →
-      IsEndCopied bits words low high copies pair
+      IsRootPairCopied bits words low high copies pair
 
 -- the pair has at least the high rank, and this result
 pub record IsFinishedFrom (bits : ℕ) (words : Words) (high rank pair future : ℕ) : Type 0 where

@@ -4,30 +4,30 @@ use Rattle.std.specs.Prelude.{slice_index}
 use Rattle.table_core.specs.Layout.{result_of}
 use Rattle.table_core.specs.Blocks.{Words, IsBlock}
 use Rattle.table_core.proofs.Blocks.{one_rank}
-use Rattle.node_sweep.specs.Ends.{IsEndCopied, IsFinishedCopied, IsSmallCopied}
-use Rattle.node_sweep.specs.Reaching.{itself, the_root, IsCollected, IsCollection, IsEnd, IsWanted}
+use Rattle.node_sweep.specs.RootSets.{IsRootPairCopied, IsFinishedCopied, IsSmallCopied}
+use Rattle.node_sweep.specs.Reaching.{itself, the_root, IsCollected, IsCollection, IsInRootSet, IsWanted}
 use Rattle.node_sweep.specs.declared.keep.Keep.{Keep}
 use Rattle.node_sweep.specs.declared.keep.Keep.TheVariants.{CellsAlone, Collected, Everything}
-use Rattle.node_sweep.specs.declared.transfer.Ends.{Ends}
+use Rattle.node_sweep.specs.declared.transfer.RootSet.{RootSet}
 use Rattle.node_sweep.proofs.SameBlocks.{block_some}
 
 -- what a collection begins with is wanted
-pub wants_end : (bits : ℕ) (words : Words) (keep : Keep) (ends : Ends) (n : ℕ) → IsCollection keep → IsEnd bits words ends.root ends.low ends.high n → IsWanted bits words keep ends.root ends.low ends.high n
-wants_end bits words CellsAlone ends n never is = absurd never
-wants_end bits words (Collected shares) ends n _ is = record { end = n; is_end = is; reached = itself }
-wants_end bits words Everything ends n never is = absurd never
+pub wants_end : (bits : ℕ) (words : Words) (keep : Keep) (roots : RootSet) (n : ℕ) → IsCollection keep → IsInRootSet bits words roots.root roots.low roots.high n → IsWanted bits words keep roots.root roots.low roots.high n
+wants_end bits words CellsAlone roots n never is = absurd never
+wants_end bits words (Collected shares) roots n _ is = record { end = n; is_end = is; reached = itself }
+wants_end bits words Everything roots n never is = absurd never
 
 -- and that is all that is wanted
-pub is_collected : (bits : ℕ) (words : Words) (keep : Keep) (ends : Ends) (n : ℕ) → IsCollection keep → IsWanted bits words keep ends.root ends.low ends.high n → IsCollected bits words ends.root ends.low ends.high n
-is_collected bits words CellsAlone ends n never is = absurd never
-is_collected bits words (Collected shares) ends n _ is = is
-is_collected bits words Everything ends n never is = absurd never
+pub is_collected : (bits : ℕ) (words : Words) (keep : Keep) (roots : RootSet) (n : ℕ) → IsCollection keep → IsWanted bits words keep roots.root roots.low roots.high n → IsCollected bits words roots.root roots.low roots.high n
+is_collected bits words CellsAlone roots n never is = absurd never
+is_collected bits words (Collected shares) roots n _ is = is
+is_collected bits words Everything roots n never is = absurd never
 
 -- the root is wanted
-pub root_wanted : (bits : ℕ) (words : Words) (keep : Keep) (ends : Ends) → IsWanted bits words keep ends.root ends.low ends.high ends.root
-root_wanted bits words CellsAlone ends = itself
-root_wanted bits words (Collected shares) ends = record { end = ends.root; is_end = the_root; reached = itself }
-root_wanted bits words Everything ends = tt
+pub root_wanted : (bits : ℕ) (words : Words) (keep : Keep) (roots : RootSet) → IsWanted bits words keep roots.root roots.low roots.high roots.root
+root_wanted bits words CellsAlone roots = itself
+root_wanted bits words (Collected shares) roots = record { end = roots.root; is_end = the_root; reached = itself }
+root_wanted bits words Everything roots = tt
 
 -- a pair of another rank isn't small
 pub not_small : (bits : ℕ) (words : Words) (low rank pair : ℕ) (copies : List ℕ) → pair ≢ 0 → IsBlock bits words rank pair → low < rank → IsSmallCopied bits words low copies pair
@@ -47,7 +47,7 @@ finished_copied bits words high pair future copies told some there = record {
 }
 
 -- at a free slot stands no pair
-pub none_at_free : (bits : ℕ) (words : Words) (low high pair : ℕ) (copies : List ℕ) → pair ≢ 0 → words pair ≡ 0 → IsEndCopied bits words low high copies pair
+pub none_at_free : (bits : ℕ) (words : Words) (low high pair : ℕ) (copies : List ℕ) → pair ≢ 0 → words pair ≡ 0 → IsRootPairCopied bits words low high copies pair
 none_at_free bits words low high pair copies some free = record {
   small = record { copied = λ rank b less. absurd (block_some bits words rank pair some b free) };
   finished = record {

@@ -3,13 +3,13 @@
 ghost use Rattle.std.specs.Prelude.{◌≡◌, ◌^◌, IfOk, length};
 
 use crate::keep::{Keep, Shares};
-use crate::transfer::{Ends, OldWords};
+use crate::transfer::{OldWords, RootSet};
 use std::alloc::{AllocError, Global};
 use table_core::{Kind, LARGEST_RANK};
 
 // How many pairs of each rank there are, and how many of them have results.
 #[derive(Clone, Copy)]
-struct Census {
+struct RankCounts {
     pairs: [u32; 256],
     results: [u32; 256],
 }
@@ -26,8 +26,8 @@ pub struct Finished {
 /// What is to be known of old words before they are copied.
 #[derive(Drop)]
 pub(crate) struct Survey {
-    /// Where the copy begins.
-    pub(crate) ends: Ends,
+    /// From where all that is reached is kept.
+    pub(crate) roots: RootSet,
     /// The rank of each pair, unless only the cells are kept.
     pub(crate) ranks: Vec<u8>,
     /// What is finished, if that was counted.
@@ -52,7 +52,7 @@ impl OldWords<'_> {
     ) -> Result<Survey, AllocError>
         ensures { IfOk result (IsSurveyed self.now keep root) }
     {
-        let mut ends = Ends {
+        let mut roots = RootSet {
             root,
             low: 0,
             high: 0,
@@ -63,21 +63,21 @@ impl OldWords<'_> {
             Keep::CellsAlone => {}
             Keep::Collected(shares) => {
                 ranks = self.ranks(alloc)?;
-                let census = self.census(ranks.as_slice());
-                ends = census.ends(root, slots, shares);
-                finished = Some(census.into_finished(ends));
+                let counts = self.rank_counts(ranks.as_slice());
+                roots = counts.roots(root, slots, shares);
+                finished = Some(counts.into_finished(roots));
             }
             Keep::Everything => ranks = self.ranks(alloc)?,
         }
         Ok(Survey {
-            ends,
+            roots,
             ranks,
             finished,
         })
     }
 
     // Counts the pairs of which these are the ranks.
-    fn census(&self, ranks: &[u8]) -> Census
+    fn rank_counts(&self, ranks: &[u8]) -> RankCounts
         requires { length ranks.now ≡ 2 ^ bits_in self.now }
     {
         let mut pairs = [0u32; 256];
@@ -90,13 +90,13 @@ impl OldWords<'_> {
                 results[rank] = results[rank].saturating_add(1);
             }
         }
-        Census { pairs, results }
+        RankCounts { pairs, results }
     }
 }
 
-impl Census {
+impl RankCounts {
     // What a collection of so many pair slots keeps.
-    fn ends(&self, root: u32, slots: u32, shares: Shares) -> Ends
+    fn roots(&self, root: u32, slots: u32, shares: Shares) -> RootSet
         ensures { result.root ≡ root }
     {
         let low = if self.pairs[1] > share(slots, shares.leaves) {
@@ -105,7 +105,7 @@ impl Census {
             self.low(u64::from(share(slots, shares.small)))
         };
         let high = self.high(u64::from(share(slots, shares.large)));
-        Ends { root, low, high }
+        RootSet { root, low, high }
     }
 
     // The highest rank up to which there are at most so many pairs.
@@ -133,11 +133,11 @@ impl Census {
     }
 
     // What was finished before a collection that keeps these.
-    fn into_finished(self, ends: Ends) -> Finished {
+    fn into_finished(self, roots: RootSet) -> Finished {
         let results = self.results;
         Finished {
             results,
-            high: ends.high,
+            high: roots.high,
         }
     }
 }
