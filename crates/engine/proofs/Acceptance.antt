@@ -12,6 +12,7 @@ use Rattle.plane.specs.declared.cell.Bounds.{Bounds}
 use Rattle.plane.specs.declared.fault.Fault.{Fault}
 use Rattle.plane.specs.declared.refusal.Refusal.{Refusal}
 use Rattle.plane.specs.declared.refusal.Refusal.TheVariants.{NodesFull, NoMemory, TooFar}
+use Rattle.universe.specs.Outcomes.{LacksMemoryOrRoom}
 use Rattle.universe.specs.Tables.{HasFullTable}
 use Rattle.viewport.specs.BoundingBox.{HasBounds}
 use Rattle.run_options.specs.declared.options.RunOptions.{RunOptions}
@@ -19,7 +20,7 @@ use Rattle.engine.specs.Accepted.{KeepsToRange, IsAccepted, LeavesRange}
 use Rattle.engine.specs.Judgement.{ReadsRule}
 use Rattle.patterns.specs.Meaning.{Meaning, is_macrocell, judged}
 use Rattle.engine.specs.Refused.{HasRule, IsRefused}
-use Rattle.engine.specs.Run.{IsOutOfRoom, IsRun}
+use Rattle.engine.specs.Run.{IsRun}
 use Rattle.engine.specs.RunOptions.{run_of}
 use Rattle.engine.specs.declared.options.Options.{Options}
 use Rattle.engine.proofs.Endings.{listing_as, stays_as, stopped_early, unfailed_same}
@@ -59,7 +60,7 @@ module _ (bytes : List ℕ) (run : RunOptions) (meaning : Meaning) (text : judge
     has_rule : HasRule bytes run rule
     has_rule = record { meaning = meaning; text = text; read = read }
 
-    pub range_refused : (refusal : Refusal) → IsOutOfRoom refusal ⊎ ((refusal ≡ TooFar) × LeavesRange meaning run.gens) →
+    pub range_refused : (refusal : Refusal) → LacksMemoryOrRoom refusal ⊎ ((refusal ≡ TooFar) × LeavesRange meaning run.gens) →
         (refusal ≡ NodesFull → HasFullTable rule run.pairs) → IsRefused bytes run (placeless refusal)
     unfolding IsRefused
     range_refused refusal (inl (inl memory)) full = inr (inl (ap placeless memory, inr (rule, has_rule)))

@@ -13,7 +13,7 @@ use Rattle.engine.specs.Judgement.{Start}
 use Rattle.engine.specs.Last.{EndsWith}
 use Rattle.engine.specs.Refused.{IsRefused}
 use Rattle.engine.specs.Room.{IsStuckWithin}
-use Rattle.engine.specs.Run.{IsOutOfRoom}
+use Rattle.universe.specs.Outcomes.{LacksMemoryOrRoom}
 use Rattle.engine.specs.declared.running.Summary.{Summary}
 use Rattle.engine.proofs.Onward.{stuck_from}
 use Rattle.engine.proofs.Reports.{same_generation}
@@ -33,7 +33,7 @@ module _ (bytes : List ℕ) (run : RunOptions) (meaning : Meaning) (rule : Count
   }
 
   -- it was stopped on its way
-  pub stops : (refusal : Refusal) → IsOutOfRoom refusal → (refusal ≡ NodesFull → IsStuckWithin rule here run.pairs run.gens) → IsRefused bytes run (placeless refusal)
+  pub stops : (refusal : Refusal) → LacksMemoryOrRoom refusal → (refusal ≡ NodesFull → IsStuckWithin rule here run.pairs run.gens) → IsRefused bytes run (placeless refusal)
   unfolding IsRefused
   stops refusal (inl memory) stuck = inr (inl (ap placeless memory, inr (rule, record { meaning = meaning; text = accepted.accepted.0.text; read = accepted.accepted.0.rule })))
   stops refusal (inr is) stuck = inr (inr (ap placeless is, inr (start, accepted.accepted, stuck_from accepted.same (stuck is))))

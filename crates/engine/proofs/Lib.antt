@@ -1,6 +1,7 @@
 pub mod Acceptance
 mod CellsAtRest
 pub mod Endings
+mod FileTexts
 mod LastPatterns
 mod Onward
 pub mod OneRun

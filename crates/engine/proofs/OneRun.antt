@@ -11,14 +11,13 @@ use Rattle.plane.specs.declared.fault.Fault.{Fault}
 use Rattle.plane.proofs.Uniqueness.{one_listing_lem}
 use Rattle.patterns.specs.Meaning.{Meaning, judged}
 use Rattle.run_options.specs.declared.options.RunOptions.{RunOptions}
-use Rattle.engine.specs.FileText.{IsFileText}
-use Rattle.engine.specs.declared.format.Format.{Format}
-use Rattle.engine.specs.declared.format.Format.TheVariants.{Rle, Macrocell}
+use Rattle.engine.specs.Formats.{format_of}
+use Rattle.engine.specs.declared.options.Format.{Format}
+use Rattle.engine.specs.declared.options.Format.TheVariants.{Rle, Macrocell}
 use Rattle.pattern_writers.specs.McText.{mc_text}
 use Rattle.pattern_writers.proofs.WrittenReadBack.{one_smallest_level}
 use Rattle.engine.specs.Judgement.{Start, IsStart, Judges, StaysInRange, RefusesRange, RefusesRule, ReadsRule, last_generation, rule_text_of}
-use Rattle.engine.specs.Report.{IsLineAfter, AreLinesAfter, report_line, shown}
-use Rattle.engine.specs.Drawing.{picture_of}
+use Rattle.engine.specs.Report.{AreLinesAfter, IsLineAfter, report_line, shown, window_text}
 use Rattle.engine.specs.Run.{Finishes, IsReport}
 use Rattle.engine.specs.RunOptions.{run_of}
 use Rattle.engine.specs.declared.running.Summary.{Summary}
@@ -110,12 +109,12 @@ module _ (rule : CountRule) (plane : Plane) (start : ℕ) where
 one_report : (meaning : Meaning) (rule : CountRule) (options : Options) (said others : List ℕ) → IsReport meaning rule options said → IsReport meaning rule options others → said ≡ others
 one_report meaning rule options said others is other =
     is.is
-    ∙ ap (λ (lines : List ℕ). lines ++ picture_of options.window (after rule meaning.live options.gens)) (one_text rule meaning.live meaning.generation (shown options) is.lines other.lines is.shows other.shows)
+    ∙ ap (λ (lines : List ℕ). lines ++ window_text options.window (after rule meaning.live options.gens)) (one_text rule meaning.live meaning.generation (shown options) is.lines other.lines is.shows other.shows)
     ∙ sym other.is
 
 -- cells have one text in a format
 one_file_text : (format : Option Format) (comments : List (List ℕ)) (rule : CountRule) (generation : ℕ) (cells : List Cell) (a b : List ℕ) →
-    IsFileText format comments rule generation cells a → IsFileText format comments rule generation cells b → a ≡ b
+    (format_of format).IsText comments rule generation cells a → (format_of format).IsText comments rule generation cells b → a ≡ b
 one_file_text None comments rule generation cells a b is other = is ∙ sym other
 one_file_text (Some Rle) comments rule generation cells a b is other = is ∙ sym other
 one_file_text (Some Macrocell) comments rule generation cells a b is other =
@@ -128,5 +127,5 @@ one_ending_lem start options a b said others written other finishes also =
       finishes.summary ∙ rw cells refl ∙ sym also.summary,
       one_report start.meaning start.rule options said others finishes.report also.report,
       one_file_text options.format start.meaning.comments start.rule (last_generation start (run_of options)) also.cells written other
-          (subst (λ (c : List Cell). IsFileText options.format start.meaning.comments start.rule (last_generation start (run_of options)) c written) cells finishes.file) also.file,
+          (subst (λ (c : List Cell). (format_of options.format).IsText start.meaning.comments start.rule (last_generation start (run_of options)) c written) cells finishes.file) also.file,
     )

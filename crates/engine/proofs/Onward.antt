@@ -11,7 +11,7 @@ use Rattle.universe.specs.Held.{StaysHeld}
 use Rattle.universe.specs.Runs.{IsStuck}
 use Rattle.universe.specs.declared.universe.Universe.{Universe}
 use Rattle.universe.proofs.Later.{after_step, held_later}
-use Rattle.engine.specs.Generations.{IsSameRun}
+use Rattle.engine.specs.Accepted.{IsSameRun}
 use Rattle.engine.specs.Room.{IsStuckWithin}
 use Rattle.engine.proofs.Reports.{same_generation}
 

@@ -3,8 +3,7 @@ use Rattle.std.proofs.Common.{ℕ, List, Result, Ok, Err, inl, inr}
 use Rattle.plane.specs.declared.fault.Fault.{Fault}
 use Rattle.engine.specs.Judgement.{Start, IsStart, Judges}
 use Rattle.engine.specs.Run.{Finishes}
-use Rattle.engine.specs.RunOptions.{run_of}
-use Rattle.engine.specs.Workers.{with_workers}
+use Rattle.engine.specs.RunOptions.{run_of, with_workers}
 use Rattle.engine.specs.declared.options.Options.{Options}
 use Rattle.engine.specs.declared.running.Summary.{Summary}
 

@@ -1,8 +1,11 @@
 -- The lines of a report, one after the other.
 use Rattle.std.proofs.Common.{◌≡◌, ◌⊎◌, inl, inr, Option, ℕ, zero, suc, ◌+◌, ◌-◌, ◌<◌, ◌≤◌, ◌&&◌, not, true, false, List, [], ◌∷◌, ◌++◌, length, filter, take, refl, sym, ◌∙◌, ap, subst, append_assoc, append-nil, arith, ℤ, Bool}
 use Rattle.std.specs.List.{AllZip, concat, range_with_len}
+use Rattle.std.proofs.Math.Seq.{take-append_seam}
+use Rattle.std.proofs.lemmas.List.Elements.{filter-append}
 use Rattle.rule_text.specs.CountRule.{CountRule}
 use Rattle.std.specs.Io.KnownBytes.{Appends}
+use Rattle.std.proofs.KnownBytes.{Appends-trans}
 use Rattle.plane.specs.Device.{AppendsBeginning, IsWriteRefusal}
 use Rattle.plane.specs.Listing.{IsListing}
 use Rattle.plane.specs.Plane.{Plane, after}
@@ -12,8 +15,8 @@ use Rattle.plane.specs.declared.refusal.Refusal.{Refusal}
 use Rattle.plane.specs.declared.refusal.Refusal.TheVariants.{NoMemory}
 use Rattle.plane.proofs.Beginnings.{text_and_beginning}
 use Rattle.plane.proofs.Cones.{light_cone_lem}
-use Rattle.engine.specs.Run.{IsOutOfRoom}
-use Rattle.engine.specs.Report.{report_line, is_shown, shown, shown_until, IsLineAfter, IsSaid, AreLinesAfter}
+use Rattle.universe.specs.Outcomes.{LacksMemoryOrRoom}
+use Rattle.engine.specs.Report.{report_line, is_shown, IsLineAfter, IsSaid, AreFirstLines, AreLinesAfter}
 use Rattle.engine.specs.declared.options.Options.{Options}
 
 -- ---- numbers in a row that pass a test
@@ -25,29 +28,18 @@ range-append a (suc m) k =
     let same : (a + 1) + m ≡ a + suc m = omega arith in
     ap (range_with_len a) one_more ∙ ap (λ l. a ∷ l) (range-append (a + 1) m k ∙ ap (λ b. range_with_len (a + 1) m ++ range_with_len b k) same)
 
-filter-cons : (p : ℕ → Bool) (b : Bool) (x : ℕ) (xs ys : List ℕ) → p x ≡ b → filter p (xs ++ ys) ≡ filter p xs ++ filter p ys → filter p ((x ∷ xs) ++ ys) ≡ filter p (x ∷ xs) ++ filter p ys
-filter-cons p true x xs ys is more = rw is (ap (λ l. x ∷ l) more)
-filter-cons p false x xs ys is more = rw is more
-
-filter-append : (p : ℕ → Bool) (xs ys : List ℕ) → filter p (xs ++ ys) ≡ filter p xs ++ filter p ys
-filter-append p [] ys = refl
-filter-append p (x ∷ xs) ys = filter-cons p (p x) x xs ys refl (filter-append p xs ys)
-
 pub filtered_out : (p : ℕ → Bool) (x : ℕ) (xs : List ℕ) → p x ≡ false → filter p (x ∷ xs) ≡ filter p xs
 filtered_out p x xs fails = rw fails refl
 
 pub filtered_in : (p : ℕ → Bool) (x : ℕ) (xs : List ℕ) → p x ≡ true → filter p (x ∷ xs) ≡ x ∷ filter p xs
 filtered_in p x xs holds = rw holds refl
 
--- the last of some numbers in a row, where none before it passes
-last_alone : (p : ℕ → Bool) (a k : ℕ) → ((n : ℕ) → a ≤ n → n < a + k → p n ≡ false) → filter p (range_with_len a (suc k)) ≡ filter p ((a + k) ∷ [])
-last_alone p a zero none = let same : a ≡ a + 0 = omega arith in ap (λ n. filter p (n ∷ [])) same
-last_alone p a (suc k) none =
-    let first : p a ≡ false = none a (omega arith) (omega arith) in
-    let last : (a + 1) + k ≡ a + suc k = omega arith in
-    filtered_out p a (range_with_len (a + 1) (suc k)) first
-    ∙ last_alone p (a + 1) k (λ n from to. none n (omega (arith, from)) (omega (arith, to)))
-    ∙ ap (λ n. filter p (n ∷ [])) last
+-- numbers in a row of which none passes
+none_pass : (p : ℕ → Bool) (a k : ℕ) → ((n : ℕ) → a ≤ n → n < a + k → p n ≡ false) → filter p (range_with_len a k) ≡ []
+none_pass p a zero none = refl
+none_pass p a (suc k) none =
+    filtered_out p a (range_with_len (a + 1) k) (none a (omega arith) (omega arith))
+    ∙ none_pass p (a + 1) k (λ n from to. none n (omega (arith, from)) (omega (arith, to)))
 
 -- ---- the numbers of generations that are shown
 
@@ -59,35 +51,34 @@ and_true false = refl
 pub start_shown : (options : Options) → is_shown options 0 ≡ not options.quiet
 start_shown options = and_true (not options.quiet)
 
--- from one to the next, with none between
-pub shown_next : (options : Options) (done next : ℕ) → done < next → ((n : ℕ) → done < n → n < next → is_shown options n ≡ false) →
-    shown_until options next ≡ shown_until options done ++ filter (is_shown options) (next ∷ [])
-shown_next options done next later none =
-    let k = next - (done + 1) in
-    let length : next + 1 ≡ (done + 1) + suc k = omega (arith, later) in
-    let from : 0 + (done + 1) ≡ done + 1 = omega arith in
-    let last : (done + 1) + k ≡ next = omega (arith, later) in
-    ap (λ n. filter (is_shown options) (range_with_len 0 n)) length
-    ∙ ap (filter (is_shown options)) (range-append 0 (done + 1) (suc k))
-    ∙ filter-append (is_shown options) (range_with_len 0 (done + 1)) (range_with_len (0 + (done + 1)) (suc k))
-    ∙ ap (λ l. shown_until options done ++ filter (is_shown options) l) (ap (λ a. range_with_len a (suc k)) from)
-    ∙ ap (λ l. shown_until options done ++ l) (last_alone (is_shown options) (done + 1) k (λ n above below. none n (omega (arith, above)) (omega (arith, below, later))))
-    ∙ ap (λ n. shown_until options done ++ filter (is_shown options) (n ∷ [])) last
+-- those below a number
+abbrev pub shown_below : Options → ℕ → List ℕ
+shown_below options count = filter (is_shown options) (range_with_len 0 count)
 
--- those up to one of them are the first of all
-pub shown_first : (options : Options) (done last : ℕ) → done ≤ last → take (length (shown_until options done)) (shown_until options last) ≡ shown_until options done
-shown_first options done last within =
-    let numbers : last + 1 ≡ (done + 1) + (last - done) = omega (arith, within) in
-    let rest = filter (is_shown options) (range_with_len (0 + (done + 1)) (last - done)) in
-    ap (take (length (shown_until options done)))
-    (ap (λ n. filter (is_shown options) (range_with_len 0 n)) numbers
-    ∙ ap (filter (is_shown options)) (range-append 0 (done + 1) (last - done))
-    ∙ filter-append (is_shown options) (range_with_len 0 (done + 1)) (range_with_len (0 + (done + 1)) (last - done)))
-    ∙ take-length_append (shown_until options done) rest
-  where
-    take-length_append : (xs ys : List ℕ) → take (length xs) (xs ++ ys) ≡ xs
-    take-length_append [] ys = refl
-    take-length_append (x ∷ xs) ys = ap (λ l. x ∷ l) (take-length_append xs ys)
+-- the first of them, and those between it and the last
+below_and_between : (options : Options) (count more : ℕ) → shown_below options (count + more) ≡ shown_below options count ++ filter (is_shown options) (range_with_len count more)
+below_and_between options count more =
+    let from : 0 + count ≡ count = omega arith in
+    ap (filter (is_shown options)) (range-append 0 count more)
+    ∙ filter-append (is_shown options) (range_with_len 0 count) (range_with_len (0 + count) more)
+    ∙ ap (λ a. shown_below options count ++ filter (is_shown options) (range_with_len a more)) from
+
+-- between one and the next there is none
+pub shown_next : (options : Options) (done next : ℕ) → done < next → ((n : ℕ) → done < n → n < next → is_shown options n ≡ false) → shown_below options next ≡ shown_below options (done + 1)
+shown_next options done next later none =
+    let sum : next ≡ (done + 1) + (next - (done + 1)) = omega (arith, later) in
+    ap (shown_below options) sum
+    ∙ below_and_between options (done + 1) (next - (done + 1))
+    ∙ ap (λ l. shown_below options (done + 1) ++ l) (none_pass (is_shown options) (done + 1) (next - (done + 1)) (λ n above below. none n (omega (arith, above)) (omega (arith, below, later))))
+    ∙ append-nil (shown_below options (done + 1))
+
+-- those below a number are the first of all
+shown_first : (options : Options) (count last : ℕ) → count ≤ last → take (length (shown_below options count)) (shown_below options last) ≡ shown_below options count
+shown_first options count last within =
+    let sum : last ≡ count + (last - count) = omega (arith, within) in
+    ap (λ n. take (length (shown_below options count)) (shown_below options n)) sum
+    ∙ ap (take (length (shown_below options count))) (below_and_between options count (last - count))
+    ∙ take-append_seam (shown_below options count) (filter (is_shown options) (range_with_len count (last - count)))
 
 -- ---- the lines
 
@@ -119,47 +110,55 @@ module _ (rule : CountRule) (plane : Plane) (start : ℕ) where
   same_shows_of ns ms text other numbers texts shows = subst (λ l. AreLinesAfter rule plane start l other) numbers (subst (λ t. AreLinesAfter rule plane start ns t) texts shows)
 
   -- what is said of one of the generations, if it is shown
-  pub shows_next : (options : Options) (ns : List ℕ) (n : ℕ) (here : Plane) (text said : List ℕ) → AreLinesAfter rule plane start ns text →
+  pub shows_next : (options : Options) (n : ℕ) (here : Plane) (text said : List ℕ) → AreLinesAfter rule plane start (shown_below options n) text →
       IsSame here (after rule plane n) → IsSaid options.quiet (start + n) here said → is_shown options n ≡ not options.quiet →
-      AreLinesAfter rule plane start (ns ++ filter (is_shown options) (n ∷ [])) (text ++ said)
-  shows_next options ns n here text said shows same is_said shown_is = go options.quiet refl is_said
+      AreLinesAfter rule plane start (shown_below options (n + 1)) (text ++ said)
+  shows_next options n here text said shows same is_said shown_is = go options.quiet refl is_said
     where
-      go : (quiet : Bool) → options.quiet ≡ quiet → IsSaid quiet (start + n) here said → AreLinesAfter rule plane start (ns ++ filter (is_shown options) (n ∷ [])) (text ++ said)
+      go : (quiet : Bool) → options.quiet ≡ quiet → IsSaid quiet (start + n) here said → AreLinesAfter rule plane start (shown_below options (n + 1)) (text ++ said)
       go true is nothing =
           let no_line : is_shown options n ≡ false = shown_is ∙ ap not is in
           same_shows_of _ _ _ _
-          (sym (ap (λ l. ns ++ l) (filtered_out (is_shown options) n [] no_line) ∙ append-nil ns))
+          (sym (below_and_between options n 1 ∙ ap (λ l. shown_below options n ++ l) (filtered_out (is_shown options) n [] no_line) ∙ append-nil (shown_below options n)))
           (sym (ap (λ l. text ++ l) nothing ∙ append-nil text))
           shows
       go false is (cells, listing, line_is) =
           let line : is_shown options n ≡ true = shown_is ∙ ap not is in
           same_shows_of _ _ _ _
-          (sym (ap (λ l. ns ++ l) (filtered_in (is_shown options) n [] line)))
+          (sym (below_and_between options n 1 ∙ ap (λ l. shown_below options n ++ l) (filtered_in (is_shown options) n [] line)))
           (sym (ap (λ l. text ++ l) line_is))
-          (shows_more ns n (length cells) cells (start + n) text shows (record { rising = listing.rising; live = λ x y. listing.live x y ∙ same.same x y }) refl refl)
+          (shows_more (shown_below options n) n (length cells) cells (start + n) text shows (record { rising = listing.rising; live = λ x y. listing.live x y ∙ same.same x y }) refl refl)
+
+  -- all that is said up to it
+  pub said_next : (options : Options) (n : ℕ) (here : Plane) (old middle new : Option (List ℕ)) →
+      (said : List ℕ) × AreLinesAfter rule plane start (shown_below options n) said × Appends old middle said →
+      IsSame here (after rule plane n) → is_shown options n ≡ not options.quiet →
+      (said : List ℕ) × IsSaid options.quiet (start + n) here said × Appends middle new said →
+      (said : List ℕ) × AreLinesAfter rule plane start (shown_below options (n + 1)) said × Appends old new said
+  said_next options n here old middle new before same shown_is line =
+      (before.0 ++ line.0, shows_next options n here before.0 line.0 before.1 same line.1 shown_is, Appends-trans old middle new before.0 line.0 before.2 line.2)
 
 -- ---- a report that stops
 
--- the lines up to one of them are the first of all
-pub first_lines : (rule : CountRule) (plane : Plane) (start : ℕ) (options : Options) (done : ℕ) (said : List ℕ) → done ≤ options.gens → AreLinesAfter rule plane start (shown_until options done) said →
-    AreLinesAfter rule plane start (take (length (shown_until options done)) (shown options)) said
-first_lines rule plane start options done said within = subst (λ ns. AreLinesAfter rule plane start ns said) (sym (shown_first options done options.gens within))
+-- the lines below a number are the first of all
+pub first_lines : (rule : CountRule) (plane : Plane) (start : ℕ) (options : Options) (count : ℕ) (said : List ℕ) → count ≤ options.gens + 1 → AreLinesAfter rule plane start (shown_below options count) said →
+    AreFirstLines rule plane start options said
+first_lines rule plane start options count said within shows =
+    (length (shown_below options count), subst (λ ns. AreLinesAfter rule plane start ns said) (sym (shown_first options count (options.gens + 1) within)) shows)
 
 -- where a line could not be said, what was said before stands, or the sink has failed and took a
 -- beginning of both
-pub stopped : {S : Type 0} (taken : S → Option (List ℕ)) (failures : S → ℕ) (start old new : S) (rule : CountRule) (plane : Plane) (generation : ℕ) (options : Options) (refusal : Refusal) (IsNext : List ℕ → Type 0) (lines : ℕ) (said : List ℕ) →
-    failures old ≡ failures start → AreLinesAfter rule plane generation (take lines (shown options)) said → Appends (taken start) (taken old) said →
-    ((next : List ℕ) → IsNext next → (more : ℕ) × AreLinesAfter rule plane generation (take more (shown options)) (said ++ next)) →
+pub stopped : {S : Type 0} (taken : S → Option (List ℕ)) (failures : S → ℕ) (start old new : S) (rule : CountRule) (plane : Plane) (generation : ℕ) (options : Options) (refusal : Refusal) (IsNext : List ℕ → Type 0) (said : List ℕ) →
+    failures old ≡ failures start → AreFirstLines rule plane generation options said → Appends (taken start) (taken old) said →
+    ((next : List ℕ) → IsNext next → AreFirstLines rule plane generation options (said ++ next)) →
     ((refusal ≡ NoMemory) × (new ≡ old))
     ⊎ (IsWriteRefusal (failures old) (failures new) refusal × ((next : List ℕ) × IsNext next × AppendsBeginning (taken old) (taken new) next)) →
-    (IsOutOfRoom refusal × (failures new ≡ failures start) × ((lines : ℕ) × (said : List ℕ) × AreLinesAfter rule plane generation (take lines (shown options)) said × Appends (taken start) (taken new) said))
-    ⊎ (IsWriteRefusal (failures start) (failures new) refusal
-    × ((lines : ℕ) × (said : List ℕ) × AreLinesAfter rule plane generation (take lines (shown options)) said × AppendsBeginning (taken start) (taken new) said))
-stopped taken failures start old new rule plane generation options refusal IsNext lines said unfailed shows appends with_next (inl (memory, same)) =
-    inl (inl memory, ap failures same ∙ unfailed, (lines, said, shows, subst (λ s. Appends (taken start) (taken s) said) (sym same) appends))
-stopped taken failures start old new rule plane generation options refusal IsNext lines said unfailed shows appends with_next (inr (refused, (next, is, begun))) =
-    let more = with_next next is in
-    inr (subst (λ n. IsWriteRefusal n (failures new) refusal) unfailed refused, (more.0, said ++ next, more.1, text_and_beginning said appends begun))
+    (LacksMemoryOrRoom refusal × (failures new ≡ failures start) × ((said : List ℕ) × AreFirstLines rule plane generation options said × Appends (taken start) (taken new) said))
+    ⊎ (IsWriteRefusal (failures start) (failures new) refusal × ((said : List ℕ) × AreFirstLines rule plane generation options said × AppendsBeginning (taken start) (taken new) said))
+stopped taken failures start old new rule plane generation options refusal IsNext said unfailed shows appends with_next (inl (memory, same)) =
+    inl (inl memory, ap failures same ∙ unfailed, (said, shows, subst (λ s. Appends (taken start) (taken s) said) (sym same) appends))
+stopped taken failures start old new rule plane generation options refusal IsNext said unfailed shows appends with_next (inr (refused, (next, is, begun))) =
+    inr (subst (λ n. IsWriteRefusal n (failures new) refusal) unfailed refused, (said ++ next, with_next next is, text_and_beginning said appends begun))
 
 -- ---- planes with the same cells
 

@@ -2,19 +2,16 @@
 use Rattle.std.proofs.Common.{Option, None, Some, IfSome, List, [], ◌∷◌, sym, subst, arith}
 use Rattle.std.specs.List.{AllByRecursion}
 use Rattle.std.proofs.lemmas.Int.{ints}
-use Rattle.node_table.specs.Stills.{book_in}
 use Rattle.engine.specs.Pattern.{plane_of}
 use Rattle.engine.specs.declared.pattern.Pattern.{Pattern}
 use Rattle.pattern_picture.specs.Scale.{IsShown}
 use Rattle.pattern_writers.proofs.BandsDown.{in_whole_range, whole_range}
-use Rattle.pattern_writers.proofs.RowsDown.{square_in_range}
 use Rattle.plane.specs.Bounds.{IsWithin, bounds_of}
-use Rattle.plane.specs.Centred.{Holds}
 use Rattle.plane.specs.declared.cell.Bounds.{Bounds}
 use Rattle.plane.specs.declared.cell.Cell.{Cell}
 use Rattle.plane.proofs.Boxes.{Covers, covers_bounds, within_bounds}
-use Rattle.universe.specs.Cells.{root_of, still_of}
 use Rattle.viewport.specs.BoundingBox.{HasBounds}
+use Rattle.engine.proofs.CellsAtRest.{pattern_held}
 
 -- a box with a cell, within the rectangle that holds the range, can be shown
 shown_with : (box : Bounds) (cell : Cell) → IsWithin box cell → Covers whole_range box → IsShown box
@@ -32,11 +29,6 @@ box_shown [] within = tt
 box_shown (cell ∷ cells) within =
     both (λ box. AllByRecursion (IsWithin box) (cell ∷ cells)) (Covers whole_range) IsShown (λ box holds covers. shown_with box cell holds.0 covers)
     (bounds_of (cell ∷ cells)) (within_bounds (cell ∷ cells)) (covers_bounds whole_range (cell ∷ cells) within)
-
--- the square of level 63 holds the cells of a pattern
-pattern_held : (pattern : Pattern) → Holds 63 (plane_of pattern)
-pattern_held pattern =
-    square_in_range (book_in (still_of pattern.cells)) (root_of pattern.cells) pattern.cells.still.is_book pattern.cells.known pattern.cells.level.1
 
 -- the box of the live cells can be shown
 pub bounds_shown : (pattern : Pattern) (bounds : Option Bounds) → HasBounds (plane_of pattern) bounds → IfSome bounds IsShown

@@ -1,37 +1,20 @@
 -- An accepted run has a whole report, of which what it has said is a beginning.
-use Rattle.std.proofs.Common.{◌≡◌, ℕ, zero, suc, ◌+◌, ◌-◌, ◌^◌, ◌≤◌, ◌&&◌, ℤ, pos, ◌+ℤ◌, ◌-ℤ◌, Bool, true, false, List, [], ◌∷◌, ◌++◌, length, filter, take, drop, refl, sym, ◌∙◌, subst, ap, arith}
+use Rattle.std.proofs.Common.{◌≡◌, ℕ, zero, suc, ◌+◌, ◌≤◌, Bool, true, false, List, [], ◌∷◌, ◌++◌, length, filter, take, drop, refl, sym, ◌∙◌, subst, ap, arith}
 use Rattle.std.specs.List.{AllByRecursion, concat, range_with_len}
-use Rattle.std.proofs.lemmas.Int.{ints}
 use Rattle.std.proofs.lemmas.List.{take-append-drop}
 use Rattle.std.proofs.lemmas.List.Folds.{concat-append}
 use Rattle.rule_text.specs.CountRule.{CountRule}
-use Rattle.plane.specs.Centred.{Holds}
 use Rattle.plane.specs.Listing.{IsListing}
 use Rattle.plane.specs.Plane.{Plane, after}
-use Rattle.plane.specs.Square.{spans}
-use Rattle.plane.specs.Window.{cells_in}
 use Rattle.plane.specs.declared.cell.Cell.{Cell}
-use Rattle.plane.proofs.Windows.{listing_in}
 use Rattle.universe.proofs.Held.{held}
 use Rattle.patterns.specs.Meaning.{Meaning}
 use Rattle.engine.specs.Accepted.{IsAccepted}
 use Rattle.engine.specs.Report.{report_line, is_shown, shown, AreLinesAfter}
 use Rattle.engine.specs.RunOptions.{run_of}
 use Rattle.engine.specs.declared.options.Options.{Options}
+use Rattle.engine.proofs.CellsAtRest.{held_listing}
 use Rattle.engine.proofs.Reports.{AllZip-append, filtered_in, filtered_out}
-
--- ---- listings
-
--- a plane that a square around (0,0) holds has a listing
-held_listing : (level : ℕ) (plane : Plane) → Holds level plane → (cells : List Cell) × IsListing cells plane
-held_listing level plane holds =
-    let half = 2 ^ (level - 1) in
-    let first : ℤ = pos 0 -ℤ pos half in
-    let far : (z : ℤ) → (z -ℤ first) ≡ (z +ℤ pos half) = λ z. omega (arith, ints) in (
-      cells_in first first (2 ^ level) (2 ^ level) plane,
-      listing_in first first (2 ^ level) (2 ^ level) plane
-          (record { dead = λ x y outside. holds.dead x y (ap (λ z. spans (2 ^ level) z && spans (2 ^ level) (y +ℤ pos half)) (sym (far x)) ∙ ap (λ z. spans (2 ^ level) (x -ℤ first) && spans (2 ^ level) z) (sym (far y)) ∙ outside) }),
-    )
 
 -- ---- numbers of generations
 

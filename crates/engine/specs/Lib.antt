@@ -1,8 +1,5 @@
 pub mod Accepted
-pub mod Devices
-pub mod Drawing
-pub mod FileText
-pub mod Generations
+pub mod Formats
 pub mod Judgement
 pub mod Last
 pub mod Pattern
@@ -13,4 +10,3 @@ pub mod Room
 pub mod Run
 pub mod RunOptions
 pub mod SummaryLine
-pub mod Workers

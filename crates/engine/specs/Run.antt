@@ -1,5 +1,5 @@
 -- What a run writes and answers.
-use Rattle.std.specs.Prelude.{◌≡◌, ◌⊎◌, ℕ, List, ◌++◌, length, take, None, Result, Ok, Err, IfOk, IfErr}
+use Rattle.std.specs.Prelude.{◌≡◌, ◌⊎◌, ℕ, List, ◌++◌, length, None, Result, Ok, Err, IfOk, IfErr}
 use Rattle.rule_text.specs.CountRule.{CountRule}
 use Rattle.plane.specs.Bounds.{bounds_of}
 use Rattle.plane.specs.Fault.{placeless}
@@ -8,15 +8,13 @@ use Rattle.plane.specs.Plane.{after}
 use Rattle.plane.specs.SinkChange.{SinkChange, Fails, IsUnfailed, Takes, TakesBeginning}
 use Rattle.plane.specs.declared.cell.Cell.{Cell}
 use Rattle.plane.specs.declared.fault.Fault.{Fault}
-use Rattle.plane.specs.declared.refusal.Refusal.{Refusal}
 use Rattle.plane.specs.declared.refusal.Refusal.TheVariants.{BoxTooLarge, NodesFull, NoMemory, WriteFailed}
 use Rattle.patterns.specs.Meaning.{Meaning}
-use Rattle.engine.specs.FileText.{HasText, IsFileText}
+use Rattle.engine.specs.Formats.{format_of}
 use Rattle.engine.specs.Judgement.{Start, Judges, last_generation}
 use Rattle.engine.specs.Refused.{IsFullOnTheWay, IsRefused}
-use Rattle.engine.specs.Report.{AreLinesAfter, shown}
+use Rattle.engine.specs.Report.{AreFirstLines, AreLinesAfter, shown, window_text}
 use Rattle.engine.specs.RunOptions.{run_of}
-use Rattle.engine.specs.Drawing.{picture_of}
 use Rattle.run_options.specs.declared.options.RunOptions.{RunOptions}
 use Rattle.engine.specs.declared.running.Summary.{Summary}
 use Rattle.engine.specs.declared.options.Options.{Options}
@@ -31,13 +29,12 @@ pub record IsReport (meaning : Meaning) (rule : CountRule) (options : Options)
     (text : List ℕ) : Type 0 where
   pub lines : List ℕ
   pub shows : AreLinesAfter rule meaning.live meaning.generation (shown options) lines
-  pub is : text ≡ lines ++ picture_of options.window (after rule meaning.live options.gens)
+  pub is : text ≡ lines ++ window_text options.window (after rule meaning.live options.gens)
 
--- the text is the first lines of the report, or none
+-- the text is the first lines of the report of a file that is run by the rule, or none
 abbrev pub IsBeginning : Meaning → CountRule → Options → List ℕ → Type 0
 IsBeginning meaning rule options text =
-    (count : ℕ)
-    × AreLinesAfter rule meaning.live meaning.generation (take count (shown options)) text
+    AreFirstLines rule meaning.live meaning.generation options text
 
 -- an accepted run says this in its report and writes this to its file, and gives this answer
 pub record Finishes (start : Start) (options : Options) (answer : Summary)
@@ -45,8 +42,8 @@ pub record Finishes (start : Start) (options : Options) (answer : Summary)
   pub cells : List Cell
   pub last : IsLast start (run_of options) cells
   pub report : IsReport start.meaning start.rule options said
-  pub fits : HasText options.format cells
-  pub file : IsFileText options.format start.meaning.comments start.rule
+  pub fits : (format_of options.format).CanHold cells
+  pub file : (format_of options.format).IsText start.meaning.comments start.rule
       (last_generation start (run_of options)) cells written
   pub summary : answer ≡ record {
     generation = last_generation start (run_of options);
@@ -61,11 +58,7 @@ pub record IsTooLarge (bytes : List ℕ) (options : Options) (said : List ℕ) :
   pub accepted : Judges bytes (run_of options) (Ok start)
   pub last : IsLast start (run_of options) cells
   pub report : IsReport start.meaning start.rule options said
-  pub unfit : HasText options.format cells → ⊥
-
--- memory ran out, or the tables of squares are full
-abbrev pub IsOutOfRoom : Refusal → Type 0
-IsOutOfRoom refusal = (refusal ≡ NoMemory) ⊎ (refusal ≡ NodesFull)
+  pub unfit : (format_of options.format).CanHold cells → ⊥
 
 -- an accepted run that has said this was stopped on its way. Memory ran out, after the first lines
 -- of its report, or none, or the whole; or the tables that the options allow were full, after the

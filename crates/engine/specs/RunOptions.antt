@@ -1,4 +1,5 @@
 -- What says which run it is.
+use Rattle.std.specs.Prelude.{ℕ}
 pub use Rattle.run_options.specs.Workers.{IsWorkerCount}
 use Rattle.run_options.specs.declared.options.RunOptions.{RunOptions}
 pub use Rattle.table_core.specs.Sizes.{IsPairCount}
@@ -12,3 +13,7 @@ run_of options = record {
   pairs = options.pairs;
   workers = options.workers;
 }
+
+-- the same options with so many workers, and tables of so many pair slots
+abbrev pub with_workers : (workers pairs : ℕ) → Options → Options
+with_workers workers pairs options = record options { pairs = pairs; workers = workers }

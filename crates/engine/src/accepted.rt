@@ -7,10 +7,10 @@ ghost use Rattle.engine.specs.Accepted.{KeepsToRange, IsAccepted, LeavesRange};
 ghost use Rattle.plane.specs.Refusal.{rule_refusal};
 ghost use Rattle.engine.specs.Judgement.{ReadsRule};
 ghost use Rattle.engine.specs.Refused.{IsRefused};
-ghost use Rattle.engine.specs.Run.{IsOutOfRoom};
-ghost use Rattle.patterns.specs.PatternFile.{meaning_of};
+ghost use Rattle.patterns.specs.Meaning.{meaning_of};
 ghost use Rattle.table_core.specs.Sizes.{IsPairCount};
 ghost use Rattle.universe.specs.Cells.{limit_of, live_cells, rule_of};
+ghost use Rattle.universe.specs.Outcomes.{LacksMemoryOrRoom};
 ghost use Rattle.universe.specs.Tables.{HasFullTable};
 
 use patterns::PatternFile;
@@ -76,7 +76,7 @@ fn universe_of(
         KeepsToRange (meaning_of text.now) generations (live_cells universe)) }
     ensures rule { IfOk result (λ universe. rule_of universe ≡ rule.now) }
     ensures limit { IfOk result (λ universe. limit_of universe ≡ limit) }
-    ensures refused { IfErr result (λ refusal. IsOutOfRoom refusal
+    ensures refused { IfErr result (λ refusal. LacksMemoryOrRoom refusal
         ⊎ ((refusal ≡ Refusal.TooFar) × LeavesRange (meaning_of text.now) generations)) }
     ensures full { IfErr result
         (λ refusal. refusal ≡ Refusal.NodesFull → HasFullTable rule.now limit) }

@@ -2,7 +2,7 @@
 
 ghost use Rattle.std.specs.Prelude.{◌≡◌, IfOk, IfErr, OnOk};
 ghost use Rattle.std.specs.Io.KnownBytes.{Appends};
-ghost use Rattle.engine.specs.Devices.{IsWholeInput, IsReadRefusal};
+ghost use Rattle.plane.specs.SourceChange.{IsWholeInput, IsReadRefusal};
 
 use plane::{Refusal, Source};
 use std::alloc::Global;

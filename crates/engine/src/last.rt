@@ -41,6 +41,6 @@ pub fn last_pattern<R: Threads + Wait + Sync>(
     let start = begun.text.generation();
     let team = team_of(rt, alloc, run, &OpenGate);
     let universe = begun.universe.after(&team, run.gens)?;
-    let last = finish(alloc, universe, start + run.gens)?;
+    let last = finish(alloc, universe, None, start + run.gens)?;
     Ok(last)
 }

@@ -2,7 +2,6 @@
 #![tactic(auto)]
 
 mod accepted;
-mod format;
 mod input;
 mod last;
 mod laws;
@@ -13,15 +12,13 @@ mod reported;
 mod running;
 mod summary_line;
 
-pub use format::Format;
 pub use input::load;
 pub use last::last_pattern;
 pub use laws::{every_number_of_workers, one_ending, one_judgement};
-pub use options::Options;
+pub use options::{Format, Options};
 pub use pattern::{Heading, Pattern};
 pub use pattern_picture::{Drawing, Scale};
-pub use plane::rule_refusal;
-pub use run_options::{MOST_WORKERS, RunOptions};
+pub use run_options::RunOptions;
 pub use running::{Summary, run, run_from, run_gated};
 pub use summary_line::write_summary;
 pub use worker_split::{Gate, OpenGate};

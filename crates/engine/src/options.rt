@@ -3,13 +3,18 @@
 ghost use Rattle.std.specs.Prelude.{◌≡◌};
 ghost use Rattle.engine.specs.RunOptions.{run_of};
 
-use crate::format::Format;
 use plane::Window;
 use rule_text::Rule;
-use run_options::{MOST_WORKERS, RunOptions};
+use run_options::RunOptions;
 
-// A team has as many workers at most as a run may have.
-const _: () = prove!(MOST_WORKERS == worker_split::MOST_WORKERS);
+/// A format of pattern files.
+#[derive(Clone, Copy, Debug, PartialEq, Eq)]
+pub enum Format {
+    /// Run length encoded, with a `#CXRLE` line.
+    Rle,
+    /// Macrocell, `[M2]`: a quadtree whose equal squares are written once.
+    Macrocell,
+}
 
 /// What a run is asked to do.
 #[derive(Clone, Copy, Debug, PartialEq, Eq)]

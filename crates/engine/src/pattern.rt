@@ -7,7 +7,7 @@ ghost use Rattle.pattern_picture.specs.Drawings.{IsDrawingOf};
 ghost use Rattle.pattern_picture.specs.Scale.{IsShown, IsSize};
 ghost use Rattle.viewport.specs.BoundingBox.{HasBounds};
 
-use crate::format::Format;
+use crate::options::Format;
 use pattern_picture::Drawing;
 use pattern_writers::{write_mc, write_rle};
 use plane::{Bounds, Refusal, Sink, Window};
@@ -33,15 +33,16 @@ pub struct Heading<'a> {
 
 impl Pattern {
     ghost use Rattle.plane.specs.Device.{AppendsBeginning, TellsFailure};
-    ghost use Rattle.pattern_writers.specs.WriterRefusal.{IsWriterRefusal};
-    ghost use Rattle.engine.specs.FileText.{Begins, Exceeds, IsReadBack, Writes};
+    ghost use Rattle.pattern_writers.specs.Output.{IfTaken};
+    ghost use Rattle.pattern_writers.specs.Output.{IsWriterRefusal};
+    ghost use Rattle.engine.specs.Formats.{Exceeds, HasText, format_of};
     ghost use Rattle.engine.specs.Pattern.{plane_of};
-    ghost use Rattle.engine.specs.Drawing.{picture_of};
+    ghost use Rattle.engine.specs.Report.{window_text};
     ghost use Rattle.std.specs.Io.KnownBytes.{Appends};
 
     /// The live cells of a universe. Its tables are freed, except for the words that hold these
     /// cells.
-    pub fn of(universe: Universe) -> Pattern
+    pub(crate) fn of(universe: Universe) -> Pattern
         ensures { IsSame (plane_of result) (live_cells universe) }
     {
         Pattern {
@@ -57,10 +58,10 @@ impl Pattern {
         self.cells.bounds(alloc)
     }
 
-    /// How a rectangle of the pattern is drawn, whose sides lie from -2^62 to 2^62, as large as can
-    /// be with at most `size` pixels on each side, 16 to 4096. `NoMemory` where there is no room
-    /// for it.
-    pub fn picture(&self, alloc: Global, shown: Bounds, size: u32) -> Result<Drawing, Refusal>
+    /// The drawing of a rectangle of the pattern, whose sides lie from -2^62 to 2^62, as large as
+    /// can be with at most `size` pixels on each side, 16 to 4096. `NoMemory` where there is no
+    /// room for it.
+    pub fn draw(&self, alloc: Global, shown: Bounds, size: u32) -> Result<Drawing, Refusal>
         requires shown { IsShown shown }
         requires size { IsSize size }
         ensures drawn { IfOk result (IsDrawingOf (plane_of self.now) shown size) }
@@ -70,13 +71,17 @@ impl Pattern {
         pattern_picture::picture(alloc, still, root, shown, size)
     }
 
-    /// Draws a window of the pattern, if one is asked for. `WriteFailed` where the sink failed,
-    /// which took a beginning of the picture then.
-    pub fn draw<W: Sink>(&self, window: Option<Window>, report: &mut W) -> Result<(), Refusal>
-        ensures drawn { OnOk result (Appends (W.taken report.old) (W.taken report.new)
-            (picture_of window (plane_of self.now))) }
+    /// Writes the text of a window of the pattern, if one is asked for. `WriteFailed` where the
+    /// sink failed, which took a beginning of the text then.
+    pub fn write_window<W: Sink>(
+        &self,
+        window: Option<Window>,
+        report: &mut W,
+    ) -> Result<(), Refusal>
+        ensures written { OnOk result (Appends (W.taken report.old) (W.taken report.new)
+            (window_text window (plane_of self.now))) }
         ensures beginning { OnErr result (AppendsBeginning (W.taken report.old) (W.taken report.new)
-            (picture_of window (plane_of self.now))) }
+            (window_text window (plane_of self.now))) }
         ensures failure { TellsFailure
             (W.failure_count report.old) (W.failure_count report.new) result }
     {
@@ -102,18 +107,19 @@ impl Pattern {
         heading: Heading<'_>,
         file: &mut V,
     ) -> Result<(), Refusal>
-        ensures written { OnOk result (Writes format (plane_of self.now)
+        ensures written { OnOk result (HasText (format_of format) (plane_of self.now)
             heading.entry.comments heading.entry.rule heading.entry.generation
-            (V.taken file.old) (V.taken file.new)) }
-        ensures read_back { OnOk result (IsReadBack format (plane_of self.now)
-            heading.entry.comments heading.entry.rule heading.entry.generation
-            (V.taken file.old) (V.taken file.new)) }
+            (Appends (V.taken file.old) (V.taken file.new))) }
+        ensures read_back { OnOk result (IfTaken (V.taken file.old) (V.taken file.new)
+            ((format_of format).IsReadBack (plane_of self.now)
+            heading.entry.comments heading.entry.rule heading.entry.generation)) }
         ensures no_format { format ≡ None → file.new ≡ file.old }
         ensures unfailed { OnOk result (V.failure_count file.new ≡ V.failure_count file.old) }
         ensures refused { IfErr result (IsWriterRefusal V.failure_count file.old file.new
-            (Exceeds format (plane_of self.now)) (Begins format (plane_of self.now)
+            (Exceeds (format_of format) (plane_of self.now))
+            (HasText (format_of format) (plane_of self.now)
             heading.entry.comments heading.entry.rule heading.entry.generation
-            (V.taken file.old) (V.taken file.new))) }
+            (AppendsBeginning (V.taken file.old) (V.taken file.new)))) }
     {
         let (book, root) = (self.cells.still(), self.cells.root());
         let Heading {

@@ -1,31 +1,32 @@
 //! The lines of the report.
 
-ghost use Rattle.std.specs.Prelude.{◌≡◌, ◌⊎◌, ℕ, List, IfOk, OnErr, OnOk, IfErr};
+ghost use Rattle.std.specs.Prelude.{◌≡◌, ◌⊎◌, ℕ, List, IfOk, IfSome, OnErr, OnOk, IfErr};
 ghost use Rattle.std.specs.Io.KnownBytes.{Appends};
 ghost use Rattle.plane.specs.Device.{AppendsBeginning, IsWriteRefusal, TellsFailure};
 ghost use Rattle.universe.specs.Cells.{live_cells};
-ghost use Rattle.engine.specs.Generations.{IsSameRun};
+ghost use Rattle.viewport.specs.Population.{HasPopulation};
+ghost use Rattle.engine.specs.Accepted.{IsSameRun};
 ghost use Rattle.engine.specs.Report.{IsSaid, report_line};
 
-use arrayvec::ArrayString;
-use itoa::Buffer;
-use plane::{Refusal, Sink, write_all};
+use plane::{Refusal, Sink, TextLine};
 use std::alloc::Global;
 use universe::Universe;
 
 // Room for two numbers of up to 40 digits and what stands round them.
 const LINE_ROOM: usize = 96;
 
-/// Says how many cells of a generation are live, unless the report is left out. `NoMemory` if there
-/// is no room to count them.
+/// Says how many cells of a generation are live, unless the report is left out, and answers that
+/// number. `NoMemory` if there is no room to count them.
 pub(crate) fn report_generation<W: Sink>(
     alloc: Global,
     report: &mut W,
     quiet: bool,
     generation: u64,
     universe: &mut Universe,
-) -> Result<(), Refusal>
+) -> Result<Option<u128>, Refusal>
     ensures same { IsSameRun universe.old universe.new }
+    ensures counted { IfOk result (λ population.
+        IfSome population (HasPopulation (live_cells universe.new))) }
     ensures written { OnOk result
         ((said : List ℕ) × IsSaid quiet generation (live_cells universe.old) said
         × Appends (W.taken report.old) (W.taken report.new) said) }
@@ -37,10 +38,11 @@ pub(crate) fn report_generation<W: Sink>(
         × AppendsBeginning (W.taken report.old) (W.taken report.new) said))) }
 {
     if quiet {
-        return Ok(());
+        return Ok(None);
     }
     let population = universe.population(alloc)?;
-    write_report_line(report, generation, population)
+    write_report_line(report, generation, population)?;
+    Ok(Some(population))
 }
 
 // Writes the line of one generation: its number and how many cells are live.
@@ -56,10 +58,10 @@ fn write_report_line<W: Sink>(
     ensures failure { TellsFailure
         (W.failure_count report.old) (W.failure_count report.new) result }
 {
-    let mut line = ArrayString::<LINE_ROOM>::new();
-    line.push_str(Buffer::new().format(generation));
-    line.push_str(": ");
-    line.push_str(Buffer::new().format(population));
-    line.push_str("\n");
-    write_all(report, line.as_str().as_bytes())
+    let mut line = TextLine::<LINE_ROOM>::new();
+    line.push_number(generation);
+    line.push(": ");
+    line.push_number(population);
+    line.push("\n");
+    line.write_to(report)
 }

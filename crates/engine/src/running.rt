@@ -1,13 +1,14 @@
 //! A run from end to end.
 
-ghost use Rattle.std.specs.Prelude.{◌≡◌, IfOk, IsOkUnless};
+ghost use Rattle.std.specs.Prelude.{◌≡◌, IfOk, IfSome, IsOkUnless};
 ghost use Rattle.run_options.specs.Workers.{IsWorkerCount};
 ghost use Rattle.table_core.specs.Sizes.{IsPairCount};
 ghost use Rattle.plane.specs.SinkChange.{change_of};
 ghost use Rattle.plane.specs.Square.{IsSame};
 ghost use Rattle.universe.specs.Cells.{live_cells};
+ghost use Rattle.viewport.specs.Population.{HasPopulation};
 ghost use Rattle.engine.specs.Accepted.{SumsUp};
-ghost use Rattle.engine.specs.Devices.{IsDoneWithAll, reading_of};
+ghost use Rattle.plane.specs.SourceChange.{IsDoneWithAll, reading_of};
 ghost use Rattle.engine.specs.Pattern.{plane_of};
 ghost use Rattle.engine.specs.Run.{IsRun};
 
@@ -113,9 +114,9 @@ pub fn run_gated<R: Threads + Wait + Sync, G: Gate, W: Sink, V: Sink>(
     let begun = judge(alloc, bytes, &run)?;
     let start = begun.text.generation();
     let team = team_of(rt, alloc, &run, gate);
-    let universe = run_reported(&team, begun.universe, start, options, report)?;
-    let (last, summary) = finish(alloc, universe, start + options.gens)?;
-    last.draw(options.window, report)?;
+    let (universe, counted) = run_reported(&team, begun.universe, start, options, report)?;
+    let (last, summary) = finish(alloc, universe, counted, start + options.gens)?;
+    last.write_window(options.window, report)?;
     let heading = Heading {
         comments: begun.text.comments(),
         rule: begun.rule,
@@ -143,17 +144,20 @@ pub(crate) fn team_of<'a, R, G>(
     }
 }
 
-/// The pattern of the last generation, and what the run ends with.
+/// The pattern of the last generation, whose live cells may have been counted, and what the run
+/// ends with.
 pub(crate) fn finish(
     alloc: Global,
     mut universe: Universe,
+    counted: Option<u128>,
     generation: u64,
 ) -> Result<(Pattern, Summary), Refusal>
+    requires counted { IfSome counted (HasPopulation (live_cells universe)) }
     ensures same { IfOk result (λ ended. IsSame (plane_of ended.0) (live_cells universe)) }
     ensures ok { IfOk result (λ ended. SumsUp generation (plane_of ended.0) ended.1) }
     ensures memory { IsOkUnless result Refusal.NoMemory }
 {
-    let population = universe.population(alloc)?;
+    let population = population_of(alloc, &mut universe, counted)?;
     let last = Pattern::of(universe);
     let bounds = last.bounds(alloc)?;
     let summary = Summary {
@@ -162,4 +166,21 @@ pub(crate) fn finish(
         bounds,
     };
     Ok((last, summary))
+}
+
+// How many cells are live, counted unless that was done.
+fn population_of(
+    alloc: Global,
+    universe: &mut Universe,
+    counted: Option<u128>,
+) -> Result<u128, Refusal>
+    requires counted { IfSome counted (HasPopulation (live_cells universe.old)) }
+    ensures ok { IfOk result (HasPopulation (live_cells universe.old)) }
+    ensures same { IsSame (live_cells universe.new) (live_cells universe.old) }
+    ensures memory { IsOkUnless result Refusal.NoMemory }
+{
+    match counted {
+        Some(population) => Ok(population),
+        None => universe.population(alloc),
+    }
 }

@@ -4,7 +4,7 @@
 
 ghost use Rattle.std.specs.Prelude.{◌≡◌};
 ghost use Rattle.plane.specs.SinkChange.{change_of};
-ghost use Rattle.engine.specs.Devices.{IsDoneWithAll, reading_of};
+ghost use Rattle.plane.specs.SourceChange.{IsDoneWithAll, reading_of};
 ghost use Rattle.example_census.specs.Census.{IsCensusRun};
 
 mod census;

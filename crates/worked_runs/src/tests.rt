@@ -8,7 +8,6 @@ mod full_squares;
 mod full_tables;
 mod last;
 mod macrocell;
-mod many_leaves;
 mod nodes;
 mod pictures;
 mod plans;

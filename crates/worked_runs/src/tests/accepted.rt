@@ -2,7 +2,8 @@
 
 use crate::tests::ended::Ended;
 use crate::tests::rows::{
-    BLINKER, FAR_GLIDER, FAR_REPLICATOR, PLAIN, R_PENTOMINO, RLE, Row, assert_rows, assert_told,
+    BLINKER, COMMENTED_GLIDER, FAR_GLIDER, FAR_REPLICATOR, PLAIN, R_PENTOMINO, RLE, Row,
+    assert_rows, assert_told,
 };
 use engine::{Format, Options};
 use rule_text::Rule;
@@ -18,10 +19,10 @@ pub(crate) const PATTERNS: &[Row] = &[
         ..RLE
     },
     Row {
-        file: "x = 3, y = 3, rule = B3/S23\nb2o$2o$bo!",
+        generations: 0,
         report: "0: 5\n",
         text: "#CXRLE Pos=0,0 Gen=0\nx = 3, y = 3, rule = B3/S23\nb2o$2o$bo!\n",
-        ..RLE
+        ..R_PENTOMINO
     },
     BLINKER,
     Row {
@@ -70,13 +71,7 @@ pub(crate) const PATTERNS: &[Row] = &[
         text: "#CXRLE Pos=0,0 Gen=0\nx = 12, y = 1, rule = B3/S23\n12o!\n",
         ..RLE
     },
-    Row {
-        file: "#N Glider\n#r 23/3\nx = 3, y = 3\nbob$2bo$3o!",
-        generations: 4,
-        report: "0: 5\n4: 5\n",
-        text: "#CXRLE Pos=1,1 Gen=4\n#N Glider\nx = 3, y = 3, rule = B3/S23\nbo$2bo$3o!\n",
-        ..RLE
-    },
+    COMMENTED_GLIDER,
     Row {
         file: "#CXRLE Gen=7\nx = 3, y = 3, rule = B3/S23\nbo$2bo$3o!",
         generations: 10,
@@ -162,52 +157,46 @@ const FLAT: &str = "#CXRLE Pos=0,0 Gen=4\nx = 3, y = 1, rule = B3/S23\n3o!\n";
 
 pub(crate) const STEPS: &[Row] = &[
     Row {
-        file: "x = 3, y = 1\n3o!",
         generations: 5,
         step: 2,
         report: "0: 3\n2: 3\n4: 3\n5: 3\n",
         text: UPRIGHT,
-        ..RLE
+        ..BLINKER
     },
     Row {
-        file: "x = 3, y = 1\n3o!",
         generations: 5,
         step: 5,
         report: "0: 3\n5: 3\n",
         text: UPRIGHT,
-        ..RLE
+        ..BLINKER
     },
     Row {
-        file: "x = 3, y = 1\n3o!",
         generations: 5,
         step: 6,
         report: "0: 3\n5: 3\n",
         text: UPRIGHT,
-        ..RLE
+        ..BLINKER
     },
     Row {
-        file: "x = 3, y = 1\n3o!",
         generations: 5,
         step: u64::MAX,
         report: "0: 3\n5: 3\n",
         text: UPRIGHT,
-        ..RLE
+        ..BLINKER
     },
     Row {
-        file: "x = 3, y = 1\n3o!",
         generations: 4,
         step: 2,
         report: "0: 3\n2: 3\n4: 3\n",
         text: FLAT,
-        ..RLE
+        ..BLINKER
     },
     Row {
-        file: "x = 3, y = 1\n3o!",
         generations: 4,
         step: 1,
         report: "0: 3\n1: 3\n2: 3\n3: 3\n4: 3\n",
         text: FLAT,
-        ..RLE
+        ..BLINKER
     },
     // No cells take no step, so these answer at once.
     Row {
@@ -224,13 +213,12 @@ pub(crate) const STEPS: &[Row] = &[
 pub(crate) const FAR_GLIDERS: &[Row] = &[
     FAR_GLIDER,
     Row {
-        file: "x = 3, y = 3, rule = B3/S23\nbob$2bo$3o!",
         generations: 3 << 39,
         step: 1 << 39,
         report: "0: 5\n549755813888: 5\n1099511627776: 5\n1649267441664: 5\n",
         text: "#CXRLE Pos=412316860416,412316860416 Gen=1649267441664\n\
          x = 3, y = 3, rule = B3/S23\nbo$2bo$3o!\n",
-        ..RLE
+        ..FAR_GLIDER
     },
 ];
 

@@ -12,9 +12,9 @@ use table_core::Shape;
 /// How a run ended, and what it wrote.
 #[derive(Drop)]
 pub(crate) struct Ended {
-    pub outcome: Result<Summary, Fault>,
-    pub report: ShortWrites,
-    pub file: ShortWrites,
+    pub(crate) outcome: Result<Summary, Fault>,
+    pub(crate) report: ShortWrites,
+    pub(crate) file: ShortWrites,
 }
 
 impl Ended {

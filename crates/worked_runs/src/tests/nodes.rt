@@ -7,7 +7,7 @@ use crate::tests::rows::{
 };
 use engine::Options;
 use plane::{Fault, Refusal};
-use sample_patterns::many_leaves;
+use sample_patterns::{leaves_in_a_row, many_leaves};
 use std::alloc::{AllocError, Global};
 use std::process::Abort;
 
@@ -92,31 +92,6 @@ fn two_workers_run_in_few_slots(rt: HostRuntime) -> Result<(), AllocError> {
     assert_rows(&rt, &[row])
 }
 
-// The leaves of the words 1 to 300 side by side: bit j of the word i is the cell (8i + j mod 8, j
-// div 8).
-fn leaves_in_a_row(alloc: Global) -> Result<String, AllocError> {
-    let mut text = String::from_str(alloc, "x = 2408, y = 2\n8b")?;
-    for word in 1..301u32 {
-        push_bits(&mut text, word, 8)?;
-    }
-    text.push_str("$8b")?;
-    for word in 1..301u32 {
-        text.push_str(if word >= 256 { "o7b" } else { "8b" })?;
-    }
-    text.push_str("!")?;
-    Ok(text)
-}
-
-// The cells of so many bits of a word, the lowest first.
-fn push_bits(text: &mut String, word: u32, bits: u8) -> Result<(), AllocError> {
-    let mut rest = word;
-    for _ in 0..bits {
-        text.push_str(if rest % 2 == 1 { "o" } else { "b" })?;
-        rest /= 2;
-    }
-    Ok(())
-}
-
 // There is room for 256 leaves in the fewest slots.
 #[test]
 fn refuses_300_leaves_in_the_fewest_slots(rt: HostRuntime) -> Result<(), AllocError> {
@@ -141,6 +116,16 @@ fn spread_leaves(alloc: Global) -> Result<String, AllocError> {
     }
     text.push_str("!")?;
     Ok(text)
+}
+
+// The cells of so many bits of a word, the lowest first.
+fn push_bits(text: &mut String, word: u32, bits: u8) -> Result<(), AllocError> {
+    let mut rest = word;
+    for _ in 0..bits {
+        text.push_str(if rest % 2 == 1 { "o" } else { "b" })?;
+        rest /= 2;
+    }
+    Ok(())
 }
 
 // A row of cells through the centres of 16 leaves, of the bits of this worth and the next three of
@@ -192,6 +177,17 @@ fn refuses_the_first_generation_of_160_leaves(rt: HostRuntime) -> Result<(), All
             ..few
         };
         assert_reported(&rt, file.as_str(), &many, None, "0: 562\n1: 1736\n")?;
+    }
+    Ok(())
+}
+
+// The words 1 to 65535 have 16 * 2^15 bits, and 65536 has one.
+#[test]
+fn counts_the_cells_of_65536_leaves(rt: HostRuntime) -> Result<(), AllocError> {
+    let file = many_leaves(rt.alloc())?;
+    for workers in [1, 2] {
+        let options = Options { workers, ..PLAIN };
+        assert_reported(&rt, file.as_str(), &options, None, "0: 524289\n")?;
     }
     Ok(())
 }

@@ -4,6 +4,7 @@ use crate::tests::ended::Ended;
 use crate::tests::rows::{PLAIN, assert_told};
 use engine::{Format, Options};
 use plane::{Fault, Refusal, Window};
+use sample_patterns::BLINKER;
 use std::process::Abort;
 use std::sync::Wait;
 use std::test::Fail;
@@ -20,7 +21,7 @@ struct Pictured {
 
 const PICTURES: &[Pictured] = &[
     Pictured {
-        file: "x = 3, y = 1\n3o!",
+        file: BLINKER,
         generations: 1,
         window: (0, -1, 3, 3),
         report: "0: 3\n1: 3\n.*.\n.*.\n.*.\n",

@@ -1,12 +1,10 @@
 //! Which steps a run is planned in, from one line of its report to the next.
 
 use crate::tests::ended::Ended;
-use crate::tests::rows::{PLAIN, assert_told};
+use crate::tests::rows::{FAR_GLIDER, PLAIN, assert_told};
 use engine::Options;
 use hashlife_step::plan;
 use std::test::Fail;
-
-const GLIDER: &str = "x = 3, y = 3, rule = B3/S23\nbob$2bo$3o!";
 
 // Ten generations with a line after each fourth.
 const REPORT: &str = "0: 5\n4: 5\n8: 5\n10: 5\n";
@@ -28,8 +26,8 @@ fn each_stretch_between_two_lines_has_its_own_plan(rt: HostRuntime) -> Result<()
         step: 4,
         ..PLAIN
     };
-    let end = Ended::of(&rt, GLIDER, &options)?;
-    assert_told(&rt, GLIDER, &end, (None, REPORT, ""));
+    let end = Ended::of(&rt, FAR_GLIDER.file, &options)?;
+    assert_told(&rt, FAR_GLIDER.file, &end, (None, REPORT, ""));
     let mut plans = PLANS.iter();
     let mut done = 0u64;
     for line in end.report.text().lines().skip(1) {

@@ -23,16 +23,16 @@ pub(crate) const PLAIN: Options = Options {
 /// A file, what is asked for, whether it is refused and at which place, and what is written.
 #[derive(Clone, Copy)]
 pub(crate) struct Row {
-    pub file: &'static str,
-    pub generations: u64,
-    pub step: u64,
-    pub format: Option<Format>,
-    pub pairs: u32,
-    pub workers: usize,
-    pub refusal: Option<Refusal>,
-    pub place: Option<u64>,
-    pub report: &'static str,
-    pub text: &'static str,
+    pub(crate) file: &'static str,
+    pub(crate) generations: u64,
+    pub(crate) step: u64,
+    pub(crate) format: Option<Format>,
+    pub(crate) pairs: u32,
+    pub(crate) workers: usize,
+    pub(crate) refusal: Option<Refusal>,
+    pub(crate) place: Option<u64>,
+    pub(crate) report: &'static str,
+    pub(crate) text: &'static str,
 }
 
 impl Row {
@@ -76,7 +76,7 @@ pub(crate) const MACROCELL: Row = Row {
 
 /// A short run.
 pub(crate) const BLINKER: Row = Row {
-    file: "x = 3, y = 1\n3o!",
+    file: sample_patterns::BLINKER,
     generations: 1,
     report: "0: 3\n1: 3\n",
     text: "#CXRLE Pos=1,-1 Gen=1\nx = 1, y = 3, rule = B3/S23\no$o$o!\n",
@@ -85,7 +85,7 @@ pub(crate) const BLINKER: Row = Row {
 
 /// A run of several generations.
 pub(crate) const R_PENTOMINO: Row = Row {
-    file: "x = 3, y = 3, rule = B3/S23\nb2o$2o$bo!",
+    file: sample_patterns::R_PENTOMINO,
     generations: 8,
     report: "0: 5\n8: 18\n",
     text: "#CXRLE Pos=-2,-2 Gen=8\nx = 6, y = 6, rule = B3/S23\n\
@@ -101,6 +101,14 @@ pub(crate) const COMMENTED_GLIDER: Row = Row {
     text: "#CXRLE Pos=1,1 Gen=4\n#N Glider\n#C a kept comment\n\
      x = 3, y = 3, rule = B3/S23\nbo$2bo$3o!\n",
     ..RLE
+};
+
+/// The same, written as a macrocell file.
+pub(crate) const COMMENTED_GLIDER_AS_MACROCELL: Row = Row {
+    text: "[M2] (lifebatch 1)\n#R B3/S23\n#G 4\n#N Glider\n#C a kept comment\n\
+     $..*$...*$.***$\n4 0 0 0 1\n",
+    format: Some(Format::Macrocell),
+    ..COMMENTED_GLIDER
 };
 
 /// A macrocell file whose one leaf stands in each quarter.

@@ -15,8 +15,8 @@ pub(crate) struct ShortWrites {
     inner: Memory,
     most: usize,
     failing_call: u64,
-    pub calls: u64,
-    pub failures: u64,
+    pub(crate) calls: u64,
+    pub(crate) failures: u64,
 }
 
 impl ShortWrites {

@@ -8,10 +8,10 @@
 use crate::tests::ended::Ended;
 use crate::tests::nodes::SETTLED;
 use crate::tests::rows::{
-    BLINKER, COMMENTED_GLIDER, FAR_GLIDER, NEAR_REPLICATOR, R_PENTOMINO, Row, SHARED_LEAF,
-    SHARED_LEAF_AGAIN, assert_whole_or_refused,
+    BLINKER, COMMENTED_GLIDER, COMMENTED_GLIDER_AS_MACROCELL, FAR_GLIDER, NEAR_REPLICATOR,
+    R_PENTOMINO, Row, SHARED_LEAF, SHARED_LEAF_AGAIN, assert_whole_or_refused,
 };
-use engine::{Format, Options, load};
+use engine::{Options, load};
 use plane::{Memory, Refusal, Window};
 use std::process::Abort;
 use std::sync::Wait;
@@ -82,13 +82,7 @@ fn refuses_the_last_r_pentomino_for_want_of_memory(rt: HostRuntime) -> Result<()
 
 #[test]
 fn refuses_a_commented_glider_for_want_of_memory(rt: HostRuntime) -> Result<(), Fail> {
-    let as_macrocell = Row {
-        format: Some(Format::Macrocell),
-        text: "[M2] (lifebatch 1)\n#R B3/S23\n#G 4\n#N Glider\n#C a kept comment\n\
-         $..*$...*$.***$\n4 0 0 0 1\n",
-        ..COMMENTED_GLIDER
-    };
-    for row in [COMMENTED_GLIDER, as_macrocell] {
+    for row in [COMMENTED_GLIDER, COMMENTED_GLIDER_AS_MACROCELL] {
         assert_runs_or_refuses(&rt, &row)?;
     }
     Ok(())

@@ -2,7 +2,7 @@ use Rattle.std.proofs.Common.{◌≡◌, Err, subst, sym}
 use Rattle.std.proofs.result.Match.{err_is}
 use Rattle.plane.specs.Fault.{placeless}
 use Rattle.universe.specs.Cells.{live_cells}
-use Rattle.patterns.specs.PatternFile.{meaning_of}
+use Rattle.patterns.specs.Meaning.{meaning_of}
 use Rattle.rule_text.specs.CountRule.{CountRule}
 use Rattle.engine.specs.Accepted.{IsAccepted}
 use Rattle.engine.proofs.Acceptance.{accepted, range_refused, rule_refused, text_refused}

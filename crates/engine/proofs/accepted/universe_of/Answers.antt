@@ -2,7 +2,7 @@ use Rattle.std.proofs.Common.{◌≡◌, Err, rules, refl, inr}
 use Rattle.plane.specs.declared.refusal.Refusal.TheVariants.{TooFar}
 use Rattle.plane.proofs.Same.{same_sym, same_trans}
 use Rattle.universe.specs.Cells.{live_cells}
-use Rattle.patterns.specs.PatternFile.{meaning_of}
+use Rattle.patterns.specs.Meaning.{meaning_of}
 use Rattle.engine.proofs.Acceptance.{bounds_as, has_room, leaves_range}
 use Rattle.engine.proofs.accepted.universe_of.Goals as goal
 

@@ -4,7 +4,7 @@ use Rattle.plane.specs.Fault.{placeless}
 use Rattle.plane.specs.declared.refusal.Refusal.TheVariants.{NoMemory}
 use Rattle.plane.proofs.Same.{same_refl, same_trans}
 use Rattle.engine.specs.Pattern.{plane_of}
-use Rattle.patterns.specs.PatternFile.{meaning_of}
+use Rattle.patterns.specs.Meaning.{meaning_of}
 use Rattle.universe.proofs.Held.{held, short_run}
 use Rattle.universe.specs.Cells.{live_cells, rule_of}
 use Rattle.engine.specs.Room.{IsStuckWithin}

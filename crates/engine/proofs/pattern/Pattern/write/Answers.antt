@@ -1,22 +1,20 @@
-use Rattle.std.proofs.Common.{◌≡◌, ◌⊎◌, Some, subst, rules}
-use Rattle.std.specs.Prelude.{OnOk, IfErr}
-use Rattle.plane.specs.Device.{IsWriteRefusal}
+use Rattle.std.proofs.Common.{◌≡◌, None, Some, refl, subst, rules}
+use Rattle.std.specs.Prelude.{OnOk}
 use Rattle.plane.specs.Plane.{Plane}
-use Rattle.plane.specs.declared.refusal.Refusal.TheVariants.{BoxTooLarge, NoMemory}
-use Rattle.pattern_writers.specs.McReading.{IsReadBackFromMc}
-use Rattle.pattern_writers.specs.McText.{WritesMc}
-use Rattle.pattern_writers.specs.RleReading.{IsReadBackFromRle}
-use Rattle.pattern_writers.specs.RleText.{BeginsRle, IsTooLarge, WritesRle}
-use Rattle.pattern_writers.specs.Taken.{IfTaken}
-use Rattle.engine.proofs.CellsAtRest.{same_cells, shared_cells, shared_known}
-use Rattle.engine.specs.declared.format.Format.TheVariants.{Macrocell, Rle}
+use Rattle.pattern_writers.specs.Reading.{IsReadBackFromMc}
+use Rattle.pattern_writers.specs.Reading.{IsReadBackFromRle}
+use Rattle.pattern_writers.specs.Output.{IfTaken}
+use Rattle.engine.specs.Pattern.{plane_of}
+use Rattle.engine.proofs.CellsAtRest.{pattern_listed, same_cells, shared_cells, shared_known}
+use Rattle.engine.proofs.FileTexts.{mc_refused, mc_written, nothing_written, rle_refused, rle_written}
+use Rattle.engine.specs.declared.options.Format.TheVariants.{Macrocell, Rle}
 use Rattle.engine.proofs.pattern.Pattern.write.Goals as goal
 
 pub returns-in_ok-shared-in-Some-Rle-clause-written : goal.returns-in_ok-shared-in-Some-Rle-clause-written
 returns-in_ok-shared-in-Some-Rle-clause-written g c =
     let asked : c.args.format ≡ Some Rle = search rules in
     let same = shared_cells c.args.self.now.cells c.still-book.result.now c.in_ok-shared-in-Some-Rle.shared c.root-root.result c.in_ok-shared-in-Some-Rle.ensures.ok c.still-book.ensures c.root-root.ensures.root in
-    rw asked (subst (λ (p : Plane). OnOk c.write_rle.result (WritesRle p c.args.heading.comments c.args.heading.rule c.args.heading.generation (g.V.Sink.taken c.args.file.now) (g.V.Sink.taken c.write_rle.new.file))) same c.write_rle.ensures.written)
+    rw asked (rle_written (plane_of c.args.self.now) _ _ _ _ _ _ c.write_rle.result same c.write_rle.ensures.written)
 
 pub returns-in_ok-shared-in-Some-Rle-clause-read_back : goal.returns-in_ok-shared-in-Some-Rle-clause-read_back
 returns-in_ok-shared-in-Some-Rle-clause-read_back g c =
@@ -31,11 +29,7 @@ pub returns-in_ok-shared-in-Some-Rle-clause-refused : goal.returns-in_ok-shared-
 returns-in_ok-shared-in-Some-Rle-clause-refused g c =
     let asked : c.args.format ≡ Some Rle = search rules in
     let same = shared_cells c.args.self.now.cells c.still-book.result.now c.in_ok-shared-in-Some-Rle.shared c.root-root.result c.in_ok-shared-in-Some-Rle.ensures.ok c.still-book.ensures c.root-root.ensures.root in
-    rw asked (subst (λ (p : Plane). IfErr c.write_rle.result (λ refusal.
-    ((refusal ≡ BoxTooLarge) × IsTooLarge p × (c.write_rle.new.file ≡ c.args.file.now))
-    ⊎ ((refusal ≡ NoMemory) × (c.write_rle.new.file ≡ c.args.file.now))
-    ⊎ (IsWriteRefusal (g.V.Sink.failure_count c.args.file.now) (g.V.Sink.failure_count c.write_rle.new.file) refusal
-    × BeginsRle p c.args.heading.comments c.args.heading.rule c.args.heading.generation (g.V.Sink.taken c.args.file.now) (g.V.Sink.taken c.write_rle.new.file)))) same c.write_rle.ensures.refused)
+    rw asked (rle_refused (plane_of c.args.self.now) _ _ _ _ _ g.V.Sink.failure_count _ _ _ c.write_rle.result same c.write_rle.ensures.refused)
 
 pub write_rle-requires-clause-known : goal.write_rle-requires-clause-known
 write_rle-requires-clause-known g c =
@@ -45,10 +39,21 @@ pub returns-in-Some-Macrocell-clause-written : goal.returns-in-Some-Macrocell-cl
 returns-in-Some-Macrocell-clause-written g c =
     let asked : c.args.format ≡ Some Macrocell = search rules in
     let same = same_cells c.args.self.now.cells c.still-book.result.now c.root-root.result c.still-book.ensures c.root-root.ensures.root in
-    rw asked (subst (λ (p : Plane). OnOk c.write_mc.result (WritesMc p c.args.heading.comments c.args.heading.rule c.args.heading.generation (g.V.Sink.taken c.args.file.now) (g.V.Sink.taken c.write_mc.new.file))) same c.write_mc.ensures.written)
+    rw asked (mc_written (plane_of c.args.self.now) _ _ _ _ _ (pattern_listed c.args.self.now) _ c.write_mc.result same c.write_mc.ensures.written)
 
 pub returns-in-Some-Macrocell-clause-read_back : goal.returns-in-Some-Macrocell-clause-read_back
 returns-in-Some-Macrocell-clause-read_back g c =
     let asked : c.args.format ≡ Some Macrocell = search rules in
     let same = same_cells c.args.self.now.cells c.still-book.result.now c.root-root.result c.still-book.ensures c.root-root.ensures.root in
     rw asked (subst (λ (p : Plane). OnOk c.write_mc.result (IfTaken (g.V.Sink.taken c.args.file.now) (g.V.Sink.taken c.write_mc.new.file) (IsReadBackFromMc p c.args.heading.comments c.args.heading.rule c.args.heading.generation))) same c.write_mc.ensures.read_back)
+
+pub returns-in-Some-Macrocell-clause-refused : goal.returns-in-Some-Macrocell-clause-refused
+returns-in-Some-Macrocell-clause-refused g c =
+    let asked : c.args.format ≡ Some Macrocell = search rules in
+    let same = same_cells c.args.self.now.cells c.still-book.result.now c.root-root.result c.still-book.ensures c.root-root.ensures.root in
+    rw asked (mc_refused (plane_of c.args.self.now) _ _ _ _ _ (pattern_listed c.args.self.now) g.V.Sink.failure_count _ _ _ c.write_mc.result same c.write_mc.ensures.refused)
+
+pub returns-in-None-clause-written : goal.returns-in-None-clause-written
+returns-in-None-clause-written g c =
+    let asked : c.args.format ≡ None = search rules in
+    rw asked (nothing_written (plane_of c.args.self.now) _ _ _ _ _ (pattern_listed c.args.self.now) refl)
