@@ -1,21 +1,22 @@
 -- What the words of a command line ask for.
-use Rattle.std.specs.Prelude.{◌≡◌, ℕ, nat_eq, Bool, true, false, if◌then◌else◌, List, [], ◌∷◌, fold, Option, None, Some, IsSome, codes, string_bytes}
+use Rattle.std.specs.Prelude.{◌≡◌, ℕ, nat_eq, Bool, true, false, List, [], ◌∷◌, fold, Option, None, Some, codes, refl, string_bytes}
 use Rattle.std.specs.List.{ends_with}
 use Rattle.std.specs.Option.{option_map}
-use Rattle.clap.specs.Words.{App, Rule, Text, fault_of, new_app, new_rule, with_rule}
+use Rattle.clap.specs.Words.{App, Rule, Text, fault_of, is_simple_and_free, new_app, new_rule, with_rule}
 use Rattle.clap.specs.declared.builder.action.ArgAction.TheVariants.{SetTrue}
-use Rattle.plane.specs.Window.{IsWindow, Rectangle}
-use Rattle.program_parts.specs.Asking.{CommandLine, text_in, value_in}
+use Rattle.clap.proofs.OnLiterals.{clap_on_literals}
+use Rattle.plane.specs.Window.{IsWindow}
+use Rattle.program_parts.specs.CommandLine.{CommandLine}
 use Rattle.program_parts.specs.OptionRules.{file_argument, generation_option, node_option, numeric, rule_option, valued_in_short, window_option, worker_option}
-use Rattle.program_parts.specs.RunWords.{AreFitNumbers, AreUnfitNodes, AskForRun}
+use Rattle.program_parts.specs.RunWords.{AskForRun}
+use Rattle.program_parts.specs.Texts.{text_in, value_in}
 use Rattle.program_parts.specs.Values.{IsNumber}
-use Rattle.program_parts.specs.WindowText.{IsFitWindow, WritesWindow}
-use Rattle.program_parts.specs.declared.misfit.Misfit.{Misfit}
-use Rattle.program_parts.specs.declared.misfit.Misfit.TheVariants.{Ending, Window, Nodes, Other}
-use Rattle.batch_program.specs.declared.request.Asked.{Asked}
+use Rattle.program_parts.specs.WindowText.{IsAskedWindow}
 use Rattle.engine.specs.RunOptions.{run_of}
-use Rattle.engine.specs.declared.format.Format.{Format}
-use Rattle.engine.specs.declared.format.Format.TheVariants.{Rle, Macrocell}
+use Rattle.engine.specs.declared.options.Format.{Format}
+use Rattle.engine.specs.declared.options.Format.TheVariants.{Rle, Macrocell}
+use Rattle.engine.specs.declared.options.Options.{Options}
+use Rattle.batch_program.specs.declared.asking.Asked.{Asked}
 
 -- `-i N`, `--stepsize N`: a number below 2^64, 0 if it is left out
 abbrev pub step_option : Rule
@@ -59,22 +60,16 @@ abbrev pub IsFlag : Option Text → Bool → Type 0
 IsFlag text true = text ≡ Some (codes "true")
 IsFlag text false = text ≡ Some (codes "true") → ⊥
 
--- the format whose files have names like this
-abbrev pub format_named : Text → Option Format
-format_named name =
-    if ends_with nat_eq name (codes ".rle") then Some Rle
-    else (if ends_with nat_eq name (codes ".mc") then Some Macrocell else None)
+-- how the names of files of a format end
+abbrev pub ending : Format → Text
+ending Rle = codes ".rle"
+ending Macrocell = codes ".mc"
 
--- the format of the output, by the ending of its name
+-- the format of the output, if there is one, by the ending of its name
 abbrev pub IsFormat : Option Text → Option Format → Type 0
 IsFormat None format = format ≡ None
-IsFormat (Some name) format = (format_named name ≡ format) × IsSome format
-
--- the window that is asked for, if one is
-abbrev pub IsAskedWindow : Option Text → Option Rectangle → Type 0
-IsAskedWindow None window = window ≡ None
-IsAskedWindow (Some text) window =
-    (given : Rectangle) × WritesWindow 32 text given × IsWindow given × (window ≡ Some given)
+IsFormat (Some name) None = ⊥
+IsFormat (Some name) (Some format) = ends_with nat_eq name (ending format) ≡ true
 
 -- the words are of the form, and ask for this
 pub record AsksFor (words : List Text) (asked : Asked) : Type 0 where
@@ -85,38 +80,29 @@ pub record AsksFor (words : List Text) (asked : Asked) : Type 0 where
   pub output : text_for (codes "output") words ≡ option_map string_bytes asked.output
   pub format : IsFormat (text_for (codes "output") words) asked.options.format
   pub quiet : IsFlag (value_for (codes "quiet") words) asked.options.quiet
-  pub window : IsAskedWindow (text_for (codes "window") words) asked.options.window
+  pub window :
+      IsAskedWindow IsWindow (λ given. given) 32 (text_for (codes "window") words)
+      asked.options.window
 
--- ---- faults of the words
+-- the words ask for a run by these options, of the file and into the output that they name
+abbrev pub AskForOptions : List Text → Options → Type 0
+AskForOptions words options =
+    (asked : Asked) → text_for (codes "file") words ≡ Some (string_bytes asked.file) →
+    text_for (codes "output") words ≡ option_map string_bytes asked.output →
+    AsksFor words (record asked { options = options })
 
--- the words have values that are fit: numbers, of which those of nodes and workers are such, a
--- FILE, a NAME that says its format, if there is one, and a window of four numbers, if there is one
-pub record IsFit (words : List Text) : Type 0 where
-  pub run : AreFitNumbers command_form words
-  pub step : (number : ℕ) × IsNumber (value_for (codes "stepsize") words) number
-  pub file : (name : Text) × (text_for (codes "file") words ≡ Some name)
-  pub format : (format : Option Format) × IsFormat (text_for (codes "output") words) format
-  pub window : IsFitWindow 32 (text_for (codes "window") words)
-
--- this value is not fit
-abbrev pub IsMisfit : List Text → Misfit → Type 0
-IsMisfit words (Ending endings) =
-    (format : Option Format) → IsFormat (text_for (codes "output") words) format → ⊥
-IsMisfit words Window = IsFitWindow 32 (text_for (codes "window") words) → ⊥
-IsMisfit words Nodes = AreUnfitNodes command_form words
-IsMisfit words Other = IsFit words → ⊥
-
--- the text that is given has the numbers of no window
-abbrev pub IsRefusedWindow : Option Text → Type 0
-IsRefusedWindow None = ⊥
-IsRefusedWindow (Some text) =
-    (given : Rectangle) × WritesWindow 32 text given × (IsWindow given → ⊥)
-
--- the form of the words, and the values that are fit
+-- the form of the words, and the values that are fit: a NAME that says its format, if there is one,
+-- a number of generations between two lines, and a window of less than 2^32 columns and rows
 abbrev pub command_line : CommandLine
 command_line = record {
   form = command_form;
-  IsFit = IsFit;
-  IsMisfit = IsMisfit;
-  IsRefusedWindow = IsRefusedWindow;
+  IsFitOutput = λ output. (format : Option Format) × IsFormat output format;
+  AreFitOptions = λ words. (number : ℕ) × IsNumber (value_for (codes "stepsize") words) number;
+  bits = 32;
+  IsWindow = IsWindow;
 }
+
+-- no argument has a rule on another
+pub form_is_free : is_simple_and_free command_form ≡ true
+unfolding clap_on_literals
+form_is_free = refl

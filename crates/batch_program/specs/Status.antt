@@ -9,7 +9,7 @@ use Rattle.engine.specs.declared.options.Options.{Options}
 use Rattle.engine.specs.declared.running.Summary.{Summary}
 use Rattle.program_parts.specs.Behaviour.{Behaviour}
 use Rattle.batch_program.specs.CommandLine.{AsksFor, command_line}
-use Rattle.batch_program.specs.declared.request.Asked.{Asked}
+use Rattle.batch_program.specs.declared.asking.Asked.{Asked}
 
 -- all bytes of the source were run, with this report and this file, and so the run ended; or they
 -- could not be read, and the other two are unchanged

@@ -1,19 +1,21 @@
 //! The form of the command line: its options, and its help.
 
-ghost use Rattle.std.specs.Prelude.{◌≡◌, IfOk};
-ghost use Rattle.clap.specs.Words.{app_of};
+ghost use Rattle.std.specs.Prelude.{IfOk};
 ghost use Rattle.program_parts.specs.OptionRules.{HasRule, HaveRules};
-ghost use Rattle.batch_program.specs.CommandLine.{command_form, command_rules, output_option, quiet_option, step_option};
+ghost use Rattle.batch_program.specs.CommandLine.{command_rules, output_option, quiet_option, step_option};
 
-use crate::names::NAME;
-use clap::{Arg, ArgAction, Command};
+use clap::{Arg, ArgAction};
 use program_parts::{
-    command_with, file_argument, generation_option, node_option, number_option, rule_option,
-    short_option, window_option, worker_option,
+    file_argument, generation_option, node_option, number_option, rule_option, short_option,
+    window_option, worker_option,
 };
 use std::alloc::{AllocError, Global};
 
-const ABOUT: &str = "A command-line HashLife for Golly pattern files.
+/// The name of the program, which begins its messages.
+pub const NAME: &str = "lifebatch";
+
+/// What the help says first.
+pub(crate) const ABOUT: &str = "A command-line HashLife for Golly pattern files.
 
 It reads an RLE or macrocell file and runs it for N generations. It reports the population of the first and the \
 last generation, and of those between if asked. It can draw part of the last generation and write its pattern.";
@@ -21,7 +23,8 @@ last generation, and of those between if asked. It can draw part of the last gen
 const WINDOW: &str =
     "Draw W by H cells from (X,Y) after the report (* live, . dead), as --window=-20,-15,40,30";
 
-const EXAMPLES: &str = "Examples:
+/// What the help says last.
+pub(crate) const EXAMPLES: &str = "Examples:
   lifebatch -m 1103 r-pentomino.rle
       run 1103 generations and report the number of live cells
   lifebatch -m 4 -o later.rle glider.rle
@@ -39,15 +42,8 @@ const EXAMPLES: &str = "Examples:
   lifebatch -m 1073741824 --nodes 67108864 --workers 4 breeder.mc
       run 2^30 generations in larger node tables, with four workers";
 
-/// The form of the words.
-pub(crate) fn command<'a>(alloc: Global) -> Result<Command<'a>, AllocError>
-    ensures { IfOk result (λ command. app_of command ≡ command_form) }
-{
-    command_with(alloc, NAME, ABOUT, options(alloc)?, EXAMPLES)
-}
-
-// The options, and FILE.
-fn options<'a>(alloc: Global) -> Result<Vec<Arg<'a>>, AllocError>
+/// The options, and FILE.
+pub(crate) fn options<'a>(alloc: Global) -> Result<Vec<Arg<'a>>, AllocError>
     ensures { IfOk result (λ options. HaveRules options.items command_rules) }
 {
     Ok(vec![in alloc;

@@ -5,18 +5,14 @@
 mod application;
 mod asking;
 mod command_line;
-mod entry;
-mod names;
-mod request;
 mod window_option;
 
-pub use asking::asked;
+pub use application::{Lifebatch, asked, program};
+pub use asking::Asked;
+pub use command_line::NAME;
 pub use engine::{
     Format, Gate, OpenGate, Options, Summary, every_number_of_workers, load, one_ending,
     one_judgement, run, run_gated,
 };
-pub use entry::{program, start};
-pub use names::NAME;
 pub use pattern_writers::{distinct_texts, same_text};
 pub use program_parts::WordsFault;
-pub use request::Asked;

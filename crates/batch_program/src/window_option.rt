@@ -3,8 +3,7 @@
 ghost use Rattle.std.specs.Prelude.{◌≡◌, ◌↔◌, ◌<◌, ◌^◌, IfOk, IfErr, IsTrue};
 ghost use Rattle.std.specs.Option.{option_copied};
 ghost use Rattle.plane.specs.Window.{IsWindow};
-ghost use Rattle.program_parts.specs.WindowText.{IsFitWindow, rectangle_of};
-ghost use Rattle.batch_program.specs.Windows.{AreNarrow, HasNoWindow, IsWindowOf};
+ghost use Rattle.program_parts.specs.WindowText.{AreNumbersOf, HasNoWindow, IsFitWindow, IsWindowOf, rectangle_of};
 
 use plane::{Refusal, Window};
 use program_parts::{Misfit, WindowNumbers, WordsReason, window_numbers};
@@ -12,7 +11,7 @@ use program_parts::{Misfit, WindowNumbers, WordsReason, window_numbers};
 /// The numbers of the window that is asked for, if one is. `Unfit` with `Window` where the text is
 /// not four numbers, or those of columns and rows have more than 32 bits.
 pub(crate) fn narrow_numbers(text: Option<&str>) -> Result<Option<WindowNumbers>, WordsReason>
-    ensures ok { IfOk result (AreNarrow (option_copied text.entry)) }
+    ensures ok { IfOk result (AreNumbersOf 32 (option_copied text.entry)) }
     ensures err { IfErr result (λ fault.
         (fault ≡ WordsReason.Unfit Misfit.Window) × ¬ IsFitWindow 32 (option_copied text.entry)) }
 {
@@ -31,9 +30,9 @@ fn is_narrow(numbers: WindowNumbers) -> bool
 
 /// The window that has these numbers, if one is asked for.
 pub(crate) fn window_asked(numbers: Option<WindowNumbers>) -> Result<Option<Window>, Refusal>
-    ensures ok { IfOk result (IsWindowOf numbers) }
+    ensures ok { IfOk result (IsWindowOf IsWindow (λ window. window) numbers) }
     ensures err { IfErr result (λ refusal.
-        (refusal ≡ Refusal.WindowTooLarge) × HasNoWindow numbers) }
+        (refusal ≡ Refusal.WindowTooLarge) × HasNoWindow IsWindow numbers) }
 {
     match numbers {
         Some(numbers) => Ok(Some(window_of(numbers)?)),

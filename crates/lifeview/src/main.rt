@@ -1,13 +1,14 @@
-//! The program `lifeview`: it hands standard output and standard error to [`view_program::start`],
-//! and ends with the status that this answers.
+//! The program `lifeview`: it hands standard output and standard error to
+//! [`program_parts::start`], and ends with the status that this answers.
 #![tactic(auto)]
 
 use plane::Counted;
+use program_parts::start;
 use std::process::ExitCode;
-use view_program::start;
+use view_program::Lifeview;
 
 fn main(rt: HostRuntime) -> ExitCode {
     let mut out = Counted::new(rt.stdout());
     let mut err = Counted::new(rt.stderr());
-    ExitCode::from(start(&rt, &mut out, &mut err))
+    ExitCode::from(start::<Lifeview, _, _, _>(&rt, &mut out, &mut err))
 }

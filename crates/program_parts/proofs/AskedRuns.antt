@@ -6,25 +6,25 @@ use Rattle.rule_text.specs.CountRule.{CountRule}
 use Rattle.plane.specs.declared.refusal.Refusal.{Refusal}
 use Rattle.plane.specs.declared.refusal.Refusal.TheVariants.{WindowTooLarge}
 use Rattle.run_options.specs.declared.options.RunOptions.{RunOptions}
-use Rattle.program_parts.specs.Asking.{AreMatchesIn, CommandLine, IsReasonOf}
-use Rattle.program_parts.specs.RunWords.{AreFitNumbers, AreUnfitNodes, AskForRun, GiveNumbers, IsUnfitNumber}
+use Rattle.program_parts.specs.Asking.{IsReasonOf}
+use Rattle.program_parts.specs.CommandLine.{CommandLine, IsFit}
+use Rattle.program_parts.specs.RunWords.{AskForRun, GiveNumbers, IsUnfitNumber}
+use Rattle.program_parts.specs.Texts.{AreMatchesIn}
 use Rattle.program_parts.specs.Values.{IsAskedRule, IsRefusedRule}
-use Rattle.program_parts.specs.declared.misfit.Misfit.TheVariants.{Nodes, Other}
+use Rattle.program_parts.specs.WindowText.{IsRefusedWindow}
 use Rattle.program_parts.specs.declared.reason.WordsReason.{WordsReason}
 use Rattle.program_parts.specs.declared.reason.WordsReason.TheVariants.{Refused}
 use Rattle.program_parts.proofs.AskedWords.{text_by}
 
 -- a number of the run is not fit
-pub unfit_number : (line : CommandLine) (words : List Text) (reason : WordsReason) → fault_of line.form words ≡ [] →
-    (AreUnfitNodes line.form words → line.IsMisfit words Nodes) → ((line.IsFit words → ⊥) → line.IsMisfit words Other) → (line.IsFit words → AreFitNumbers line.form words) →
-    IsUnfitNumber line.form words reason → IsReasonOf line words reason
-unfit_number line words reason form nodes other fit_numbers (inl (is, unfit)) = subst (IsReasonOf line words) (sym is) (form, nodes unfit)
-unfit_number line words reason form nodes other fit_numbers (inr (is, unfit)) = subst (IsReasonOf line words) (sym is) (form, other (λ fit. unfit (fit_numbers fit)))
+pub unfit_number : (line : CommandLine) (words : List Text) (reason : WordsReason) → fault_of line.form words ≡ [] → IsUnfitNumber line.form words reason → IsReasonOf line words reason
+unfit_number line words reason form (inl (is, unfit)) = subst (IsReasonOf line words) (sym is) (form, unfit)
+unfit_number line words reason form (inr (is, unfit)) = subst (IsReasonOf line words) (sym is) (form, λ fit. unfit fit.run)
 
 module _ (line : CommandLine) (words : List Text) (matches : ArgMatches) (are : AreMatchesIn line.form words matches) (text : Option Text)
     (given : text ≡ first_value (found_of matches) (codes "rule")) where
   -- the rule that is given is refused, and the values are fit
-  pub refused_by_rule : (refusal : Refusal) → IsRefusedRule text refusal → line.IsFit words → IsReasonOf line words (Refused refusal)
+  pub refused_by_rule : (refusal : Refusal) → IsRefusedRule text refusal → IsFit line words → IsReasonOf line words (Refused refusal)
   refused_by_rule refusal refused fit = inr (inl (record {
     form = are.0;
     fit = fit;
@@ -33,12 +33,12 @@ module _ (line : CommandLine) (words : List Text) (matches : ArgMatches) (are : 
 
   -- the rule that is given is one, the window is refused, and the values are fit
   pub refused_by_window : (rule : Option CountRule) (window : Option Text) (refusal : Refusal) → IsAskedRule text rule → window ≡ first_value (found_of matches) (codes "window") →
-      line.IsRefusedWindow window → refusal ≡ WindowTooLarge → line.IsFit words → IsReasonOf line words (Refused refusal)
+      IsRefusedWindow line.bits line.IsWindow window → refusal ≡ WindowTooLarge → IsFit line words → IsReasonOf line words (Refused refusal)
   refused_by_window rule window refusal asked window_given refused is fit = inr (inr (record {
     form = are.0;
     fit = fit;
     rule = (rule, subst (λ (found : Option Text). IsAskedRule found rule) (given ∙ text_by line.form words matches are (codes "rule")) asked);
-    window = subst line.IsRefusedWindow (window_given ∙ text_by line.form words matches are (codes "window")) refused;
+    window = subst (IsRefusedWindow line.bits line.IsWindow) (window_given ∙ text_by line.form words matches are (codes "window")) refused;
     is = is;
   }))
 

@@ -6,10 +6,12 @@ use Rattle.clap.specs.declared.builder.arg.Arg.{Arg}
 use Rattle.clap.specs.declared.builder.command.Command.{Command}
 use Rattle.clap.specs.declared.error.Error.{Error}
 use Rattle.clap.specs.declared.parser.matches.ArgMatches.{ArgMatches}
-use Rattle.clap.proofs.WalkLemmas.{first_value-rows, one_text-rows}
-use Rattle.program_parts.specs.Asking.{AreMatchesIn, CommandLine, IsReasonOf, text_in, value_in}
+use Rattle.clap.proofs.WalkLemmas.{both, first_value-rows, one_text-rows}
+use Rattle.program_parts.specs.Asking.{IsReasonOf}
+use Rattle.program_parts.specs.CommandLine.{CommandLine}
 use Rattle.program_parts.specs.Faults.{IsToldAs}
 use Rattle.program_parts.specs.OptionRules.{HaveRules}
+use Rattle.program_parts.specs.Texts.{AreMatchesIn, text_in, value_in}
 use Rattle.program_parts.specs.declared.reason.WordsReason.{WordsReason}
 use Rattle.program_parts.specs.declared.reason.WordsReason.TheVariants.{Clap, Unfit, Refused}
 
@@ -37,11 +39,11 @@ told_by line words error (Err (Unfit misfit)) has told = absurd told
 told_by line words error (Err (Refused refusal)) has (memory, kind) = inl memory
 
 -- clap's matches are those of the form
-pub matches_by : (form app : App) (words : List Text) (matches : ArgMatches) → is_simple form ≡ true → is_simple_and_free form ≡ true → app ≡ form → HasMatchesOf app words matches →
+pub matches_by : (form app : App) (words : List Text) (matches : ArgMatches) → is_simple_and_free form ≡ true → app ≡ form → HasMatchesOf app words matches →
     (is_simple_and_free app ≡ true → FailsBy (fault_of app words) (Ok matches)) → AreMatchesIn form words matches
-matches_by form app words matches simple free is has fails = (
+matches_by form app words matches free is has fails = (
   fails_by form app words (Ok matches) free is fails,
-  (has (ap is_simple is ∙ simple)).0 ∙ ap (λ a. matches_of a words) is,
+  (has (ap is_simple is ∙ (both _ _ free).0)).0 ∙ ap (λ a. matches_of a words) is,
 )
 
 module _ (form : App) (words : List Text) (matches : ArgMatches) (are : AreMatchesIn form words matches) where

@@ -1,11 +1,12 @@
 -- The text of a window is cut at its commas into its four numerals.
-use Rattle.std.proofs.Common.{◌≡◌, ◌≢◌, ℕ, zero, suc, ◌<◌, ◌^◌, ℤ, FitsSigned, w64, List, [], ◌∷◌, ◌++◌, length, get_or, ◌==◌, cond, drop, Bool, true, false, Bor, None, Some, Result, Ok, Err, codes, refl, sym, ◌∙◌, append_assoc, subst, ap, arith, to_z, of_z, to_z-of_z}
+use Rattle.std.proofs.Common.{◌≡◌, ◌≢◌, ℕ, zero, suc, ◌<◌, ◌^◌, ℤ, FitsSigned, w64, List, [], ◌∷◌, ◌++◌, length, get_or, ◌==◌, cond, drop, Bool, true, false, Bor, Option, None, Some, Result, Ok, Err, codes, refl, sym, ◌∙◌, append_assoc, subst, ap, arith, to_z, of_z, to_z-of_z}
 use Rattle.std.specs.Result.{result_ok}
 use Rattle.std.specs.Char.{digit_value}
 use Rattle.std.specs.Str.Parse.{AllDigits, IsNumeral, ParsesSigned, ParsesUnsigned, digits_value, signed_digits_value, without_leading_plus, without_leading_sign}
 use Rattle.std.proofs.lemmas.Str.Pattern.{IsSplitOnceResult, split_after, split_parts}
 use Rattle.plane.specs.Window.{Rectangle}
-use Rattle.program_parts.specs.WindowText.{IsSigned, IsUnsigned, WritesWindow}
+use Rattle.program_parts.specs.WindowText.{AreNumbersOf, HasNoWindow, IsAskedWindow, IsFitWindow, IsRefusedWindow, IsSigned, IsUnsigned, IsWindowOf, WritesWindow, rectangle_of}
+use Rattle.program_parts.specs.declared.window_text.WindowNumbers.{WindowNumbers}
 
 -- ---- numerals have no comma
 
@@ -167,3 +168,21 @@ same_window text one other writes also =
   where
     same_sides : (one other : Rectangle) → one.x ≡ other.x → one.y ≡ other.y → one.width ≡ other.width → one.height ≡ other.height → one ≡ other
     same_sides one other x y width height = rw (x, y, width, height) refl
+
+-- ---- windows of a text and of its numbers
+
+module _ (bits : ℕ) where
+  pub fit_window : (text : Option (List ℕ)) (numbers : Option WindowNumbers) → AreNumbersOf bits text numbers → IsFitWindow bits text
+  fit_window None numbers are = tt
+  fit_window (Some text) numbers (given, writes, is) = (rectangle_of given, writes)
+
+  module _ (IsWindow : Rectangle → Type 0) where
+    pub asked_window : {W : Type 0} (window_of : Rectangle → W) (text : Option (List ℕ)) (numbers : Option WindowNumbers) (window : Option W) →
+        AreNumbersOf bits text numbers → IsWindowOf IsWindow window_of numbers window → IsAskedWindow IsWindow window_of bits text window
+    asked_window window_of None numbers window none is = subst (λ n. IsWindowOf IsWindow window_of n window) none is
+    asked_window window_of (Some text) numbers window (given, writes, given_is) is =
+        let one = subst (λ n. IsWindowOf IsWindow window_of n window) given_is is in (rectangle_of given, writes, one.0, one.1)
+
+    pub refused_window : (text : Option (List ℕ)) (numbers : Option WindowNumbers) → AreNumbersOf bits text numbers → HasNoWindow IsWindow numbers → IsRefusedWindow bits IsWindow text
+    refused_window None numbers none unseen = subst (HasNoWindow IsWindow) none unseen
+    refused_window (Some text) numbers (given, writes, given_is) unseen = (rectangle_of given, writes, subst (HasNoWindow IsWindow) given_is unseen)

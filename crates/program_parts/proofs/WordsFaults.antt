@@ -8,27 +8,36 @@ use Rattle.plane.specs.SinkChange.{SinkChange, Fails, Takes}
 use Rattle.plane.specs.declared.fault.Fault.{Fault}
 use Rattle.plane.specs.declared.refusal.Refusal.{Refusal as Name}
 use Rattle.plane.specs.declared.refusal.Refusal.TheVariants.{NoMemory, WriteFailed}
-use Rattle.program_parts.specs.Asking.{AsksForHelp, AsksForNothing, CommandLine, IsFaultOf, IsReasonOf, Refuses}
+use Rattle.program_parts.specs.Asking.{AsksForHelp, AsksForNothing, IsFaultOf, IsReasonOf, Refuses}
 use Rattle.program_parts.specs.Behaviour.{Behaviour, IsDone, IsStop}
+use Rattle.program_parts.specs.CommandLine.{CommandLine, IsFit, IsMisfit}
 use Rattle.program_parts.specs.Faults.{IsBad, IsHelp, IsStopOf, fault_by}
-use Rattle.program_parts.specs.declared.misfit.Misfit.{Misfit}
+use Rattle.program_parts.specs.declared.reason.Misfit.{Misfit}
+use Rattle.program_parts.specs.declared.reason.Misfit.TheVariants.{Ending, Window, Nodes, Other}
 use Rattle.program_parts.specs.declared.stops.Stop.{Stop}
 use Rattle.program_parts.specs.declared.stops.Stop.TheVariants as stop
 use Rattle.program_parts.specs.declared.reason.WordsReason.{WordsReason}
 use Rattle.program_parts.specs.declared.reason.WordsReason.TheVariants.{Clap, Unfit, Refused}
 
+-- with a value that is not fit, not all are fit
+unfit : (line : CommandLine) (words : List Text) (misfit : Misfit) → IsMisfit line words misfit → IsFit line words → ⊥
+unfit line words (Ending endings) is fit = is fit.output
+unfit line words Window is fit = is fit.window
+unfit line words Nodes is fit = is fit.run.0.pairs fit.run.1.pairs
+unfit line words Other is fit = is fit
+
 module _ (line : CommandLine) (words : List Text) where
   -- why words ask for no run, without the value that is not fit
-  pub fault_of_reason : (reason : WordsReason) → ((misfit : Misfit) → line.IsMisfit words misfit → line.IsFit words → ⊥) → IsReasonOf line words reason → IsFaultOf line words (fault_by reason)
-  fault_of_reason (Clap error) unfit among = among
-  fault_of_reason (Unfit misfit) unfit (is, why) = (is, (misfit, why), unfit misfit why)
-  fault_of_reason (Refused refusal) unfit refuses = refuses
+  pub fault_of_reason : (reason : WordsReason) → IsReasonOf line words reason → IsFaultOf line words (fault_by reason)
+  fault_of_reason (Clap error) among = among
+  fault_of_reason (Unfit misfit) (is, why) = (is, (misfit, why), unfit line words misfit why)
+  fault_of_reason (Refused refusal) refuses = refuses
 
   -- words with a reason that is bad ask for nothing
-  bad_words : (reason : WordsReason) → ((misfit : Misfit) → line.IsMisfit words misfit → line.IsFit words → ⊥) → IsReasonOf line words reason → IsBad reason → AsksForNothing line words
-  bad_words (Clap error) unfit among other = inl (_, among, other)
-  bad_words (Unfit misfit) unfit (is, why) bad = inr (is, unfit misfit why)
-  bad_words (Refused refusal) unfit refuses bad = absurd bad
+  bad_words : (reason : WordsReason) → IsReasonOf line words reason → IsBad reason → AsksForNothing line words
+  bad_words (Clap error) among other = inl (_, among, other)
+  bad_words (Unfit misfit) (is, why) bad = inr (is, unfit line words misfit why)
+  bad_words (Refused refusal) refuses bad = absurd bad
 
   -- words whose reason is a request for the help ask for it
   help_words : (reason : WordsReason) → IsReasonOf line words reason → IsHelp reason → AsksForHelp line words
@@ -44,9 +53,9 @@ module _ (line : CommandLine) (words : List Text) where
   refused_words reason out told is (inr (inr (help, told_is, failed))) = inr (help_words reason is help, told_is, failed)
 
 module _ {Asked O : Type 0} (behaviour : Behaviour Asked) (words : List Text) (reason : WordsReason) (is : IsReasonOf behaviour.line words reason) (out : SinkChange O) where
-  stop_of_words : (why : Stop) → ((misfit : Misfit) → behaviour.line.IsMisfit words misfit → behaviour.line.IsFit words → ⊥) → IsStopOf reason out why → IsStop behaviour words out why
-  stop_of_words (stop.BadWords told) unfit (told_is, bad, same) = (bad_words behaviour.line words reason unfit is bad, same)
-  stop_of_words (stop.Refused told) unfit stops = inr (refused_words behaviour.line words reason out told is stops)
+  stop_of_words : (why : Stop) → IsStopOf reason out why → IsStop behaviour words out why
+  stop_of_words (stop.BadWords told) (told_is, bad, same) = (bad_words behaviour.line words reason is bad, same)
+  stop_of_words (stop.Refused told) stops = inr (refused_words behaviour.line words reason out told is stops)
 
   module _ {T : Type 0} (ended : Result T Stop) where
     -- where a help was shown, the words ask for it
@@ -54,6 +63,5 @@ module _ {Asked O : Type 0} (behaviour : Behaviour Asked) (words : List Text) (r
     done_by_words = on_ok_weaker ended (λ shown. inl (help_words behaviour.line words reason is shown.0, shown.1))
 
     -- what a reason of the words stops with is why the program stops
-    pub stopped_by_words : ((misfit : Misfit) → behaviour.line.IsMisfit words misfit → behaviour.line.IsFit words → ⊥) →
-        IfErr ended (IsStopOf reason out) → IfErr ended (IsStop behaviour words out)
-    stopped_by_words unfit = IfErr-weaker ended (IsStopOf reason out) (IsStop behaviour words out) (λ why stops. stop_of_words why unfit stops)
+    pub stopped_by_words : IfErr ended (IsStopOf reason out) → IfErr ended (IsStop behaviour words out)
+    stopped_by_words = IfErr-weaker ended (IsStopOf reason out) (IsStop behaviour words out) stop_of_words

@@ -7,7 +7,8 @@ use Rattle.plane.specs.SourceChange.{SourceChange}
 use Rattle.plane.specs.declared.fault.Fault.{Fault}
 use Rattle.plane.specs.declared.refusal.Refusal.{Refusal}
 use Rattle.plane.specs.declared.refusal.Refusal.TheVariants.{WriteFailed}
-use Rattle.program_parts.specs.Asking.{AsksForHelp, AsksForNothing, CommandLine, Refuses}
+use Rattle.program_parts.specs.Asking.{AsksForHelp, AsksForNothing, Refuses}
+use Rattle.program_parts.specs.CommandLine.{CommandLine}
 use Rattle.program_parts.specs.Files.{InputState, IsUnread, IsUnwritten, OutputState, reading, writing}
 use Rattle.program_parts.specs.Messages.{HasNoWords, HasToldEnd, status_of}
 use Rattle.program_parts.specs.declared.stops.Stop.{Stop}

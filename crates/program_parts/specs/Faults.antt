@@ -11,8 +11,8 @@ use Rattle.program_parts.specs.declared.stops.Stop.{Stop}
 use Rattle.program_parts.specs.declared.stops.Stop.TheVariants as stop
 use Rattle.program_parts.specs.declared.reason.WordsReason.{WordsReason}
 use Rattle.program_parts.specs.declared.reason.WordsReason.TheVariants.{Clap, Unfit, Refused}
-use Rattle.program_parts.specs.declared.words.WordsFault.{WordsFault}
-use Rattle.program_parts.specs.declared.words.WordsFault.TheVariants as fault
+use Rattle.program_parts.specs.declared.reason.WordsFault.{WordsFault}
+use Rattle.program_parts.specs.declared.reason.WordsFault.TheVariants as fault
 
 -- the fault of the words, which doesn't say which value is not fit
 abbrev pub fault_by : WordsReason → WordsFault

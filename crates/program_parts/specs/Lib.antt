@@ -1,9 +1,11 @@
 pub mod Asking
 pub mod Behaviour
+pub mod CommandLine
 pub mod Faults
 pub mod Files
 pub mod Messages
 pub mod OptionRules
 pub mod RunWords
+pub mod Texts
 pub mod Values
 pub mod WindowText

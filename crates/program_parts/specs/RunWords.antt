@@ -3,9 +3,9 @@
 use Rattle.std.specs.Prelude.{◌≡◌, ◌⊎◌, ℕ, List, codes}
 use Rattle.clap.specs.Words.{App, Text}
 use Rattle.run_options.specs.declared.options.RunOptions.{RunOptions}
-use Rattle.program_parts.specs.Asking.{text_in, value_in}
+use Rattle.program_parts.specs.Texts.{text_in, value_in}
 use Rattle.program_parts.specs.Values.{IsAskedRule, IsNumber, IsPairNumber, IsWorkerNumber}
-use Rattle.program_parts.specs.declared.misfit.Misfit.TheVariants.{Nodes, Other}
+use Rattle.program_parts.specs.declared.reason.Misfit.TheVariants.{Nodes, Other}
 use Rattle.program_parts.specs.declared.reason.WordsReason.{WordsReason}
 use Rattle.program_parts.specs.declared.reason.WordsReason.TheVariants.{Unfit}
 

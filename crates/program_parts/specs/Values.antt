@@ -9,7 +9,7 @@ use Rattle.plane.specs.declared.refusal.Refusal.{Refusal}
 use Rattle.run_options.specs.Workers.{IsWorkerCount}
 use Rattle.table_core.specs.Sizes.{IsPairCount}
 use Rattle.program_parts.specs.WindowText.{IsUnsigned}
-use Rattle.program_parts.specs.declared.misfit.Misfit.{Misfit}
+use Rattle.program_parts.specs.declared.reason.Misfit.{Misfit}
 use Rattle.program_parts.specs.declared.reason.WordsReason.{WordsReason}
 use Rattle.program_parts.specs.declared.reason.WordsReason.TheVariants.{Unfit}
 

@@ -39,12 +39,39 @@ rectangle_of numbers = record {
 }
 
 -- these are the numbers of the text, if there is one
-abbrev pub AreNumbersOf : Option (List ℕ) → Option WindowNumbers → Type 0
-AreNumbersOf None numbers = numbers ≡ None
-AreNumbersOf (Some text) numbers =
-    (given : WindowNumbers) × WritesWindow 64 text (rectangle_of given) × (numbers ≡ Some given)
+abbrev pub AreNumbersOf : ℕ → Option (List ℕ) → Option WindowNumbers → Type 0
+AreNumbersOf bits None numbers = numbers ≡ None
+AreNumbersOf bits (Some text) numbers =
+    (given : WindowNumbers) × WritesWindow bits text (rectangle_of given) × (numbers ≡ Some given)
 
 -- the text of a window, if there is one, is four numbers, those of columns and rows below 2^bits
 abbrev pub IsFitWindow : ℕ → Option (List ℕ) → Type 0
 IsFitWindow bits None = ⊤
 IsFitWindow bits (Some text) = (window : Rectangle) × WritesWindow bits text window
+
+-- ---- windows, by which numbers are those of one
+
+-- the text that is given has the numbers of no window
+abbrev pub IsRefusedWindow : ℕ → (Rectangle → Type 0) → Option (List ℕ) → Type 0
+IsRefusedWindow bits IsWindow None = ⊥
+IsRefusedWindow bits IsWindow (Some text) =
+    (given : Rectangle) × WritesWindow bits text given × (IsWindow given → ⊥)
+
+-- there are numbers, and no window has them
+abbrev pub HasNoWindow : (Rectangle → Type 0) → Option WindowNumbers → Type 0
+HasNoWindow IsWindow None = ⊥
+HasNoWindow IsWindow (Some numbers) = IsWindow (rectangle_of numbers) → ⊥
+
+module _ {W : Type 0} (IsWindow : Rectangle → Type 0) (window_of : Rectangle → W) where
+  -- the window that the text asks for, if there is one
+  abbrev pub IsAskedWindow : ℕ → Option (List ℕ) → Option W → Type 0
+  IsAskedWindow bits None window = window ≡ None
+  IsAskedWindow bits (Some text) window =
+      (given : Rectangle) × WritesWindow bits text given × IsWindow given
+      × (window ≡ Some (window_of given))
+
+  -- the window has these numbers, if there are any
+  abbrev pub IsWindowOf : Option WindowNumbers → Option W → Type 0
+  IsWindowOf None window = window ≡ None
+  IsWindowOf (Some numbers) window =
+      IsWindow (rectangle_of numbers) × (window ≡ Some (window_of (rectangle_of numbers)))

@@ -3,13 +3,13 @@
 ghost use Rattle.std.specs.Option.{option_copied};
 ghost use Rattle.std.specs.Prelude.{◌≡◌, ◌≤◌, ◌⊎◌, ℕ, List, length, true, Err, IfErr, IfOk};
 ghost use Rattle.std.specs.Thread.{IsSync};
-ghost use Rattle.clap.specs.Words.{Text, app_of, is_simple, is_simple_and_free};
+ghost use Rattle.clap.specs.Words.{Text, app_of, is_simple_and_free};
 ghost use Rattle.plane.specs.Fault.{placeless};
 ghost use Rattle.plane.specs.SinkChange.{change_of};
 ghost use Rattle.plane.specs.SourceChange.{reading_of};
-ghost use Rattle.program_parts.specs.Asking.{AreMatchesIn, IsReasonOf};
+ghost use Rattle.program_parts.specs.Asking.{IsReasonOf};
 ghost use Rattle.program_parts.specs.Behaviour.{Behaviour};
-ghost use Rattle.program_parts.specs.declared.misfit.Misfit.{Misfit};
+ghost use Rattle.program_parts.specs.Texts.{AreMatchesIn};
 
 use crate::reason::WordsReason;
 use clap::{ArgMatches, Command};
@@ -71,10 +71,6 @@ pub trait Application {
         ensures unfailed { (result ≡ Err (placeless Refusal.WriteFailed))
             ⊎ (O.failure_count out.new ≡ O.failure_count out.old) };
 
-    ghost form_is_simple: { is_simple behaviour.line.form ≡ true };
-
+    // No argument of the form has a rule on another.
     ghost form_is_free: { is_simple_and_free behaviour.line.form ≡ true };
-
-    ghost unfit: { (words : List Text) (misfit : Misfit) →
-        behaviour.line.IsMisfit words misfit → behaviour.line.IsFit words → ⊥ };
 }

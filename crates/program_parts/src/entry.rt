@@ -1,25 +1,27 @@
-//! A whole program, over any standard output and standard error.
+//! A whole program, over any standard output and standard error, or on the words that the system
+//! gives.
 
 ghost use Rattle.std.specs.Prelude.{◌≡◌, ◌⊎◌, List, Err, IfOk, OnOk, IfErr};
-ghost use Rattle.std.specs.Thread.{IsSync};
 ghost use Rattle.clap.specs.Words.{Text};
 ghost use Rattle.plane.specs.Fault.{placeless};
 ghost use Rattle.plane.specs.SinkChange.{change_of};
-ghost use Rattle.program_parts.specs.Asking.{IsFaultOf, IsReasonOf, texts_of};
-ghost use Rattle.program_parts.specs.Behaviour.{EndsProgram, IsDone, IsPerformed, IsStop};
+ghost use Rattle.program_parts.specs.Asking.{IsFaultOf, IsReasonOf};
+ghost use Rattle.program_parts.specs.Behaviour.{EndsProgram, IsDone, IsStop, StartsProgram};
+ghost use Rattle.program_parts.specs.Texts.{texts_of};
 ghost use Rattle.program_parts.specs.declared.stops.Stop.TheVariants.{Refused};
 
 use crate::application::Application;
 use crate::input_file::InputFile;
+use crate::messages::tell_no_words;
 use crate::output_file::OutputFile;
-use crate::reason::WordsReason;
+use crate::reason::{WordsFault, WordsReason};
 use crate::stops::{Stop, end_of_words, tell_end};
-use crate::words::WordsFault;
 use plane::{Fault, Refusal, Sink};
-use std::alloc::Global;
-use std::rt::Files;
+use std::alloc::{AllocError, Global};
+use std::rt::{Env, Files};
 use std::sync::Wait;
 use std::thread::Threads;
+use std::{env, io};
 
 /// Reads the words of a command line, the program's name first.
 pub fn asked<'a, A: Application>(
@@ -62,12 +64,13 @@ pub fn program<A: Application, R: Files + Input + Threads + Wait + Sync, O: Sink
         (change_of O.taken O.failure_count out.old out.new)
         (change_of E.taken E.failure_count err.old err.new) result }
 {
-    let ended = perform_words::<A, R, O>(rt, alloc, words, out);
+    let ended = perform::<A, R, O>(rt, alloc, words, out);
     tell_end(alloc, err, A::name(), ended)
 }
 
-// Does what the words ask for. What the program then tells has no part in it.
-fn perform_words<A: Application, R: Files + Input + Threads + Wait + Sync, O: Sink>(
+// Does what the words ask for, with the files that they name. What the program then tells has no
+// part in it.
+fn perform<A: Application, R: Files + Input + Threads + Wait + Sync, O: Sink>(
     rt: &R,
     alloc: Global,
     words: &[&str],
@@ -80,27 +83,45 @@ fn perform_words<A: Application, R: Files + Input + Threads + Wait + Sync, O: Si
     ensures unfailed { (result ≡ Err (Refused (placeless Refusal.WriteFailed)))
         ⊎ (O.failure_count out.new ≡ O.failure_count out.old) }
 {
-    match read_words::<A>(alloc, words) {
-        Ok(asked) => Ok(perform::<A, R, O>(rt, alloc, &asked, out)?),
-        Err(reason) => end_of_words(alloc, reason, out),
+    let asked = match read_words::<A>(alloc, words) {
+        Ok(asked) => asked,
+        Err(reason) => return end_of_words(alloc, reason, out),
+    };
+    let mut source = InputFile::open(rt, A::input(&asked));
+    let mut file = OutputFile::new(rt, A::output(&asked));
+    A::perform(rt, alloc, &asked, &mut source, out, &mut file)?;
+    Ok(())
+}
+
+/// Runs a program on the words that the system gives it (no clause says that they are these: the
+/// kit's `Env` says nothing of them), and answers its exit status: that of [`program`], or that of
+/// [`tell_no_words`] where there are none, since one is not UTF-8 or memory ran out.
+pub fn start<
+    A: Application,
+    R: Env + Files + Input + AllocGlobal + Threads + Wait + Sync,
+    O: Sink,
+    E: Sink,
+>(rt: &R, out: &mut O, err: &mut E) -> u8
+    ensures { StartsProgram A.behaviour A.name
+        (change_of O.taken O.failure_count out.old out.new)
+        (change_of E.taken E.failure_count err.old err.new) result }
+{
+    let owned = match system_words(rt) {
+        Ok(words) => words,
+        Err(error) => return tell_no_words(err, A::name(), &error),
+    };
+    match texts(rt.alloc(), owned.as_slice()) {
+        Ok(words) => program::<A, R, O, E>(rt, rt.alloc(), words.as_slice(), out, err),
+        Err(error) => tell_no_words(err, A::name(), &io::Error::from(error)),
     }
 }
 
-// Does what some words ask for, with the files that they name.
-fn perform<A: Application, R: Files + Input + Threads + Wait + Sync, O: Sink>(
-    rt: &R,
-    alloc: Global,
-    asked: &A::Asked,
-    out: &mut O,
-) -> Result<(), Fault>
-    requires sync { IsSync R.row }
-    requires asked { (words : List Text) × A.behaviour.AsksFor words asked.now }
-    ensures performed { (words : List Text) → A.behaviour.AsksFor words asked.now →
-        IsPerformed A.behaviour words (change_of O.taken O.failure_count out.old out.new) result }
-    ensures unfailed { (result ≡ Err (placeless Refusal.WriteFailed))
-        ⊎ (O.failure_count out.new ≡ O.failure_count out.old) }
-{
-    let mut source = InputFile::open(rt, A::input(asked));
-    let mut file = OutputFile::new(rt, A::output(asked));
-    A::perform(rt, alloc, asked, &mut source, out, &mut file)
+// The words that the system gives.
+fn system_words<R: Env + AllocGlobal>(rt: &R) -> io::Result<Vec<String>> {
+    Ok(env::args(rt)?.collect(rt.alloc())?)
+}
+
+// The words as texts.
+fn texts<'a>(alloc: Global, words: &'a [String]) -> Result<Vec<&'a str>, AllocError> {
+    words.iter().map(|word| word.as_str()).collect(alloc)
 }

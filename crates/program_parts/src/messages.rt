@@ -1,16 +1,19 @@
 //! Messages and exit statuses.
 
-ghost use Rattle.std.specs.Prelude.{◌≡◌, ◌≢◌, ◌≤◌, ℕ, List, length, OnOk, IfErr};
+ghost use Rattle.std.specs.Prelude.{◌≡◌, ◌≢◌, ◌≤◌, ◌⊎◌, ℕ, List, length, OnOk, IfErr};
 ghost use Rattle.std.specs.Io.KnownBytes.{Appends};
+ghost use Rattle.std.specs.IoError.{error_kind};
 ghost use Rattle.std.specs.List.{All};
-ghost use Rattle.plane.specs.Device.{IsWriteRefusal, TellsFailure};
-ghost use Rattle.program_parts.specs.Messages.{HasToldBadWords, HasToldFault, fault_line, refused_status};
+ghost use Rattle.plane.specs.Device.{HasFailed, IsWriteRefusal, TellsFailure};
+ghost use Rattle.plane.specs.Fault.{placeless};
+ghost use Rattle.plane.specs.SinkChange.{change_of};
+ghost use Rattle.plane.specs.declared.refusal.Refusal.TheVariants.{NoMemory};
+ghost use Rattle.program_parts.specs.Messages.{HasNoWords, HasToldBadWords, HasToldFault, fault_line, refused_status};
 
 use crate::reason::WordsReason;
-use arrayvec::ArrayString;
-use itoa::Buffer;
-use plane::{Fault, Refusal, Sink, write_all};
+use plane::{Fault, Refusal, Sink, TextLine, write_all};
 use std::alloc::Global;
+use std::io::{self, ErrorKind};
 
 // Room for a program's name of up to 32 bytes, two numbers of up to 40 digits, a name and the words
 // round them.
@@ -29,26 +32,26 @@ pub(crate) fn tell_fault<E: Sink>(
     ensures refused { IfErr result
         (IsWriteRefusal (E.failure_count messages.old) (E.failure_count messages.new)) }
 {
-    write_all(messages, fault_line(program, fault).as_str().as_bytes())
+    fault_line(program, fault).write_to(messages)
 }
 
 // The line that says why a run was refused.
-fn fault_line(program: &str, fault: Fault) -> ArrayString<LINE_ROOM>
+fn fault_line(program: &str, fault: Fault) -> TextLine<LINE_ROOM>
     requires { length program.now ≤ 32 }
-    ensures { result.bytes ≡ fault_line program.now fault }
+    ensures { result ≡ fault_line program.now fault }
 {
-    let mut line = ArrayString::new();
-    line.push_str(program);
-    line.push_str(": ");
-    line.push_str("refused ");
-    line.push_str(Buffer::new().format(fault.refusal.number()));
+    let mut line = TextLine::new();
+    line.push(program);
+    line.push(": ");
+    line.push("refused ");
+    line.push_number(fault.refusal.number());
     if let Some(place) = fault.place {
-        line.push_str(" at ");
-        line.push_str(Buffer::new().format(place));
+        line.push(" at ");
+        line.push_number(place);
     }
-    line.push_str(": ");
-    line.push_str(fault.refusal.name());
-    line.push_str("\n");
+    line.push(": ");
+    line.push(fault.refusal.name());
+    line.push("\n");
     line
 }
 
@@ -118,4 +121,27 @@ fn tell_first_paragraph<E: Sink>(messages: &mut E, text: &str) -> Result<(), Ref
         write_all(messages, line.trim().as_bytes())?;
     }
     Ok(())
+}
+
+/// Says on one line why a program has no words, and answers its exit status: 2 where a word is not
+/// UTF-8, which the error tells by its kind `InvalidData`, else 1, since memory ran out while they
+/// were read. The program's name has at most 32 bytes.
+pub fn tell_no_words<E: Sink>(messages: &mut E, program: &str, error: &io::Error) -> u8
+    requires { length program.now ≤ 32 }
+    ensures no_memory { ¬ (error_kind error.now ≡ ErrorKind.InvalidData) → (result ≡ 1)
+        × (HasFailed (E.failure_count messages.old) (E.failure_count messages.new)
+        ⊎ HasToldFault program.now (placeless NoMemory)
+        (E.taken messages.old) (E.taken messages.new)) }
+    ensures bad_words { error_kind error.now ≡ ErrorKind.InvalidData → (result ≡ 2)
+        × (HasFailed (E.failure_count messages.old) (E.failure_count messages.new)
+        ⊎ HasToldBadWords program.now (E.taken messages.old) (E.taken messages.new)) }
+    ensures told { HasNoWords program.now
+        (change_of E.taken E.failure_count messages.old messages.new) result }
+{
+    if error.kind() == ErrorKind::InvalidData {
+        let _ = tell_reason(messages, program, Some("a word is not UTF-8"));
+        return 2;
+    }
+    let _ = tell_fault(messages, program, Fault::from(Refusal::NoMemory));
+    refused_status(Refusal::NoMemory)
 }

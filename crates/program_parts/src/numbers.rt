@@ -1,16 +1,17 @@
 //! The values of options that several programs have.
 
-ghost use Rattle.std.specs.Prelude.{◌≡◌, codes, string_bytes, IfOk, IfErr};
+ghost use Rattle.std.specs.Prelude.{◌≡◌, List, codes, string_bytes, IfOk, IfErr};
 ghost use Rattle.std.specs.Option.{option_copied, option_map};
-ghost use Rattle.clap.specs.Words.{found_of, one_text};
+ghost use Rattle.clap.specs.Words.{App, Text, found_of, one_text};
+ghost use Rattle.program_parts.specs.RunWords.{GiveNumbers, IsUnfitNumber};
+ghost use Rattle.program_parts.specs.Texts.{AreMatchesIn};
 ghost use Rattle.program_parts.specs.Values.{IsAskedRule, IsNumber, IsPairNumber, IsRefusedRule, IsUnfit, IsWorkerNumber};
 
-use crate::misfit::Misfit;
-use crate::ranges::MOST_WORKERS;
-use crate::reason::WordsReason;
+use crate::reason::{Misfit, WordsReason};
 use clap::ArgMatches;
 use plane::{Refusal, rule_refusal};
 use rule_text::Rule;
+use run_options::{MOST_WORKERS, RunOptions};
 use std::alloc::{AllocError, Global};
 use table_core::Shape;
 
@@ -25,9 +26,9 @@ pub fn number_for(matches: &ArgMatches<'_>, name: &str) -> Result<u64, WordsReas
         .ok_or(WordsReason::Unfit(Misfit::Other))
 }
 
-/// The most pair slots that the tables may have. `Unfit` with `Nodes` if the number is not a power
-/// of two from 2^10 to 2^28.
-pub(crate) fn pairs_asked(matches: &ArgMatches<'_>) -> Result<u32, WordsReason>
+// The most pair slots that the tables may have. `Unfit` with `Nodes` if the number is not a power
+// of two from 2^10 to 2^28.
+fn pairs_asked(matches: &ArgMatches<'_>) -> Result<u32, WordsReason>
     ensures ok { IfOk result (IsPairNumber (one_text (found_of matches.now) (codes "nodes"))) }
     ensures err { IfErr result (IsUnfit Misfit.Nodes
         (IsPairNumber (one_text (found_of matches.now) (codes "nodes")))) }
@@ -41,14 +42,14 @@ pub(crate) fn pairs_asked(matches: &ArgMatches<'_>) -> Result<u32, WordsReason>
     }
 }
 
-/// How many workers run. `Unfit` with `Other` if it is not from 1 to 64.
-pub(crate) fn workers_asked(matches: &ArgMatches<'_>) -> Result<usize, WordsReason>
+// How many workers run. `Unfit` with `Other` if it is not from 1 to 64.
+fn workers_asked(matches: &ArgMatches<'_>) -> Result<usize, WordsReason>
     ensures ok { IfOk result (IsWorkerNumber (one_text (found_of matches.now) (codes "workers"))) }
     ensures err { IfErr result (IsUnfit Misfit.Other
         (IsWorkerNumber (one_text (found_of matches.now) (codes "workers")))) }
 {
     let number = number_for(matches, "workers")?;
-    if number == 0 || number > MOST_WORKERS {
+    if number == 0 || number > MOST_WORKERS as u64 {
         return Err(WordsReason::Unfit(Misfit::Other));
     }
     Ok(number as usize)
@@ -76,4 +77,23 @@ pub fn copied(alloc: Global, text: Option<&str>) -> Result<Option<String>, Alloc
         Some(text) => Ok(Some(String::from_str(alloc, text)?)),
         None => Ok(None),
     }
+}
+
+/// The generations, the slots and the workers of the run that words ask for; it has no rule yet.
+/// `Unfit` with `Nodes` or `Other` if one of the numbers is not fit.
+pub fn run_numbers(matches: &ArgMatches<'_>) -> Result<RunOptions, WordsReason>
+    ensures ok { (form : App) (words : List Text) → AreMatchesIn form words matches.now →
+        IfOk result (GiveNumbers form words) }
+    ensures err { (form : App) (words : List Text) → AreMatchesIn form words matches.now →
+        IfErr result (IsUnfitNumber form words) }
+{
+    let gens = number_for(matches, "generation")?;
+    let pairs = pairs_asked(matches)?;
+    let workers = workers_asked(matches)?;
+    Ok(RunOptions {
+        gens,
+        rule: None,
+        pairs,
+        workers,
+    })
 }

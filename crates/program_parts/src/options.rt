@@ -1,11 +1,38 @@
-//! Options that several programs have, and what options are made of.
+//! The form of a command line: options that several programs have, and what options are made of.
 
-ghost use Rattle.program_parts.specs.OptionRules.{HasRule, file_argument, generation_option, node_option, numeric, rule_option, valued, valued_in_short, window_option, worker_option};
+ghost use Rattle.std.specs.Prelude.{◌≡◌, List, fold, IfOk};
+ghost use Rattle.clap.specs.Words.{Rule, app_of, new_app, with_rule};
+ghost use Rattle.program_parts.specs.OptionRules.{HasRule, HaveRules, file_argument, generation_option, node_option, numeric, rule_option, valued, valued_in_short, window_option, worker_option};
 
-use crate::ranges::{FEWEST_SLOTS, MOST_SLOTS, MOST_WORKERS};
 use clap::builder::ValueParser;
-use clap::{Arg, value_parser};
-use std::alloc::Global;
+use clap::{Arg, Command, value_parser};
+use run_options::MOST_WORKERS;
+use std::alloc::{AllocError, Global};
+use table_core::{LARGEST_PAIR_COUNT, SMALLEST_PAIR_COUNT};
+
+/// The fewest slots of the node tables.
+pub(crate) const FEWEST_SLOTS: u64 = SMALLEST_PAIR_COUNT as u64;
+
+/// The most slots of the node tables.
+pub(crate) const MOST_SLOTS: u64 = LARGEST_PAIR_COUNT as u64;
+
+/// The form of the words of a program: its name, what the help says first, its options and
+/// arguments, and what the help says last.
+pub fn command_with<'a>(
+    alloc: Global,
+    name: &'a str,
+    about: &'a str,
+    arguments: Vec<Arg<'a>>,
+    examples: &'a str,
+) -> Result<Command<'a>, AllocError>
+    ensures { (rules : List Rule) → HaveRules arguments.entry.items rules →
+        IfOk result (λ command. app_of command ≡ fold with_rule (new_app name.entry.now) rules) }
+{
+    Command::new(alloc, name)
+        .about(about)
+        .after_help(examples)
+        .args(arguments)
+}
 
 /// `-m N`, `--generation N`: a number below 2^64, 0 if it is left out.
 pub fn generation_option<'a>(alloc: Global) -> Arg<'a>
@@ -58,7 +85,7 @@ pub fn worker_option<'a>(alloc: Global) -> Arg<'a>
     ensures { HasRule result worker_option }
 {
     long_option(alloc, "workers", "N", "Run with N workers, from 1 to 64")
-        .value_parser(ValueParser::Unsigned(1, MOST_WORKERS))
+        .value_parser(ValueParser::Unsigned(1, MOST_WORKERS as u64))
         .default_value("1")
 }
 

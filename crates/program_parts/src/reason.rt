@@ -1,16 +1,48 @@
-//! Why words ask for no run, to the value that is not fit.
+//! Why words ask for no run.
 
 ghost use Rattle.std.specs.Prelude.{◌≡◌};
 ghost use Rattle.plane.specs.declared.refusal.Refusal.TheVariants.{NoMemory};
 ghost use Rattle.program_parts.specs.Faults.{IsToldAs};
 ghost use Rattle.program_parts.specs.declared.reason.WordsReason.TheVariants.{Refused};
 
-use crate::misfit::Misfit;
-use crate::words::WordsFault;
+use crate::options::{FEWEST_SLOTS, MOST_SLOTS};
 use clap::error::ErrorKind;
 use plane::Refusal;
 use std::alloc::AllocError;
-use std::fmt;
+use std::{error, fmt};
+
+/// Which value of a command line is not fit. As text it says what is allowed.
+#[derive(Clone, Copy, Debug, PartialEq, Eq)]
+pub enum Misfit {
+    /// The name of the output has none of these endings, as `.rle or .mc`.
+    Ending(&'static str),
+    /// The window is not four whole numbers.
+    Window,
+    /// The number of slots in the node tables is not a power of two from 1024 to 268435456.
+    Nodes,
+    /// A value is missing, or out of its range.
+    Other,
+}
+
+impl fmt::Display for Misfit {
+    fn fmt<W: fmt::Write>(&self, f: &mut fmt::Formatter<W>) -> fmt::Result {
+        match self {
+            Misfit::Ending(endings) => write!(f, "NAME must end with {endings}"),
+            Misfit::Window => {
+                f.write_str("--window takes four whole numbers X,Y,W,H, as --window=-20,-15,40,30")
+            }
+            Misfit::Nodes => {
+                write!(
+                    f,
+                    "--nodes takes a power of two from {FEWEST_SLOTS} to {MOST_SLOTS}"
+                )
+            }
+            Misfit::Other => f.write_str("a value is missing, or out of its range"),
+        }
+    }
+}
+
+impl error::Error for Misfit {}
 
 /// Why a command line asks for no run. As text it says so to the user.
 #[derive(Debug, Drop)]
@@ -76,3 +108,27 @@ impl From<clap::Error> for WordsReason {
         }
     }
 }
+
+/// Why a command line asks for no run, but for which value is not fit.
+#[derive(Debug, Drop)]
+pub enum WordsFault {
+    /// The arguments have a syntax error, or ask for the help.
+    Clap(clap::Error),
+    /// The arguments have the right form, with a value that is not fit.
+    Unfit,
+    /// Memory ran out while the words were read, or the rule or the window that they give is
+    /// refused.
+    Refused(Refusal),
+}
+
+impl fmt::Display for WordsFault {
+    fn fmt<W: fmt::Write>(&self, f: &mut fmt::Formatter<W>) -> fmt::Result {
+        match self {
+            WordsFault::Clap(error) => write!(f, "{error}"),
+            WordsFault::Unfit => f.write_str("a value is not fit"),
+            WordsFault::Refused(refusal) => write!(f, "{refusal}"),
+        }
+    }
+}
+
+impl error::Error for WordsFault {}

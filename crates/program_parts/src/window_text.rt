@@ -5,8 +5,7 @@ ghost use Rattle.std.specs.Option.{option_copied};
 ghost use Rattle.plane.specs.Window.{Rectangle};
 ghost use Rattle.program_parts.specs.WindowText.{AreNumbersOf, IsFitWindow, WritesWindow};
 
-use crate::misfit::Misfit;
-use crate::reason::WordsReason;
+use crate::reason::{Misfit, WordsReason};
 
 /// The numbers of a window, which may be too large or too far away.
 #[derive(Clone, Copy, Debug, PartialEq, Eq)]
@@ -45,7 +44,7 @@ impl WindowNumbers {
 /// The numbers of the window that is asked for, if one is. `Unfit` with `Window` where the text is
 /// not four numbers.
 pub fn window_numbers(text: Option<&str>) -> Result<Option<WindowNumbers>, WordsReason>
-    ensures ok { IfOk result (AreNumbersOf (option_copied text.entry)) }
+    ensures ok { IfOk result (AreNumbersOf 64 (option_copied text.entry)) }
     ensures err { IfErr result (λ fault.
         (fault ≡ WordsReason.Unfit Misfit.Window) × ¬ IsFitWindow 64 (option_copied text.entry)) }
 {

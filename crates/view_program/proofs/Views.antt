@@ -22,7 +22,7 @@ use Rattle.view_program.specs.Drawn.{IsPictureOf}
 use Rattle.view_program.specs.PictureLine.{picture_line}
 use Rattle.view_program.specs.Shown.{rectangle_shown}
 use Rattle.view_program.specs.View.{IsDrawn, IsView}
-use Rattle.view_program.specs.declared.request.View.{View}
+use Rattle.view_program.specs.declared.asking.View.{View}
 
 -- a view whose run ends so may be refused since memory ran out
 pub out_of_memory : (bytes : List ℕ) (view : View) (plane : Plane) (answer : Summary) → EndsWith bytes view.run plane answer → IsRefused bytes view.run (placeless NoMemory)

@@ -1,20 +1,19 @@
 -- What the words of a command line ask for.
-use Rattle.std.specs.Prelude.{◌≡◌, ℕ, nat_eq, true, List, [], ◌∷◌, fold, Option, None, Some, codes, string_bytes}
+use Rattle.std.specs.Prelude.{◌≡◌, ℕ, nat_eq, true, List, [], ◌∷◌, fold, Option, Some, codes, refl, string_bytes}
 use Rattle.std.specs.List.{ends_with}
-use Rattle.clap.specs.Words.{App, Rule, Text, fault_of, new_app, with_rule}
+use Rattle.clap.specs.Words.{App, Rule, Text, fault_of, is_simple_and_free, new_app, with_rule}
 use Rattle.clap.specs.declared.builder.value_parser.ValueParser.TheVariants as parser
-use Rattle.plane.specs.Window.{Rectangle}
-use Rattle.plane.specs.declared.cell.Bounds.{Bounds}
-use Rattle.engine.specs.Pictures.{IsShown, IsSize}
-use Rattle.program_parts.specs.Asking.{CommandLine, text_in, value_in}
+use Rattle.clap.proofs.OnLiterals.{clap_on_literals}
+use Rattle.engine.specs.Pictures.{IsSize}
+use Rattle.program_parts.specs.CommandLine.{CommandLine}
 use Rattle.program_parts.specs.OptionRules.{file_argument, generation_option, node_option, rule_option, valued, valued_in_short, window_option, worker_option}
-use Rattle.program_parts.specs.RunWords.{AreFitNumbers, AreUnfitNodes, AskForRun}
+use Rattle.program_parts.specs.RunWords.{AskForRun}
+use Rattle.program_parts.specs.Texts.{HasText, text_in, value_in}
 use Rattle.program_parts.specs.Values.{IsNumber}
-use Rattle.program_parts.specs.WindowText.{IsFitWindow, WritesWindow}
-use Rattle.program_parts.specs.declared.misfit.Misfit.{Misfit}
-use Rattle.program_parts.specs.declared.misfit.Misfit.TheVariants.{Ending, Window, Nodes, Other}
-use Rattle.view_program.specs.Shown.{sides_of}
-use Rattle.view_program.specs.declared.request.Asked.{Asked}
+use Rattle.program_parts.specs.WindowText.{IsAskedWindow}
+use Rattle.view_program.specs.Shown.{CanBeShown, sides_of}
+use Rattle.view_program.specs.declared.asking.Asked.{Asked}
+use Rattle.view_program.specs.declared.asking.View.{View}
 
 -- `-o NAME`, `--output NAME`, which has to be there
 abbrev pub output_option : Rule
@@ -56,13 +55,6 @@ IsFitName name = ends_with nat_eq name (codes ".png") ≡ true
 abbrev pub IsSizeNumber : Option Text → ℕ → Type 0
 IsSizeNumber text size = IsNumber text size × IsSize size
 
--- the rectangle that is asked for, if one is
-abbrev pub IsAskedRectangle : Option Text → Option Bounds → Type 0
-IsAskedRectangle None window = window ≡ None
-IsAskedRectangle (Some text) window =
-    (given : Rectangle) × WritesWindow 64 text given × IsShown (sides_of given)
-    × (window ≡ Some (sides_of given))
-
 -- the words are of the form, and ask for this
 pub record AsksFor (words : List Text) (asked : Asked) : Type 0 where
   pub form : fault_of command_form words ≡ []
@@ -70,39 +62,38 @@ pub record AsksFor (words : List Text) (asked : Asked) : Type 0 where
   pub file : text_for (codes "file") words ≡ Some (string_bytes asked.file)
   pub output : text_for (codes "output") words ≡ Some (string_bytes asked.output)
   pub name : IsFitName (string_bytes asked.output)
-  pub window : IsAskedRectangle (text_for (codes "window") words) asked.view.window
+  pub window :
+      IsAskedWindow CanBeShown sides_of 64 (text_for (codes "window") words) asked.view.window
   pub size : IsSizeNumber (value_for (codes "size") words) asked.view.size
 
--- ---- faults of the words
+-- the output is the name of a picture
+abbrev pub IsFitOutput : Option Text → Type 0
+IsFitOutput output = (name : Text) × (output ≡ Some name) × IsFitName name
 
--- the words have values that are fit: numbers, of which those of nodes, workers and size are such,
--- a FILE, a NAME that ends with .png, and a window of four numbers, if there is one
-pub record IsFit (words : List Text) : Type 0 where
-  pub run : AreFitNumbers command_form words
-  pub file : (name : Text) × (text_for (codes "file") words ≡ Some name)
-  pub output : (name : Text) × (text_for (codes "output") words ≡ Some name) × IsFitName name
-  pub window : IsFitWindow 64 (text_for (codes "window") words)
-  pub size : (size : ℕ) × IsSizeNumber (value_for (codes "size") words) size
+-- the words name a file, and a picture whose name is fit
+pub record HasFiles (words : List Text) : Type 0 where
+  pub file : HasText command_form (codes "file") words
+  pub output : IsFitOutput (text_for (codes "output") words)
 
--- this value is not fit
-abbrev pub IsMisfit : List Text → Misfit → Type 0
-IsMisfit words (Ending endings) =
-    (name : Text) → text_for (codes "output") words ≡ Some name → IsFitName name → ⊥
-IsMisfit words Window = IsFitWindow 64 (text_for (codes "window") words) → ⊥
-IsMisfit words Nodes = AreUnfitNodes command_form words
-IsMisfit words Other = IsFit words → ⊥
+-- the words ask for this view, of the file and into the picture that they name
+abbrev pub AskForView : List Text → View → Type 0
+AskForView words view =
+    (asked : Asked) → text_for (codes "file") words ≡ Some (string_bytes asked.file) →
+    text_for (codes "output") words ≡ Some (string_bytes asked.output) →
+    IsFitName (string_bytes asked.output) → AsksFor words (record asked { view = view })
 
--- the text that is given has the numbers of no rectangle that can be shown
-abbrev pub IsRefusedWindow : Option Text → Type 0
-IsRefusedWindow None = ⊥
-IsRefusedWindow (Some text) =
-    (given : Rectangle) × WritesWindow 64 text given × (IsShown (sides_of given) → ⊥)
-
--- the form of the words, and the values that are fit
+-- the form of the words, and the values that are fit: a NAME that ends with .png, the size of a
+-- picture, and a window whose cells can be shown
 abbrev pub command_line : CommandLine
 command_line = record {
   form = command_form;
-  IsFit = IsFit;
-  IsMisfit = IsMisfit;
-  IsRefusedWindow = IsRefusedWindow;
+  IsFitOutput = IsFitOutput;
+  AreFitOptions = λ words. (size : ℕ) × IsSizeNumber (value_for (codes "size") words) size;
+  bits = 64;
+  IsWindow = CanBeShown;
 }
+
+-- no argument has a rule on another
+pub form_is_free : is_simple_and_free command_form ≡ true
+unfolding clap_on_literals
+form_is_free = refl

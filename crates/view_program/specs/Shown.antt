@@ -1,10 +1,8 @@
 -- The rectangle of cells that is shown.
-use Rattle.std.specs.Prelude.{◌≡◌, ℕ, ℤ, pos, ◌+ℤ◌, ◌-ℤ◌, Option, None, Some}
+use Rattle.std.specs.Prelude.{ℕ, ℤ, pos, ◌+ℤ◌, ◌-ℤ◌, Option, None, Some}
 use Rattle.engine.specs.Pictures.{IsShown}
 use Rattle.plane.specs.Window.{Rectangle}
 use Rattle.plane.specs.declared.cell.Bounds.{Bounds}
-use Rattle.program_parts.specs.WindowText.{rectangle_of}
-use Rattle.program_parts.specs.declared.window_text.WindowNumbers.{WindowNumbers}
 
 -- the last of so many coordinates from the first on; where there are none it is the one before the
 -- first
@@ -20,16 +18,9 @@ sides_of rectangle = record {
   bottom = last_of rectangle.y rectangle.height;
 }
 
--- the window has these sides, if there are numbers of one
-abbrev pub IsSidesOf : Option WindowNumbers → Option Bounds → Type 0
-IsSidesOf None window = window ≡ None
-IsSidesOf (Some numbers) window =
-    IsShown (sides_of (rectangle_of numbers)) × (window ≡ Some (sides_of (rectangle_of numbers)))
-
--- there are numbers, and what they say can't be shown
-abbrev pub HasNoSides : Option WindowNumbers → Type 0
-HasNoSides None = ⊥
-HasNoSides (Some numbers) = IsShown (sides_of (rectangle_of numbers)) → ⊥
+-- the cells from the first to the last column and row can be shown
+abbrev pub CanBeShown : Rectangle → Type 0
+CanBeShown rectangle = IsShown (sides_of rectangle)
 
 -- the window, or else the bounding box, or else the cell (0,0)
 abbrev pub rectangle_shown : Option Bounds → Option Bounds → Bounds

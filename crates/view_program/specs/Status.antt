@@ -6,8 +6,8 @@ use Rattle.plane.specs.declared.fault.Fault.{Fault}
 use Rattle.program_parts.specs.Behaviour.{Behaviour}
 use Rattle.view_program.specs.CommandLine.{AsksFor, command_line}
 use Rattle.view_program.specs.View.{IsView}
-use Rattle.view_program.specs.declared.request.Asked.{Asked}
-use Rattle.view_program.specs.declared.request.View.{View}
+use Rattle.view_program.specs.declared.asking.Asked.{Asked}
+use Rattle.view_program.specs.declared.asking.View.{View}
 
 -- all bytes of the source were drawn, with this report and this file, under the picture's name, and
 -- so that ended; or they could not be read, and the other two are unchanged

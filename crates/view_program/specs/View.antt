@@ -13,7 +13,7 @@ use Rattle.png_writer.specs.Picture.{IsPngFile, Picture}
 use Rattle.view_program.specs.Drawn.{IsPictureOf}
 use Rattle.view_program.specs.PictureLine.{picture_line}
 use Rattle.view_program.specs.Shown.{rectangle_shown}
-use Rattle.view_program.specs.declared.request.View.{View}
+use Rattle.view_program.specs.declared.asking.View.{View}
 
 -- a run of these bytes ends with a generation of which this is said, under the name of its picture,
 -- and this is the picture

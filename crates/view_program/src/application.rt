@@ -1,23 +1,29 @@
 //! The program, by its command line and by what it does.
 
 ghost use Rattle.std.specs.Prelude.{codes};
-ghost use Rattle.view_program.specs.FormLaws.{form_is_free, form_is_simple, unfit};
+ghost use Rattle.view_program.specs.CommandLine.{form_is_free};
 ghost use Rattle.view_program.specs.Status.{behaviour};
 
-use crate::asking::asked_by;
-use crate::command_line::command;
+use crate::asking::{Asked, is_fit_name, view_by};
+use crate::command_line::{ABOUT, EXAMPLES, NAME, options};
 use crate::drawing::draw_from;
-use crate::names::NAME;
-use crate::request::Asked;
 use clap::{ArgMatches, Command};
 use plane::{Fault, Sink, Source};
-use program_parts::{Application, WordsReason};
+use program_parts::{Application, Misfit, WordsReason, command_with};
 use std::alloc::{AllocError, Global};
 use std::sync::Wait;
 use std::thread::Threads;
 
-/// The program lifeview.
-pub(crate) struct Lifeview;
+/// The program lifeview, for [`program_parts::program`] and [`program_parts::start`]. It writes two
+/// lines about the picture, or the help, to standard output.
+///
+/// - 0: the picture was written, or help was asked for.
+/// - 1: the run was refused; one line names the refusal and its byte offset.
+/// - 2: usage error; one line says what is wrong.
+/// - 3: the input could not be read, or the lines or the picture could not be written.
+///
+/// The picture's file is created at its first byte, when the whole picture is in memory.
+pub struct Lifeview;
 
 impl Application for Lifeview {
     type Asked = Asked;
@@ -31,11 +37,29 @@ impl Application for Lifeview {
     }
 
     fn command<'a>(alloc: Global) -> Result<Command<'a>, AllocError> {
-        command(alloc)
+        command_with(alloc, NAME, ABOUT, options(alloc)?, EXAMPLES)
     }
 
+    // It answers `Unfit` for a picture whose name does not end with `.png`, for a window that is
+    // not four numbers and for a number of nodes that is not a power of two, then `Refused` with
+    // `BadRule` or `BirthOnZero` for the rule that is given, then `Refused` with `WindowTooLarge`
+    // for a window without cells or with a side beyond 2^62.
     fn asked_by(alloc: Global, matches: &ArgMatches<'_>) -> Result<Asked, WordsReason> {
-        asked_by(alloc, matches)
+        let Some(file) = matches.get_str("file") else {
+            return Err(WordsReason::Unfit(Misfit::Other));
+        };
+        let Some(output) = matches.get_str("output") else {
+            return Err(WordsReason::Unfit(Misfit::Other));
+        };
+        if !is_fit_name(output) {
+            return Err(WordsReason::Unfit(Misfit::Ending(".png")));
+        }
+        let view = view_by(matches)?;
+        Ok(Asked {
+            view,
+            file: String::from_str(alloc, file)?,
+            output: String::from_str(alloc, output)?,
+        })
     }
 
     fn input(asked: &Asked) -> &str {
@@ -59,9 +83,5 @@ impl Application for Lifeview {
         draw_from(rt, alloc, source, &asked.view, name, out, file)
     }
 
-    ghost form_is_simple = { form_is_simple };
-
     ghost form_is_free = { form_is_free };
-
-    ghost unfit = { unfit };
 }

@@ -2,61 +2,49 @@
 
 ghost use Rattle.std.specs.Prelude.{◌↔◌, List, codes, IfOk, IfErr, IsTrue};
 ghost use Rattle.clap.specs.Words.{Text, found_of, one_text};
-ghost use Rattle.program_parts.specs.Asking.{AreMatchesIn, IsFaultOf, IsReasonOf, texts_of};
+ghost use Rattle.program_parts.specs.Asking.{IsReasonOf};
+ghost use Rattle.program_parts.specs.Texts.{AreMatchesIn};
 ghost use Rattle.program_parts.specs.Values.{IsUnfit};
-ghost use Rattle.view_program.specs.Matched.{AskForView, HasFiles};
-ghost use Rattle.view_program.specs.CommandLine.{AsksFor, IsFitName, IsSizeNumber, command_form, command_line};
+ghost use Rattle.view_program.specs.CommandLine.{AskForView, HasFiles, IsFitName, IsSizeNumber, command_form, command_line};
 
-use crate::application::Lifeview;
-use crate::names::ENDING;
-use crate::request::{Asked, LARGEST_SIZE, SMALLEST_SIZE, View};
 use crate::shown::window_asked;
 use clap::ArgMatches;
 use engine::RunOptions;
-use program_parts::{
-    Misfit, WordsFault, WordsReason, number_for, rule_asked, run_numbers, window_numbers,
-};
-use std::alloc::Global;
+use plane::Bounds;
+use png_writer::IMAGE_SIDE_LIMIT;
+use program_parts::{Misfit, WordsReason, number_for, rule_asked, run_numbers, window_numbers};
 
-/// Reads the words of a command line, the program's name first. It answers `Clap` for words that
-/// are not of its form and for a request for help, `Unfit` for a picture whose name does not end
-/// with `.png`, for a window that is not four numbers and for a number of nodes that is not a power
-/// of two, then `Refused` with `BadRule` or `BirthOnZero` for the rule that is given, then
-/// `Refused` with `WindowTooLarge` for a window without cells or with a side beyond 2^62, and
-/// `Refused` with `NoMemory`.
-pub fn asked<'a>(alloc: Global, words: &'a [&'a str]) -> Result<Asked, WordsFault>
-    ensures asks { IfOk result (AsksFor (texts_of words.entry.now)) }
-    ensures faults { IfErr result (IsFaultOf command_line (texts_of words.entry.now)) }
-{
-    program_parts::asked::<Lifeview>(alloc, words)
+/// The least that [`View::size`] may be.
+pub const SMALLEST_SIZE: u32 = 16;
+
+/// The most that [`View::size`] may be.
+pub const LARGEST_SIZE: u32 = IMAGE_SIDE_LIMIT;
+
+/// What is drawn: the last generation of a run.
+#[derive(Clone, Copy, Debug, PartialEq, Eq)]
+pub struct View {
+    /// The run whose last generation it is.
+    pub run: RunOptions,
+    /// The rectangle of cells that is shown, if one is given; its sides lie from -2^62 to 2^62.
+    /// Else it is the bounding box of the live cells, or the cell (0,0) where there are none.
+    pub window: Option<Bounds>,
+    /// The most pixels on a side of the picture, 16 to 4096.
+    pub size: u32,
 }
 
-/// What words ask for, by the matches that clap has found in them.
-pub(crate) fn asked_by(alloc: Global, matches: &ArgMatches<'_>) -> Result<Asked, WordsReason>
-    ensures asks { (words : List Text) → AreMatchesIn command_form words matches.now →
-        IfOk result (AsksFor words) }
-    ensures faults { (words : List Text) → AreMatchesIn command_form words matches.now →
-        IfErr result (IsReasonOf command_line words) }
-{
-    let Some(file) = matches.get_str("file") else {
-        return Err(WordsReason::Unfit(Misfit::Other));
-    };
-    let Some(output) = matches.get_str("output") else {
-        return Err(WordsReason::Unfit(Misfit::Other));
-    };
-    if !is_fit_name(output) {
-        return Err(WordsReason::Unfit(Misfit::Ending(ENDING)));
-    }
-    let view = view_by(matches)?;
-    Ok(Asked {
-        view,
-        file: String::from_str(alloc, file)?,
-        output: String::from_str(alloc, output)?,
-    })
+/// What the words of a command line ask for.
+#[derive(Debug, Drop)]
+pub struct Asked {
+    /// What is drawn.
+    pub view: View,
+    /// The file that is read.
+    pub file: String,
+    /// The picture that is written.
+    pub output: String,
 }
 
-// What is drawn by the words, which name a file, and a picture whose name is fit.
-fn view_by(matches: &ArgMatches<'_>) -> Result<View, WordsReason>
+/// What is drawn by the words, which name a file, and a picture whose name is fit.
+pub(crate) fn view_by(matches: &ArgMatches<'_>) -> Result<View, WordsReason>
     ensures asks { (words : List Text) → AreMatchesIn command_form words matches.now →
         IfOk result (AskForView words) }
     ensures faults { (words : List Text) → AreMatchesIn command_form words matches.now →
@@ -87,8 +75,8 @@ fn size_asked(matches: &ArgMatches<'_>) -> Result<u32, WordsReason>
     }
 }
 
-// Whether a picture may have this name.
-fn is_fit_name(name: &str) -> bool
+/// Whether a picture may have this name.
+pub(crate) fn is_fit_name(name: &str) -> bool
     ensures { IsTrue result ↔ IsFitName name.now }
 {
     name.as_bytes().ends_with(b".png")

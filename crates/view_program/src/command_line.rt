@@ -1,21 +1,23 @@
 //! The form of the command line: its options, and its help.
 
-ghost use Rattle.std.specs.Prelude.{◌≡◌, IfOk};
-ghost use Rattle.clap.specs.Words.{app_of};
+ghost use Rattle.std.specs.Prelude.{IfOk};
 ghost use Rattle.program_parts.specs.OptionRules.{HasRule, HaveRules};
-ghost use Rattle.view_program.specs.CommandLine.{command_form, command_rules, output_option, size_option};
+ghost use Rattle.view_program.specs.CommandLine.{command_rules, output_option, size_option};
 
-use crate::names::NAME;
-use crate::request::{LARGEST_SIZE, SMALLEST_SIZE};
+use crate::asking::{LARGEST_SIZE, SMALLEST_SIZE};
+use clap::Arg;
 use clap::builder::ValueParser;
-use clap::{Arg, Command};
 use program_parts::{
-    command_with, file_argument, generation_option, long_option, node_option, rule_option,
-    short_option, window_option, worker_option,
+    file_argument, generation_option, long_option, node_option, rule_option, short_option,
+    window_option, worker_option,
 };
 use std::alloc::{AllocError, Global};
 
-const ABOUT: &str = "Draws a Golly pattern file after N generations, as a PNG picture.
+/// The name of the program, which begins its messages.
+pub const NAME: &str = "lifeview";
+
+/// What the help says first.
+pub(crate) const ABOUT: &str = "Draws a Golly pattern file after N generations, as a PNG picture.
 
 It reads an RLE or macrocell file, runs it for N generations by HashLife, and draws the last generation: all live cells, \
 or the window that is asked for. Where there is no pixel for each cell, the shade of a pixel says how many cells of a \
@@ -24,7 +26,8 @@ block live.";
 const WINDOW: &str =
     "Show W by H cells from (X,Y), as --window=-20,-15,40,30, and not the bounding box of the live cells";
 
-const EXAMPLES: &str = "Examples:
+/// What the help says last.
+pub(crate) const EXAMPLES: &str = "Examples:
   lifeview -o glider.png glider.rle
       draw a pattern as it is
   lifeview -m 1103 -o settled.png r-pentomino.rle
@@ -34,15 +37,8 @@ const EXAMPLES: &str = "Examples:
   lifeview -m 1073741824 --size 4096 --workers 4 -o large.png breeder.mc
       draw 2^30 generations of a breeder with at most 4096 pixels on a side, with four workers";
 
-/// The form of the words.
-pub(crate) fn command<'a>(alloc: Global) -> Result<Command<'a>, AllocError>
-    ensures { IfOk result (λ command. app_of command ≡ command_form) }
-{
-    command_with(alloc, NAME, ABOUT, options(alloc)?, EXAMPLES)
-}
-
-// The options, and FILE.
-fn options<'a>(alloc: Global) -> Result<Vec<Arg<'a>>, AllocError>
+/// The options, and FILE.
+pub(crate) fn options<'a>(alloc: Global) -> Result<Vec<Arg<'a>>, AllocError>
     ensures { IfOk result (λ options. HaveRules options.items command_rules) }
 {
     Ok(vec![in alloc;

@@ -1,15 +1,15 @@
 //! A run, and the picture of its last generation.
 
 ghost use Rattle.std.specs.Prelude.{◌≡◌, IfSome};
-ghost use Rattle.engine.specs.Devices.{IsDoneWithAll, reading_of};
+ghost use Rattle.plane.specs.SourceChange.{IsDoneWithAll, reading_of};
 ghost use Rattle.engine.specs.Pictures.{IsShown, IsSize};
 ghost use Rattle.engine.specs.RunOptions.{IsPairCount, IsWorkerCount};
 ghost use Rattle.plane.specs.SinkChange.{change_of};
 ghost use Rattle.view_program.specs.View.{IsView};
 
+use crate::asking::View;
 use crate::picture_line::write_picture_line;
 use crate::png_text::png_text;
-use crate::request::View;
 use crate::shown::rectangle_shown;
 use engine::{last_pattern, load, write_summary};
 use plane::{Fault, Sink, Source, write_all};
@@ -47,7 +47,7 @@ pub fn draw<R: Threads + Wait + Sync, W: Sink, V: Sink>(
 {
     let (last, summary) = last_pattern(rt, alloc, bytes, &view.run)?;
     let shown = rectangle_shown(view.window, summary.bounds);
-    let drawing = last.picture(alloc, shown, view.size)?;
+    let drawing = last.draw(alloc, shown, view.size)?;
     let image = Image::zoomed(
         alloc,
         drawing.shades.as_slice(),

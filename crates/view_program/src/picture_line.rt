@@ -6,10 +6,8 @@ ghost use Rattle.plane.specs.Device.{AppendsBeginning, TellsFailure};
 ghost use Rattle.engine.specs.Pictures.{IsScale, IsShown, IsSize, Scale, longer_side};
 ghost use Rattle.view_program.specs.PictureLine.{picture_line, pixel_words, product_words, scale_words};
 
-use arrayvec::ArrayString;
 use engine::Scale;
-use itoa::Buffer;
-use plane::{Bounds, Refusal, Sink, write_all};
+use plane::{Bounds, Refusal, Sink, TextLine, write_all};
 
 // Room for four numbers of up to 40 digits and the words between them.
 const LINE_ROOM: usize = 224;
@@ -34,45 +32,45 @@ pub(crate) fn write_picture_line<W: Sink>(
 {
     let line = scale_words(shown, Scale::of(shown, size));
     write_all(out, name.as_bytes())?;
-    write_all(out, line.as_str().as_bytes())
+    line.write_to(out)
 }
 
 // What stands behind the name of a picture: its size, and what a pixel is.
-fn scale_words(shown: Bounds, scale: Scale) -> ArrayString<LINE_ROOM>
+fn scale_words(shown: Bounds, scale: Scale) -> TextLine<LINE_ROOM>
     requires shown { IsShown shown }
     requires exponent { scale.exponent ≤ 62 }
     requires zoom { scale.zoom ≤ 16 }
     requires sides { longer_side scale.exponent shown ≤ 4096 }
-    ensures { result.bytes ≡ scale_words shown scale }
+    ensures { result ≡ scale_words shown scale }
 {
     let blocks = scale.blocks(shown);
-    let mut line = ArrayString::new();
-    line.push_str(": ");
+    let mut line = TextLine::new();
+    line.push(": ");
     push_product(
         &mut line,
         u64::from(scale.zoom * blocks.width),
         u64::from(scale.zoom * blocks.height),
     );
-    line.push_str(" pixels, ");
+    line.push(" pixels, ");
     push_pixel(&mut line, scale);
-    line.push_str("\n");
+    line.push("\n");
     line
 }
 
 // Adds how many pixels a cell has, or how many cells a pixel.
-fn push_pixel(line: &mut ArrayString<LINE_ROOM>, scale: Scale)
+fn push_pixel(line: &mut TextLine<LINE_ROOM>, scale: Scale)
     requires exponent { scale.exponent ≤ 62 }
-    requires room { length line.old.bytes + 97 ≤ 224 }
-    ensures text { line.new.bytes ≡ line.old.bytes ++ pixel_words scale }
-    ensures short { length line.new.bytes ≤ length line.old.bytes + 97 }
+    requires room { length line.old + 97 ≤ 224 }
+    ensures text { line.new ≡ line.old ++ pixel_words scale }
+    ensures short { length line.new ≤ length line.old + 97 }
 {
     if scale.exponent == 0 {
         push_product(line, u64::from(scale.zoom), u64::from(scale.zoom));
-        line.push_str(" pixels a cell");
+        line.push(" pixels a cell");
     } else {
         let side = block_side(scale.exponent);
         push_product(line, side, side);
-        line.push_str(" cells a pixel");
+        line.push(" cells a pixel");
     }
 }
 
@@ -85,12 +83,12 @@ fn block_side(exponent: u8) -> u64
 }
 
 // Adds columns and rows, as `640 x 480`.
-fn push_product(line: &mut ArrayString<LINE_ROOM>, columns: u64, rows: u64)
-    requires { length line.old.bytes + 83 ≤ 224 }
-    ensures text { line.new.bytes ≡ line.old.bytes ++ product_words columns rows }
-    ensures short { length line.new.bytes ≤ length line.old.bytes + 83 }
+fn push_product(line: &mut TextLine<LINE_ROOM>, columns: u64, rows: u64)
+    requires { length line.old + 83 ≤ 224 }
+    ensures text { line.new ≡ line.old ++ product_words columns rows }
+    ensures short { length line.new ≤ length line.old + 83 }
 {
-    line.push_str(Buffer::new().format(columns));
-    line.push_str(" x ");
-    line.push_str(Buffer::new().format(rows));
+    line.push_number(columns);
+    line.push(" x ");
+    line.push_number(rows);
 }

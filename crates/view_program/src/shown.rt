@@ -2,9 +2,9 @@
 
 ghost use Rattle.std.specs.Prelude.{◌≡◌, IfErr, IfOk};
 ghost use Rattle.std.specs.Option.{SomeIff};
-ghost use Rattle.engine.specs.Pictures.{IsShown, IsShownSide};
-ghost use Rattle.program_parts.specs.WindowText.{rectangle_of};
-ghost use Rattle.view_program.specs.Shown.{HasNoSides, IsSidesOf, last_of, rectangle_shown, sides_of};
+ghost use Rattle.engine.specs.Pictures.{IsShownSide};
+ghost use Rattle.program_parts.specs.WindowText.{HasNoWindow, IsWindowOf, rectangle_of};
+ghost use Rattle.view_program.specs.Shown.{CanBeShown, last_of, rectangle_shown, sides_of};
 
 use plane::{Bounds, Refusal};
 use program_parts::WindowNumbers;
@@ -15,9 +15,9 @@ const SIDE_LIMIT: i64 = 1 << 62;
 /// The sides of the window that has these numbers, if one is asked for. `WindowTooLarge` where it
 /// has no cells, or a side that is too far away.
 pub(crate) fn window_asked(numbers: Option<WindowNumbers>) -> Result<Option<Bounds>, Refusal>
-    ensures ok { IfOk result (IsSidesOf numbers) }
+    ensures ok { IfOk result (IsWindowOf CanBeShown sides_of numbers) }
     ensures err { IfErr result (λ refusal.
-        (refusal ≡ Refusal.WindowTooLarge) × HasNoSides numbers) }
+        (refusal ≡ Refusal.WindowTooLarge) × HasNoWindow CanBeShown numbers) }
 {
     let Some(numbers) = numbers else {
         return Ok(None);
@@ -30,7 +30,7 @@ pub(crate) fn window_asked(numbers: Option<WindowNumbers>) -> Result<Option<Boun
 
 // The sides of the window that has these numbers, if it can be shown.
 fn sides(numbers: WindowNumbers) -> Option<Bounds>
-    ensures { SomeIff result (IsShown (sides_of (rectangle_of numbers)))
+    ensures { SomeIff result (CanBeShown (rectangle_of numbers))
         (sides_of (rectangle_of numbers)) }
 {
     Some(Bounds {

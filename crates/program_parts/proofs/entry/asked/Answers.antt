@@ -1,5 +1,6 @@
 use Rattle.std.proofs.Common.{subst, sym}
-use Rattle.program_parts.specs.Asking.{IsFaultOf, texts_of}
+use Rattle.program_parts.specs.Asking.{IsFaultOf}
+use Rattle.program_parts.specs.Texts.{texts_of}
 use Rattle.program_parts.proofs.WordsFaults.{fault_of_reason}
 use Rattle.program_parts.proofs.entry.asked.Goals as goal
 
@@ -7,4 +8,4 @@ pub returns-in-Err-clause-faults : goal.returns-in-Err-clause-faults
 returns-in-Err-clause-faults g c =
     let words = texts_of c.args.words.now in
     let line = g.A.Application.behaviour.line in
-    subst (IsFaultOf line words) (sym c.fault.ensures) (fault_of_reason line words c.in-Err.reason (g.met.A.Application.unfit words) c.in-Err.ensures.faults)
+    subst (IsFaultOf line words) (sym c.fault.ensures) (fault_of_reason line words c.in-Err.reason c.in-Err.ensures.faults)

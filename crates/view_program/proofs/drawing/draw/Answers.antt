@@ -20,8 +20,8 @@ returns-in_err-last g c =
     let is : c.from_residual.result ≡ Err c.in_err-last.field-0.0 = err_is _ _ c.from_residual.ensures.1 in
     rw is (refused_at_once c.args.bytes.now c.args.view.now c.args.name.now _ _ c.in_err-last.field-0.0 refl refl c.in_err-last.ensures.refused)
 
-pub picture-requires-clause-shown : goal.picture-requires-clause-shown
-picture-requires-clause-shown g c =
+pub draw-requires-clause-shown : goal.draw-requires-clause-shown
+draw-requires-clause-shown g c =
     subst IsShown (sym c.rectangle_shown-shown.ensures)
     (can_be_shown c.args.view.now.window c.in_ok-last.summary.bounds c.requires.window (bounds_shown c.in_ok-last.last c.in_ok-last.summary.bounds c.in_ok-last.ensures.ok.summary.bounds))
 

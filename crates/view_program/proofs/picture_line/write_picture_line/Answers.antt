@@ -13,11 +13,11 @@ pub returns-clause-written : goal.returns-clause-written
 returns-clause-written g c =
     let scale = c.of.result in
     let name : c.as_bytes.result.now ≡ c.args.name.now = search rules in
-    let words : c.as_bytes-2.result.now ≡ scale_words c.args.shown scale = search rules in
+    let words = c.scale_words-line.ensures in
     let first = subst (λ bytes. Appends (g.W.Sink.taken c.args.out.now) (g.W.Sink.taken c.write_all.new.sink) bytes) name c.in_ok-write_all.ensures.written in
-    on_ok_weaker c.write_all-2.result
+    on_ok_weaker c.write_to.result
     (λ wrote. (scale, c.of.ensures, Appends-trans _ _ _ c.args.name.now (scale_words c.args.shown scale) first wrote))
-    (subst (λ bytes. OnOk c.write_all-2.result (Appends (g.W.Sink.taken c.write_all.new.sink) (g.W.Sink.taken c.write_all-2.new.sink) bytes)) words c.write_all-2.ensures.written)
+    (subst (λ bytes. OnOk c.write_to.result (Appends (g.W.Sink.taken c.write_all.new.sink) (g.W.Sink.taken c.write_to.new.sink) bytes)) words c.write_to.ensures.written)
 
 pub returns-in_err-write_all-clause-beginning : goal.returns-in_err-write_all-clause-beginning
 returns-in_err-write_all-clause-beginning g c =
@@ -31,8 +31,8 @@ pub returns-clause-beginning : goal.returns-clause-beginning
 returns-clause-beginning g c =
     let scale = c.of.result in
     let name : c.as_bytes.result.now ≡ c.args.name.now = search rules in
-    let words : c.as_bytes-2.result.now ≡ scale_words c.args.shown scale = search rules in
+    let words = c.scale_words-line.ensures in
     let first = subst (λ bytes. Appends (g.W.Sink.taken c.args.out.now) (g.W.Sink.taken c.write_all.new.sink) bytes) name c.in_ok-write_all.ensures.written in
-    on_err_weaker c.write_all-2.result
+    on_err_weaker c.write_to.result
     (λ begun. (scale, c.of.ensures, text_and_beginning c.args.name.now first begun))
-    (subst (λ bytes. OnErr c.write_all-2.result (AppendsBeginning (g.W.Sink.taken c.write_all.new.sink) (g.W.Sink.taken c.write_all-2.new.sink) bytes)) words c.write_all-2.ensures.beginning)
+    (subst (λ bytes. OnErr c.write_to.result (AppendsBeginning (g.W.Sink.taken c.write_all.new.sink) (g.W.Sink.taken c.write_to.new.sink) bytes)) words c.write_to.ensures.beginning)

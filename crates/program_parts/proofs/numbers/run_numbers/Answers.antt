@@ -2,7 +2,7 @@ use Rattle.std.proofs.Common.{◌≡◌, Err, codes, refl, subst, sym, inl, inr}
 use Rattle.std.proofs.result.Match.{err_is}
 use Rattle.program_parts.specs.Values.{IsNumber, IsPairNumber, IsWorkerNumber}
 use Rattle.program_parts.proofs.AskedWords.{value_by}
-use Rattle.program_parts.proofs.run_words.run_numbers.Goals as goal
+use Rattle.program_parts.proofs.numbers.run_numbers.Goals as goal
 
 pub returns-in_err-gens-clause-err : goal.returns-in_err-gens-clause-err
 returns-in_err-gens-clause-err c = λ form words are.

@@ -2,7 +2,7 @@ use Rattle.std.proofs.Common.{◌≡◌, ◌∙◌, Err, Some, codes, sym, ap}
 use Rattle.std.proofs.result.Match.{err_is}
 use Rattle.program_parts.proofs.AskedWords.{text_by}
 use Rattle.batch_program.specs.CommandLine.{command_form}
-use Rattle.batch_program.proofs.asking.asked_by.Goals as goal
+use Rattle.batch_program.proofs.application.LifebatchApplication.asked_by.Goals as goal
 
 pub returns-in_default-clause-faults : goal.returns-in_default-clause-faults
 returns-in_default-clause-faults c = λ words are. (are.0, λ fit. let none = c.in_default.ensures ∙ text_by command_form words c.args.matches.now are (codes "file") ∙ fit.file.1 in cc)

@@ -3,7 +3,7 @@ use Rattle.std.proofs.result.Match.{err_is}
 use Rattle.std.specs.Prelude.{IsTrue}
 use Rattle.program_parts.proofs.AskedWords.{text_by}
 use Rattle.view_program.specs.CommandLine.{IsFitName, command_form}
-use Rattle.view_program.proofs.asking.asked_by.Goals as goal
+use Rattle.view_program.proofs.application.LifeviewApplication.asked_by.Goals as goal
 
 pub returns-in_default-clause-faults : goal.returns-in_default-clause-faults
 returns-in_default-clause-faults c = λ words are. (are.0, λ fit. let none = c.in_default.ensures ∙ text_by command_form words c.args.matches.now are (codes "file") ∙ fit.file.1 in cc)
@@ -14,7 +14,7 @@ returns-in_default-get_str-clause-faults c = λ words are. (are.0, λ fit. let n
 pub returns-then-not-is_fit_name-clause-faults : goal.returns-then-not-is_fit_name-clause-faults
 returns-then-not-is_fit_name-clause-faults c = λ words are. (
   are.0,
-  λ name named fit.
+  λ (name, named, fit).
       let same = c.in-Some-get_str.ensures ∙ text_by command_form words c.args.matches.now are (codes "output") ∙ named in
       let is : name ≡ c.in-Some-get_str.output.now = cc in
       let yes : IsTrue c.is_fit_name.result = c.is_fit_name.ensures.1 (subst IsFitName is fit) in

@@ -1,5 +1,5 @@
 use Rattle.batch_program.specs.CommandLine.{command_rules}
-use Rattle.batch_program.proofs.command_line.command.Goals as goal
+use Rattle.batch_program.proofs.application.LifebatchApplication.command.Goals as goal
 
 pub returns : goal.returns
 returns c = c.command_with.ensures command_rules c.in_ok-options.ensures

@@ -3,7 +3,7 @@ use Rattle.std.specs.Prelude.{fold}
 use Rattle.std.proofs.lemmas.Result.{IfOk-weaker}
 use Rattle.clap.specs.Words.{app_of, new_app, with_rule}
 use Rattle.program_parts.proofs.AskedWords.{adds_rules}
-use Rattle.program_parts.proofs.command.command_with.Goals as goal
+use Rattle.program_parts.proofs.options.command_with.Goals as goal
 
 pub returns : goal.returns
 returns c = λ all have.

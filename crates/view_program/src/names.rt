@@ -1,7 +1,0 @@
-//! What the program is called, and how its files are.
-
-/// The name of the program, which begins its messages.
-pub const NAME: &str = "lifeview";
-
-/// The ending of the files that it writes.
-pub(crate) const ENDING: &str = ".png";
