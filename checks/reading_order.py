@@ -27,7 +27,7 @@ PAGE = pathlib.Path("docs") / "ARCHITECTURE.md"
 ROW = re.compile(r"\| `([\w:]+)` \| (\d+) \| (\d+) \| ([\d,]+) \|")
 USE = re.compile(r"^(?:unfoldable )?(?:pub )?use Rattle\.(\w+)\.specs\.([\w.]+?)(?:\.\{(.*)\}| as (\w+))$", re.MULTILINE)
 HEAD = re.compile(
-    r"^ *(?:(?:abbrev|unfoldable) (?:pub )?|(?:pub )?(?:record|data) |(?:pub(?:\(\w+\))? )?(?:struct|enum|type) )([^\s:({<;]+)|^(?:pub )?([^\s:|(]+) :",
+    r"^ *(?:(?:abbrev|unfoldable) (?:pub )?|(?:pub )?(?:record|data) |(?:pub(?:\(\w+\))? )?(?:struct|enum|type|const) )([^\s:({<;]+)|^(?:pub )?([^\s:|(]+) :",
     re.MULTILINE,
 )
 TOKEN = re.compile(r"[^\s(){}\[\],;.]+")
