@@ -5,10 +5,11 @@ use Rattle.table_core.specs.declared.key.Key.{Key}
 use Rattle.table_core.specs.declared.shape.Kind.{Kind}
 use Rattle.table_core.specs.declared.shape.Kind.TheVariants.{Pair}
 use Rattle.table_core.specs.Layout.{IsSlot, result_of}
-use Rattle.table_core.specs.Blocks.{Words, IsBlock, square_rank}
+use Rattle.table_core.specs.Blocks.{square_rank}
 use Rattle.table_core.specs.Good.{TellsFuture, IsFutureOf, IsGood}
 use Rattle.table_core.proofs.Comparisons.{same_or_other}
 use Rattle.table_core.proofs.Ways.{not_head}
+use Rattle.node_sweep.specs.Table.{IsBlockIn, Table, table_by}
 use Rattle.node_sweep.specs.Copies.{IsCopy, IsCopyOf, IsSomeBlock, IsWantedCopy}
 use Rattle.node_sweep.specs.RootSets.{AreRootPairsCopied, IsRootPairCopied}
 use Rattle.node_sweep.specs.Keeping.{IsCopiedResult, IsKeeping}
@@ -20,65 +21,65 @@ use Rattle.node_sweep.proofs.SameBlocks.{HasTwin, block_some, copy_none, empty_c
 use Rattle.node_sweep.proofs.Swept.{kind_of_block}
 
 -- the result of a pair is a block
-pub result_block : (key : Key) (words : Words) (pair future : ℕ) → IsGood key words → IsSlot key.shape.bits Pair pair → words (result_of key.shape.bits pair) ≡ 2 ^ 32 + future →
-    IsSomeBlock key.shape.bits words future
+pub result_block : (key : Key) (words : List ℕ) (pair future : ℕ) → IsGood key (slice_index words) → IsSlot key.shape.bits Pair pair → slice_index words (result_of key.shape.bits pair) ≡ 2 ^ 32 + future →
+    IsSomeBlock (table_by key words) future
 result_block key words pair future good slot told =
-    let t : TellsFuture key words pair = good.results pair slot (λ z. omega arith) in
-    let f : IsFutureOf key words pair t.0 = t.2 in
+    let t : TellsFuture key (slice_index words) pair = good.results pair slot (λ z. omega arith) in
+    let f : IsFutureOf key (slice_index words) pair t.0 = t.2 in
     let is = t.1 in
     let same : t.0 ≡ future = omega arith in
-    (square_rank (f.level - 1), subst (IsBlock key.shape.bits words (square_rank (f.level - 1))) same f.shown.stands)
+    (square_rank (f.level - 1), subst (IsBlockIn (table_by key words) (square_rank (f.level - 1))) same f.shown.stands)
 
-module _ (from to : Key) (old : Words) (wanted : ℕ → Type 0) (copies new : List ℕ) (good : IsGood from old) (same_rule : to.rule ≡ from.rule) (same_exponent : to.exponent ≡ from.exponent)
-    (done : ℕ) (h : IsKeeping from to old wanted copies new done) where
+module _ (from to : Key) (old : List ℕ) (wanted : ℕ → Type 0) (copies new : List ℕ) (good : IsGood from (slice_index old)) (same_rule : to.rule ≡ from.rule) (same_exponent : to.exponent ≡ from.exponent)
+    (done : ℕ) (h : IsKeeping (table_by from old) to wanted copies new done) where
   -- whatever a number with a copy reaches has a copy
-  pub reached_copied : (rank end n : ℕ) → IsBlock from.shape.bits old rank end → (end ≡ 0) ⊎ (slice_index copies end ≢ 0) → Reaches from.shape.bits old end n → n ≢ 0 → slice_index copies n ≢ 0
+  pub reached_copied : (rank end n : ℕ) → IsBlockIn (table_by from old) rank end → (end ≡ 0) ⊎ (slice_index copies end ≢ 0) → Reaches (table_by from old) end n → n ≢ 0 → slice_index copies n ≢ 0
   reached_copied rank end n block there reached some =
-      let top : IsCopy from.shape.bits to.shape.bits old (slice_index new) rank end (slice_index copies end) =
+      let top : IsCopy (table_by from old) (table_by to new) rank end (slice_index copies end) =
       copy_at from to old wanted copies new good same_rule same_exponent done h rank end block there in
-      let t : HasTwin from to old (slice_index new) good h.good.good (slice_index copies end) n = twin_of from to old (slice_index new) good h.good.good rank end (slice_index copies end) n top reached in
-      let nonzero : t.twin ≢ 0 = λ z. some (copy_none from to old (slice_index new) good h.good.good t.rank n t.twin t.is z) in
-      let k = kind_of_block to.shape.bits (slice_index new) t.rank t.twin nonzero t.is.now in
-      let m = h.each k.0 t.twin k.1 (block_some to.shape.bits (slice_index new) t.rank t.twin nonzero t.is.now) in
-      let c : IsWantedCopy from.shape.bits to.shape.bits old (slice_index new) wanted m.0 (slice_index copies m.0) = h.copied m.0 (λ z. nonzero (sym m.1 ∙ z)) in
-      let same : m.0 ≡ n = same_original from to old (slice_index new) good h.good.good c.rank t.rank m.0 n t.twin
-      (subst (IsCopy from.shape.bits to.shape.bits old (slice_index new) c.rank m.0) m.1 c.shown) t.is nonzero in
+      let t : HasTwin from to old new good h.good.good (slice_index copies end) n = twin_of from to old new good h.good.good rank end (slice_index copies end) n top reached in
+      let nonzero : t.twin ≢ 0 = λ z. some (copy_none from to old new good h.good.good t.rank n t.twin t.is z) in
+      let k = kind_of_block (table_by to new) t.rank t.twin nonzero t.is.now in
+      let m = h.each k.0 t.twin k.1 (block_some (table_by to new) t.rank t.twin nonzero t.is.now) in
+      let c : IsWantedCopy (table_by from old) (table_by to new) wanted m.0 (slice_index copies m.0) = h.copied m.0 (λ z. nonzero (sym m.1 ∙ z)) in
+      let same : m.0 ≡ n = same_original from to old new good h.good.good c.rank t.rank m.0 n t.twin
+      (subst (IsCopy (table_by from old) (table_by to new) c.rank m.0) m.1 c.shown) t.is nonzero in
       λ z. nonzero (sym m.1 ∙ ap (slice_index copies) same ∙ z)
 
-module _ (from to : Key) (old : Words) (wanted : ℕ → Type 0) (copies new : List ℕ) (good : IsGood from old) (same_rule : to.rule ≡ from.rule) (same_exponent : to.exponent ≡ from.exponent)
-    (h : IsKeeping from to old wanted copies new (2 ^ from.shape.bits)) where
+module _ (from to : Key) (old : List ℕ) (wanted : ℕ → Type 0) (copies new : List ℕ) (good : IsGood from (slice_index old)) (same_rule : to.rule ≡ from.rule) (same_exponent : to.exponent ≡ from.exponent)
+    (h : IsKeeping (table_by from old) to wanted copies new (2 ^ from.shape.bits)) where
   -- each leaf and pair is a copy of what is wanted
-  pub wanted_copy : (kind : Kind) (i : ℕ) → IsSlot to.shape.bits kind i → slice_index new i ≢ 0 → (n : ℕ) × IsWantedCopy from.shape.bits to.shape.bits old (slice_index new) wanted n i
+  pub wanted_copy : (kind : Kind) (i : ℕ) → IsSlot to.shape.bits kind i → slice_index new i ≢ 0 → (n : ℕ) × IsWantedCopy (table_by from old) (table_by to new) wanted n i
   wanted_copy kind i slot some =
       let t = h.each kind i slot some in
-      (t.0, subst (IsWantedCopy from.shape.bits to.shape.bits old (slice_index new) wanted t.0) t.1 (h.copied t.0 (λ z. not_head to.shape.bits kind i slot (sym t.1 ∙ z))))
+      (t.0, subst (IsWantedCopy (table_by from old) (table_by to new) wanted t.0) t.1 (h.copied t.0 (λ z. not_head to.shape.bits kind i slot (sym t.1 ∙ z))))
 
-  some_copy : (n : ℕ) → (n ≡ 0) ⊎ (slice_index copies n ≢ 0) → (rank : ℕ) × IsCopy from.shape.bits to.shape.bits old (slice_index new) rank n (slice_index copies n)
+  some_copy : (n : ℕ) → (n ≡ 0) ⊎ (slice_index copies n ≢ 0) → (rank : ℕ) × IsCopy (table_by from old) (table_by to new) rank n (slice_index copies n)
   some_copy n has = ⊎_elim
       (λ z. (
         0,
-        subst (λ k. IsCopy from.shape.bits to.shape.bits old (slice_index new) 0 k (slice_index copies k)) (sym z)
-            (subst (IsCopy from.shape.bits to.shape.bits old (slice_index new) 0 0) (sym (no_copy_of_zero from to old wanted copies new good same_rule same_exponent (2 ^ from.shape.bits) h)) (empty_copy from.shape.bits to.shape.bits old (slice_index new) 0)),
+        subst (λ k. IsCopy (table_by from old) (table_by to new) 0 k (slice_index copies k)) (sym z)
+            (subst (IsCopy (table_by from old) (table_by to new) 0 0) (sym (no_copy_of_zero from to old wanted copies new good same_rule same_exponent (2 ^ from.shape.bits) h)) (empty_copy (table_by from old) (table_by to new) 0)),
       ))
-      (λ some. let c : IsWantedCopy from.shape.bits to.shape.bits old (slice_index new) wanted n (slice_index copies n) = h.copied n some in (c.rank, c.shown))
+      (λ some. let c : IsWantedCopy (table_by from old) (table_by to new) wanted n (slice_index copies n) = h.copied n some in (c.rank, c.shown))
       has
 
   -- the copy of a number is one at whatever rank
-  pub copy_noted : (n i : ℕ) → (n ≡ 0) ⊎ (slice_index copies n ≢ 0) → slice_index copies n ≡ i → IsCopyOf from.shape.bits to.shape.bits old (slice_index new) n i
+  pub copy_noted : (n i : ℕ) → (n ≡ 0) ⊎ (slice_index copies n ≢ 0) → slice_index copies n ≡ i → IsCopyOf (table_by from old) (table_by to new) n i
   copy_noted n i there at = record {
-    at_rank = λ rank b. subst (IsCopy from.shape.bits to.shape.bits old (slice_index new) rank n) at
+    at_rank = λ rank b. subst (IsCopy (table_by from old) (table_by to new) rank n) at
         (copy_at from to old wanted copies new good same_rule same_exponent (2 ^ from.shape.bits) h rank n b there);
   }
 
   -- where each block that is wanted has a copy
-  module _ (all : (rank n : ℕ) → IsBlock from.shape.bits old rank n → wanted n → n ≢ 0 → slice_index copies n ≢ 0) where
-    there : (rank n : ℕ) → IsBlock from.shape.bits old rank n → wanted n → (n ≡ 0) ⊎ (slice_index copies n ≢ 0)
+  module _ (all : (rank n : ℕ) → IsBlockIn (table_by from old) rank n → wanted n → n ≢ 0 → slice_index copies n ≢ 0) where
+    there : (rank n : ℕ) → IsBlockIn (table_by from old) rank n → wanted n → (n ≡ 0) ⊎ (slice_index copies n ≢ 0)
     there rank n b is = ⊎_elim (λ z. inl z) (λ some. inr (all rank n b is some)) (same_or_other n 0)
 
     kept_or_gone : (pair : ℕ) → IsSlot from.shape.bits Pair pair → slice_index copies pair ≢ 0 →
-        IsResultCopiedOrGone from.shape.bits to.shape.bits old (slice_index new) wanted pair (slice_index copies pair)
+        IsResultCopiedOrGone (table_by from old) (table_by to new) wanted pair (slice_index copies pair)
     kept_or_gone pair slot some = ⊎_elim
-        (λ t. let r : IsCopiedResult from.shape.bits old copies pair t.0 = t.1 in let c = some_copy t.0 r.there in inl (record {
+        (λ t. let r : IsCopiedResult (table_by from old) copies pair t.0 = t.1 in let c = some_copy t.0 r.there in inl (record {
           future = t.0;
           may = record { told = r.told; there = ⊎_elim (λ z. inl z) (λ has. inr (h.copied t.0 has).is_wanted) r.there };
           number = slice_index copies t.0;
@@ -95,16 +96,16 @@ module _ (from to : Key) (old : Words) (wanted : ℕ → Type 0) (copies new : L
         ))
         (h.results pair slot (let below = slot.below in omega arith) some)
 
-    result_of_copy : (pair rank i : ℕ) → IsSlot from.shape.bits Pair pair → wanted pair → IsCopy from.shape.bits to.shape.bits old (slice_index new) rank pair i →
-        IsResultCopiedOrGone from.shape.bits to.shape.bits old (slice_index new) wanted pair i
+    result_of_copy : (pair rank i : ℕ) → IsSlot from.shape.bits Pair pair → wanted pair → IsCopy (table_by from old) (table_by to new) rank pair i →
+        IsResultCopiedOrGone (table_by from old) (table_by to new) wanted pair i
     result_of_copy pair rank i slot is_wanted is =
         let nonzero : pair ≢ 0 = not_head from.shape.bits Pair pair slot in
         let some : slice_index copies pair ≢ 0 = all rank pair is.was is_wanted nonzero in
-        let c : IsWantedCopy from.shape.bits to.shape.bits old (slice_index new) wanted pair (slice_index copies pair) = h.copied pair some in
-        let same : slice_index copies pair ≡ i = same_copy from to old (slice_index new) good h.good.good c.rank rank pair (slice_index copies pair) i c.shown is nonzero in
-        subst (IsResultCopiedOrGone from.shape.bits to.shape.bits old (slice_index new) wanted pair) same (kept_or_gone pair slot some)
+        let c : IsWantedCopy (table_by from old) (table_by to new) wanted pair (slice_index copies pair) = h.copied pair some in
+        let same : slice_index copies pair ≡ i = same_copy from to old new good h.good.good c.rank rank pair (slice_index copies pair) i c.shown is nonzero in
+        subst (IsResultCopiedOrGone (table_by from old) (table_by to new) wanted pair) same (kept_or_gone pair slot some)
 
-    pub all_copied : CopiesWanted from to old wanted new
+    pub all_copied : CopiesWanted (table_by from old) to wanted new
     all_copied = record {
       good = h.good;
       copies = λ rank n b is. (slice_index copies n, copy_at from to old wanted copies new good same_rule same_exponent (2 ^ from.shape.bits) h rank n b (there rank n b is));
@@ -114,18 +115,18 @@ module _ (from to : Key) (old : Words) (wanted : ℕ → Type 0) (copies new : L
     }
 
 -- a number with a copy, or 0, that shows a block
-record IsCopiedBlock (bits : ℕ) (old : Words) (copies : List ℕ) (n : ℕ) : Type 0 where
+record IsCopiedBlock (old : Table) (copies : List ℕ) (n : ℕ) : Type 0 where
   rank : ℕ
-  block : IsBlock bits old rank n
+  block : IsBlockIn old rank n
   there : (n ≡ 0) ⊎ (slice_index copies n ≢ 0)
 
 -- the small pairs have copies, and the large ones that have results, with these, and the root
-module _ (key : Key) (old : Words) (root low high rank : ℕ) (copies : List ℕ) (good : IsGood key old) (block : IsBlock key.shape.bits old rank root) (noted : (root ≡ 0) ⊎ (slice_index copies root ≢ 0))
-    (ends : AreRootPairsCopied key.shape.bits old low high copies (2 ^ key.shape.bits)) where
-  end_at : (pair : ℕ) → IsSlot key.shape.bits Pair pair → IsRootPairCopied key.shape.bits old low high copies pair
+module _ (key : Key) (old : List ℕ) (root low high rank : ℕ) (copies : List ℕ) (good : IsGood key (slice_index old)) (block : IsBlockIn (table_by key old) rank root) (noted : (root ≡ 0) ⊎ (slice_index copies root ≢ 0))
+    (ends : AreRootPairsCopied (table_by key old) low high copies (2 ^ key.shape.bits)) where
+  end_at : (pair : ℕ) → IsSlot key.shape.bits Pair pair → IsRootPairCopied (table_by key old) low high copies pair
   end_at pair slot = ends.copied pair slot (let below = slot.below in omega arith)
 
-  end_copied : (n : ℕ) → IsInRootSet key.shape.bits old root low high n → IsCopiedBlock key.shape.bits old copies n
+  end_copied : (n : ℕ) → IsInRootSet (table_by key old) root low high n → IsCopiedBlock (table_by key old) copies n
   end_copied n the_root = record { rank = rank; block = block; there = noted }
   end_copied n (low_pair r pair slot b less) = record { rank = r; block = b; there = inr ((end_at pair slot).small.copied r b less) }
   end_copied n (high_pair r pair future f above) = record { rank = r; block = f.block; there = inr ((end_at pair f.slot).finished.copied r future f above) }
@@ -135,7 +136,7 @@ module _ (key : Key) (old : Words) (root low high rank : ℕ) (copies : List ℕ
 
   -- then all that a collection wants has a copy
   pub collected : (to : Key) (wanted : ℕ → Type 0) (new : List ℕ) (same_rule : to.rule ≡ key.rule) (same_exponent : to.exponent ≡ key.exponent) →
-      IsCopying key to old wanted new copies → (n : ℕ) → IsCollected key.shape.bits old root low high n → n ≢ 0 → slice_index copies n ≢ 0
+      IsCopying (table_by key old) to wanted new copies → (n : ℕ) → IsCollected (table_by key old) root low high n → n ≢ 0 → slice_index copies n ≢ 0
   collected to wanted new same_rule same_exponent h n is some =
-      let e : IsCopiedBlock key.shape.bits old copies is.end = end_copied is.end is.is_end in
+      let e : IsCopiedBlock (table_by key old) copies is.end = end_copied is.end is.is_end in
       reached_copied key to old wanted copies new good same_rule same_exponent 0 (keeping_start key to old wanted new copies good h) e.rank is.end n e.block e.there is.reached some

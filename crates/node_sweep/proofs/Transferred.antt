@@ -1,19 +1,20 @@
 -- What is copied out of words at rest.
 use Rattle.std.proofs.Common.{◌≡◌, ◌⊎◌, ℕ, List, refl, sym, subst, inl, inr, ⊎_elim}
-use Rattle.std.specs.Prelude.{Result, Ok, Err, IfErr, IfOk, IsOkUnless, slice_index}
+use Rattle.std.specs.Prelude.{Result, Ok, Err, IfErr, IfOk, IsOkUnless}
 use Rattle.plane.specs.declared.refusal.Refusal.{Refusal}
 use Rattle.plane.specs.declared.refusal.Refusal.TheVariants.{NodesFull, NoMemory}
 use Rattle.squares.specs.Book.{IsKnown}
 use Rattle.squares.specs.declared.sq.Sq.{Sq}
 use Rattle.table_core.specs.declared.key.Key.{Key}
-use Rattle.table_core.specs.Blocks.{IsBlock, square_rank}
+use Rattle.table_core.specs.Blocks.{square_rank}
 use Rattle.node_table.specs.declared.still.Still.{Still}
-use Rattle.node_table.specs.Stills.{HasWords, book_in, key_of, items_of, words_of}
+use Rattle.node_table.specs.Stills.{HasWords, book_in, key_of, items_of}
+use Rattle.node_sweep.specs.Table.{IsBlockIn, table_by}
 use Rattle.node_sweep.specs.Copies.{HasNoRoomForWanted, IsCopyOf}
-use Rattle.node_sweep.specs.CopiedStills.{CopiesStill, HasNoRoomFor, HasNoRoomToKeep, IsResized, ReachesFewWords, is_kept}
+use Rattle.node_sweep.specs.CopiedStills.{CopiesStill, HasNoRoomFor, HasNoRoomToKeep, IsResized, ReachesFewWords, is_kept, table_of}
 use Rattle.node_sweep.specs.Plans.{IsFilled, IsTransferOf}
 use Rattle.node_sweep.specs.Reaching.{IsWanted}
-use Rattle.node_sweep.specs.Transfers.{HasNoRoomLeft, old_bits, old_words}
+use Rattle.node_sweep.specs.Transfers.{HasNoRoomLeft, old_table}
 use Rattle.node_sweep.specs.WantedCopies.{CopiesWanted}
 use Rattle.node_sweep.specs.declared.keep.Keep.{Keep}
 use Rattle.node_sweep.specs.declared.stills.Copied.{Copied}
@@ -36,11 +37,11 @@ only_memory P (Err e) none h = ⊎_elim (λ memory. memory) (λ full. absurd (no
 
 -- a known root is a block in the words of the table
 pub block_as : (still : Still) (root : Sq) (key : Key) (words : List ℕ) (number : ℕ) → IsKnown (book_in still) root.level root → key ≡ key_of still → words ≡ items_of still → number ≡ root.num.0 →
-    IsBlock key.shape.bits (slice_index words) (square_rank root.level) number
+    IsBlockIn (table_by key words) (square_rank root.level) number
 block_as still root key words number known same_key same_words same =
-    subst (λ (k : Key). IsBlock k.shape.bits (slice_index words) (square_rank root.level) number) (sym same_key)
-    (subst (λ (ws : List ℕ). IsBlock (key_of still).shape.bits (slice_index ws) (square_rank root.level) number) (sym same_words)
-    (subst (IsBlock (key_of still).shape.bits (words_of still) (square_rank root.level)) (sym same) (known_shows still root known).stands))
+    subst (λ (k : Key). IsBlockIn (table_by k words) (square_rank root.level) number) (sym same_key)
+    (subst (λ (ws : List ℕ). IsBlockIn (table_by (key_of still) ws) (square_rank root.level) number) (sym same_words)
+    (subst (IsBlockIn (table_of still) (square_rank root.level)) (sym same) (known_shows still root known).stands))
 
 module _ (still : Still) (keep : Keep) (root : ℕ) (to : Key) (transfer : Transfer) (is : IsTransferOf still keep root to transfer) where
   -- what holds of the words of the transfer holds of the words at rest
@@ -55,7 +56,7 @@ module _ (still : Still) (keep : Keep) (root : ℕ) (to : Key) (transfer : Trans
 module _ (still : Still) (root : Sq) (keep : Keep) (pairs : ℕ) (to : Key) (transfer : Transfer) (known : IsKnown (book_in still) root.level root) (resized : IsResized (key_of still) to pairs)
     (is : IsTransferOf still keep root.num.0 to transfer) where
   -- the root is a block of the transfer's words
-  pub root_there : IsBlock (old_bits transfer) (old_words transfer) (square_rank root.level) transfer.roots.root
+  pub root_there : IsBlockIn (old_table transfer) (square_rank root.level) transfer.roots.root
   root_there = block_as still root transfer.old.key.now transfer.old.words.now transfer.roots.root known is.key is.words is.same_root
 
   copies_still : (now : Still) (copy : Sq) → IsFilled transfer root.level now copy → CopiesStill still root keep pairs now copy
@@ -66,9 +67,9 @@ module _ (still : Still) (root : Sq) (keep : Keep) (pairs : ℕ) (to : Key) (tra
         low = transfer.roots.low;
         high = transfer.roots.high;
         all = holds_wanted still transfer.to (items_of now) now has (is_kept still root keep transfer.roots.low transfer.roots.high) pairs size
-            (at_rest still keep root.num.0 to transfer is (λ key words kept number. CopiesWanted key transfer.to (slice_index words) (IsWanted key.shape.bits (slice_index words) kept number transfer.roots.low transfer.roots.high) (items_of now)) filled.all);
+            (at_rest still keep root.num.0 to transfer is (λ key words kept number. CopiesWanted (table_by key words) transfer.to (IsWanted (table_by key words) kept number transfer.roots.low transfer.roots.high) (items_of now)) filled.all);
         copied_root = root_copy still now root copy known filled.same_level (copy_in still transfer.to (items_of now) now has root.num.0 copy.num.0
-            (at_rest still keep root.num.0 to transfer is (λ key words kept number. IsCopyOf key.shape.bits transfer.to.shape.bits (slice_index words) (words_of now) number copy.num.0) filled.made));
+            (at_rest still keep root.num.0 to transfer is (λ key words kept number. IsCopyOf (table_by key words) (table_by transfer.to (items_of now)) number copy.num.0) filled.made));
       }
 
   no_room_to_keep : HasNoRoomLeft transfer → HasNoRoomToKeep still root keep pairs
@@ -79,7 +80,7 @@ module _ (still : Still) (root : Sq) (keep : Keep) (pairs : ℕ) (to : Key) (tra
       to = transfer.to;
       resized = subst (λ (k : Key). IsResized (key_of still) k pairs) (sym is.same_to) resized;
       full = at_rest still keep root.num.0 to transfer is
-          (λ key words kept number. HasNoRoomForWanted key transfer.to (slice_index words) (IsWanted key.shape.bits (slice_index words) kept number transfer.roots.low transfer.roots.high)) none;
+          (λ key words kept number. HasNoRoomForWanted (table_by key words) transfer.to (IsWanted (table_by key words) kept number transfer.roots.low transfer.roots.high)) none;
     };
   }
 
@@ -92,4 +93,4 @@ module _ (still : Still) (root : Sq) (keep : Keep) (pairs : ℕ) (to : Key) (tra
 
 -- what a root that reaches few words needs always has room
 pub room_to_sweep : (still : Still) (root : Sq) (pairs : ℕ) → ReachesFewWords still root → HasNoRoomFor still root pairs → ⊥
-room_to_sweep still root pairs few h = room_for_few (key_of still) h.to (words_of still) root.num.0 still.good.good h.full few.leaves few.pairs
+room_to_sweep still root pairs few h = room_for_few (key_of still) h.to (items_of still) root.num.0 still.good.good h.full few.leaves few.pairs

@@ -4,7 +4,7 @@ use Rattle.table_core.specs.declared.shape.Kind.TheVariants.{Pair}
 use Rattle.table_core.specs.Layout.{start, way, first_part, second_part}
 use Rattle.node_sweep.specs.Orders.{AreRanked, HavePartsBefore, IsPairAbove}
 use Rattle.node_sweep.specs.Ranks.{IsPart}
-use Rattle.node_sweep.specs.Transfers.{IsWordNeeded, new_bits, old_bits, old_words, wants}
+use Rattle.node_sweep.specs.Transfers.{IsWordNeeded, new_bits, old_bits, old_table, old_words, wants}
 use Rattle.node_sweep.specs.declared.order.Order.{Order}
 use Rattle.node_sweep.specs.declared.transfer.Fresh.{Fresh}
 use Rattle.node_sweep.specs.declared.transfer.Transfer.{Transfer}
@@ -17,7 +17,7 @@ pair_at transfer slots place = start (old_bits transfer) Pair + slice_index slot
 -- pairs of the rank above this one
 pub record ArePairs (transfer : Transfer) (rank : ℕ) (slots : List ℕ) : Type 0 where
   pub pairs : (i : ℕ) → i < length slots →
-      IsPairAbove (old_bits transfer) (old_words transfer) rank (pair_at transfer slots i)
+      IsPairAbove (old_table transfer) rank (pair_at transfer slots i)
 
 -- which are wanted, and whose parts have copies
 pub record AreReady (transfer : Transfer) (copies : List ℕ) (rank : ℕ)
@@ -64,14 +64,12 @@ HaveCopies transfer slots fresh = AreCopiedTo transfer slots fresh.copies.items 
 
 -- pairs of the old words, rank by rank
 abbrev pub IsRankOrder : Transfer → Order → Type 0
-IsRankOrder transfer order =
-    AreRanked (old_bits transfer) (old_words transfer) order.slots.items order.ends
+IsRankOrder transfer order = AreRanked (old_table transfer) order.slots.items order.ends
 
 -- each part of them is 0, has a copy, or stands among pairs of a lower rank
 abbrev pub HasPartsBefore : Transfer → Order → Fresh → Type 0
 HasPartsBefore transfer order fresh =
-    HavePartsBefore (old_bits transfer)
-    (old_words transfer) order.slots.items order.ends fresh.copies.items
+    HavePartsBefore (old_table transfer) order.slots.items order.ends fresh.copies.items
 
 -- all of them are wanted
 abbrev pub IsOrderWanted : Transfer → Order → Type 0

@@ -12,5 +12,6 @@ pub mod Plans
 pub mod Ranks
 pub mod Reaching
 pub mod RootSets
+pub mod Table
 pub mod Transfers
 pub mod WantedCopies

@@ -1,6 +1,7 @@
 -- The words that are copied from, the ranks of their pairs, and the order of these.
 use Rattle.std.specs.Prelude.{◌≡◌, ℕ, ◌^◌, List, length, slice_index}
 use Rattle.table_core.specs.Blocks.{Words}
+use Rattle.node_sweep.specs.Table.{Table, table_by}
 use Rattle.node_sweep.specs.Orders.{IsOrderOf}
 use Rattle.node_sweep.specs.Ranks.{AreAllRanks}
 use Rattle.node_sweep.specs.Reaching.{IsAny}
@@ -17,14 +18,18 @@ words_in old = slice_index old.words.now
 abbrev pub bits_in : OldWords → ℕ
 bits_in old = old.key.now.shape.bits
 
+-- the size and the words
+abbrev pub table_in : OldWords → Table
+table_in old = table_by old.key.now old.words.now
+
 -- the rank of each pair is noted at its slot
 pub record AreRanksOf (old : OldWords) (ranks : List ℕ) : Type 0 where
   pub long : length ranks ≡ 2 ^ bits_in old
-  pub all : AreAllRanks (bits_in old) (words_in old) ranks (2 ^ bits_in old)
+  pub all : AreAllRanks (table_in old) ranks (2 ^ bits_in old)
 
 -- all pairs, in the order of their ranks
 abbrev pub IsOrderOfAll : OldWords → Order → Type 0
-IsOrderOfAll old order = IsOrderOf (bits_in old) (words_in old) IsAny order.slots.items order.ends
+IsOrderOfAll old order = IsOrderOf (table_in old) IsAny order.slots.items order.ends
 
 -- so it is unless only the cells are kept
 abbrev pub HasRanks : Keep → OldWords → List ℕ → Type 0

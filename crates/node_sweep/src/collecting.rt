@@ -1,9 +1,9 @@
 //! Small squares, and large ones that have results, copied beside what the root reaches.
 
 ghost use Rattle.std.specs.Prelude.{IfErr, IfOk, OnOk};
-ghost use Rattle.table_core.specs.Blocks.{IsBlock};
 ghost use Rattle.node_sweep.specs.OldWords.{AreRanksOf};
 ghost use Rattle.node_sweep.specs.Reaching.{IsCollection};
+ghost use Rattle.node_sweep.specs.Table.{IsBlockIn};
 
 use crate::order::Order;
 use crate::transfer::{Fresh, Transfer};
@@ -21,7 +21,7 @@ pub(crate) struct Kept {
 impl Transfer<'_> {
     ghost use Rattle.node_sweep.specs.Filled.{AreWantedCopied};
     ghost use Rattle.node_sweep.specs.Marks.{KeepsWanted};
-    ghost use Rattle.node_sweep.specs.Transfers.{IsUnderway, SaysNoRoom, old_bits, old_words};
+    ghost use Rattle.node_sweep.specs.Transfers.{IsUnderway, SaysNoRoom, old_table};
 
     /// Marks what is wanted, and orders the pairs of it. The root has this rank.
     pub(crate) fn mark_and_order(
@@ -32,7 +32,7 @@ impl Transfer<'_> {
     ) -> Result<Kept, AllocError>
         requires keep { IsCollection self.now.keep }
         requires ranks { AreRanksOf self.now.old ranks.items }
-        requires block { IsBlock (old_bits self.now) (old_words self.now) rank self.now.roots.root }
+        requires block { IsBlockIn (old_table self.now) rank self.now.roots.root }
         ensures { IfOk result (KeepsWanted self.now) }
     {
         let mut ranks = ranks;

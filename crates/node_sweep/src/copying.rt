@@ -11,7 +11,7 @@ use plane::Refusal;
 use table_core::{Kind, pair_word, parts};
 
 impl Transfer<'_> {
-    ghost use Rattle.node_sweep.specs.Transfers.{IsCopyNoted, IsUnderway, IsWordNeeded, SaysNoRoom, fresh_words, new_bits, old_bits, old_words, wants};
+    ghost use Rattle.node_sweep.specs.Transfers.{IsCopyNoted, IsUnderway, IsWordNeeded, SaysNoRoom, fresh_table, fresh_words, old_table, wants};
 
     /// The copy of a number that is wanted, by its word, of whose way so many places were tried.
     pub(crate) fn note(
@@ -26,7 +26,7 @@ impl Transfer<'_> {
         requires some { number ≢ 0 }
         requires wanted { wants self.now number }
         requires word { IsWordNeeded self.now fresh.old.words.items kind number word }
-        requires tried { IsSought (new_bits self.now) fresh.old.words.items kind word tried }
+        requires tried { IsSought (fresh_table self.now fresh.old) kind word tried }
         ensures underway { IsUnderway self.now fresh.new }
         ensures keeps { KeepsWords (fresh_words fresh.old) (fresh_words fresh.new) }
         ensures ok { IfOk result (IsCopyNoted self.now fresh.new number) }
@@ -42,7 +42,7 @@ impl Transfer<'_> {
     /// The copy of a block of at most this rank that is wanted. Each number is copied once.
     pub(crate) fn copy(&self, fresh: &mut Fresh, number: u32, height: u8) -> Result<u32, Refusal>
         requires underway { IsUnderway self.now fresh.old }
-        requires block { IsLowBlock (old_bits self.now) (old_words self.now) height number }
+        requires block { IsLowBlock (old_table self.now) height number }
         requires wanted { wants self.now number }
         ensures underway { IsUnderway self.now fresh.new }
         ensures keeps { KeepsWords (fresh_words fresh.old) (fresh_words fresh.new) }

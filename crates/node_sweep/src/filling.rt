@@ -2,9 +2,9 @@
 
 ghost use Rattle.std.specs.Prelude.{◌≡◌, IfErr, IfOk, OnOk};
 ghost use Rattle.squares.specs.Book.{LacksMemoryOr};
-ghost use Rattle.table_core.specs.Blocks.{IsBlock};
 ghost use Rattle.node_sweep.specs.Copying.{AreBlankWords};
 ghost use Rattle.node_sweep.specs.OldWords.{HasRanks, IsOrderOfAll};
+ghost use Rattle.node_sweep.specs.Table.{IsBlockIn};
 
 use crate::collecting::Kept;
 use crate::keep::Keep;
@@ -37,7 +37,7 @@ pub(crate) fn blank_words(alloc: Global, key: &Key) -> Result<Vec<u64>, AllocErr
 impl Transfer<'_> {
     ghost use Rattle.node_sweep.specs.Filled.{AreWantedCopied, CopiesInto};
     ghost use Rattle.node_sweep.specs.Plans.{IsPlanOf};
-    ghost use Rattle.node_sweep.specs.Transfers.{IsCopyMade, IsUnderway, SaysNoRoom, number_count, old_bits, old_words};
+    ghost use Rattle.node_sweep.specs.Transfers.{IsCopyMade, IsUnderway, SaysNoRoom, number_count, old_table};
 
     /// How many numbers the leaves and the pairs of the old words have, with 0.
     pub(crate) fn number_count(&self) -> usize
@@ -55,7 +55,7 @@ impl Transfer<'_> {
         rank: u8,
     ) -> Result<CopyPlan, AllocError>
         requires ranks { HasRanks self.now.keep self.now.old ranks.items }
-        requires block { IsBlock (old_bits self.now) (old_words self.now) rank self.now.roots.root }
+        requires block { IsBlockIn (old_table self.now) rank self.now.roots.root }
         ensures { IfOk result (IsPlanOf self.now) }
     {
         match self.keep {
@@ -78,7 +78,7 @@ impl Transfer<'_> {
     fn copy_reached(&self, fresh: &mut Fresh, rank: u8) -> Result<(), Refusal>
         requires keep { self.now.keep ≡ Keep.CellsAlone }
         requires underway { IsUnderway self.now fresh.old }
-        requires block { IsBlock (old_bits self.now) (old_words self.now) rank self.now.roots.root }
+        requires block { IsBlockIn (old_table self.now) rank self.now.roots.root }
         ensures underway { IsUnderway self.now fresh.new }
         ensures copied { OnOk result (AreWantedCopied self.now fresh.new) }
         ensures full { IfErr result (SaysNoRoom self.now) }
@@ -104,7 +104,7 @@ impl Transfer<'_> {
     fn copy_wanted(&self, fresh: &mut Fresh, plan: CopyPlan, rank: u8) -> Result<(), Refusal>
         requires underway { IsUnderway self.now fresh.old }
         requires plan { IsPlanOf self.now plan }
-        requires block { IsBlock (old_bits self.now) (old_words self.now) rank self.now.roots.root }
+        requires block { IsBlockIn (old_table self.now) rank self.now.roots.root }
         ensures underway { IsUnderway self.now fresh.new }
         ensures copied { OnOk result (AreWantedCopied self.now fresh.new) }
         ensures full { IfErr result (SaysNoRoom self.now) }
@@ -127,7 +127,7 @@ impl Transfer<'_> {
     ) -> Result<(Vec<u64>, u32), Refusal>
         requires words { AreBlankWords self.now.to words.items }
         requires plan { IsPlanOf self.now plan }
-        requires block { IsBlock (old_bits self.now) (old_words self.now) rank self.now.roots.root }
+        requires block { IsBlockIn (old_table self.now) rank self.now.roots.root }
         ensures ok { IfOk result (λ made. CopiesInto self.now made.0.items) }
         ensures root { IfOk result
             (λ made. IsCopyMade self.now made.0.items self.now.roots.root made.1) }

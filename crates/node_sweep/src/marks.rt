@@ -21,7 +21,7 @@ fn mark(marks: &mut [u8], number: u32)
 
 impl Transfer<'_> {
     ghost use Rattle.node_sweep.specs.Marks.{AreMarks, ArePairsVisited, ArePartsMarked, HasNoLargeResult, IsLargeResult, IsMarked, IsMarkedIfFinished, IsMarkedIfSmall, IsPairVisited, KeepsMarkedRanks, KeepsMarks, MarksAtMost};
-    ghost use Rattle.node_sweep.specs.Transfers.{IsOldPair, number_count, old_bits, old_words};
+    ghost use Rattle.node_sweep.specs.Transfers.{IsOldPair, number_count, old_bits, old_table, old_words};
 
     // The result of a pair of this rank, if it is large and has one.
     fn large_result(&self, pair: u32, rank: u8) -> Option<u32>
@@ -124,7 +124,7 @@ impl Transfer<'_> {
     fn mark_wanted(&self, marks: &mut [u8], order: &Order)
         requires keep { IsCollection self.now.keep }
         requires marks { AreMarks self.now marks.old }
-        requires block { IsSomeBlock (old_bits self.now) (old_words self.now) self.now.roots.root }
+        requires block { IsSomeBlock (old_table self.now) self.now.roots.root }
         requires order { IsOrderOfAll self.now.old order.now }
         ensures marks { AreMarks self.now marks.new }
         ensures root { IsMarked marks.new self.now.roots.root }
@@ -139,7 +139,7 @@ impl Transfer<'_> {
     /// A mark for each number that is wanted.
     pub(crate) fn marks(&self, alloc: Global, order: &Order) -> Result<Vec<u8>, AllocError>
         requires keep { IsCollection self.now.keep }
-        requires block { IsSomeBlock (old_bits self.now) (old_words self.now) self.now.roots.root }
+        requires block { IsSomeBlock (old_table self.now) self.now.roots.root }
         requires order { IsOrderOfAll self.now.old order.now }
         ensures marks { IfOk result (λ marks. AreMarks self.now marks.items) }
         ensures root { IfOk result (λ marks. IsMarked marks.items self.now.roots.root) }

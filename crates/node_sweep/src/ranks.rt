@@ -22,14 +22,14 @@ fn some_part(word: u64) -> u32
 }
 
 impl OldWords<'_> {
-    ghost use Rattle.node_sweep.specs.OldWords.{AreRanksOf, bits_in, words_in};
+    ghost use Rattle.node_sweep.specs.OldWords.{AreRanksOf, bits_in, table_in};
 
     // The rank of a part of a pair, if that isn't 0 and its rank is known.
     fn known_rank(&self, ranks: &[u8], number: u32) -> Option<u8>
-        requires ranks { AreRanks (bits_in self.now) (words_in self.now) ranks.now }
+        requires ranks { AreRanks (table_in self.now) ranks.now }
         requires long { length ranks.now ≡ 2 ^ bits_in self.now }
-        requires block { IsSomeBlock (bits_in self.now) (words_in self.now) number }
-        ensures { IfSome result (IsRankOf (bits_in self.now) (words_in self.now) number) }
+        requires block { IsSomeBlock (table_in self.now) number }
+        ensures { IfSome result (IsRankOf (table_in self.now) number) }
     {
         if number == 0 {
             return None;
@@ -47,10 +47,10 @@ impl OldWords<'_> {
 
     // The rank of one part of a pair, if that is known.
     fn part_rank(&self, ranks: &[u8], word: u64) -> Option<u8>
-        requires ranks { AreRanks (bits_in self.now) (words_in self.now) ranks.now }
+        requires ranks { AreRanks (table_in self.now) ranks.now }
         requires long { length ranks.now ≡ 2 ^ bits_in self.now }
-        requires parts { AreBlockParts (bits_in self.now) (words_in self.now) word }
-        ensures { IfSome result (IsRankOfPart (bits_in self.now) (words_in self.now) word) }
+        requires parts { AreBlockParts (table_in self.now) word }
+        ensures { IfSome result (IsRankOfPart (table_in self.now) word) }
     {
         let (first, second) = parts(word);
         match self.known_rank(ranks, first) {
@@ -62,14 +62,13 @@ impl OldWords<'_> {
     // The rank of a block of at most this height. From then on that of a pair stands in `ranks`.
     #[cycle(rank)]
     fn rank(&self, ranks: &mut [u8], number: u32, height: u8) -> u8
-        requires ranks { AreRanks (bits_in self.now) (words_in self.now) ranks.old }
+        requires ranks { AreRanks (table_in self.now) ranks.old }
         requires long { length ranks.old ≡ 2 ^ bits_in self.now }
         requires some { number ≢ 0 }
-        requires block { IsLowBlock (bits_in self.now) (words_in self.now) height number }
-        ensures ranks { AreRanks (bits_in self.now) (words_in self.now) ranks.new }
+        requires block { IsLowBlock (table_in self.now) height number }
+        ensures ranks { AreRanks (table_in self.now) ranks.new }
         ensures keeps { KeepsRanks ranks.old ranks.new }
-        ensures rank { RankOf (bits_in self.now) (words_in self.now) ranks.new number height
-            result }
+        ensures rank { RankOf (table_in self.now) ranks.new number height result }
     {
         let first_pair = self.key.shape.index(Kind::Pair, 0);
         if number < first_pair {
@@ -89,13 +88,13 @@ impl OldWords<'_> {
     // The rank of the parts of a pair, which are blocks of at most this height.
     #[cycle(rank)]
     fn rank_of_parts(&self, ranks: &mut [u8], word: u64, height: u8) -> u8
-        requires ranks { AreRanks (bits_in self.now) (words_in self.now) ranks.old }
+        requires ranks { AreRanks (table_in self.now) ranks.old }
         requires long { length ranks.old ≡ 2 ^ bits_in self.now }
         requires some { word ≢ 0 }
-        requires parts { AreLowParts (bits_in self.now) (words_in self.now) height word }
-        ensures ranks { AreRanks (bits_in self.now) (words_in self.now) ranks.new }
+        requires parts { AreLowParts (table_in self.now) height word }
+        ensures ranks { AreRanks (table_in self.now) ranks.new }
         ensures keeps { KeepsRanks ranks.old ranks.new }
-        ensures part { IsRankOfPart (bits_in self.now) (words_in self.now) word result }
+        ensures part { IsRankOfPart (table_in self.now) word result }
     {
         match self.part_rank(ranks, word) {
             Some(rank) => rank,
@@ -114,7 +113,7 @@ impl OldWords<'_> {
 
     // Notes the rank of each pair.
     fn note_ranks(&self, ranks: &mut [u8])
-        requires ranks { AreRanks (bits_in self.now) (words_in self.now) ranks.old }
+        requires ranks { AreRanks (table_in self.now) ranks.old }
         requires long { length ranks.old ≡ 2 ^ bits_in self.now }
         ensures { AreRanksOf self.now ranks.new }
     {

@@ -2,34 +2,35 @@
 
 ghost use Rattle.std.specs.Prelude.{◌≡◌, ◌+◌, ◌^◌, ◌≤◌, length};
 ghost use Rattle.table_core.specs.declared.shape.Kind.TheVariants.{Pair};
-ghost use Rattle.table_core.specs.Layout.{IsSlot, result_of, start};
+ghost use Rattle.table_core.specs.Layout.{IsSlot, start};
 ghost use Rattle.node_sweep.specs.Keeping.{IsResultWord};
+ghost use Rattle.node_sweep.specs.Table.{word_beside};
 
 use crate::blocks::BLOCK_LEN;
 use crate::transfer::{Fresh, OldWords, Transfer};
 use table_core::{Kind, parts, result_word};
 
 impl OldWords<'_> {
-    ghost use Rattle.node_sweep.specs.OldWords.{bits_in, words_in};
+    ghost use Rattle.node_sweep.specs.OldWords.{bits_in, table_in};
 
     /// The word beside a pair, which tells its result; 0 where it has none.
     pub(crate) fn result_beside(&self, pair: u32) -> u64
         requires { IsSlot (bits_in self.now) Pair pair }
-        ensures { result ≡ words_in self.now (result_of (bits_in self.now) pair) }
+        ensures { result ≡ word_beside (table_in self.now) pair }
     {
         self.words.word(self.key.shape.result_index(pair) as usize)
     }
 }
 
 impl Transfer<'_> {
-    ghost use Rattle.node_sweep.specs.Transfers.{AreAllResultsKept, AreNextResultWords, AreResultsKept, IsUnderway, number_count, old_bits, old_words};
+    ghost use Rattle.node_sweep.specs.Transfers.{AreAllResultsKept, AreNextResultWords, AreResultsKept, IsUnderway, number_count, old_bits, old_table};
 
     // The word to stand beside the copy of a pair: that of the copy of its result, and 0 where one
     // of both has no copy.
     fn kept_result(&self, copies: &[u32], pair: u32) -> u64
         requires long { length copies.now ≡ number_count self.now }
         requires pair { IsSlot (old_bits self.now) Pair pair }
-        ensures { IsResultWord (old_bits self.now) (old_words self.now) copies.now pair result }
+        ensures { IsResultWord (old_table self.now) copies.now pair result }
     {
         if copies[pair as usize] == 0 {
             return 0;
@@ -64,7 +65,7 @@ impl Transfer<'_> {
         requires long { length copies.now ≡ number_count self.now }
         requires pair { IsSlot (old_bits self.now) Pair pair }
         requires at { pair ≡ start (old_bits self.now) Pair + slot }
-        requires word { IsResultWord (old_bits self.now) (old_words self.now) copies.now pair word }
+        requires word { IsResultWord (old_table self.now) copies.now pair word }
         requires kept { AreResultsKept self.now copies.now words.old slot }
         ensures { AreResultsKept self.now copies.now words.new (slot + 1) }
     {

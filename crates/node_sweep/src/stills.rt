@@ -2,14 +2,15 @@
 
 ghost use Rattle.std.specs.Prelude.{◌≡◌, ◌≤◌, IfOk, IfErr, IsOkUnless};
 ghost use Rattle.squares.specs.Book.{IsKnown, LacksMemoryOr};
-ghost use Rattle.table_core.specs.Blocks.{IsBlock, square_rank};
+ghost use Rattle.table_core.specs.Blocks.{square_rank};
 ghost use Rattle.table_core.specs.Sizes.{IsPairCount};
 ghost use Rattle.node_table.specs.Stills.{book_in, key_of};
 ghost use Rattle.node_sweep.specs.CopiedStills.{CopiesStill, HasNoRoomFor, HasNoRoomToKeep, IsResized, IsSwept, ReachesFewWords};
 ghost use Rattle.node_sweep.specs.Copies.{SaysFull};
 ghost use Rattle.node_sweep.specs.Copying.{AreBlankWords};
 ghost use Rattle.node_sweep.specs.Plans.{IsFilled, IsPlanOf, IsTransferOf};
-ghost use Rattle.node_sweep.specs.Transfers.{SaysNoRoom, old_bits, old_words};
+ghost use Rattle.node_sweep.specs.Table.{IsBlockIn};
+ghost use Rattle.node_sweep.specs.Transfers.{SaysNoRoom, old_table};
 
 use crate::filling::{CopyPlan, blank_words};
 use crate::keep::Keep;
@@ -97,8 +98,8 @@ impl<'a> Prepared<'a> {
         requires words { AreBlankWords self.transfer.to words.items }
         requires plan { IsPlanOf self.transfer self.plan }
         requires level { (3 ≤ level) × (level ≤ 65) }
-        requires block { IsBlock (old_bits self.transfer) (old_words self.transfer)
-            (square_rank level) self.transfer.roots.root }
+        requires block { IsBlockIn (old_table self.transfer) (square_rank level)
+            self.transfer.roots.root }
         ensures ok { IfOk result (λ made. IsFilled self.entry.transfer level made.still made.root) }
         ensures refusal { IfErr result (LacksMemoryOr (SaysNoRoom self.entry.transfer)) }
     {

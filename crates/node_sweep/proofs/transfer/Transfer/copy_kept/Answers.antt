@@ -6,7 +6,7 @@ use Rattle.table_core.specs.Layout.{start}
 use Rattle.node_sweep.specs.Blocks.{AreCopiedTo}
 use Rattle.node_sweep.specs.Copying.{AreCopied}
 use Rattle.node_sweep.specs.Marks.{AreMarks, IsMarked}
-use Rattle.node_sweep.specs.Transfers.{old_bits, old_words, wants}
+use Rattle.node_sweep.specs.Transfers.{old_bits, old_table, wants}
 use Rattle.node_sweep.proofs.RootSets.{is_collected}
 use Rattle.node_sweep.proofs.Gathered.{collected}
 use Rattle.node_sweep.proofs.Ordered.{ends_there, kept_at, marked_before, root_there}
@@ -34,13 +34,13 @@ copy_ranks-requires-clause-wanted c =
     let kept = c.args.kept in
     record {
       wanted = λ place less. c.requires.kept.are_marks.wanted _
-          (kept_at (old_bits transfer) (old_words transfer) (IsMarked kept.marks.items) kept.order.slots.items kept.order.ends place c.requires.kept.order less);
+          (kept_at (old_table transfer) (IsMarked kept.marks.items) kept.order.slots.items kept.order.ends place c.requires.kept.order less);
     }
 
 pub returns-clause-copied : goal.returns-clause-copied
 returns-clause-copied c =
     let transfer = c.args.self.now in
-    let old = old_words transfer in
+    let old = old_table transfer in
     let roots = transfer.roots in
     let kept = c.args.kept in
     let first = c.copy_marked_leaves.new.fresh in
@@ -51,8 +51,8 @@ returns-clause-copied c =
     let all = ends_there transfer roots.root roots.low roots.high kept.marks.items kept.order.slots.items kept.order.ends last.copies.items c.requires.kept later in
     let block = c.requires.kept.are_marks.blocks roots.root c.requires.kept.root_marked in
     on_ok_weaker _ (λ (pairs : AreCopiedTo transfer kept.order.slots.items last.copies.items (slice_index kept.order.ends 124)). record {
-      copied = λ rank n is_block is some. collected transfer.old.key.now old roots.root roots.low roots.high block.0 last.copies.items transfer.old.good.good block.1
+      copied = λ rank n is_block is some. collected transfer.old.key.now transfer.old.words.now roots.root roots.low roots.high block.0 last.copies.items transfer.old.good.good block.1
           (root pairs.copied) (all pairs.copied)
           transfer.to (wants transfer) last.words.items transfer.same_rule transfer.same_exponent c.copy_ranks.ensures.underway.copying
-          n (is_collected (old_bits transfer) old transfer.keep roots n c.requires.keep is) some;
+          n (is_collected old transfer.keep roots n c.requires.keep is) some;
     }) c.copy_ranks.ensures.copied

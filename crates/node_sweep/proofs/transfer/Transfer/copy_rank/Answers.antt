@@ -2,7 +2,7 @@ use Rattle.std.proofs.Common.{◌≤◌, ◌+◌, List, ℕ, length, sym, subst,
 use Rattle.std.specs.Prelude.{slice_index, slice_range}
 use Rattle.std.proofs.lemmas.Result.{IfOk-from_err}
 use Rattle.node_sweep.specs.Blocks.{AreCopiedTo, AreReady}
-use Rattle.node_sweep.specs.Transfers.{SaysNoRoom, fresh_words, old_bits, old_words}
+use Rattle.node_sweep.specs.Transfers.{SaysNoRoom, fresh_words, old_table}
 use Rattle.node_table.proofs.Refusing.{sent_on}
 use Rattle.node_sweep.proofs.SideBySide.{copied_still, ends_rise, keeps_on, part_copied, part_few, part_ready, parts_copied}
 use Rattle.node_sweep.proofs.Underway.{noted_still}
@@ -30,7 +30,7 @@ copy_block-requires-clause-ready c =
     let before = c.args.fresh.now.copies.items in
     let still = noted_still transfer c.args.fresh.now fresh c.requires.underway h.underway h.keeps in
     let done = copied_still transfer slots before fresh.copies.items (slice_index ends below) still c.requires.done in
-    let most = ends_rise (old_bits transfer) (old_words transfer) slots ends (below + 1) c.requires.order (let low = c.requires.low in omega arith) in
+    let most = ends_rise (old_table transfer) slots ends (below + 1) c.requires.order (let low = c.requires.low in omega arith) in
     let ready : AreReady transfer fresh.copies.items below (slice_range slots from to) =
     part_ready transfer slots ends below from to c.requires.low c.requires.order h.begin short end fresh.copies.items c.requires.wanted most
     (parts_copied transfer slots ends before fresh.copies.items below c.requires.low c.requires.before still done) in

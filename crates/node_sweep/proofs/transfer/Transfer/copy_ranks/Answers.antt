@@ -1,4 +1,4 @@
-use Rattle.node_sweep.specs.Transfers.{fresh_words, old_bits, old_words}
+use Rattle.node_sweep.specs.Transfers.{fresh_words, old_table}
 use Rattle.node_sweep.proofs.SideBySide.{before_still, keeps_on}
 use Rattle.node_sweep.proofs.Underway.{noted_still}
 use Rattle.node_sweep.proofs.transfer.Transfer.copy_ranks.Goals as goal
@@ -6,7 +6,7 @@ use Rattle.node_sweep.proofs.transfer.Transfer.copy_ranks.Goals as goal
 pub copy_rank-requires-clause-before : goal.copy_rank-requires-clause-before
 copy_rank-requires-clause-before c =
     let transfer = c.args.self.now in
-    before_still (old_bits transfer) (old_words transfer) c.args.order.now.slots.items c.args.order.now.ends c.args.fresh.now.copies.items c.loop-below.fresh.copies.items
+    before_still (old_table transfer) c.args.order.now.slots.items c.args.order.now.ends c.args.fresh.now.copies.items c.loop-below.fresh.copies.items
     (noted_still transfer c.args.fresh.now c.loop-below.fresh c.requires.underway c.loop-below.invariant.underway c.loop-below.invariant.keeps) c.requires.before
 
 pub loop-below-preserved : goal.loop-below-preserved

@@ -1,6 +1,6 @@
 use Rattle.std.proofs.Common.{◌-◌, ◌∙◌, ap, arith, inl, inr}
 use Rattle.table_core.specs.Layout.{first_part, second_part}
-use Rattle.node_sweep.specs.Transfers.{old_bits, old_words}
+use Rattle.node_sweep.specs.Transfers.{old_table, old_words}
 use Rattle.node_sweep.proofs.Marking.{gets_both, gets_low, marked_inside, marks_on, part_of_marked, parts_marked}
 use Rattle.node_sweep.proofs.transfer.Transfer.mark_parts.Goals as goal
 
@@ -35,10 +35,9 @@ returns-clause-parts c =
 pub returns-clause-gets : goal.returns-clause-gets
 returns-clause-gets c =
     let transfer = c.args.self.now in
-    let bits = old_bits transfer in
-    let old = old_words transfer in
+    let old = old_table transfer in
     let p = part_of_marked transfer c.args.marks.now c.args.rank c.args.pair c.parts-first.result.0 c.requires.marks c.requires.pair c.if-marks-pair-eq0.false (inl (c.parts-first.ensures.first ∙ ap first_part c.word.ensures)) in
     let q = part_of_marked transfer c.args.marks.now c.args.rank c.args.pair c.parts-first.result.1 c.requires.marks c.requires.pair c.if-marks-pair-eq0.false (inr (c.parts-first.ensures.second ∙ ap second_part c.word.ensures)) in
-    gets_both bits old c.args.rank c.args.pair c.args.marks.now c.mark.new.marks c.mark-2.new.marks
-    (gets_low bits old c.args.rank c.args.pair c.parts-first.result.0 c.args.marks.now c.mark.new.marks c.mark.ensures p.low)
-    (gets_low bits old c.args.rank c.args.pair c.parts-first.result.1 c.mark.new.marks c.mark-2.new.marks c.mark-2.ensures q.low)
+    gets_both old c.args.rank c.args.pair c.args.marks.now c.mark.new.marks c.mark-2.new.marks
+    (gets_low old c.args.rank c.args.pair c.parts-first.result.0 c.args.marks.now c.mark.new.marks c.mark.ensures p.low)
+    (gets_low old c.args.rank c.args.pair c.parts-first.result.1 c.mark.new.marks c.mark-2.new.marks c.mark-2.ensures q.low)

@@ -1,9 +1,9 @@
 use Rattle.std.proofs.Common.{◌<◌, suc, length, subst, sym, arith}
 use Rattle.std.specs.Prelude.{slice_index}
 use Rattle.table_core.specs.declared.shape.Kind.TheVariants.{Pair}
+use Rattle.node_sweep.specs.Table.{IsBlockIn}
 use Rattle.node_sweep.specs.Blocks.{pair_at}
-use Rattle.node_sweep.specs.Transfers.{fresh_words, new_bits, old_bits, old_words, wants, IsWordNeeded}
-use Rattle.table_core.specs.Blocks.{IsBlock}
+use Rattle.node_sweep.specs.Transfers.{fresh_table, fresh_words, old_bits, old_table, wants, IsWordNeeded}
 use Rattle.table_core.proofs.Ways.{not_head}
 use Rattle.node_sweep.proofs.SideBySide.{copied_to_on, keeps_on, needed_later, needed_slot, sought_tried}
 use Rattle.node_sweep.proofs.transfer.Transfer.place_words.Goals as goal
@@ -25,14 +25,14 @@ note-requires-clause-word c =
     let transfer = c.args.self.now in
     let less : c.loop-i.i < length c.args.slots.now = omega arith in
     subst (λ n. IsWordNeeded transfer c.loop-i.fresh.words.items Pair n (slice_index c.args.words.now c.loop-i.i)) (sym c.index-pair.ensures.index)
-    (needed_later (old_bits transfer) (new_bits transfer) (old_words transfer) (fresh_words c.args.fresh.now) (fresh_words c.loop-i.fresh) Pair (pair_at transfer c.args.slots.now c.loop-i.i) _
+    (needed_later (old_table transfer) (fresh_table transfer c.args.fresh.now) (fresh_words c.loop-i.fresh) Pair (pair_at transfer c.args.slots.now c.loop-i.i) _
     c.loop-i.invariant.keeps (c.requires.needed.needed c.loop-i.i less))
 
 pub note-requires-clause-tried : goal.note-requires-clause-tried
 note-requires-clause-tried c =
     let transfer = c.args.self.now in
     let less : c.loop-i.i < length c.args.slots.now = omega arith in
-    sought_tried (new_bits transfer) c.args.fresh.now.words.items c.loop-i.fresh.words.items Pair (slice_index c.args.words.now c.loop-i.i) (slice_index c.args.found.now c.loop-i.i) c.places_tried-tried.result
+    sought_tried transfer.to c.args.fresh.now.words.items c.loop-i.fresh.words.items Pair (slice_index c.args.words.now c.loop-i.i) (slice_index c.args.found.now c.loop-i.i) c.places_tried-tried.result
     c.loop-i.invariant.keeps (c.requires.found.there c.loop-i.i less) c.places_tried-tried.ensures
 
 pub loop-i-preserved : goal.loop-i-preserved
@@ -47,5 +47,5 @@ loop-i-preserved c =
       keeps = keeps_on (fresh_words c.args.fresh.now) (fresh_words c.loop-i.fresh) (fresh_words c.note.new.fresh) c.loop-i.invariant.keeps c.note.ensures.keeps;
       copied = copied_to_on transfer c.loop-i.fresh c.note.new.fresh slots i c.index-pair.result c.in_ok-note.field-0 (suc n.0) c.loop-i.invariant.underway c.note.ensures.underway c.note.ensures.keeps
           c.loop-i.invariant.copied c.index-pair.ensures.index c.in_ok-note.ensures.ok (not_head (old_bits transfer) Pair c.index-pair.result c.index-pair.ensures.slot)
-          (subst (IsBlock (old_bits transfer) (old_words transfer) (suc n.0)) (sym c.index-pair.ensures.index) n.1);
+          (subst (IsBlockIn (old_table transfer) (suc n.0)) (sym c.index-pair.ensures.index) n.1);
     }

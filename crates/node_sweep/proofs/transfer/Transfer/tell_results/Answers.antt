@@ -1,7 +1,7 @@
 use Rattle.std.proofs.Common.{◌≡◌, ◌<◌, ◌+◌, sym, subst, arith}
 use Rattle.std.specs.Prelude.{slice_index}
 use Rattle.node_sweep.specs.Keeping.{IsResultWord}
-use Rattle.node_sweep.specs.Transfers.{AreResultsKept, old_bits, old_words}
+use Rattle.node_sweep.specs.Transfers.{AreResultsKept, old_table}
 use Rattle.node_sweep.proofs.transfer.Transfer.tell_results.Goals as goal
 
 pub loop-i-init : goal.loop-i-init
@@ -12,7 +12,7 @@ loop-i-init c =
 pub tell_result-requires-clause-word : goal.tell_result-requires-clause-word
 tell_result-requires-clause-word c =
     let less : c.loop-i.i < 64 = let test = c.loop-i-test.true in omega arith in
-    subst (λ n. IsResultWord (old_bits c.args.self.now) (old_words c.args.self.now) c.args.copies.now n (slice_index c.args.told.now c.loop-i.i)) (sym c.index-pair.ensures.index)
+    subst (λ n. IsResultWord (old_table c.args.self.now) c.args.copies.now n (slice_index c.args.told.now c.loop-i.i)) (sym c.index-pair.ensures.index)
     (c.requires.told.each c.loop-i.i less)
 
 pub loop-i-preserved : goal.loop-i-preserved

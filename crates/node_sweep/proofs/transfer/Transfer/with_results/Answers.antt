@@ -1,14 +1,14 @@
 use Rattle.std.proofs.Common.{◌≡◌, ◌+◌, ◌-◌, ◌*◌, ◌^◌, ◌∙◌, List, ℕ, sym, subst, arith}
 use Rattle.std.proofs.lemmas.List.{with_items_is}
 use Rattle.table_core.proofs.Ways.{whole}
-use Rattle.node_sweep.specs.Transfers.{AreResultsKept, old_bits, old_words, wants}
+use Rattle.node_sweep.specs.Transfers.{AreResultsKept, old_bits, wants}
 use Rattle.node_sweep.proofs.Futures.{keeping_start}
 use Rattle.node_sweep.proofs.transfer.Transfer.with_results.Goals as goal
 
 pub loop-block-init : goal.loop-block-init
 loop-block-init c =
     let transfer = c.args.self.now in
-    keeping_start transfer.old.key.now transfer.to (old_words transfer) (wants transfer) c.args.fresh.words.items c.args.fresh.copies.items transfer.old.good.good c.requires.copying
+    keeping_start transfer.old.key.now transfer.to transfer.old.words.now (wants transfer) c.args.fresh.words.items c.args.fresh.copies.items transfer.old.good.good c.requires.copying
 
 pub kept_results-requires-clause-inside : goal.kept_results-requires-clause-inside
 kept_results-requires-clause-inside c =
