@@ -12,8 +12,6 @@ use Rattle.viewport.specs.Population.{HasPopulation}
 use Rattle.engine.specs.Judgement.{Judges}
 use Rattle.patterns.specs.Meaning.{Meaning}
 use Rattle.run_options.specs.declared.options.RunOptions.{RunOptions}
-use Rattle.universe.specs.Cells.{limit_of, live_cells, rule_of}
-use Rattle.universe.specs.declared.universe.Universe.{Universe}
 use Rattle.engine.specs.declared.running.Summary.{Summary}
 
 -- the plane has the cells of the file, and from there so many generations stay in the range
@@ -45,9 +43,3 @@ pub record SumsUp (generation : ℕ) (plane : Plane) (answer : Summary) : Type 0
   pub last : answer.generation ≡ generation
   pub population : HasPopulation plane answer.population
   pub bounds : HasBounds plane answer.bounds
-
--- the same cells, under the same rule and limit
-pub record IsSameRun (old new : Universe) : Type 0 where
-  pub cells : IsSame (live_cells new) (live_cells old)
-  pub rule : rule_of new ≡ rule_of old
-  pub limit : limit_of new ≡ limit_of old

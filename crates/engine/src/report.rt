@@ -4,8 +4,8 @@ ghost use Rattle.std.specs.Prelude.{◌≡◌, ◌⊎◌, ℕ, List, IfOk, IfSom
 ghost use Rattle.std.specs.Io.KnownBytes.{Appends};
 ghost use Rattle.plane.specs.Device.{AppendsBeginning, IsWriteRefusal, TellsFailure};
 ghost use Rattle.universe.specs.Cells.{live_cells};
+ghost use Rattle.universe.specs.Runs.{IsSameUniverse};
 ghost use Rattle.viewport.specs.Population.{HasPopulation};
-ghost use Rattle.engine.specs.Accepted.{IsSameRun};
 ghost use Rattle.engine.specs.Report.{IsSaid, report_line};
 
 use plane::{Refusal, Sink, TextLine};
@@ -24,7 +24,7 @@ pub(crate) fn report_generation<W: Sink>(
     generation: u64,
     universe: &mut Universe,
 ) -> Result<Option<u128>, Refusal>
-    ensures same { IsSameRun universe.old universe.new }
+    ensures same { IsSameUniverse universe.old universe.new }
     ensures counted { IfOk result (λ population.
         IfSome population (HasPopulation (live_cells universe.new))) }
     ensures written { OnOk result

@@ -27,6 +27,10 @@ still_same before now = record { cells = same_trans now.cells before.cells; rule
 pub none_later : {first second : Universe} → IsSameUniverse first second → IsLater first 0 second
 none_later same = record { cells = same.cells; rule = same.rule; limit = same.limit }
 
+-- what is the same is as many generations on
+pub then_same : {first second third : Universe} → (generations : ℕ) → IsLater first generations second → IsSameUniverse second third → IsLater first generations third
+then_same generations later same = record { cells = same_trans same.cells later.cells; rule = same.rule ∙ later.rule; limit = same.limit ∙ later.limit }
+
 pub later_on : {first second third : Universe} → (done more : ℕ) → IsLater first done second → IsLater second more third → IsLater first (done + more) third
 later_on {first} {second} {third} done more before now = record {
   cells = after_step (rule_of first) (live_cells first) (live_cells second) (live_cells third) done more before.cells

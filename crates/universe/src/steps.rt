@@ -1,7 +1,6 @@
 //! The cells some generations on.
 
 ghost use Rattle.std.specs.Prelude.{◌≡◌, ◌⊎◌, ◌≤◌, ◌<◌, ◌^◌, IfErr, IfOk, Ok};
-ghost use Rattle.plane.specs.Plane.{after};
 ghost use Rattle.plane.specs.Square.{IsSame, empty};
 ghost use Rattle.universe.specs.Held.{StaysHeld};
 ghost use Rattle.universe.specs.Outcomes.{LacksMemoryOrRoom, WhereFull};
@@ -16,7 +15,7 @@ use std::thread::Threads;
 use worker_split::{Gate, Team};
 
 impl Universe {
-    ghost use Rattle.universe.specs.Cells.{limit_of, live_cells, rule_of};
+    ghost use Rattle.universe.specs.Cells.{live_cells, rule_of};
 
     // The cells after 2^exponent generations. Where the largest table is too small for the step, it
     // is taken in two halves. `NodesFull` where it is too small for a single generation, and
@@ -77,10 +76,7 @@ impl Universe {
     ) -> Result<Universe, Refusal>
         requires held { StaysHeld (rule_of self) (live_cells self) generations }
         requires short { (IsSame (live_cells self) empty → ⊥) → generations < 2 ^ 63 }
-        ensures ok { IfOk result (λ later.
-            IsSame (live_cells later) (after (rule_of self) (live_cells self) generations)) }
-        ensures rule { IfOk result (λ later. rule_of later ≡ rule_of self) }
-        ensures limit { IfOk result (λ later. limit_of later ≡ limit_of self) }
+        ensures ok { IfOk result (IsLater self generations) }
         ensures no_step { IsSame (live_cells self) empty → result ≡ Ok self }
         ensures full { IfErr result
             (λ refusal. refusal ≡ Refusal.NodesFull → IsStuck self generations) }

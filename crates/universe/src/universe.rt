@@ -30,7 +30,8 @@ pub struct Universe {
 }
 
 impl Universe {
-    ghost use Rattle.universe.specs.Cells.{limit_of, live_cells, pairs_of, still_cells, rule_of};
+    ghost use Rattle.universe.specs.Cells.{limit_of, live_cells, pairs_of, still_cells};
+    ghost use Rattle.universe.specs.Runs.{IsSameUniverse};
 
     /// Whether no cell is live.
     pub fn is_empty(&self) -> bool
@@ -42,9 +43,7 @@ impl Universe {
     /// How many cells are live. `NoMemory` where there is no room to count them.
     pub fn population(&mut self, alloc: Global) -> Result<u128, Refusal>
         ensures ok { IfOk result (HasPopulation (live_cells self.old)) }
-        ensures same { IsSame (live_cells self.new) (live_cells self.old) }
-        ensures rule { rule_of self.new ≡ rule_of self.old }
-        ensures limit { limit_of self.new ≡ limit_of self.old }
+        ensures same { IsSameUniverse self.old self.new }
         ensures memory { IsOkUnless result Refusal.NoMemory }
     {
         // A second desk reads the cells, and is let go.
@@ -56,9 +55,7 @@ impl Universe {
     /// The smallest box that holds the live cells. `NoMemory` where there is no room to find it.
     pub fn bounds(&mut self, alloc: Global) -> Result<Option<Bounds>, Refusal>
         ensures ok { IfOk result (HasBounds (live_cells self.old)) }
-        ensures same { IsSame (live_cells self.new) (live_cells self.old) }
-        ensures rule { rule_of self.new ≡ rule_of self.old }
-        ensures limit { limit_of self.new ≡ limit_of self.old }
+        ensures same { IsSameUniverse self.old self.new }
         ensures memory { IsOkUnless result Refusal.NoMemory }
     {
         // A second desk reads the cells, and is let go.

@@ -13,6 +13,6 @@ returns-in_err-reach-clause-refused c =
 
 pub returns-clause-ok : goal.returns-clause-ok
 returns-clause-ok c =
-    let same = c.in_ok-bounds.ensures.same in
+    let same = c.in_ok-bounds.ensures.same.cells in
     has_room (meaning_of c.args.text.now) c.args.generations (live_cells c.bounds.new.self) c.in_ok-bounds.bounds c.generation.result
     (bounds_as (same_sym same) c.in_ok-bounds.ensures.ok) (same_trans same c.in_ok-universe.ensures.ok) c.generation.ensures c.in_ok-reach.ensures.ok.0

@@ -3,4 +3,4 @@ use Rattle.engine.proofs.Endings.{population_as}
 use Rattle.engine.proofs.report.report_generation.Goals as goal
 
 pub returns-clause-counted : goal.returns-clause-counted
-returns-clause-counted g c = population_as (same_sym c.in_ok-population.ensures.same) c.in_ok-population.ensures.ok
+returns-clause-counted g c = population_as (same_sym c.in_ok-population.ensures.same.cells) c.in_ok-population.ensures.ok

@@ -3,11 +3,12 @@ use Rattle.std.proofs.KnownBytes.{Appends-nil}
 use Rattle.std.proofs.result.Match.{err_is}
 use Rattle.plane.specs.Plane.{after}
 use Rattle.plane.specs.Square.{IsSame}
-use Rattle.plane.proofs.Same.{same_refl}
 use Rattle.universe.specs.Cells.{live_cells, rule_of}
+use Rattle.universe.specs.Runs.{IsLater}
 use Rattle.universe.proofs.Later.{empty_later}
+use Rattle.universe.proofs.Onward.{held_on, later_on, none_later, same_universe, stuck_on, then_same}
 use Rattle.engine.specs.Report.{IsSaid, AreLinesAfter}
-use Rattle.engine.proofs.Onward.{IsRunOn, held_on, later_on, none_later, stuck_on, then_same}
+use Rattle.engine.proofs.Onward.{stuck_within}
 use Rattle.engine.proofs.Reports.{first_lines, said_next, shown_below, shown_next, shows_next, shows_none, start_shown, stopped}
 use Rattle.engine.proofs.reported.run_reported.Goals as goal
 
@@ -15,7 +16,7 @@ pub lines-init : goal.lines-init
 lines-init g c = record {
   within = omega arith;
   shown = start_shown c.args.options.now;
-  later = none_later (record { cells = same_refl (live_cells c.args.start); rule = refl; limit = refl });
+  later = none_later (same_universe c.args.start);
   unfailed = refl;
   said = ([], shows_none (rule_of c.args.start) (live_cells c.args.start) c.args.generation, Appends-nil _);
 }
@@ -61,8 +62,9 @@ returns-in_err-universe-clause-refused g c =
 pub returns-in_err-universe-clause-full : goal.returns-in_err-universe-clause-full
 returns-in_err-universe-clause-full g c =
     let is : c.from_residual-in_err-universe.result ≡ Err c.in_err-universe.field-0.0 = err_is _ _ c.from_residual-in_err-universe.ensures.1 in
-    rw is (λ full. stuck_on c.args.options.now.gens c.lines.done (c.next_shown-next.result - c.lines.done) (then_same c.lines.done c.lines.invariant.later c.in_ok-population.ensures.same)
-    (omega (arith, c.next_shown-next.ensures.later, c.next_shown-next.ensures.within)) (c.in_err-universe.ensures.full full))
+    rw is (λ full. stuck_within c.args.options.now.gens (stuck_on c.args.options.now.gens c.lines.done (c.next_shown-next.result - c.lines.done)
+    (then_same c.lines.done c.lines.invariant.later c.in_ok-population.ensures.same)
+    (omega (arith, c.next_shown-next.ensures.later, c.next_shown-next.ensures.within)) (c.in_err-universe.ensures.full full)))
 
 pub lines-preserved : goal.lines-preserved
 lines-preserved g c =
@@ -71,14 +73,12 @@ lines-preserved g c =
     let plane = live_cells c.args.start in
     let done = c.lines.done in
     let next = c.next_shown-next.result in
-    let more = c.in_ok-universe.ensures in
     let said = said_next rule plane c.args.generation options done (live_cells c.lines.universe) _ _ _ c.lines.invariant.said c.lines.invariant.later.cells c.lines.invariant.shown c.in_ok-population.ensures.written in
     let sum : done + (next - done) ≡ next = omega (arith, c.next_shown-next.ensures.later) in
-    let step : IsRunOn c.report_generation.new.universe (next - done) c.in_ok-universe.universe = record { cells = more.ok; rule = more.rule; limit = more.limit } in
     record {
       within = c.next_shown-next.ensures.within;
       shown = c.next_shown-next.ensures.shown;
-      later = subst (λ n. IsRunOn c.args.start n c.in_ok-universe.universe) sum (later_on done (next - done) (then_same done c.lines.invariant.later c.in_ok-population.ensures.same) step);
+      later = subst (λ n. IsLater c.args.start n c.in_ok-universe.universe) sum (later_on done (next - done) (then_same done c.lines.invariant.later c.in_ok-population.ensures.same) c.in_ok-universe.ensures.ok);
       unfailed = c.in_ok-population.ensures.unfailed ∙ c.lines.invariant.unfailed;
       said = (
         said.0,

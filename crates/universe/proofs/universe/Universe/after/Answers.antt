@@ -6,7 +6,6 @@ use Rattle.std.proofs.lemmas.List.Sums.{sum_by_more}
 use Rattle.std.proofs.result.Match.{err_is}
 use Rattle.rule_text.specs.CountRule.{IsRule}
 use Rattle.plane.specs.Square.{IsSame, empty}
-use Rattle.table_core.specs.declared.shape.Shape.{Shape}
 use Rattle.universe.specs.Cells.{live_cells, rule_of}
 use Rattle.universe.specs.Runs.{IsLater}
 use Rattle.universe.proofs.Later.{empty_stays, low_exponent, next_within}
@@ -16,7 +15,11 @@ use Rattle.universe.proofs.universe.Universe.after.Goals as goal
 pub returns-then-is_empty-clause-ok : goal.returns-then-is_empty-clause-ok
 returns-then-is_empty-clause-ok g c =
     let rule : IsRule (rule_of c.args.self) = search rules in
-    empty_stays (rule_of c.args.self) rule.no_birth_on_zero (live_cells c.args.self) c.args.generations (c.if-is_empty.ensures.0 refl)
+    record {
+      cells = empty_stays (rule_of c.args.self) rule.no_birth_on_zero (live_cells c.args.self) c.args.generations (c.if-is_empty.ensures.0 refl);
+      rule = refl;
+      limit = refl;
+    }
 
 pub steps-init : goal.steps-init
 steps-init g c = none_later (same_universe c.args.self)
@@ -51,13 +54,7 @@ returns-clause-ok g c =
     let i = c.steps.exponent-index in
     let sum = ap (sum_by (λ exponent. 2 ^ exponent)) c.as_slice-exponent-items.ensures.value ∙ c.digits_from-digits.ensures in
     let all = take_all i exponents (omega (arith, c.steps-test.false)) in
-    (subst (λ n. IsLater c.args.self n c.steps.universe) (ap (sum_by (λ exponent. 2 ^ exponent)) all ∙ sum) c.steps.invariant).cells
-
-pub returns-clause-rule : goal.returns-clause-rule
-returns-clause-rule g c = c.steps.invariant.rule
-
-pub returns-clause-limit : goal.returns-clause-limit
-returns-clause-limit g c = ap (λ (s : Shape). 2 ^ s.bits) c.steps.invariant.limit
+    subst (λ n. IsLater c.args.self n c.steps.universe) (ap (sum_by (λ exponent. 2 ^ exponent)) all ∙ sum) c.steps.invariant
 
 pub returns-in_err-universe-clause-full : goal.returns-in_err-universe-clause-full
 returns-in_err-universe-clause-full g c =

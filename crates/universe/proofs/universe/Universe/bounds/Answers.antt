@@ -1,4 +1,4 @@
-use Rattle.std.proofs.Common.{subst}
+use Rattle.std.proofs.Common.{refl, subst}
 use Rattle.std.specs.Prelude.{IfOk}
 use Rattle.node_table.proofs.AtWork.{centred_same}
 use Rattle.plane.specs.Centred.{centred}
@@ -29,4 +29,5 @@ returns-clause-ok c =
 pub returns-clause-same : goal.returns-clause-same
 returns-clause-same c =
     let root = c.args.self.now.root in
-    centred_same root.level _ _ ((keeps_same c.split_off-desk.ensures.same).cells root c.args.self.now.known.known)
+    let kept = keeps_same c.split_off-desk.ensures.same in
+    record { cells = centred_same root.level _ _ (kept.cells root c.args.self.now.known.known); rule = kept.rule; limit = refl }

@@ -8,9 +8,9 @@ pub after-requires-clause-held : goal.after-requires-clause-held
 after-requires-clause-held g c κs within =
     let here = c.bounds.new.self in
     let rule : IsRule (rule_of here) = search rules in
-    stays_held (rule_of here) rule (live_cells c.args.universe) (live_cells here) c.in_ok-bounds.bounds 0 c.args.generations c.in_ok-bounds.ensures.ok c.in_ok-bounds.ensures.same c.in_ok-reach.ensures.ok.0
+    stays_held (rule_of here) rule (live_cells c.args.universe) (live_cells here) c.in_ok-bounds.bounds 0 c.args.generations c.in_ok-bounds.ensures.ok c.in_ok-bounds.ensures.same.cells c.in_ok-reach.ensures.ok.0
 
 pub after-requires-clause-short : goal.after-requires-clause-short
 after-requires-clause-short g c κs within =
     let here = c.bounds.new.self in
-    stays_short (live_cells c.args.universe) (live_cells here) c.in_ok-bounds.bounds 0 c.args.generations c.in_ok-bounds.ensures.ok c.in_ok-bounds.ensures.same c.in_ok-reach.ensures.ok.0
+    stays_short (live_cells c.args.universe) (live_cells here) c.in_ok-bounds.bounds 0 c.args.generations c.in_ok-bounds.ensures.ok c.in_ok-bounds.ensures.same.cells c.in_ok-reach.ensures.ok.0
