@@ -1,6 +1,6 @@
 //! Squares made of the live items of an RLE file.
 
-ghost use Rattle.std.specs.Prelude.{◌≤◌, ◌-◌, ◌^◌, IfErr, IfOk};
+ghost use Rattle.std.specs.Prelude.{◌≤◌, IfErr, IfOk};
 ghost use Rattle.rle_reader.specs.Meaning.{live_plane};
 ghost use Rattle.squares.specs.Book.{AddsSquares, LacksMemoryOr, MayRefuse};
 ghost use Rattle.squares.specs.Rounds.{IsRound};
@@ -8,10 +8,7 @@ ghost use Rattle.squares.specs.Rounds.{IsRound};
 use hashlife_step::trim;
 use plane::{Cell, Refusal};
 use rle_reader::RleFile;
-use squares::{
-    HIGHEST_ROOT_LEVEL, LOWEST_ROOT_LEVEL, RunSequence, Sq, Squares, half_side,
-    ordered_runs_to_square,
-};
+use squares::{HIGHEST_ROOT_LEVEL, RunSequence, Sq, Squares, level_around, ordered_runs_to_square};
 use std::alloc::Global;
 
 // The live items of a file that are left.
@@ -43,22 +40,7 @@ pub(crate) fn live_runs_to_square<S: Squares>(
     let runs = FileRuns {
         runs: file.live_runs(),
     };
-    let level = level_round(file.reach());
+    let level = level_around(file.reach());
     let root = ordered_runs_to_square(alloc, book, runs, level)?;
     trim(book, root)
-}
-
-// The lowest level of a square around (0,0) that goes so far in each direction.
-fn level_round(reach: u64) -> u8
-    requires { reach ≤ 2 ^ 62 }
-    ensures low { 4 ≤ result }
-    ensures high { result ≤ HIGHEST_ROOT_LEVEL }
-    ensures far { reach ≤ 2 ^ (result - 1) }
-{
-    for level in LOWEST_ROOT_LEVEL..HIGHEST_ROOT_LEVEL {
-        if reach <= half_side(level) {
-            return level;
-        }
-    }
-    HIGHEST_ROOT_LEVEL
 }

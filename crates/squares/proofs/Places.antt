@@ -1,10 +1,9 @@
 -- What stands at a place of a list that grows or changes.
-use Rattle.std.proofs.Common.{◌≡◌, ◌≢◌, ◌↔◌, ℕ, zero, suc, ◌<◌, ◌⊎◌, Bool, List, [], ◌∷◌, ◌++◌, length, ◌∙◌, ap, refl, inl, inr, ⊎_elim, arith}
-use Rattle.std.specs.Prelude.{IsTrue, MatchBool, Some, None, slice_get, slice_set, slice_index_or}
-use Rattle.std.specs.List.{AllByRecursion, AllWithin, HoldsAt}
-use Rattle.std.proofs.lemmas.Bool.{MatchBool-at_true}
-use Rattle.std.proofs.lemmas.Iterator.Search.{true_from_All}
-use Rattle.std.proofs.lemmas.List.Elements.{All-from_all_within, All-from_recursion, recursion_from_All}
+use Rattle.std.proofs.Common.{◌≡◌, ◌≢◌, ◌↔◌, ℕ, zero, suc, ◌+◌, ◌<◌, ◌≤◌, max, ◌⊎◌, List, [], ◌∷◌, ◌++◌, length, ◌∙◌, ap, refl, inl, inr, subst, ⊎_elim, arith}
+use Rattle.std.specs.Prelude.{Some, None, slice_get, slice_set, slice_index_or}
+use Rattle.std.specs.List.{AllByRecursion, AllWithin}
+use Rattle.std.proofs.lemmas.List.{get_or_default}
+use Rattle.std.proofs.lemmas.List.Elements.{All-from_all_within, All-from_recursion, AllWithin-from_all, AllWithin-more, AllWithin-upto, recursion_from_All}
 
 some_same : {X : Type 0} (a b : X) → Some a ≡ Some b → a ≡ b
 some_same a b e = cc
@@ -55,9 +54,16 @@ all_at P [] i d all h = absurd (omega arith)
 all_at P (x ∷ xs) zero d all h = all.0
 all_at P (x ∷ xs) (suc i) d all h = all_at P xs i d all.1 (omega arith)
 
--- what a test of each of some says of all
-pub all_tested : {X : Type 0} (P : X → Type 0) (r : Bool) (xs : List X) → MatchBool r (AllWithin P xs 0 (length xs)) ((k : ℕ) × (k < length xs) × HoldsAt (λ x. ¬ P x) xs k) → IsTrue r ↔ AllByRecursion P xs
-all_tested P r xs said = (
-  (λ yes. recursion_from_All P xs (All-from_all_within P xs (MatchBool-at_true _ _ yes said))),
-  (λ all. true_from_All P (λ x. ¬ P x) r xs (λ x yes no. no yes) said (All-from_recursion P xs all)),
+pub all_within : {X : Type 0} (P : X → Type 0) (xs : List X) → AllWithin P xs 0 (length xs) ↔ AllByRecursion P xs
+all_within P xs = (
+  (λ within. recursion_from_All P xs (All-from_all_within P xs within)),
+  (λ all. AllWithin-from_all P xs (All-from_recursion P xs all)),
+)
+
+-- a fact of each of some, and one of the next one, where both hold from some number on
+pub within_more : {X : Type 0} (P : X → Type 0) (xs : List X) (i : ℕ) (d : X) (far near most : ℕ) → i < length xs → AllWithin P xs 0 i ↔ (far ≤ most) → P (slice_index_or xs i d) ↔ (near ≤ most) →
+    AllWithin P xs 0 (i + 1) ↔ (max far near ≤ most)
+within_more P xs i d far near most inside before here = (
+  (λ all. let low = before.0 (AllWithin-upto P xs 0 (i + 1) i (omega arith) all) in let there = here.0 (all i d (omega arith) (omega arith)) in omega (arith, low, there)),
+  (λ le. AllWithin-more P xs 0 i (before.1 (omega (arith, le))) (λ e. subst P (get_or_default xs i d e inside) (here.1 (omega (arith, le))))),
 )

@@ -30,7 +30,7 @@ pub use plain_book::PlainBook;
 pub use plane::LEAF_LEVEL;
 pub use reading::{Looked, Reading};
 pub use runs::{cells_to_square, runs_to_square};
-pub use sq::{HIGHEST_ROOT_LEVEL, LOWEST_ROOT_LEVEL, Num, Sq, half_side, side};
+pub use sq::{HIGHEST_ROOT_LEVEL, LOWEST_ROOT_LEVEL, Num, Sq, half_side, level_around, side};
 pub use strips::{RunSequence, ordered_runs_to_square};
 pub use subsquares::{centre, has_empty_border, nine};
 pub use tally::Tally;

@@ -1,6 +1,6 @@
 //! The square of some runs of live cells, or of a set of cells.
 
-ghost use Rattle.std.specs.Prelude.{◌≡◌, ◌-◌, ◌^◌, ◌≤◌, ◌↔◌, IfOk, IfErr, IsTrue, map};
+ghost use Rattle.std.specs.Prelude.{◌≡◌, ◌-◌, ◌^◌, ◌≤◌, ◌↔◌, ℕ, IfOk, IfErr, map};
 ghost use Rattle.std.specs.List.{AllByRecursion};
 ghost use Rattle.std.specs.List.Sorted.{IsPermutation};
 ghost use Rattle.plane.specs.Centred.{IsSmallestLevel};
@@ -14,23 +14,36 @@ ghost use Rattle.squares.specs.Strips.{AreInReadingOrder};
 
 use crate::book::Squares;
 use crate::spans::distance;
-use crate::sq::{HIGHEST_ROOT_LEVEL, LOWEST_ROOT_LEVEL, Sq, half_side};
+use crate::sq::{HIGHEST_ROOT_LEVEL, Sq, half_side, level_around};
 use crate::strips::{RunSequence, ordered_runs_to_square};
 use plane::{Cell, CellSet, Refusal};
 use std::alloc::{AllocError, Global};
 
-// Whether the run lies in the square of this half side around (0,0).
-fn fits(run: (Cell, u64), half: u64) -> bool
-    requires half { half ≤ 2 ^ 62 }
-    requires run { IsRun run }
-    ensures { IsTrue result ↔ FitsRound half run }
+// How far the run goes from (0,0), to the left, to the right, up or down.
+fn reach(run: (Cell, u64)) -> u64
+    requires { IsRun run }
+    ensures range { result ≤ 2 ^ 62 }
+    ensures fits { (half : ℕ) → FitsRound half run ↔ (result ≤ half) }
 {
     let (cell, count) = run;
-    let far = half as i64;
-    if cell.x < -far || cell.y < -far || far <= cell.y {
-        return false;
+    let far = half_side(HIGHEST_ROOT_LEVEL);
+    let (x, y) = (distance(cell.x, far), distance(cell.y, far));
+    let across = u64::max(far.saturating_sub(x), (x + count).saturating_sub(far));
+    let down = u64::max(far.saturating_sub(y), (y + 1).saturating_sub(far));
+    across.max(down)
+}
+
+// How far the runs go from (0,0).
+fn reach_of_all(runs: &[(Cell, u64)]) -> u64
+    requires { AllByRecursion IsRun runs.now }
+    ensures range { result ≤ 2 ^ 62 }
+    ensures fit { (half : ℕ) → AllByRecursion (FitsRound half) runs.now ↔ (result ≤ half) }
+{
+    let mut farthest = 0;
+    for run in runs {
+        farthest = u64::max(farthest, reach(*run));
     }
-    distance(cell.x, half) + count <= 2 * half
+    farthest
 }
 
 // The smallest level of at least 4 whose square around (0,0) has all the runs.
@@ -40,13 +53,7 @@ fn smallest_level(runs: &[(Cell, u64)]) -> u8
     ensures fits { AllByRecursion (FitsRound (2 ^ (result - 1))) runs.now }
     ensures high { result ≤ HIGHEST_ROOT_LEVEL }
 {
-    for level in LOWEST_ROOT_LEVEL..HIGHEST_ROOT_LEVEL {
-        let half = half_side(level);
-        if runs.iter().all(|run| fits(*run, half)) {
-            return level;
-        }
-    }
-    HIGHEST_ROOT_LEVEL
+    level_around(reach_of_all(runs))
 }
 
 // The runs in the order of reading.

@@ -1,6 +1,6 @@
 //! A square of a book: its level and its number.
 
-ghost use Rattle.std.specs.Prelude.{◌≡◌, ◌↔◌, ◌-◌, ◌^◌, ◌≤◌, IsTrue};
+ghost use Rattle.std.specs.Prelude.{◌≡◌, ◌↔◌, ◌-◌, ◌^◌, ◌≤◌, ℕ, IsTrue};
 ghost use Rattle.squares.specs.Book.{IsEmpty, numbered};
 
 /// The lowest level of a square around (0,0).
@@ -25,6 +25,22 @@ pub fn side(level: u8) -> u64
     ensures { result ≡ 2 ^ level }
 {
     1 << level
+}
+
+/// The smallest level, of at least 4, of a square around (0,0) that goes so far in each direction.
+pub fn level_around(reach: u64) -> u8
+    requires { reach ≤ 2 ^ 62 }
+    ensures low { 4 ≤ result }
+    ensures high { result ≤ HIGHEST_ROOT_LEVEL }
+    ensures far { reach ≤ 2 ^ (result - 1) }
+    ensures smallest { (level : ℕ) → 4 ≤ level → reach ≤ 2 ^ (level - 1) → result ≤ level }
+{
+    for level in LOWEST_ROOT_LEVEL..HIGHEST_ROOT_LEVEL {
+        if reach <= half_side(level) {
+            return level;
+        }
+    }
+    HIGHEST_ROOT_LEVEL
 }
 
 /// The number of a square in its book. Number 0 is the empty square of each level.
