@@ -1,6 +1,7 @@
 //! The words of a closed table, copied into fresh ones.
 
 ghost use Rattle.std.specs.Prelude.{◌≡◌, ◌≤◌, IfOk, IfErr, IsOkUnless};
+ghost use Rattle.plane.specs.declared.cell.TheConstants.{HIGHEST_LEVEL};
 ghost use Rattle.squares.specs.Book.{IsKnown, LacksMemoryOr};
 ghost use Rattle.table_core.specs.Blocks.{square_rank};
 ghost use Rattle.table_core.specs.Sizes.{IsPairCount};
@@ -97,7 +98,7 @@ impl<'a> Prepared<'a> {
     fn fill(self, alloc: Global, words: Vec<u64>, level: u8) -> Result<Copied, Refusal>
         requires words { AreBlankWords self.transfer.to words.items }
         requires plan { IsPlanOf self.transfer self.plan }
-        requires level { (3 ≤ level) × (level ≤ 65) }
+        requires level { (3 ≤ level) × (level ≤ HIGHEST_LEVEL) }
         requires block { IsBlockIn (old_table self.transfer) (square_rank level)
             self.transfer.roots.root }
         ensures ok { IfOk result (λ made. IsFilled self.entry.transfer level made.still made.root) }
