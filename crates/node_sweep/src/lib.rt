@@ -11,6 +11,7 @@ mod leaves;
 mod marks;
 mod order;
 mod placing;
+mod progress;
 mod ranks;
 mod results;
 mod stills;
@@ -18,5 +19,6 @@ mod survey;
 mod transfer;
 
 pub use keep::{Keep, Shares};
+pub use progress::has_come_far;
 pub use stills::{Copied, copy, copy_beside, sweep};
 pub use survey::Finished;

@@ -9,4 +9,4 @@ mod sizes;
 
 pub use history::TableHistory;
 pub use retries::{COLLECTION_SHARES, Retry, RetryPlan};
-pub use sizes::{GrowthFactor, expected_shape, larger, pair_count, smallest};
+pub use sizes::{GrowthFactor, expected_shape, larger, pair_count, shape_between, smallest};

@@ -1,6 +1,6 @@
 //! The sizes of tables, from a small one on.
 
-ghost use Rattle.std.specs.Prelude.{◌≡◌, ◌<◌, ◌≤◌, ◌⊎◌, ◌^◌, ℕ, min, IfNone, IfSome};
+ghost use Rattle.std.specs.Prelude.{◌≡◌, ◌<◌, ◌≤◌, ◌⊎◌, ◌+◌, ◌^◌, ℕ, min, IfNone, IfSome};
 ghost use Rattle.table_growth.specs.Sizes.{IsFirstSizeUpTo, IsGrownBy, bits_of};
 
 use table_core::{Kind, Shape};
@@ -79,6 +79,19 @@ pub fn larger(shape: Shape, most: Shape, growth_factor: GrowthFactor) -> Option<
     };
     let bits = shape.bits + if grows_at_once { 4 } else { 2 };
     let bits = most.bits.min(bits);
+    Some(Shape { bits })
+}
+
+/// The shape with four times as many pair slots as this one, if a full table of this one is replaced
+/// by a still larger one.
+pub fn shape_between(from: Shape, to: Shape) -> Option<Shape>
+    ensures { IfSome result
+        (λ between. (between.bits ≡ from.bits + 2) × (between.bits < to.bits)) }
+{
+    let bits = from.bits + 2;
+    if from.bits < BITS_OF_LARGE_STEPS || bits >= to.bits {
+        return None;
+    }
     Some(Shape { bits })
 }
 

@@ -73,11 +73,32 @@ impl Universe {
         let own = self.here.table.key().shape;
         match retry {
             Retry::Swept => self.step_in(team, own, Keep::CellsAlone),
-            Retry::Enlarged(shape) => self.step_in(team, shape, Keep::Everything),
+            Retry::Enlarged(shape) => self.step_enlarged(team, shape),
             Retry::Restarted(shape) => self.step_in(team, shape, Keep::CellsAlone),
             Retry::Collected(_) => self.step_in(team, limit, Keep::Collected(COLLECTION_SHARES)),
             Retry::CellsAlone => self.step_in(team, limit, Keep::CellsAlone),
         }
+    }
+
+    // Takes one step at a larger table with all squares: of this shape, where a smaller one was full
+    // too.
+    fn step_enlarged<R: Threads + Wait + Sync, G: Gate>(
+        self,
+        team: &Team<'_, R, G>,
+        shape: Shape,
+    ) -> Result<Attempt, AllocError>
+        requires step { MayStep self }
+        requires shape { 2 ^ shape.bits ≤ limit_of self }
+        ensures { IfOk result (IsAttempt self) }
+    {
+        let start = match self.step_in(team, shape, Keep::Everything)? {
+            Attempt::Full(start) => start,
+            done => return Ok(done),
+        };
+        if start.here.pair_count() == pair_count(shape) {
+            return Ok(Attempt::Full(start));
+        }
+        start.step_in(team, shape, Keep::Everything)
     }
 
     // Takes one step at the table of the cells.
@@ -101,7 +122,8 @@ impl Universe {
         }
     }
 
-    // Takes one step at a new table of this shape, if it has room for what is kept.
+    // Takes one step at a new table of this shape, or of a smaller one, if it has room for what is
+    // kept.
     fn step_in<R: Threads + Wait + Sync, G: Gate>(
         self,
         team: &Team<'_, R, G>,
@@ -115,10 +137,11 @@ impl Universe {
             → IfOk result IsFullAtLimit }
     {
         let mut others = self.others;
-        others.make_room(pair_count(shape));
         let exponent = self.here.table.key().exponent;
         let history = self.here.history;
         let start = self.here.close(self.root);
+        let shape = start.shape_for(team.alloc, shape, keep)?;
+        others.make_room(pair_count(shape));
         match start.copy(team, shape, keep, history)? {
             Some((fresh, history)) => {
                 drop(start);

@@ -11,14 +11,14 @@ use crate::other_tables::OtherTables;
 use crate::refusals::unless_full;
 use crate::tables::OpenTable;
 use crate::universe::Universe;
-use node_sweep::{Copied, Keep, copy, copy_beside, sweep};
+use node_sweep::{Copied, Keep, copy, copy_beside, has_come_far, sweep};
 use node_table::Still;
 use plane::{Bounds, Refusal};
 use squares::Sq;
 use std::alloc::{AllocError, Global};
 use std::thread::Threads;
 use table_core::{Kind, Shape};
-use table_growth::{GrowthFactor, TableHistory, larger, smallest};
+use table_growth::{GrowthFactor, TableHistory, larger, shape_between, smallest};
 use viewport::bounds;
 use worker_split::Team;
 
@@ -118,6 +118,26 @@ impl RootedStill {
         };
         let (still, root) = (copied.still, copied.root);
         Ok(Some((RootedStill { still, root }, history)))
+    }
+
+    /// The shape of the new words that this is kept in, where they may have the given shape: a
+    /// smaller one, if all is kept in far more words of a step that has come far.
+    pub(crate) fn shape_for(
+        &self,
+        alloc: Global,
+        shape: Shape,
+        keep: Keep,
+    ) -> Result<Shape, AllocError>
+        ensures within { IfOk result (λ chosen. chosen.bits ≤ shape.bits) }
+        ensures same { keep ≡ CellsAlone → IfOk result (λ chosen. chosen ≡ shape) }
+    {
+        let Keep::Everything = keep else {
+            return Ok(shape);
+        };
+        match shape_between(self.still.key().shape, shape) {
+            Some(between) if has_come_far(alloc, &self.still)? => Ok(between),
+            _ => Ok(shape),
+        }
     }
 
     // What is kept, in new words of this shape. If they are many, a second worker makes them.

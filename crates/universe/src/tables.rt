@@ -1,21 +1,22 @@
 //! Tables that stay open, each with its one desk.
 
 ghost use Rattle.std.specs.Prelude.{◌≡◌, ◌<◌, ◌≤◌, ◌^◌, ◌↔◌, IfErr, IfOk, IsTrue};
-ghost use Rattle.node_table.specs.Desks.{IsDeskOf};
+ghost use Rattle.node_table.specs.Desks.{IsDeskOf, book_at};
 ghost use Rattle.node_table.specs.Stills.{key_of};
 ghost use Rattle.plane.specs.Square.{IsSame};
 ghost use Rattle.squares.specs.Book.{IsKnown, Shows};
 ghost use Rattle.squares.specs.Rounds.{IsRound, square_plane};
 ghost use Rattle.universe.specs.Outcomes.{IfMade, LacksMemoryOrRoom};
+ghost use Rattle.universe.specs.Readers.{IsReader};
 ghost use Rattle.worker_split.specs.Jobs.{Refuses};
 
 use crate::refusals::unless_full;
 use crate::rooted_still::RootedStill;
 use node_sweep::{Keep, copy};
-use node_table::{Desk, NodeTable, Still};
+use node_table::{At, Desk, NodeTable, Still};
 use plane::Refusal;
 use rule_text::Rule;
-use squares::{Sq, copy_between};
+use squares::{Sq, Squares, copy_between};
 use std::alloc::{AllocError, Global};
 use std::sync::Wait;
 use std::thread::Threads;
@@ -30,6 +31,16 @@ pub(crate) struct OpenTable {
     pub(crate) desk: Desk,
     pub(crate) history: TableHistory,
     ghost of_table: { IsDeskOf table desk },
+}
+
+/// Another desk at work at the table of a desk. It knows what that knows.
+pub(crate) fn reader<'t>(table: &'t NodeTable, desk: &mut Desk) -> At<'t>
+    requires { IsDeskOf table.now desk.old }
+    ensures own { IsDeskOf table.now desk.new }
+    ensures same { book_at table.now desk.new ≡ book_at table.now desk.old }
+    ensures reads { IsReader (book_at table.now desk.old) (⟦<At<'static> as Squares>⟧.book result) }
+{
+    table.at(desk.split_off(table))
 }
 
 impl OpenTable {
@@ -157,10 +168,10 @@ impl OpenTable {
             (Shows (known_at other.new) root.level ((known_at self.old).cells root)) }
         ensures refusal { IfErr result LacksMemoryOrRoom }
     {
-        let desk = self.desk.split_off(&self.table);
         let other_desk = other.desk.split_off(&other.table);
         let mut other_at = other.table.at(other_desk);
-        let copied = copy_between(alloc, &mut self.table.at(desk), root, &mut other_at);
+        let mut from = reader(&self.table, &mut self.desk);
+        let copied = copy_between(alloc, &mut from, root, &mut other_at);
         other.desk = other_at.leave();
         copied
     }

@@ -10,7 +10,7 @@ ghost use Rattle.universe.specs.Tables.{known_at, pairs_in};
 
 use crate::other_tables::OtherTables;
 use crate::rooted_still::RootedStill;
-use crate::tables::OpenTable;
+use crate::tables::{OpenTable, reader};
 use plane::{Bounds, Refusal};
 use squares::Sq;
 use std::alloc::Global;
@@ -46,10 +46,8 @@ impl Universe {
         ensures same { IsSameUniverse self.old self.new }
         ensures memory { IsOkUnless result Refusal.NoMemory }
     {
-        // A second desk reads the cells, and is let go.
         let here = &mut self.here;
-        let desk = here.desk.split_off(&here.table);
-        population_at(alloc, &mut here.table.at(desk), self.root)
+        population_at(alloc, &mut reader(&here.table, &mut here.desk), self.root)
     }
 
     /// The smallest box that holds the live cells. `NoMemory` where there is no room to find it.
@@ -58,10 +56,8 @@ impl Universe {
         ensures same { IsSameUniverse self.old self.new }
         ensures memory { IsOkUnless result Refusal.NoMemory }
     {
-        // A second desk reads the cells, and is let go.
         let here = &mut self.here;
-        let desk = here.desk.split_off(&here.table);
-        bounds_at(alloc, &mut here.table.at(desk), self.root)
+        bounds_at(alloc, &mut reader(&here.table, &mut here.desk), self.root)
     }
 
     /// How many pair slots its tables have together: at most the limit.

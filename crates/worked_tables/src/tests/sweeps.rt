@@ -7,7 +7,7 @@ ghost use Rattle.node_table.specs.Stills.{book_in};
 use crate::tests::leaves::make_leaves;
 use crate::tests::tables::{PAIRS, empty_table, open_table};
 use hashlife_step::{Tally, future, step};
-use node_sweep::{Finished, Keep, copy, copy_beside, sweep};
+use node_sweep::{Finished, Keep, copy, copy_beside, has_come_far, sweep};
 use node_table::Still;
 use plane::Refusal;
 use rule_text::Rule;
@@ -285,5 +285,21 @@ fn a_step_is_recalled_in_a_larger_table(rt: HostRuntime) -> Result<(), Fail> {
     let mut at = table.at(desk);
     assert!(rt; at.exponent() <= 62);
     assert_eq!(rt; step_again(&mut at)?, 0);
+    Ok(())
+}
+
+// A step of 2^7 generations has come far where more than 100 squares of level 4 are known, and one
+// of 2^8 where as many of level 5 are.
+#[test]
+fn many_small_squares_show_how_far_a_step_has_come(rt: HostRuntime) -> Result<(), Fail> {
+    for (made, exponent, is_far) in [
+        (Made::LargerLeaves, 7, true),
+        (Made::LargerLeaves, 8, false),
+        (Made::SmallerLeaves, 7, false),
+        (Made::LargerLeaves, 6, false),
+    ] {
+        let (words, _) = words_of(&rt, made, 16 * PAIRS, exponent)?;
+        assert_eq!(rt; has_come_far(rt.alloc(), &words)?, is_far);
+    }
     Ok(())
 }

@@ -6,28 +6,25 @@ use Rattle.plane.specs.Plane.{Plane}
 use Rattle.squares.specs.declared.sq.Sq.{Sq}
 use Rattle.squares.proofs.Kept.{known_kept}
 use Rattle.viewport.specs.BoundingBox.{HasBounds}
-use Rattle.universe.proofs.SecondDesks.{keeps_same, second_cells, second_known}
+use Rattle.universe.proofs.SecondDesks.{keeps_same}
 use Rattle.universe.proofs.universe.Universe.bounds.Goals as goal
 
 pub bounds_at-requires-clause-known : goal.bounds_at-requires-clause-known
-bounds_at-requires-clause-known c =
-    let here = c.args.self.now.here in
-    second_known here.table here.desk c.split_off-desk.result _ c.args.self.now.root c.split_off-desk.ensures.same_other c.at.ensures.book c.args.self.now.known
+bounds_at-requires-clause-known c = c.reader.ensures.reads.known c.args.self.now.root c.args.self.now.known
 
 pub invariant_of-self : goal.invariant_of-self
 invariant_of-self c =
     let universe = c.args.self.now in
-    record { known = known_kept (keeps_same c.split_off-desk.ensures.same) universe.known; level = universe.level; within = universe.within }
+    record { known = known_kept (keeps_same c.reader.ensures.same) universe.known; level = universe.level; within = universe.within }
 
 pub returns-clause-ok : goal.returns-clause-ok
 returns-clause-ok c =
-    let here = c.args.self.now.here in
     let root = c.args.self.now.root in
     subst (λ (cells : Sq → Plane). IfOk c.bounds_at.result (HasBounds (centred root.level (cells root))))
-    (second_cells here.table here.desk c.split_off-desk.result _ c.split_off-desk.ensures.same_other c.at.ensures.book) c.bounds_at.ensures.ok
+    c.reader.ensures.reads.cells c.bounds_at.ensures.ok
 
 pub returns-clause-same : goal.returns-clause-same
 returns-clause-same c =
     let root = c.args.self.now.root in
-    let kept = keeps_same c.split_off-desk.ensures.same in
+    let kept = keeps_same c.reader.ensures.same in
     record { cells = centred_same root.level _ _ (kept.cells root c.args.self.now.known.known); rule = kept.rule; limit = refl }

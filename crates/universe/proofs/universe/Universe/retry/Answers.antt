@@ -9,8 +9,8 @@ step_in-requires-clause-shape g c κs within =
     let all = c.args.self.within in
     omega (arith, own, all)
 
-pub step_in-requires-in-Enlarged-clause-shape : goal.step_in-requires-in-Enlarged-clause-shape
-step_in-requires-in-Enlarged-clause-shape g c κs within =
+pub step_enlarged-requires-clause-shape : goal.step_enlarged-requires-clause-shape
+step_enlarged-requires-clause-shape g c κs within =
     let below = subst (IsWithinLimit c.args.self.others.limit) c.in-Enlarged.is c.requires.within in
     pow_mono {i = c.in-Enlarged.shape.bits} {j = c.args.self.others.limit.bits} below
 

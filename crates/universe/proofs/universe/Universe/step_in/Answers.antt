@@ -1,4 +1,4 @@
-use Rattle.std.proofs.Common.{◌≡◌, ◌^◌, ◌∙◌, ℕ, inr, ap, sym, subst, arith}
+use Rattle.std.proofs.Common.{◌≡◌, ◌^◌, ◌∙◌, ℕ, inr, ap, sym, subst, arith, pow_mono}
 use Rattle.std.specs.Prelude.{Option, IfNone, IfSome}
 use Rattle.plane.proofs.Same.{same_sym, same_trans}
 use Rattle.table_core.specs.declared.key.Key.{Key}
@@ -15,15 +15,22 @@ use Rattle.universe.proofs.Halves.{ok_then}
 use Rattle.universe.proofs.Onward.{attempt_again, step_again}
 use Rattle.universe.proofs.universe.Universe.step_in.Goals as goal
 
+pub make_room-requires-clause-room : goal.make_room-requires-clause-room
+make_room-requires-clause-room g c =
+    let smaller = pow_mono {i = c.in_ok-shape.shape.bits} {j = c.args.shape.bits} c.in_ok-shape.ensures.within in
+    let room = c.requires.shape in
+    omega (arith, room, smaller, c.pair_count.ensures)
+
 pub open_at-requires : goal.open_at-requires
 open_at-requires g c =
-    let pairs = 2 ^ c.args.shape.bits in
+    let pairs = 2 ^ c.in_ok-shape.shape.bits in
     let is = subst (λ (o : Option (RootedStill × TableHistory)). IfSome o (λ fresh. IsCopied c.close-start.result pairs fresh.0)) c.in-Some.is c.in_ok-fresh.ensures.ok in
     let size = is.resized.pair_count in
     let fits = c.make_room.ensures.tables.fits in
     let limit = ap (λ (shape : Shape). 2 ^ shape.bits) c.make_room.ensures.limit in
     let room = c.requires.shape in
-    omega (arith, size, fits, limit, room, c.pair_count.ensures)
+    let smaller = pow_mono {i = c.in_ok-shape.shape.bits} {j = c.args.shape.bits} c.in_ok-shape.ensures.within in
+    omega (arith, size, fits, limit, room, smaller, c.pair_count.ensures)
 
 pub open_at-requires-in-None : goal.open_at-requires-in-None
 open_at-requires-in-None g c =
@@ -35,14 +42,14 @@ open_at-requires-in-None g c =
 
 pub step_here-requires-after_bounds : goal.step_here-requires-after_bounds
 step_here-requires-after_bounds g c κs within =
-    let pairs = 2 ^ c.args.shape.bits in
+    let pairs = 2 ^ c.in_ok-shape.shape.bits in
     let is = subst (λ (o : Option (RootedStill × TableHistory)). IfSome o (λ fresh. IsCopied c.close-start.result pairs fresh.0)) c.in-Some.is c.in_ok-fresh.ensures.ok in
     let now = subst (λ (k : Key). IsOpenedAt c.in-Some.fresh k.exponent c.make_room.new.self c.in_ok-universe-in-Some.universe) c.key.ensures c.in_ok-universe-in-Some.ensures in
     step_again c.requires.step (copied {old = c.args.self} c.close-start.result c.in-Some.fresh pairs c.close-start.ensures.cells c.close-start.ensures.key c.make_room.ensures.limit is now)
 
 pub returns-in_ok-universe-in-Some-clause-ok : goal.returns-in_ok-universe-in-Some-clause-ok
 returns-in_ok-universe-in-Some-clause-ok g c =
-    let pairs = 2 ^ c.args.shape.bits in
+    let pairs = 2 ^ c.in_ok-shape.shape.bits in
     let is = subst (λ (o : Option (RootedStill × TableHistory)). IfSome o (λ fresh. IsCopied c.close-start.result pairs fresh.0)) c.in-Some.is c.in_ok-fresh.ensures.ok in
     let now = subst (λ (k : Key). IsOpenedAt c.in-Some.fresh k.exponent c.make_room.new.self c.in_ok-universe-in-Some.universe) c.key.ensures c.in_ok-universe-in-Some.ensures in
     ok_then _ _ c.step_here.result (λ attempt is_attempt. attempt_again attempt
@@ -53,11 +60,11 @@ returns-in_ok-universe-in-Some-clause-full g c = λ alone most.
     let old = c.close-start.result in
     let fresh = c.in-Some.fresh in
     let universe = c.in_ok-universe-in-Some.universe in
-    let pairs = 2 ^ c.args.shape.bits in
+    let pairs = 2 ^ c.in_ok-shape.shape.bits in
     let is = subst (λ (o : Option (RootedStill × TableHistory)). IfSome o (λ fresh. IsCopied old pairs fresh.0)) c.in-Some.is c.in_ok-fresh.ensures.ok in
     let swept = subst (λ (o : Option (RootedStill × TableHistory)). IfSome o (λ fresh. IsSweptFrom old pairs fresh.0)) c.in-Some.is (c.in_ok-fresh.ensures.alone alone) in
     let now = c.in_ok-universe-in-Some.ensures in
-    let limit : pairs ≡ limit_of universe = most ∙ ap (λ (shape : Shape). 2 ^ shape.bits) (sym (ap (λ (o : OtherTables). o.limit) now.others ∙ c.make_room.ensures.limit)) in
+    let limit : pairs ≡ limit_of universe = ap (λ (shape : Shape). 2 ^ shape.bits) (c.in_ok-shape.ensures.same alone) ∙ most ∙ ap (λ (shape : Shape). 2 ^ shape.bits) (sym (ap (λ (o : OtherTables). o.limit) now.others ∙ c.make_room.ensures.limit)) in
     full_at_limit (still_of old) (root_of old) universe c.step_here.result old.known (same_sym (same_trans now.cells is.cells))
     (opened_alone old fresh _ _ (subst (λ (n : ℕ). IsSweptFrom old n fresh) limit swept) now) c.step_here.ensures.ok c.step_here.ensures.full
 
@@ -70,8 +77,8 @@ pub returns-in_ok-universe-in-None-clause-full : goal.returns-in_ok-universe-in-
 returns-in_ok-universe-in-None-clause-full g c = λ alone most.
     let old = c.close-start.result in
     let universe = c.in_ok-universe-in-None.universe in
-    let pairs = 2 ^ c.args.shape.bits in
+    let pairs = 2 ^ c.in_ok-shape.shape.bits in
     let now = c.in_ok-universe-in-None.ensures in
-    let limit : pairs ≡ limit_of universe = most ∙ ap (λ (shape : Shape). 2 ^ shape.bits) (sym (ap (λ (o : OtherTables). o.limit) now.others ∙ c.make_room.ensures.limit)) in
+    let limit : pairs ≡ limit_of universe = ap (λ (shape : Shape). 2 ^ shape.bits) (c.in_ok-shape.ensures.same alone) ∙ most ∙ ap (λ (shape : Shape). 2 ^ shape.bits) (sym (ap (λ (o : OtherTables). o.limit) now.others ∙ c.make_room.ensures.limit)) in
     let full = subst (λ (o : Option (RootedStill × TableHistory)). IfNone o (HasNoRoomToSweep old pairs)) c.in-None.is (c.in_ok-fresh.ensures.full alone) in
     record { still = still_of old; root = root_of old; known = old.known; cells = same_sym now.cells; full = inr (subst (HasNoRoomToSweep old) limit full) }

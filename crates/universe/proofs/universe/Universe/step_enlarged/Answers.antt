@@ -1,0 +1,15 @@
+use Rattle.std.proofs.Common.{subst}
+use Rattle.universe.specs.Runs.{IsAttempt}
+use Rattle.universe.specs.declared.attempts.Attempt.{Attempt}
+use Rattle.universe.proofs.Halves.{ok_then}
+use Rattle.universe.proofs.Onward.{attempt_again, step_again}
+use Rattle.universe.proofs.universe.Universe.step_enlarged.Goals as goal
+
+pub step_in-requires-2-clause-step : goal.step_in-requires-2-clause-step
+step_in-requires-2-clause-step g c κs within =
+    step_again c.requires.step (subst (λ (a : Attempt). IsAttempt c.args.self a) c.in-Full.is c.in_ok-done.ensures.ok)
+
+pub returns : goal.returns
+returns g c =
+    let again = subst (λ (a : Attempt). IsAttempt c.args.self a) c.in-Full.is c.in_ok-done.ensures.ok in
+    ok_then _ _ c.step_in-2.result (λ attempt is. attempt_again attempt again is) c.step_in-2.ensures.ok
