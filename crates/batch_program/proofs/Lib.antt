@@ -1,1 +1,2 @@
+mod Endings
 pub mod WindowTexts

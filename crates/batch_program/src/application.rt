@@ -66,8 +66,7 @@ impl Application for Lifebatch {
         out: &mut O,
         file: &mut V,
     ) -> Result<(), Fault> {
-        run_from(rt, alloc, source, &asked.options, out, file)?;
-        Ok(())
+        run_from(rt, alloc, source, &asked.options, out, file).and(Ok(()))
     }
 
     ghost form_is_free = { form_is_free };

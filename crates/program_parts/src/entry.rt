@@ -6,7 +6,7 @@ ghost use Rattle.clap.specs.Words.{Text};
 ghost use Rattle.plane.specs.Fault.{placeless};
 ghost use Rattle.plane.specs.SinkChange.{change_of};
 ghost use Rattle.program_parts.specs.Asking.{IsFaultOf, IsReasonOf};
-ghost use Rattle.program_parts.specs.Behaviour.{EndsProgram, IsDone, IsStop, StartsProgram};
+ghost use Rattle.program_parts.specs.Behaviour.{EndsProgram, IsDone, IsPerformed, IsStop, StartsProgram};
 ghost use Rattle.program_parts.specs.Texts.{texts_of};
 ghost use Rattle.program_parts.specs.declared.stops.Stop.TheVariants.{Refused};
 
@@ -87,10 +87,26 @@ fn perform<A: Application, R: Files + Input + Threads + Wait + Sync, O: Sink>(
         Ok(asked) => asked,
         Err(reason) => return end_of_words(alloc, reason, out),
     };
-    let mut source = InputFile::open(rt, A::input(&asked));
-    let mut file = OutputFile::new(rt, A::output(&asked));
-    A::perform(rt, alloc, &asked, &mut source, out, &mut file)?;
+    perform_asked::<A, R, O>(rt, alloc, &asked, out)?;
     Ok(())
+}
+
+// Does what some words ask for, with the files that they name.
+fn perform_asked<A: Application, R: Files + Input + Threads + Wait + Sync, O: Sink>(
+    rt: &R,
+    alloc: Global,
+    asked: &A::Asked,
+    out: &mut O,
+) -> Result<(), Fault>
+    requires { (words : List Text) × A.behaviour.AsksFor words asked.now }
+    ensures performed { (words : List Text) → A.behaviour.AsksFor words asked.now →
+        IsPerformed A.behaviour words (change_of O.taken O.failure_count out.old out.new) result }
+    ensures unfailed { (result ≡ Err (placeless Refusal.WriteFailed))
+        ⊎ (O.failure_count out.new ≡ O.failure_count out.old) }
+{
+    let mut source = InputFile::open(rt, A::input(asked));
+    let mut file = OutputFile::new(rt, A::output(asked));
+    A::perform(rt, alloc, asked, &mut source, out, &mut file)
 }
 
 /// Runs a program on the words that the system gives it (no clause says that they are these: the

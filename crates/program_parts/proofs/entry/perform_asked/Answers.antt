@@ -1,0 +1,17 @@
+use Rattle.program_parts.proofs.entry.perform_asked.Goals as goal
+
+pub returns-clause-performed : goal.returns-clause-performed
+returns-clause-performed g c = λ words asks. record {
+  asked = c.args.asked.now;
+  asks = asks;
+  unread = c.open-source.result;
+  read = c.perform.new.source;
+  unwritten = c.new-file.result;
+  written = c.perform.new.file;
+  input = record { named = cc; unread = c.open-source.ensures.unread; unfailed = c.open-source.ensures.unfailed };
+  output = record { named = cc; unwritten = c.new-file.ensures.unwritten; unfailed = c.new-file.ensures.unfailed };
+  does = c.perform.ensures.does;
+}
+
+pub returns-clause-unfailed : goal.returns-clause-unfailed
+returns-clause-unfailed g c = c.perform.ensures.unfailed
