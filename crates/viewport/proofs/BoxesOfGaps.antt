@@ -1,5 +1,5 @@
 -- The box of a square and the gaps at its sides, each by the other.
-use Rattle.std.proofs.Common.{◌≡◌, ℕ, ◌-◌, ◌^◌, ◌≤◌, ◌<◌, ℤ, pos, ◌-ℤ◌, ◌≤ℤ◌, sym, ◌∙◌, ap, subst, arith, w64, to_z}
+use Rattle.std.proofs.Common.{◌≡◌, ℕ, ◌-◌, ◌^◌, ◌≤◌, ◌<◌, ℤ, pos, ◌-ℤ◌, ◌≤ℤ◌, sym, ◌∙◌, ap, subst, arith, w64, to_z, SFits}
 use Rattle.std.specs.Prelude.{Option, None, Some}
 use Rattle.std.proofs.lemmas.Int.{ints, to_z_pos}
 use Rattle.plane.specs.declared.cell.Bounds.{Bounds}
@@ -72,16 +72,30 @@ box_of_gaps size left right top bottom p is l r t b =
 as_read : (size gap : ℕ) → size ≤ 2 ^ 63 → gap < size → to_z w64 gap ≡ pos gap
 as_read size gap most h = to_z_pos w64 gap (omega (arith, most, h))
 
+-- these are the gaps of a square that has less than 2^63 columns and rows, or as many
+pub record HasGaps (size left right top bottom : ℕ) (p : Plane) : Type 0 where
+  pub square : IsSquare size p
+  pub most : size ≤ 2 ^ 63
+  pub at_left : IsNearest Left size p left
+  pub at_right : IsNearest Right size p right
+  pub at_top : IsNearest Top size p top
+  pub at_bottom : IsNearest Bottom size p bottom
+
+-- a number below the side is one of 63 bits
+pub near_fits : (size gap : ℕ) → size ≤ 2 ^ 63 → gap < size → SFits w64 (pos gap)
+near_fits size gap most h = omega (arith, ints)
+
 -- the same box, of numbers that are read as signed ones
-pub read_box : (size left right top bottom : ℕ) (p : Plane) → IsSquare size p → size ≤ 2 ^ 63 → IsNearest Left size p left → IsNearest Right size p right → IsNearest Top size p top → IsNearest Bottom size p bottom →
+pub read_box : (size left right top bottom : ℕ) (p : Plane) → HasGaps size left right top bottom p →
     IsLocalBox size p (Some (record { left = to_z w64 left; top = to_z w64 top; right = to_z w64 (size - 1 - right); bottom = to_z w64 (size - 1 - bottom) }))
-read_box size left right top bottom p is most l r t b =
-    let left_in = gap_inside Left size left p is l in
-    let top_in = gap_inside Top size top p is t in
+read_box size left right top bottom p h =
+    let most = h.most in
+    let left_in = gap_inside Left size left p h.square h.at_left in
+    let top_in = gap_inside Top size top p h.square h.at_top in
     subst (λ (box : Bounds). IsLocalBox size p (Some box))
     (sym (same_bounds _ (box_within size left right top bottom) (as_read size left most left_in) (as_read size top most top_in)
     (as_read size (size - 1 - right) most (omega (arith, left_in))) (as_read size (size - 1 - bottom) most (omega (arith, left_in)))))
-    (box_of_gaps size left right top bottom p is l r t b)
+    (box_of_gaps size left right top bottom p h.square h.at_left h.at_right h.at_top h.at_bottom)
 
 -- a gap that was found
 pub found_gap : (side : Side) (size gap : ℕ) (p : Plane) (o : Option ℕ) → o ≡ Some gap → IsGap side size p o → IsNearest side size p gap

@@ -1,5 +1,5 @@
 -- Gaps at the sides of squares: of a square by its two halves.
-use Rattle.std.proofs.Common.{◌≡◌, ℕ, ◌+◌, ◌<◌, ◌⊎◌, ℤ, pos, ◌+ℤ◌, ◌-ℤ◌, ◌≤ℤ◌, ◌<ℤ◌, true, false, sym, ◌∙◌, subst, inl, inr, arith}
+use Rattle.std.proofs.Common.{◌≡◌, ℕ, ◌+◌, ◌<◌, ◌⊎◌, ℤ, pos, ◌+ℤ◌, ◌-ℤ◌, ◌≤ℤ◌, ◌<ℤ◌, true, false, sym, ◌∙◌, subst, inl, inr, arith, rules}
 use Rattle.std.specs.Prelude.{Option, Some, None, is_some}
 use Rattle.std.specs.Option.{option_map}
 use Rattle.std.proofs.lemmas.Int.{ints}
@@ -9,7 +9,8 @@ use Rattle.plane.specs.Square.{IsSame, IsSquare, empty}
 use Rattle.squares.proofs.NumberMaps.{by_cases}
 use Rattle.viewport.specs.declared.gaps.Side.{Side}
 use Rattle.viewport.specs.declared.gaps.Side.TheVariants.{Left, Right, Top, Bottom}
-use Rattle.viewport.specs.Gaps.{HasCellAt, IsGap, IsNearest, distance_from}
+use Rattle.viewport.specs.Gaps.{HasCellAt, IsGap, IsNearest, distance_from, lesser}
+use Rattle.viewport.specs.Halves.{either}
 use Rattle.viewport.proofs.BoxesRound.{live_in_column, live_in_row, within_span}
 
 -- cells of a square lie between its sides
@@ -92,3 +93,7 @@ pub far_small : (side : Side) (h : ℕ) (p near far : Plane) (o : Option ℕ) �
 far_small side h p near far o is found gap e =
     let some : IsGap side h far (Some gap) = subst (λ (r : Option ℕ). IsGap side h far r) e found in
     gap_inside side h gap far is.far_square some
+
+-- the gap of two squares laid over one another
+pub lesser_gap : (side : Side) (h : ℕ) (p q : Plane) (a b : Option ℕ) → IsGap side h p a → IsGap side h q b → IsGap side h (either p q) (lesser a b)
+lesser_gap side h p q a b one two = search rules

@@ -15,7 +15,7 @@ use Rattle.node_table.specs.declared.desk.Desk.{Desk}
 use Rattle.node_table.specs.declared.table.NodeTable.{NodeTable}
 use Rattle.node_table.specs.Desks.{IsDeskOf, store_of, book_at, work_store}
 use Rattle.node_table.specs.DesksAtWork.{book_here}
-use Rattle.worker_split.specs.Jobs.{IsJob, HasFuture, RefusesFull}
+use Rattle.worker_split.specs.Jobs.{IsJob, HasFuture, Refuses, RefusesFull}
 use Rattle.worker_split.specs.Work.{Works}
 use Rattle.worker_split.proofs.Counting.{has, contains, fewer}
 
@@ -147,3 +147,8 @@ found_future (Err refusal) h = tt
 pub refuses_full : {X : Type 0} (at : At) (r : Result X Refusal) → IfErr r (MayRefuse (book_here at)) → IfErr r (RefusesFull (book_here at))
 refuses_full at (Ok x) h = tt
 refuses_full at (Err refusal) h = ⊎_elim (λ none. absurd (false≢true none.1)) (λ full. full) h
+
+-- a desk at work refuses what its book does
+pub refuses : {X : Type 0} (book : Book) (r : Result X Refusal) → IfErr r (MayRefuse book) → IfErr r (Refuses book)
+refuses book (Ok x) h = tt
+refuses book (Err refusal) h = ⊎_elim (λ none. inl none.0) (λ full. inr full) h

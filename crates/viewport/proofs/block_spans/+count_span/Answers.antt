@@ -2,6 +2,7 @@ use Rattle.std.proofs.Common.{◌≡◌, ◌-◌, ◌^◌, ◌++◌, ◌≤◌, 
 use Rattle.std.proofs.lemmas.Result.{on_ok_weaker}
 use Rattle.plane.specs.Plane.{Plane}
 use Rattle.plane.proofs.Same.{plane_equal}
+use Rattle.squares.specs.Book.{IsKnown}
 use Rattle.squares.proofs.Kept.{keeps_none, keeps_trans, known_kept}
 use Rattle.viewport.specs.BlockSpans.{IsInBlocks, span_counts}
 use Rattle.viewport.proofs.Counts.{zero_is_empty}
@@ -116,3 +117,6 @@ count_span-requires g t c κs within =
     let counts = kept_counts _ _ c.args.counts.now half.ensures.keeps c.requires.counted in
     let below : c.args.exponent ≤ half.result.0.level = omega (arith, at_level, exponent, other) in
     (search rules, (search rules, of_quarter _ _ _ c.requires.level half.ensures.first (below, (in_blocks, counts))))
+
+pub cells_of-requires : goal.cells_of-requires
+cells_of-requires g t c = subst (λ n. IsKnown (g.R.Reading.book c.args.from.now) n c.args.sq) c.if-sq-eq-LEAF_LEVEL.true c.requires.known

@@ -2,11 +2,13 @@ use Rattle.std.proofs.Common.{◌+◌, ◌-◌, ◌^◌, ℕ, sym, ◌∙◌, su
 use Rattle.std.specs.Prelude.{Option}
 use Rattle.std.specs.Option.{option_map}
 use Rattle.plane.proofs.Paddings.{twice_half}
+use Rattle.squares.specs.Book.{IsKnown}
 use Rattle.squares.proofs.Kept.{adds_none, adds_trans, known_kept}
 use Rattle.squares.proofs.NotedValues.{true_of_kept, true_of_same}
 use Rattle.viewport.specs.Gaps.{IsGap, IsKnownGap}
-use Rattle.viewport.proofs.GapsLater.{gap_as, gap_later, gap_level, kept_gaps}
-use Rattle.viewport.proofs.GapsOfHalves.{far_found, far_small, near_gap, none_live}
+use Rattle.viewport.specs.Halves.{either}
+use Rattle.viewport.proofs.GapsLater.{gap_as, gap_before, gap_later, gap_level, kept_gaps}
+use Rattle.viewport.proofs.GapsOfHalves.{far_found, far_small, lesser_gap, near_gap, none_live}
 use Rattle.viewport.proofs.QuartersAtSides.{known_halves, of_two_quarters, pair_kept, side_known}
 use Rattle.viewport.proofs.gaps.+gap.Goals as goal
 
@@ -152,3 +154,15 @@ quarters_gap-returns-then-is_some-clause-adds g t c = adds_trans c.quarters_of-q
 
 pub quarters_gap-returns-in_err-far-clause-adds : goal.quarters_gap-returns-in_err-far-clause-adds
 quarters_gap-returns-in_err-far-clause-adds g t c = adds_trans c.quarters_of-quarters.ensures.adds (adds_trans c.in_ok-near.ensures.adds c.in_err-far.ensures.adds)
+
+pub gap-cells_of-requires : goal.gap-cells_of-requires
+gap-cells_of-requires g t c = subst (λ n. IsKnown (g.R.Reading.book c.args.book.now) n c.args.sq) c.if-sq-eq-LEAF_LEVEL.true c.requires.known
+
+pub half_gap-returns-clause-ok : goal.half_gap-returns-clause-ok
+half_gap-returns-clause-ok g t c =
+    let was = g.R.Reading.book c.args.book.now in
+    let one = c.args.first in let two = c.args.second in
+    let b = c.in_ok-second.second in
+    let second = gap_before c.args.side was _ two b c.in_ok-first.ensures.adds.keeps c.requires.second.known c.in_ok-second.ensures.ok in
+    subst (λ (o : Option ℕ). IsGap c.args.side (2 ^ one.level) (either (was.cells one) (was.cells two)) o) (sym c.lesser_gap.ensures)
+    (lesser_gap c.args.side (2 ^ one.level) _ _ c.in_ok-first.first b c.in_ok-first.ensures.ok (gap_level c.args.side _ _ (was.cells two) b c.requires.second.at_level second))

@@ -60,3 +60,6 @@ returns g t c =
       | else-x-half w ↦ subst Cell (sym w.column-is) (right_cell _ _ _ one two c.args.x row _ side w.if-x-half.false)
     ] in
     c.has_cell.ensures ∙ sym (half.ensures.row.cells (pos c.args.x) ∙ beside)
+
+pub bits-requires : goal.bits-requires
+bits-requires g t c = subst (λ n. IsKnown (g.B.Look.book c.args.book.now) n c.args.sq) c.if-sq-eq-LEAF_LEVEL.true c.requires.known

@@ -1,10 +1,10 @@
 use Rattle.std.proofs.Common.{sym, subst, arith, rules}
-use Rattle.squares.specs.Book.{nth, AreQuarters}
+use Rattle.squares.specs.Book.{nth, AreQuarters, IsKnown}
 use Rattle.squares.proofs.Kept.{adds_none, adds_trans, keeps_trans, known_kept}
 use Rattle.plane.specs.Plane.{Plane}
 use Rattle.plane.proofs.Same.{plane_equal}
 use Rattle.viewport.proofs.Counts.{counted_as, none_counted, four_counted, few}
-use Rattle.squares.proofs.NotedValues.{true_of_kept}
+use Rattle.squares.proofs.NotedValues.{true_of_kept, true_of_same}
 use Rattle.viewport.proofs.Quarters.{of_quarter, quartered}
 use Rattle.viewport.specs.Population.{IsKnownCount}
 use Rattle.viewport.proofs.CountsLater.{count_before, count_later, kept_counts}
@@ -141,3 +141,11 @@ count_quarters-returns-clause-adds g t c =
     let a1 = adds_trans c.quarters_of.ensures.adds c.in_ok-count.ensures.adds in
     let a2 = adds_trans a1 c.in_ok-upper.ensures.adds in
     adds_trans (adds_trans a2 c.in_ok-count-2.ensures.adds) c.in_ok-lower.ensures.adds
+
+pub count-cells_of-requires : goal.count-cells_of-requires
+count-cells_of-requires g t c = subst (λ n. IsKnown (g.R.Reading.book c.args.from.now) n c.args.sq) c.if-sq-eq-LEAF_LEVEL.true c.requires.known
+
+pub count-returns-in_err-insert-clause-counted : goal.count-returns-in_err-insert-clause-counted
+count-returns-in_err-insert-clause-counted g t c =
+    let now = g.R.Reading.book c.count_quarters-2.new.from in
+    record { count = true_of_same (IsKnownCount now) c.count_quarters-2.new.counts c.insert.new.self c.in_ok-whole.ensures.counted.count c.in_err-insert.ensures.err }

@@ -1,7 +1,7 @@
 use Rattle.std.proofs.Common.{◌+◌, ◌^◌, ◌≡◌, ℕ, ap, sym, ◌∙◌, subst, arith}
 use Rattle.std.specs.Prelude.{Option}
 use Rattle.std.specs.Option.{option_map}
-use Rattle.squares.specs.Book.{nth}
+use Rattle.squares.specs.Book.{IsKnown, nth}
 use Rattle.viewport.specs.Rows.{IsFirstRowBelow}
 use Rattle.viewport.proofs.FirstRows.{half_rows, rows_as, upper_part, lower_part}
 use Rattle.viewport.proofs.Quarters.{quartered_by}
@@ -46,3 +46,6 @@ first_row_beside-returns g t c =
     let book = g.B.Look.book c.args.book.now in
     half_rows (2 ^ c.args.left.level) (book.cells c.args.left) (book.cells c.args.right) c.args.from c.args.end c.unwrap_or.result c.first_row_below-found.result c.first_row_below.result c.or.result
     c.first_row_below-found.ensures c.unwrap_or.ensures c.first_row_below.ensures c.or.ensures
+
+pub first_row_below-bits-requires : goal.first_row_below-bits-requires
+first_row_below-bits-requires g t c = subst (λ n. IsKnown (g.B.Look.book c.args.book.now) n c.args.sq) c.if-sq-eq-LEAF_LEVEL.true c.requires.known

@@ -6,6 +6,7 @@ use Rattle.std.proofs.lemmas.Bool.{eqb-true}
 use Rattle.plane.proofs.Cuts.{and_left, and_right}
 use Rattle.viewport.specs.RowRuns.{cells_at}
 use Rattle.viewport.proofs.Counts.{zero_is_empty}
+use Rattle.squares.specs.Book.{IsKnown}
 use Rattle.squares.proofs.SquareNumbers.{same_sq}
 use Rattle.viewport.proofs.Quarters.{known_square, of_quarter}
 use Rattle.viewport.proofs.RowsOfHalves.{again_adds, both_add, ends_between}
@@ -125,3 +126,6 @@ add_run-requires-clause-before g t c =
     let one = simp to_z-of_z at c.in_ok-add_row.ensures.ok in
     let mid = c.add_row.new.runs.items in
     simp to_z-of_z (ends_between c.args.sq.level c.args.left far side plane _ _ c.args.y _ is c.args.runs.now.items mid _ low one)
+
+pub bits-requires : goal.bits-requires
+bits-requires g t c = subst (λ n. IsKnown (g.B.Look.book c.args.book.now) n c.args.sq) c.if-sq-eq-LEAF_LEVEL.true c.requires.known

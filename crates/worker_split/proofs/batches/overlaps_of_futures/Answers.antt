@@ -3,7 +3,7 @@ use Rattle.std.specs.Prelude.{IfOk}
 use Rattle.squares.specs.Book.{IsKnown, numbered}
 use Rattle.hashlife_step.proofs.NineFutures.{futures_known, made_known}
 use Rattle.node_table.specs.DesksAtWork.{book_here}
-use Rattle.worker_split.proofs.Books.{here_book, tallied, works_kept, works_then}
+use Rattle.worker_split.proofs.Books.{here_book, refuses, tallied, works_kept, works_then}
 use Rattle.worker_split.proofs.Stepped.{on_two}
 use Rattle.worker_split.proofs.batches.overlaps_of_futures.Goals as goal
 
@@ -33,3 +33,6 @@ returns-clause-ok c =
 pub returns-clause-continues : goal.returns-clause-continues
 returns-clause-continues c =
     works_then (tallied c.replace_by_futures.ensures.makes.keeps c.replace_by_futures.ensures.makes.tally) (works_kept 1 _ (here_book c.replace_by_futures.new.book) c.overlaps.ensures.adds.keeps)
+
+pub returns-clause-refusal : goal.returns-clause-refusal
+returns-clause-refusal c = refuses (book_here c.overlaps.new.self) c.overlaps.result c.overlaps.ensures.refusal

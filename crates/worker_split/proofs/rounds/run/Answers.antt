@@ -1,4 +1,5 @@
 use Rattle.std.proofs.Common.{◌≡◌, All, List, length, sym, subst, ◌∙◌, IfSome}
+use Rattle.std.proofs.lemmas.List.{with_items_is}
 use Rattle.job_queues.specs.declared.queues.JobStealer.{JobStealer}
 use Rattle.node_table.specs.DesksAtWork.{book_here}
 use Rattle.worker_split.specs.Rounds.{AreSettled, CanSolve, HasFound}
@@ -38,3 +39,12 @@ pub returns-in_default-clause-found : goal.returns-in_default-clause-found
 returns-in_default-clause-found g c = record {
   found = λ base m. subst (λ o. IfSome o (λ at. HasFound base c.args.shared.now.jobs.now at c.args.member.now.solver)) (sym c.take.ensures.after) tt;
 }
+
+pub returns-clause-queues : goal.returns-clause-queues
+returns-clause-queues g c =
+    let count = length c.args.shared.now.jobs.now in
+    let same = with_items_is c.args.member.now.others c.other_shares.new.others (c.other_shares.auto.others ∙ c.as_mut_slice.ensures.len) in
+    record {
+      own = c.own_share.ensures.own;
+      others = subst (λ (queues : List JobStealer). All (λ (other : JobStealer). other.count ≡ count) queues) (sym same) c.other_shares.ensures.others;
+    }

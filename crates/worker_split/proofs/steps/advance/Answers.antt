@@ -1,6 +1,6 @@
 use Rattle.std.proofs.Common.{arith}
 use Rattle.node_table.specs.DesksAtWork.{book_here}
-use Rattle.worker_split.proofs.Books.{here_book, own_known, tallied, works_kept, works_more, works_then}
+use Rattle.worker_split.proofs.Books.{here_book, own_known, refuses, tallied, works_kept, works_more, works_then}
 use Rattle.worker_split.proofs.Stepped.{on_two, stepped}
 use Rattle.worker_split.proofs.steps.advance.Goals as goal
 
@@ -35,3 +35,9 @@ pub returns-clause-continues : goal.returns-clause-continues
 returns-clause-continues g c =
     let first = works_then (works_kept c.args.team.now.workers _ (here_book c.args.at.now) c.pad.ensures.adds.keeps) c.team_future.ensures.continues in
     works_then first (works_kept c.args.team.now.workers _ (here_book c.team_future.new.at) c.trim.ensures.adds.keeps)
+
+pub returns-then-team-eq1-clause-refusal : goal.returns-then-team-eq1-clause-refusal
+returns-then-team-eq1-clause-refusal g c = refuses (book_here c.step.new.book) c.step.result c.step.ensures.refusal
+
+pub returns-clause-refusal : goal.returns-clause-refusal
+returns-clause-refusal g c = refuses (book_here c.trim.new.book) c.trim.result c.trim.ensures.refusal
