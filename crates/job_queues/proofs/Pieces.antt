@@ -1,6 +1,6 @@
 -- Each move keeps the rule of a deque of jobs.
 use Rattle.std.proofs.Common.{◌≡◌, ◌≢◌, ◌+◌, ℕ, zero, suc, true, false, true≢false, All, List, [], ◌∷◌, ◌++◌, length, set, sym, refl, ap, ◌∙◌, subst, ⊎_elim, append_assoc, arith, get_or, ◌≤◌}
-use Rattle.std.specs.Prelude.{Contains}
+use Rattle.std.specs.Prelude.{Contains, IfSome, MatchOption, Option, Some, None}
 use mathlib.Core.Option.{some, some-ne-none}
 use lib.ListN.{get_elem?}
 use Rattle.std.proofs.lemmas.List.{length-set}
@@ -103,6 +103,27 @@ forks port v items views h at =
     λ j u e. ⊎_elim (λ (x : get_elem? vs j ≡ some u). ⊎_elim (λ (y : (j ≡ port) × (l ≡ u)). subst (λ z. Knows items (vs ++ l ∷ []) z) y.1 known)
     (λ (y : (j ≢ port) × (get_elem? views j ≡ some u)). others j u y.0 y.1) (at_set views port j l u x))
     (λ (is : l ≡ u). subst (λ z. Knows items (vs ++ l ∷ []) z) is known) (at_snoc vs l u j e)
+
+-- the one job that was taken is of the share, and the first that was left
+pub one_taken : (v w : Seen) (job : ℕ) → AreTaken v (job ∷ []) w → Contains v.share job × IsEnd (job ∷ w.left) v.left
+one_taken v w job taken = (taken.of_share 0 job (omega arith), taken.first)
+
+-- what an owner that asked for a job knows before and after
+abbrev pub HasTaken : Option ℕ → Seen → Seen → Type 0
+HasTaken result v w =
+    MatchOption result ((w ≡ v) × (v.alone ≡ true → v.left ≡ [])) (λ job. AreTaken v (job ∷ []) w)
+
+pub taken_of_share : (result : Option ℕ) (v w : Seen) → HasTaken result v w → IfSome result (Contains v.share)
+taken_of_share None v w taken = tt
+taken_of_share (Some job) v w taken = (one_taken v w job taken).0
+
+pub taken_first : (result : Option ℕ) (v w : Seen) → HasTaken result v w → MatchOption result (w.left ≡ v.left) (λ job. IsEnd (job ∷ w.left) v.left)
+taken_first None v w taken = ap (λ (s : Seen). s.left) taken.0
+taken_first (Some job) v w taken = taken.first
+
+pub taken_next : (result : Option ℕ) (v w : Seen) → HasTaken result v w → v.alone ≡ true → MatchOption result (v.left ≡ []) (λ job. v.left ≡ job ∷ w.left)
+taken_next None v w taken = taken.1
+taken_next (Some job) v w taken = taken.next
 
 -- one job more was pushed
 pub next_push : (low job : ℕ) (v w : Seen) → low ≤ job → v.share ≡ jobs_between low job → v.left ≡ jobs_between low job → w ≡ seen true (v.share ++ job ∷ []) (v.left ++ job ∷ []) →

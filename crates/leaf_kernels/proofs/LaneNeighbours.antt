@@ -46,13 +46,13 @@ pub masked_rows : (mask moved : List ℕ) → length mask ≡ 4 → length moved
 masked_rows mask moved lm lr x lane m p is_mask is_moved =
     cells-and w64 4 mask moved lm lr x lane ∙ ap (λ t. t && four_rows_plane moved x lane) is_mask ∙ ap (λ t. ((spans 64 x && spans 4 lane) && m) && t) is_moved
 
-within : (s p b : Bool) → s ≡ true → b ≡ (s && p) → number b ≡ number p
+pub within : (s p b : Bool) → s ≡ true → b ≡ (s && p) → number b ≡ number p
 within s p b h is = ap number (is ∙ ap (λ t. t && p) h)
 
 sum_two : (s a b c d : ℕ) → s ≡ a + b → a ≡ c → b ≡ d → s ≡ c + d
 sum_two s a b c d h k l = omega arith
 
-sum_three : (s a b c d e : ℕ) → s ≡ a + b + c → a ≡ d → c ≡ e → s ≡ d + b + e
+pub sum_three : (s a b c d e : ℕ) → s ≡ a + b + c → a ≡ d → c ≡ e → s ≡ d + b + e
 sum_three s a b c d e h k l = omega arith
 
 -- what counts of the rows above, here and below

@@ -1,6 +1,6 @@
 -- A refused square.
-use Rattle.std.proofs.Common.{◌≡◌, ℕ, List, subst, sym}
-use Rattle.std.specs.Prelude.{Result, Ok, Err, IfErr, IsErrAnd, OnErr}
+use Rattle.std.proofs.Common.{ℕ, List}
+use Rattle.std.specs.Prelude.{Result, Ok, Err, OnErr}
 use Rattle.squares.specs.declared.sq.Sq.{Sq}
 use Rattle.squares.specs.Book.{nth}
 use Rattle.table_core.specs.declared.shape.Kind.TheVariants.{Pair}
@@ -8,11 +8,6 @@ use Rattle.table_core.specs.Layout.{pair_of}
 use Rattle.node_table.specs.declared.desk.Desk.{Desk}
 use Rattle.node_table.specs.declared.table.NodeTable.{NodeTable}
 use Rattle.node_table.specs.Refusals.{Needs, HasNoRoom, HasNoRoomForQuad, IsHalf, known_by, word_of}
-
--- an error that a `?` sends on
-pub sent_on : {T E : Type 0} (P : E → Type 0) (r : Result T E) (e : E) → IsErrAnd r (λ sent. sent ≡ e) → P e → IfErr r P
-sent_on P (Ok x) e is h = tt
-sent_on P (Err sent) e is h = subst P (sym is) h
 
 pub on_err : {T E P : Type 0} (r : Result T E) → P → OnErr r P
 on_err (Ok x) h = tt

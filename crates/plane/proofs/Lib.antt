@@ -21,6 +21,7 @@ pub mod Populations
 pub mod Reading
 pub mod Rounds
 pub mod Same
+pub mod SentErrors
 pub mod SquareCells
 pub mod Subsquares
 pub mod Turns

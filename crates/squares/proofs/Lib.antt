@@ -15,6 +15,7 @@ pub mod NodeLists
 pub mod LeafColumns
 pub mod NotedValues
 pub mod NumberMaps
+pub mod OverlapsMade
 pub mod Places
 pub mod PlainLaws
 pub mod PlainQuads

@@ -1,6 +1,9 @@
-use Rattle.std.proofs.Common.{◌≡◌, length, arith, rules}
-use Rattle.squares.specs.Book.{numbered}
+use Rattle.std.proofs.Common.{◌≡◌, All, length, arith, rules, subst, sym}
+use Rattle.std.specs.Prelude.{IfOk}
+use Rattle.squares.specs.Book.{IsKnown, MayRefuse, numbered}
 use Rattle.squares.proofs.Kept.{adds_trans, keeps_none, keeps_trans}
+use Rattle.hashlife_step.specs.Futures.{AreCentres}
+use Rattle.plane.proofs.SentErrors.{sent_on}
 use Rattle.hashlife_step.proofs.FourCentres.{inner_known, inner_low, middle_shown}
 use Rattle.hashlife_step.proofs.centres.four_centres.Goals as goal
 
@@ -81,3 +84,32 @@ pub quad-requires-4-clause-level : goal.quad-requires-4-clause-level
 quad-requires-4-clause-level g c =
     let nine : length c.args.nine ≡ 9 = search rules in
     inner_low _ _ _ _ _ c.requires.known c.read_nine.ensures.value 4 (omega arith)
+
+pub read_nine-requires-clause-known : goal.read_nine-requires-clause-known
+read_nine-requires-clause-known g c = c.requires.known
+
+pub leaf_centres-requires : goal.leaf_centres-requires
+leaf_centres-requires g c =
+    let book = g.S.Squares.book c.args.book.now in
+    record { known = subst (λ n. All (IsKnown book n) c.args.nine) c.if-level-eq-LEAF_LEVEL.true c.requires.known }
+
+pub returns-then-level-eq-LEAF_LEVEL-clause-ok : goal.returns-then-level-eq-LEAF_LEVEL-clause-ok
+returns-then-level-eq-LEAF_LEVEL-clause-ok g c =
+    let book = g.S.Squares.book c.leaf_centres.new.book in
+    subst (λ n. IfOk c.leaf_centres.result (AreCentres book n c.args.nine)) (sym c.if-level-eq-LEAF_LEVEL.true) c.leaf_centres.ensures.ok
+
+pub returns-in_err-upper_left-clause-refusal : goal.returns-in_err-upper_left-clause-refusal
+returns-in_err-upper_left-clause-refusal g c =
+    sent_on (MayRefuse (g.S.Squares.book c.quad.new.self)) c.from_residual.result c.in_err-upper_left.field-0.0 c.from_residual.ensures.1 c.in_err-upper_left.ensures.refusal
+
+pub returns-in_err-upper_right-clause-refusal : goal.returns-in_err-upper_right-clause-refusal
+returns-in_err-upper_right-clause-refusal g c =
+    sent_on (MayRefuse (g.S.Squares.book c.quad-2.new.self)) c.from_residual-in_err-upper_right.result c.in_err-upper_right.field-0.0 c.from_residual-in_err-upper_right.ensures.1 c.in_err-upper_right.ensures.refusal
+
+pub returns-in_err-lower_left-clause-refusal : goal.returns-in_err-lower_left-clause-refusal
+returns-in_err-lower_left-clause-refusal g c =
+    sent_on (MayRefuse (g.S.Squares.book c.quad-3.new.self)) c.from_residual-in_err-lower_left.result c.in_err-lower_left.field-0.0 c.from_residual-in_err-lower_left.ensures.1 c.in_err-lower_left.ensures.refusal
+
+pub returns-in_err-lower_right-clause-refusal : goal.returns-in_err-lower_right-clause-refusal
+returns-in_err-lower_right-clause-refusal g c =
+    sent_on (MayRefuse (g.S.Squares.book c.quad-4.new.self)) c.from_residual-in_err-lower_right.result c.in_err-lower_right.field-0.0 c.from_residual-in_err-lower_right.ensures.1 c.in_err-lower_right.ensures.refusal

@@ -1,9 +1,10 @@
 use Rattle.std.proofs.Common.{◌≡◌, ℕ, ◌<◌, length, arith, rules}
-use Rattle.squares.specs.Book.{Book, Keeps, numbered}
+use Rattle.squares.specs.Book.{Book, Keeps, MayRefuse, numbered}
 use Rattle.squares.specs.declared.sq.Sq.{Sq}
 use Rattle.squares.proofs.Kept.{adds_trans, keeps_none, keeps_trans, known_kept}
 use Rattle.squares.proofs.FourKnown.{each_known}
 use Rattle.hashlife_step.proofs.FourCentres.{middle_later}
+use Rattle.plane.proofs.SentErrors.{sent_on}
 use Rattle.hashlife_step.proofs.centres.leaf_centres.Goals as goal
 
 pub leaf_centre-requires : goal.leaf_centre-requires
@@ -53,3 +54,19 @@ returns-in_err-lower_right-clause-adds g c = adds_trans c.leaf_centre.ensures.ad
 
 pub returns-clause-adds : goal.returns-clause-adds
 returns-clause-adds g c = adds_trans c.leaf_centre.ensures.adds (adds_trans c.leaf_centre-2.ensures.adds (adds_trans c.leaf_centre-3.ensures.adds c.leaf_centre-4.ensures.adds))
+
+pub returns-in_err-upper_left-clause-refusal : goal.returns-in_err-upper_left-clause-refusal
+returns-in_err-upper_left-clause-refusal g c =
+    sent_on (MayRefuse (g.S.Squares.book c.leaf_centre.new.book)) c.from_residual.result c.in_err-upper_left.field-0.0 c.from_residual.ensures.1 c.in_err-upper_left.ensures.refusal
+
+pub returns-in_err-upper_right-clause-refusal : goal.returns-in_err-upper_right-clause-refusal
+returns-in_err-upper_right-clause-refusal g c =
+    sent_on (MayRefuse (g.S.Squares.book c.leaf_centre-2.new.book)) c.from_residual-in_err-upper_right.result c.in_err-upper_right.field-0.0 c.from_residual-in_err-upper_right.ensures.1 c.in_err-upper_right.ensures.refusal
+
+pub returns-in_err-lower_left-clause-refusal : goal.returns-in_err-lower_left-clause-refusal
+returns-in_err-lower_left-clause-refusal g c =
+    sent_on (MayRefuse (g.S.Squares.book c.leaf_centre-3.new.book)) c.from_residual-in_err-lower_left.result c.in_err-lower_left.field-0.0 c.from_residual-in_err-lower_left.ensures.1 c.in_err-lower_left.ensures.refusal
+
+pub returns-in_err-lower_right-clause-refusal : goal.returns-in_err-lower_right-clause-refusal
+returns-in_err-lower_right-clause-refusal g c =
+    sent_on (MayRefuse (g.S.Squares.book c.leaf_centre-4.new.book)) c.from_residual-in_err-lower_right.result c.in_err-lower_right.field-0.0 c.from_residual-in_err-lower_right.ensures.1 c.in_err-lower_right.ensures.refusal

@@ -3,6 +3,8 @@ use Rattle.std.proofs.Common.{[], get_or}
 use Rattle.plane.specs.Leaves.{leaves_plane}
 use Rattle.squares.proofs.Kept.{adds_trans, keeps_trans, known_kept}
 use Rattle.squares.proofs.FourKnown.{four_known, numbered_joined}
+use Rattle.squares.specs.Book.{MayRefuse}
+use Rattle.plane.proofs.SentErrors.{sent_on}
 use Rattle.hashlife_step.proofs.leaf_squares.join_quarters.Goals as goal
 
 pub returns-clause-ok : goal.returns-clause-ok
@@ -32,3 +34,22 @@ returns-in_err-lower_right-clause-adds g c = adds_trans c.join_leaves.ensures.ad
 
 pub returns-clause-adds : goal.returns-clause-adds
 returns-clause-adds g c = adds_trans c.join_leaves.ensures.adds (adds_trans c.join_leaves-2.ensures.adds (adds_trans c.join_leaves-3.ensures.adds (adds_trans c.join_leaves-4.ensures.adds c.quad.ensures.adds)))
+
+pub returns-in_err-upper_left-clause-refusal : goal.returns-in_err-upper_left-clause-refusal
+returns-in_err-upper_left-clause-refusal g c =
+    sent_on (MayRefuse (g.S.Squares.book c.join_leaves.new.book)) c.from_residual.result c.in_err-upper_left.field-0.0 c.from_residual.ensures.1 c.in_err-upper_left.ensures.refusal
+
+pub returns-in_err-upper_right-clause-refusal : goal.returns-in_err-upper_right-clause-refusal
+returns-in_err-upper_right-clause-refusal g c =
+    sent_on (MayRefuse (g.S.Squares.book c.join_leaves-2.new.book)) c.from_residual-in_err-upper_right.result c.in_err-upper_right.field-0.0 c.from_residual-in_err-upper_right.ensures.1 c.in_err-upper_right.ensures.refusal
+
+pub returns-in_err-lower_left-clause-refusal : goal.returns-in_err-lower_left-clause-refusal
+returns-in_err-lower_left-clause-refusal g c =
+    sent_on (MayRefuse (g.S.Squares.book c.join_leaves-3.new.book)) c.from_residual-in_err-lower_left.result c.in_err-lower_left.field-0.0 c.from_residual-in_err-lower_left.ensures.1 c.in_err-lower_left.ensures.refusal
+
+pub returns-in_err-lower_right-clause-refusal : goal.returns-in_err-lower_right-clause-refusal
+returns-in_err-lower_right-clause-refusal g c =
+    sent_on (MayRefuse (g.S.Squares.book c.join_leaves-4.new.book)) c.from_residual-in_err-lower_right.result c.in_err-lower_right.field-0.0 c.from_residual-in_err-lower_right.ensures.1 c.in_err-lower_right.ensures.refusal
+
+pub returns-clause-refusal : goal.returns-clause-refusal
+returns-clause-refusal g c = c.quad.ensures.refusal

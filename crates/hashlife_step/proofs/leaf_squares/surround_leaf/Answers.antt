@@ -2,6 +2,8 @@ use Rattle.std.proofs.lemmas.Result.{IfOk-weaker}
 use Rattle.squares.proofs.Kept.{adds_trans, keeps_trans, known_kept}
 use Rattle.squares.proofs.FourKnown.{four_known}
 use Rattle.hashlife_step.proofs.Surrounded.{leaf_surrounded}
+use Rattle.squares.specs.Book.{MayRefuse}
+use Rattle.plane.proofs.SentErrors.{sent_on}
 use Rattle.hashlife_step.proofs.leaf_squares.surround_leaf.Goals as goal
 
 pub returns-clause-cells : goal.returns-clause-cells
@@ -35,3 +37,22 @@ returns-in_err-lower_right-clause-adds g c = adds_trans c.read_bits-word.ensures
 
 pub returns-clause-adds : goal.returns-clause-adds
 returns-clause-adds g c = adds_trans c.read_bits-word.ensures.adds (adds_trans c.leaf.ensures.adds (adds_trans c.leaf-2.ensures.adds (adds_trans c.leaf-3.ensures.adds (adds_trans c.leaf-4.ensures.adds c.quad.ensures.adds))))
+
+pub returns-in_err-upper_left-clause-refusal : goal.returns-in_err-upper_left-clause-refusal
+returns-in_err-upper_left-clause-refusal g c =
+    sent_on (MayRefuse (g.S.Squares.book c.leaf.new.self)) c.from_residual.result c.in_err-upper_left.field-0.0 c.from_residual.ensures.1 c.in_err-upper_left.ensures.refusal
+
+pub returns-in_err-upper_right-clause-refusal : goal.returns-in_err-upper_right-clause-refusal
+returns-in_err-upper_right-clause-refusal g c =
+    sent_on (MayRefuse (g.S.Squares.book c.leaf-2.new.self)) c.from_residual-in_err-upper_right.result c.in_err-upper_right.field-0.0 c.from_residual-in_err-upper_right.ensures.1 c.in_err-upper_right.ensures.refusal
+
+pub returns-in_err-lower_left-clause-refusal : goal.returns-in_err-lower_left-clause-refusal
+returns-in_err-lower_left-clause-refusal g c =
+    sent_on (MayRefuse (g.S.Squares.book c.leaf-3.new.self)) c.from_residual-in_err-lower_left.result c.in_err-lower_left.field-0.0 c.from_residual-in_err-lower_left.ensures.1 c.in_err-lower_left.ensures.refusal
+
+pub returns-in_err-lower_right-clause-refusal : goal.returns-in_err-lower_right-clause-refusal
+returns-in_err-lower_right-clause-refusal g c =
+    sent_on (MayRefuse (g.S.Squares.book c.leaf-4.new.self)) c.from_residual-in_err-lower_right.result c.in_err-lower_right.field-0.0 c.from_residual-in_err-lower_right.ensures.1 c.in_err-lower_right.ensures.refusal
+
+pub returns-clause-refusal : goal.returns-clause-refusal
+returns-clause-refusal g c = c.quad.ensures.refusal

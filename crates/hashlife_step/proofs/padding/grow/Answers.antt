@@ -1,9 +1,10 @@
 use Rattle.std.proofs.Common.{◌≡◌, ℕ, ◌+◌, ◌≤◌, ◌∙◌, ap, arith, subst, sym}
 use Rattle.std.proofs.lemmas.Result.{IfOk-weaker}
-use Rattle.squares.specs.Book.{Book, IsBook, IsKnown, numbered}
+use Rattle.squares.specs.Book.{Book, IsBook, IsKnown, MayRefuse, numbered}
 use Rattle.squares.specs.declared.sq.Sq.{Sq}
 use Rattle.squares.proofs.Kept.{adds_trans, keeps_trans, known_kept}
 use Rattle.squares.proofs.FourKnown.{empty_known, four_known, known_as}
+use Rattle.plane.proofs.SentErrors.{sent_on}
 use Rattle.hashlife_step.proofs.Grown.{grown_shown}
 use Rattle.hashlife_step.proofs.padding.grow.Goals as goal
 
@@ -67,3 +68,22 @@ returns-in_err-lower_right-clause-adds g c = adds_trans c.read_parts.ensures.add
 
 pub returns-clause-adds : goal.returns-clause-adds
 returns-clause-adds g c = adds_trans c.read_parts.ensures.adds (adds_trans c.quad.ensures.adds (adds_trans c.quad-2.ensures.adds (adds_trans c.quad-3.ensures.adds (adds_trans c.quad-4.ensures.adds c.quad-5.ensures.adds))))
+
+pub returns-in_err-upper_left-clause-refusal : goal.returns-in_err-upper_left-clause-refusal
+returns-in_err-upper_left-clause-refusal g c =
+    sent_on (MayRefuse (g.S.Squares.book c.quad.new.self)) c.from_residual.result c.in_err-upper_left.field-0.0 c.from_residual.ensures.1 c.in_err-upper_left.ensures.refusal
+
+pub returns-in_err-upper_right-clause-refusal : goal.returns-in_err-upper_right-clause-refusal
+returns-in_err-upper_right-clause-refusal g c =
+    sent_on (MayRefuse (g.S.Squares.book c.quad-2.new.self)) c.from_residual-in_err-upper_right.result c.in_err-upper_right.field-0.0 c.from_residual-in_err-upper_right.ensures.1 c.in_err-upper_right.ensures.refusal
+
+pub returns-in_err-lower_left-clause-refusal : goal.returns-in_err-lower_left-clause-refusal
+returns-in_err-lower_left-clause-refusal g c =
+    sent_on (MayRefuse (g.S.Squares.book c.quad-3.new.self)) c.from_residual-in_err-lower_left.result c.in_err-lower_left.field-0.0 c.from_residual-in_err-lower_left.ensures.1 c.in_err-lower_left.ensures.refusal
+
+pub returns-in_err-lower_right-clause-refusal : goal.returns-in_err-lower_right-clause-refusal
+returns-in_err-lower_right-clause-refusal g c =
+    sent_on (MayRefuse (g.S.Squares.book c.quad-4.new.self)) c.from_residual-in_err-lower_right.result c.in_err-lower_right.field-0.0 c.from_residual-in_err-lower_right.ensures.1 c.in_err-lower_right.ensures.refusal
+
+pub returns-clause-refusal : goal.returns-clause-refusal
+returns-clause-refusal g c = c.quad-5.ensures.refusal

@@ -1,6 +1,8 @@
 use Rattle.std.proofs.Common.{arith}
 use Rattle.squares.proofs.Kept.{adds_trans}
+use Rattle.squares.specs.Book.{MayRefuse}
 use Rattle.hashlife_step.proofs.RoundSquares.{room_after}
+use Rattle.plane.proofs.SentErrors.{sent_on}
 use Rattle.hashlife_step.proofs.padding.pad.Goals as goal
 
 pub returns-clause-room : goal.returns-clause-room
@@ -19,3 +21,14 @@ returns-in_err-padded-2-clause-adds g c = adds_trans c.loop-padded.invariant.add
 
 pub returns-clause-adds : goal.returns-clause-adds
 returns-clause-adds g c = c.loop-padded.invariant.adds
+
+pub returns-in_err-padded-clause-refusal : goal.returns-in_err-padded-clause-refusal
+returns-in_err-padded-clause-refusal g c =
+    sent_on (MayRefuse (g.S.Squares.book c.surround_leaf.new.book)) c.from_residual.result c.in_err-padded.field-0.0 c.from_residual.ensures.1 c.in_err-padded.ensures.refusal
+
+pub returns-in_err-padded-2-clause-refusal : goal.returns-in_err-padded-2-clause-refusal
+returns-in_err-padded-2-clause-refusal g c =
+    sent_on (MayRefuse (g.S.Squares.book c.grow.new.book)) c.from_residual-in_err-padded-2.result c.in_err-padded-2.field-0.0 c.from_residual-in_err-padded-2.ensures.1 c.in_err-padded-2.ensures.refusal
+
+pub returns-clause-cells : goal.returns-clause-cells
+returns-clause-cells g c = c.loop-padded.invariant.shown

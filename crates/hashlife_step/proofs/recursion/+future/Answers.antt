@@ -2,7 +2,7 @@ use Rattle.std.proofs.Common.{Err, rules, arith, ℕ, ◌≡◌, ◌+◌, ◌-�
 use Rattle.std.proofs.lemmas.Result.{IfOk-weaker}
 use Rattle.std.proofs.result.Match.{err_is}
 use Rattle.plane.specs.Square.{future}
-use Rattle.squares.specs.Book.{IsKnown, nth, numbered}
+use Rattle.squares.specs.Book.{IsKnown, MayRefuse, nth, numbered}
 use Rattle.squares.specs.declared.sq.Sq.{Sq}
 use Rattle.squares.proofs.Kept.{adds_none, keeps_trans, known_kept}
 use Rattle.squares.proofs.Results.{future_kept}
@@ -12,6 +12,7 @@ use Rattle.squares.proofs.FourKnown.{known_as}
 use Rattle.hashlife_step.proofs.LeafSquares.{future_later}
 use Rattle.hashlife_step.proofs.NineFutures.{finished_known, futures_known, made_known, nine_futures, subsquares_known, of_first, overlaps_finished}
 use Rattle.hashlife_step.proofs.Replaced.{IsReplaced, all_futures, future_shown, next_known, next_made, none_replaced, replaced_kept, replaced_more, some_futures}
+use Rattle.plane.proofs.SentErrors.{sent_on}
 use Rattle.hashlife_step.proofs.recursion.+future.Goals as goal
 
 pub future_in_order-returns-in-Some : goal.future_in_order-returns-in-Some
@@ -258,3 +259,47 @@ replace_by_futures-returns-in_err-squares-clause-err g t c =
     let is : c.from_residual-in_err-squares.result ≡ Err c.in_err-squares.field-0.0 = err_is _ _ c.from_residual-in_err-squares.ensures.1 in
     rw is (some_futures (g.S.Squares.book c.args.book.now) (g.S.Squares.book c.loop-i.book) (g.S.Squares.book c.future_in_order.new.book) c.args.level c.loop-i.i c.args.squares.now c.loop-i.squares
     c.loop-i.invariant.0 c.future_in_order.ensures.makes.keeps c.requires.known)
+
+pub make-returns-in_err-parts-clause-refusal : goal.make-returns-in_err-parts-clause-refusal
+make-returns-in_err-parts-clause-refusal g t c =
+    sent_on (MayRefuse (g.S.Squares.book c.nine.new.self)) c.from_residual.result c.in_err-parts.field-0.0 c.from_residual.ensures.1 c.in_err-parts.ensures.refusal
+
+pub make-returns-in_err-replace_by_futures-clause-refusal : goal.make-returns-in_err-replace_by_futures-clause-refusal
+make-returns-in_err-replace_by_futures-clause-refusal g t c =
+    sent_on (MayRefuse (g.S.Squares.book c.replace_by_futures.new.book)) c.from_residual-in_err-replace_by_futures.result c.in_err-replace_by_futures.field-0.0 c.from_residual-in_err-replace_by_futures.ensures.1 c.in_err-replace_by_futures.ensures.refusal
+
+pub make-returns-in_err-quarters-clause-refusal : goal.make-returns-in_err-quarters-clause-refusal
+make-returns-in_err-quarters-clause-refusal g t c =
+    sent_on (MayRefuse (g.S.Squares.book c.finish.new.book)) c.from_residual-in_err-quarters.result c.in_err-quarters.field-0.0 c.from_residual-in_err-quarters.ensures.1 c.in_err-quarters.ensures.refusal
+
+pub make-returns-then-sq-clause-refusal : goal.make-returns-then-sq-clause-refusal
+make-returns-then-sq-clause-refusal g t c = c.leaf_future.ensures.refusal
+
+pub make-returns-then-sq-eq-BASE_LEVEL-clause-refusal : goal.make-returns-then-sq-eq-BASE_LEVEL-clause-refusal
+make-returns-then-sq-eq-BASE_LEVEL-clause-refusal g t c = c.base_future.ensures.refusal
+
+pub make-returns-clause-refusal : goal.make-returns-clause-refusal
+make-returns-clause-refusal g t c = c.quad.ensures.refusal
+
+pub finish-returns-in_err-four-clause-refusal : goal.finish-returns-in_err-four-clause-refusal
+finish-returns-in_err-four-clause-refusal g t c =
+    sent_on (MayRefuse (g.S.Squares.book c.overlaps.new.self)) c.from_residual.result c.in_err-four.field-0.0 c.from_residual.ensures.1 c.in_err-four.ensures.refusal
+
+pub finish-returns-in_err-replace_by_futures-clause-refusal : goal.finish-returns-in_err-replace_by_futures-clause-refusal
+finish-returns-in_err-replace_by_futures-clause-refusal g t c =
+    sent_on (MayRefuse (g.S.Squares.book c.replace_by_futures.new.book)) c.from_residual-in_err-replace_by_futures.result c.in_err-replace_by_futures.field-0.0 c.from_residual-in_err-replace_by_futures.ensures.1 c.in_err-replace_by_futures.ensures.refusal
+
+pub finish-returns-then-exponent-level-clause-refusal : goal.finish-returns-then-exponent-level-clause-refusal
+finish-returns-then-exponent-level-clause-refusal g t c = c.four_centres.ensures.refusal
+
+pub replace_by_futures-returns-in_err-ask_ahead-clause-refusal : goal.replace_by_futures-returns-in_err-ask_ahead-clause-refusal
+replace_by_futures-returns-in_err-ask_ahead-clause-refusal g t c =
+    sent_on (MayRefuse (g.S.Squares.book c.ask_ahead.new.book)) c.from_residual.result c.in_err-ask_ahead.field-0.0 c.from_residual.ensures.1 c.in_err-ask_ahead.ensures.refusal
+
+pub replace_by_futures-returns-in_err-squares-clause-refusal : goal.replace_by_futures-returns-in_err-squares-clause-refusal
+replace_by_futures-returns-in_err-squares-clause-refusal g t c =
+    sent_on (MayRefuse (g.S.Squares.book c.future_in_order.new.book)) c.from_residual-in_err-squares.result c.in_err-squares.field-0.0 c.from_residual-in_err-squares.ensures.1 c.in_err-squares.ensures.refusal
+
+pub ask_ahead-returns-in_err-future_in_order-clause-refusal : goal.ask_ahead-returns-in_err-future_in_order-clause-refusal
+ask_ahead-returns-in_err-future_in_order-clause-refusal g t c =
+    sent_on (MayRefuse (g.S.Squares.book c.future_in_order.new.book)) c.from_residual.result c.in_err-future_in_order.field-0.0 c.from_residual.ensures.1 c.in_err-future_in_order.ensures.refusal

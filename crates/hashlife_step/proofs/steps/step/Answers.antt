@@ -11,6 +11,7 @@ use Rattle.hashlife_step.proofs.Counted.{makes_none, makes_trans, makes_up_to}
 use Rattle.hashlife_step.proofs.RoundSquares.{round_as}
 use Rattle.hashlife_step.proofs.Stepped.{future_round}
 use Rattle.hashlife_step.proofs.steps.step.Given as given
+use Rattle.plane.proofs.SentErrors.{sent_on}
 use Rattle.hashlife_step.proofs.steps.step.Goals as goal
 
 both_ok : {E : Type 0} (r : Result Sq E) (P Q R : Sq → Type 0) → ((sq : Sq) → P sq → Q sq → R sq) → IfOk r P → IfOk r Q → IfOk r R
@@ -50,3 +51,9 @@ pub returns-clause-makes : goal.returns-clause-makes
 returns-clause-makes g c =
     let level = c.in_ok-padded.ensures.level in let high = c.requires.high in let exponent = c.exponent-exponent.ensures in
     makes_trans (makes_none c.pad.ensures.adds) (makes_trans (makes_up_to (omega arith) c.future.ensures.makes) (makes_none c.trim.ensures.adds))
+
+pub returns-in_err-next-clause-refusal : goal.returns-in_err-next-clause-refusal
+returns-in_err-next-clause-refusal g c = sent_on _ c.from_residual-in_err-next.result c.in_err-next.field-0.0 c.from_residual-in_err-next.ensures.1 c.in_err-next.ensures.refusal
+
+pub returns-in_err-padded-clause-refusal : goal.returns-in_err-padded-clause-refusal
+returns-in_err-padded-clause-refusal g c = sent_on _ c.from_residual.result c.in_err-padded.field-0.0 c.from_residual.ensures.1 c.in_err-padded.ensures.refusal

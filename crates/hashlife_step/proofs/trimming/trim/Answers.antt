@@ -2,6 +2,8 @@ use Rattle.std.proofs.Common.{arith, sym, ◌∙◌}
 use Rattle.std.proofs.lemmas.Bool.{false≢true}
 use Rattle.squares.proofs.Kept.{adds_trans}
 use Rattle.hashlife_step.proofs.Trimmed.{centre_reached, round_kept, smallest_reached}
+use Rattle.squares.specs.Book.{MayRefuse}
+use Rattle.plane.proofs.SentErrors.{sent_on}
 use Rattle.hashlife_step.proofs.trimming.trim.Goals as goal
 
 pub loop-trimmed-preserved : goal.loop-trimmed-preserved
@@ -36,3 +38,11 @@ returns-else-is_held_by_centre-clause-adds g c = adds_trans c.loop-trimmed.invar
 
 pub returns-after-loop-trimmed-clause-adds : goal.returns-after-loop-trimmed-clause-adds
 returns-after-loop-trimmed-clause-adds g c = c.loop-trimmed.invariant.adds
+
+pub returns-in_err-trimmed-clause-refusal : goal.returns-in_err-trimmed-clause-refusal
+returns-in_err-trimmed-clause-refusal g c =
+    sent_on (MayRefuse (g.S.Squares.book c.surround_leaf.new.book)) c.from_residual.result c.in_err-trimmed.field-0.0 c.from_residual.ensures.1 c.in_err-trimmed.ensures.refusal
+
+pub returns-in_err-trimmed-2-clause-refusal : goal.returns-in_err-trimmed-2-clause-refusal
+returns-in_err-trimmed-2-clause-refusal g c =
+    sent_on (MayRefuse (g.S.Squares.book c.centre.new.book)) c.from_residual-in_err-trimmed-2.result c.in_err-trimmed-2.field-0.0 c.from_residual-in_err-trimmed-2.ensures.1 c.in_err-trimmed-2.ensures.refusal

@@ -3,7 +3,7 @@ use Rattle.plane.specs.declared.refusal.Refusal.TheVariants.{NodesFull, NoMemory
 use Rattle.node_sweep.specs.CopiedStills.{HasNoRoomFor, HasNoRoomToKeep}
 use Rattle.node_sweep.specs.declared.keep.Keep.TheVariants.{CellsAlone}
 use Rattle.node_sweep.proofs.Carried.{is_swept}
-use Rattle.node_table.proofs.Refusing.{sent_on}
+use Rattle.plane.proofs.SentErrors.{sent_on}
 use Rattle.node_sweep.proofs.Transferred.{only_memory, refused_as, room_to_sweep}
 use Rattle.node_sweep.proofs.stills.sweep.Goals as goal
 

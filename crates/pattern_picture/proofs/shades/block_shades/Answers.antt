@@ -1,14 +1,16 @@
-use Rattle.std.proofs.Common.{◌≡◌, ℕ, ℤ, ◌+ℤ◌, ◌++◌, List, ap, ◌∙◌, sym, arith, rules, w64, SFits}
+use Rattle.std.proofs.Common.{◌≡◌, ℕ, ℤ, ◌+ℤ◌, ◌++◌, List, ap, ◌∙◌, refl, sym, arith, rules, w64, SFits}
 use Rattle.std.proofs.lemmas.Int.{ints, to_z-of_z}
 use Rattle.plane.specs.Centred.{centred}
 use Rattle.plane.specs.Plane.{Plane}
 use Rattle.plane.proofs.Same.{plane_equal}
-use Rattle.squares.proofs.Kept.{keeps_none, keeps_trans}
+use Rattle.squares.proofs.Kept.{keeps_none, keeps_trans, known_kept}
 use Rattle.viewport.specs.Blocks.{block_counts}
 use Rattle.pattern_picture.specs.Shades.{row_shades}
 use Rattle.viewport.proofs.NearBlocks.{near_range}
 use Rattle.pattern_picture.proofs.RowsOfShades.{row_drawn}
 use Rattle.viewport.proofs.PictureLines.{none_drawn}
+use Rattle.plane.specs.declared.refusal.Refusal.TheVariants.{NoMemory}
+use Rattle.plane.proofs.SentErrors.{sent_on}
 use Rattle.pattern_picture.proofs.shades.block_shades.Goals as goal
 
 pub loop-step-init : goal.loop-step-init
@@ -54,3 +56,20 @@ pub returns-clause-ok : goal.returns-clause-ok
 returns-clause-ok g c =
     let all : c.loop-step.step ≡ c.args.blocks.height = omega arith in
     rw all at c.loop-step.invariant.0
+
+pub count_blocks-requires-clause-known : goal.count_blocks-requires-clause-known
+count_blocks-requires-clause-known g c = known_kept c.loop-step.invariant.1 c.requires.known
+
+pub count_blocks-requires-clause-level : goal.count_blocks-requires-clause-level
+count_blocks-requires-clause-level g c = c.requires.level
+
+pub count_blocks-requires-clause-counted : goal.count_blocks-requires-clause-counted
+count_blocks-requires-clause-counted g c = c.loop-step.invariant.2
+
+pub returns-in_err-count_blocks-clause-memory : goal.returns-in_err-count_blocks-clause-memory
+returns-in_err-count_blocks-clause-memory g c =
+    sent_on (λ refusal. refusal ≡ NoMemory) c.from_residual.result NoMemory c.from_residual.ensures.1 refl
+
+pub returns-in_err-add_shades-clause-memory : goal.returns-in_err-add_shades-clause-memory
+returns-in_err-add_shades-clause-memory g c =
+    sent_on (λ refusal. refusal ≡ NoMemory) c.from_residual-in_err-add_shades.result NoMemory c.from_residual-in_err-add_shades.ensures.1 refl

@@ -5,6 +5,7 @@ use Rattle.squares.specs.declared.sq.Sq.{Sq}
 use Rattle.squares.proofs.CopyMaps.{copies_known, none_copied, one_copied, part_known, quad_copied, empty_copied}
 use Rattle.squares.proofs.Kept.{adds_none, adds_trans, keeps_none, keeps_trans, known_kept}
 use Rattle.squares.proofs.KnownCopies.{kept_copies, noted_known_copies, same_known_copies, shown_before, shown_later}
+use Rattle.plane.proofs.SentErrors.{sent_on}
 use Rattle.squares.proofs.copies.+copy_read.Goals as goal
 
 pub returns-then-is_empty-clause-ok : goal.returns-then-is_empty-clause-ok
@@ -159,3 +160,6 @@ returns-clause-from g t c = adds_trans c.quarters_of-quarters.ensures.adds c.loo
 
 pub returns-clause-adds : goal.returns-clause-adds
 returns-clause-adds g t c = adds_trans c.loop-quarter.invariant.adds c.quad.ensures.adds
+
+pub returns-in_err-quarter-clause-refusal : goal.returns-in_err-quarter-clause-refusal
+returns-in_err-quarter-clause-refusal g t c = sent_on _ c.from_residual.result c.in_err-quarter.field-0.0 c.from_residual.ensures.1 c.in_err-quarter.ensures.refusal

@@ -1,5 +1,6 @@
 use Rattle.squares.proofs.NumberMaps.{inserted, refused}
 use Rattle.squares.proofs.Pushed.{popped}
+use Rattle.plane.proofs.SentErrors.{sent_on}
 use Rattle.squares.proofs.plain_book.add_node.Goals as goal
 
 pub returns-then-is_err-clause-err : goal.returns-then-is_err-clause-err
@@ -11,3 +12,6 @@ returns-then-is_err-clause-same g c = refused c.insert.result c.if-is_err.ensure
 
 pub returns-clause-noted : goal.returns-clause-noted
 returns-clause-noted g c = inserted c.insert.result c.if-is_err.ensures.value c.insert.ensures.updates
+
+pub returns-in_err-num-clause-err : goal.returns-in_err-num-clause-err
+returns-in_err-num-clause-err g c = sent_on _ c.from_residual.result c.in_err-num.field-0.0 c.from_residual.ensures.1 c.in_err-num.ensures.err

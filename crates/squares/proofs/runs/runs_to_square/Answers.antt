@@ -9,6 +9,10 @@ use Rattle.squares.specs.Rounds.{square_plane}
 use Rattle.squares.specs.declared.sq.Sq.{Sq}
 use Rattle.squares.proofs.RunLevels.{round_known}
 use Rattle.squares.proofs.RunOrder.{all_sorted, same_runs_plane}
+use Rattle.plane.proofs.SentErrors.{sent_on}
+use Rattle.plane.specs.declared.refusal.Refusal.TheVariants.{NoMemory}
+use Rattle.std.proofs.Common.{inl}
+use Rattle.std.proofs.Common.{refl}
 use Rattle.squares.proofs.runs.runs_to_square.Goals as goal
 
 pub smallest_level-level-requires : goal.smallest_level-level-requires
@@ -28,3 +32,6 @@ returns-clause-ok g c =
     both c.ordered_runs_to_square.result _ _ _
     (λ (sq : Sq) known cells. round_known book level (runs_plane c.args.runs.now) sq (subst (IsSmallestLevel level) first c.smallest_level-level.ensures.smallest) known (subst (IsSame (square_plane book sq)) second cells))
     c.ordered_runs_to_square.ensures.known c.ordered_runs_to_square.ensures.cells
+
+pub returns-in_err-sorted-clause-refusal : goal.returns-in_err-sorted-clause-refusal
+returns-in_err-sorted-clause-refusal g c = sent_on _ c.from_residual.result NoMemory c.from_residual.ensures.1 (inl refl)

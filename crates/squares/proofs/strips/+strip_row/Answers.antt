@@ -141,6 +141,39 @@ returns-clause-ok g t c =
     (subst (λ (rows : List Segment). IsJoined old new rows c.deref-3.result.now c.args.width row.items) c.deref-2.ensures.value made)))
     c.join_rows.ensures.ok
 
+always_ok : {A E : Type 0} (result : Result A E) (P : Type 0) → P → OnOk result P
+always_ok (Ok a) P p = p
+always_ok (Err e) P p = tt
+
+pub returns-clause-left : goal.returns-clause-left
+returns-clause-left g t c =
+    let top = c.args.top in
+    let level = c.args.level in
+    let low = c.requires.level.0 in
+    let twice = twice_half level (omega (arith, low)) in
+    let half = c.half_side.ensures.value in
+    let e : (top + c.half_side.result) + 2 ^ (level - 1) ≡ top + 2 ^ level = omega (arith, twice, half) in
+    let strips = c.strip_row-2.new.strips in
+    always_ok c.join_rows.result _ (subst (λ n. AreLeft strips.half n strips.next (g.R.RunSequence.left strips.runs)) e c.in_ok-lower.ensures.left)
+
+pub returns-clause-refusal : goal.returns-clause-refusal
+returns-clause-refusal g t c = c.join_rows.ensures.refusal
+
+pub returns-then-level-eq-LEAF_LEVEL-clause-refusal : goal.returns-then-level-eq-LEAF_LEVEL-clause-refusal
+returns-then-level-eq-LEAF_LEVEL-clause-refusal g t c = c.leaf_row.ensures.refusal
+
+pub returns-then-level-eq-LEAF_LEVEL-clause-left : goal.returns-then-level-eq-LEAF_LEVEL-clause-left
+returns-then-level-eq-LEAF_LEVEL-clause-left g t c =
+    let strips = c.take_spans.new.strips in
+    always_ok c.leaf_row.result _ (subst (λ n. AreLeft strips.half (c.args.top + n) strips.next (g.R.RunSequence.left strips.runs)) c.side.ensures c.in_ok-spans.ensures.left)
+
+pub returns-then-level-eq-LEAF_LEVEL-clause-taken : goal.returns-then-level-eq-LEAF_LEVEL-clause-taken
+returns-then-level-eq-LEAF_LEVEL-clause-taken g t c =
+    let before = spans_left c.args.strips.now.half c.args.strips.now.next (g.R.RunSequence.left c.args.strips.now.runs) in
+    let after = spans_left c.take_spans.new.strips.half c.take_spans.new.strips.next (g.R.RunSequence.left c.take_spans.new.strips.runs) in
+    let spans = c.in_ok-spans.spans.items in
+    always_ok c.leaf_row.result _ (spans, subst (λ n. IsTaken (c.args.top + n) before after spans) c.side.ensures c.in_ok-spans.ensures.taken)
+
 pub returns-clause-taken : goal.returns-clause-taken
 returns-clause-taken g t c =
     let top = c.args.top in
@@ -154,10 +187,6 @@ returns-clause-taken g t c =
     let half = c.half_side.ensures.value in
     let e : (top + c.half_side.result) + h ≡ top + 2 ^ level = omega (arith, twice, half) in
     always_ok c.join_rows.result _ (taken_twice (top + h) (top + 2 ^ level) first second third (omega (arith, twice)) c.in_ok-upper.ensures.taken (subst (λ n. AreTaken n second third) e c.in_ok-lower.ensures.taken))
-  where
-    always_ok : {A E : Type 0} (result : Result A E) (P : Type 0) → P → OnOk result P
-    always_ok (Ok a) P p = p
-    always_ok (Err e) P p = tt
 
 pub returns-then-lies_below-clause-adds : goal.returns-then-lies_below-clause-adds
 returns-then-lies_below-clause-adds g t c = adds_none _

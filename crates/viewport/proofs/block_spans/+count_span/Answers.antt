@@ -120,3 +120,36 @@ count_span-requires g t c κs within =
 
 pub cells_of-requires : goal.cells_of-requires
 cells_of-requires g t c = subst (λ n. IsKnown (g.R.Reading.book c.args.from.now) n c.args.sq) c.if-sq-eq-LEAF_LEVEL.true c.requires.known
+
+pub returns-then-span-clause-counted : goal.returns-then-span-clause-counted
+returns-then-span-clause-counted g t c = c.requires.counted
+
+pub returns-then-is_empty-clause-counted : goal.returns-then-is_empty-clause-counted
+returns-then-is_empty-clause-counted g t c = c.requires.counted
+
+pub returns-in_err-count-clause-counted : goal.returns-in_err-count-clause-counted
+returns-in_err-count-clause-counted g t c = c.count.ensures.counted
+
+pub returns-in_err-count-clause-keeps : goal.returns-in_err-count-clause-keeps
+returns-in_err-count-clause-keeps g t c = c.count.ensures.adds.keeps
+
+pub returns-in_err-push-clause-counted : goal.returns-in_err-push-clause-counted
+returns-in_err-push-clause-counted g t c = c.count.ensures.counted
+
+pub returns-in_err-push-clause-keeps : goal.returns-in_err-push-clause-keeps
+returns-in_err-push-clause-keeps g t c = c.count.ensures.adds.keeps
+
+pub returns-then-sq-exponent-clause-counted : goal.returns-then-sq-exponent-clause-counted
+returns-then-sq-exponent-clause-counted g t c = c.count.ensures.counted
+
+pub returns-then-sq-exponent-clause-keeps : goal.returns-then-sq-exponent-clause-keeps
+returns-then-sq-exponent-clause-keeps g t c = c.count.ensures.adds.keeps
+
+pub returns-then-sq-eq-LEAF_LEVEL-clause-keeps : goal.returns-then-sq-eq-LEAF_LEVEL-clause-keeps
+returns-then-sq-eq-LEAF_LEVEL-clause-keeps g t c = c.cells_of.ensures.adds.keeps
+
+pub returns-in_err-count_span-clause-counted : goal.returns-in_err-count_span-clause-counted
+returns-in_err-count_span-clause-counted g t c = c.count_span.ensures.counted
+
+pub returns-clause-counted : goal.returns-clause-counted
+returns-clause-counted g t c = c.count_span-2.ensures.counted

@@ -1,6 +1,7 @@
 use Rattle.std.proofs.Common.{◌≡◌, ℕ, ℤ, pos, ◌+ℤ◌, ◌-ℤ◌, ap, ◌∙◌, ◌++◌, sym, arith, rules, w64, SFits, replicate}
 use Rattle.std.proofs.lemmas.Int.{ints, to_z-of_z}
 use Rattle.std.proofs.lemmas.Result.{on_ok_weaker}
+use Rattle.squares.proofs.Kept.{keeps_none}
 use Rattle.viewport.specs.BlockSpans.{span_counts}
 use Rattle.viewport.proofs.Quarters.{known_square}
 use Rattle.viewport.proofs.RowsOfBlocks.{beside_counts, inside_span, outside_counts, three_added}
@@ -51,3 +52,33 @@ returns-clause-ok g c =
     c.args.blocks.now.left c.args.j c.signed_half_side.result c.args.blocks.now.width c.in-Some.row columns c.signed_half_side.ensures.side
     (row_place c.in-Some.row _ c.args.j c.signed_half_side.result (simp to_z-of_z at c.in-Some.ensures.0) c.signed_half_side.ensures.side) are))
     c.add_dead-3.ensures.ok
+
+pub returns-in_default-clause-counted : goal.returns-in_default-clause-counted
+returns-in_default-clause-counted g c = c.requires.counted
+
+pub returns-in_default-clause-keeps : goal.returns-in_default-clause-keeps
+returns-in_default-clause-keeps g c = keeps_none _
+
+pub returns-in_err-add_dead-clause-counted : goal.returns-in_err-add_dead-clause-counted
+returns-in_err-add_dead-clause-counted g c = c.requires.counted
+
+pub returns-in_err-add_dead-clause-keeps : goal.returns-in_err-add_dead-clause-keeps
+returns-in_err-add_dead-clause-keeps g c = keeps_none _
+
+pub returns-in_err-count_span-clause-counted : goal.returns-in_err-count_span-clause-counted
+returns-in_err-count_span-clause-counted g c = c.count_span.ensures.counted
+
+pub returns-in_err-count_span-clause-keeps : goal.returns-in_err-count_span-clause-keeps
+returns-in_err-count_span-clause-keeps g c = c.count_span.ensures.keeps
+
+pub returns-clause-counted : goal.returns-clause-counted
+returns-clause-counted g c = c.count_span.ensures.counted
+
+pub returns-clause-keeps : goal.returns-clause-keeps
+returns-clause-keeps g c = c.count_span.ensures.keeps
+
+pub count_span-requires-clause-known : goal.count_span-requires-clause-known
+count_span-requires-clause-known g c = c.requires.known
+
+pub count_span-requires-clause-counted : goal.count_span-requires-clause-counted
+count_span-requires-clause-counted g c = c.requires.counted

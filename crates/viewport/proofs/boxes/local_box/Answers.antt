@@ -122,3 +122,12 @@ overflow_sub-result-2 g c = let h = bottom_inside g c in omega (arith, h)
 pub returns-clause-ok : goal.returns-clause-ok
 returns-clause-ok g c =
     rw c.side-last.ensures (read_box _ _ _ _ _ _ (found g (goal.at.returns-clause-ok g c).After-side-last))
+
+pub side_gap-requires : goal.side_gap-requires
+side_gap-requires g c = record { known = c.requires.known; level = c.requires.level }
+
+pub returns-in_err-left-clause-adds : goal.returns-in_err-left-clause-adds
+returns-in_err-left-clause-adds g c = c.side_gap.ensures.adds
+
+pub returns-in_default-clause-adds : goal.returns-in_default-clause-adds
+returns-in_default-clause-adds g c = c.side_gap.ensures.adds

@@ -166,3 +166,30 @@ half_gap-returns-clause-ok g t c =
     let second = gap_before c.args.side was _ two b c.in_ok-first.ensures.adds.keeps c.requires.second.known c.in_ok-second.ensures.ok in
     subst (λ (o : Option ℕ). IsGap c.args.side (2 ^ one.level) (either (was.cells one) (was.cells two)) o) (sym c.lesser_gap.ensures)
     (lesser_gap c.args.side (2 ^ one.level) _ _ c.in_ok-first.first b c.in_ok-first.ensures.ok (gap_level c.args.side _ _ (was.cells two) b c.requires.second.at_level second))
+
+pub gap-returns-then-sq-lt-LOWEST_NOTED-clause-ok : goal.gap-returns-then-sq-lt-LOWEST_NOTED-clause-ok
+gap-returns-then-sq-lt-LOWEST_NOTED-clause-ok g t c = c.quarters_gap.ensures.ok
+
+pub gap-returns-then-sq-lt-LOWEST_NOTED-clause-noted : goal.gap-returns-then-sq-lt-LOWEST_NOTED-clause-noted
+gap-returns-then-sq-lt-LOWEST_NOTED-clause-noted g t c = c.quarters_gap.ensures.noted
+
+pub gap-returns-then-sq-lt-LOWEST_NOTED-clause-adds : goal.gap-returns-then-sq-lt-LOWEST_NOTED-clause-adds
+gap-returns-then-sq-lt-LOWEST_NOTED-clause-adds g t c = c.quarters_gap.ensures.adds
+
+pub gap-returns-then-sq-eq-LEAF_LEVEL-clause-adds : goal.gap-returns-then-sq-eq-LEAF_LEVEL-clause-adds
+gap-returns-then-sq-eq-LEAF_LEVEL-clause-adds g t c = c.cells_of.ensures.adds
+
+pub quarters_gap-returns-in_err-near-clause-noted : goal.quarters_gap-returns-in_err-near-clause-noted
+quarters_gap-returns-in_err-near-clause-noted g t c = c.half_gap.ensures.noted
+
+pub quarters_gap-returns-in_err-near-clause-adds : goal.quarters_gap-returns-in_err-near-clause-adds
+quarters_gap-returns-in_err-near-clause-adds g t c = adds_trans c.quarters_of-quarters.ensures.adds c.half_gap.ensures.adds
+
+pub quarters_gap-returns-then-is_some-clause-noted : goal.quarters_gap-returns-then-is_some-clause-noted
+quarters_gap-returns-then-is_some-clause-noted g t c = c.half_gap.ensures.noted
+
+pub quarters_gap-returns-in_err-far-clause-noted : goal.quarters_gap-returns-in_err-far-clause-noted
+quarters_gap-returns-in_err-far-clause-noted g t c = c.half_gap-2.ensures.noted
+
+pub quarters_gap-returns-clause-noted : goal.quarters_gap-returns-clause-noted
+quarters_gap-returns-clause-noted g t c = c.half_gap-2.ensures.noted

@@ -149,3 +149,42 @@ pub count-returns-in_err-insert-clause-counted : goal.count-returns-in_err-inser
 count-returns-in_err-insert-clause-counted g t c =
     let now = g.R.Reading.book c.count_quarters-2.new.from in
     record { count = true_of_same (IsKnownCount now) c.count_quarters-2.new.counts c.insert.new.self c.in_ok-whole.ensures.counted.count c.in_err-insert.ensures.err }
+
+pub count-returns-then-sq-lt-LOWEST_NOTED-clause-ok : goal.count-returns-then-sq-lt-LOWEST_NOTED-clause-ok
+count-returns-then-sq-lt-LOWEST_NOTED-clause-ok g t c = c.count_quarters.ensures.ok
+
+pub count-returns-then-sq-lt-LOWEST_NOTED-clause-counted : goal.count-returns-then-sq-lt-LOWEST_NOTED-clause-counted
+count-returns-then-sq-lt-LOWEST_NOTED-clause-counted g t c = c.count_quarters.ensures.counted
+
+pub count-returns-then-sq-lt-LOWEST_NOTED-clause-adds : goal.count-returns-then-sq-lt-LOWEST_NOTED-clause-adds
+count-returns-then-sq-lt-LOWEST_NOTED-clause-adds g t c = c.count_quarters.ensures.adds
+
+pub count-returns-then-sq-eq-LEAF_LEVEL-clause-adds : goal.count-returns-then-sq-eq-LEAF_LEVEL-clause-adds
+count-returns-then-sq-eq-LEAF_LEVEL-clause-adds g t c = c.cells_of.ensures.adds
+
+pub count-returns-then-is_empty-clause-counted : goal.count-returns-then-is_empty-clause-counted
+count-returns-then-is_empty-clause-counted g t c = c.requires.counted
+
+pub count-returns-in-Some-clause-counted : goal.count-returns-in-Some-clause-counted
+count-returns-in-Some-clause-counted g t c = c.requires.counted
+
+pub count-returns-in_err-whole-clause-counted : goal.count-returns-in_err-whole-clause-counted
+count-returns-in_err-whole-clause-counted g t c = c.count_quarters-2.ensures.counted
+
+pub count-returns-in_err-whole-clause-adds : goal.count-returns-in_err-whole-clause-adds
+count-returns-in_err-whole-clause-adds g t c = c.count_quarters-2.ensures.adds
+
+pub count_quarters-returns-in_err-count-clause-counted : goal.count_quarters-returns-in_err-count-clause-counted
+count_quarters-returns-in_err-count-clause-counted g t c = c.count.ensures.counted
+
+pub count_quarters-returns-in_err-upper-clause-counted : goal.count_quarters-returns-in_err-upper-clause-counted
+count_quarters-returns-in_err-upper-clause-counted g t c = c.count-2.ensures.counted
+
+pub count_quarters-returns-in_err-count-2-clause-counted : goal.count_quarters-returns-in_err-count-2-clause-counted
+count_quarters-returns-in_err-count-2-clause-counted g t c = c.count-3.ensures.counted
+
+pub count_quarters-returns-in_err-lower-clause-counted : goal.count_quarters-returns-in_err-lower-clause-counted
+count_quarters-returns-in_err-lower-clause-counted g t c = c.count-4.ensures.counted
+
+pub count_quarters-returns-clause-counted : goal.count_quarters-returns-clause-counted
+count_quarters-returns-clause-counted g t c = c.count-4.ensures.counted

@@ -2,6 +2,7 @@ use Rattle.std.proofs.Common.{arith}
 use Rattle.node_table.specs.DesksAtWork.{book_here}
 use Rattle.worker_split.proofs.Books.{here_book, own_known, refuses, tallied, works_kept, works_more, works_then}
 use Rattle.worker_split.proofs.Stepped.{on_two, stepped}
+use Rattle.plane.proofs.SentErrors.{sent_on}
 use Rattle.worker_split.proofs.steps.advance.Goals as goal
 
 pub returns-then-team-eq1-clause-continues : goal.returns-then-team-eq1-clause-continues
@@ -41,3 +42,6 @@ returns-then-team-eq1-clause-refusal g c = refuses (book_here c.step.new.book) c
 
 pub returns-clause-refusal : goal.returns-clause-refusal
 returns-clause-refusal g c = refuses (book_here c.trim.new.book) c.trim.result c.trim.ensures.refusal
+
+pub returns-in_err-next-clause-refusal : goal.returns-in_err-next-clause-refusal
+returns-in_err-next-clause-refusal g c = sent_on _ c.from_residual-in_err-next.result c.in_err-next.field-0.0 c.from_residual-in_err-next.ensures.1 c.in_err-next.ensures.refusal

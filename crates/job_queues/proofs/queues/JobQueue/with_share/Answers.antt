@@ -1,5 +1,6 @@
-use Rattle.std.proofs.Common.{◌<◌, ◌≤◌, ◌∙◌, All, sym, subst, rules, arith}
+use Rattle.std.proofs.Common.{◌≡◌, ◌<◌, ◌≤◌, ◌∙◌, All, ap, sym, subst, rules, arith}
 use Rattle.crossbeam_deque.specs.Handles.{worker_view}
+use Rattle.job_queues.specs.Shares.{jobs_between}
 use Rattle.job_queues.proofs.Ranges.{jobs_below}
 use Rattle.job_queues.proofs.Pieces.{begins, next_push, pushes}
 use Rattle.job_queues.proofs.queues.JobQueue.with_share.Goals as goal
@@ -37,3 +38,17 @@ invariant_of-result c =
       first_in_first_out = c.loop-job.invariant.first_in_first_out;
       below = subst (All (λ job. job < c.args.count)) (sym c.loop-job.invariant.share) (jobs_below c.args.low c.loop-job.job c.args.count le);
     }
+
+pub returns-clause-share : goal.returns-clause-share
+returns-clause-share c =
+    let within = c.loop-job.auto.job-end c.requires.0 in
+    let past = c.loop-job-test.false in
+    let last : c.loop-job.job ≡ c.args.high = omega (arith, within, past) in
+    c.loop-job.invariant.share ∙ ap (jobs_between c.args.low) last
+
+pub returns-clause-left : goal.returns-clause-left
+returns-clause-left c =
+    let within = c.loop-job.auto.job-end c.requires.0 in
+    let past = c.loop-job-test.false in
+    let last : c.loop-job.job ≡ c.args.high = omega (arith, within, past) in
+    c.loop-job.invariant.left ∙ ap (jobs_between c.args.low) last

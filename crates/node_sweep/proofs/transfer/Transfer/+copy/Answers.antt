@@ -10,7 +10,7 @@ use Rattle.node_sweep.proofs.SameBlocks.{copy_later, block_parts}
 use Rattle.node_sweep.proofs.Futures.{block_below}
 use Rattle.node_sweep.proofs.Places.{sought_start}
 use Rattle.node_sweep.proofs.Recursing.{IsPairOf, copy_as, leaf_below, as_pair, higher, first_low, second_low, first_wanted, second_wanted}
-use Rattle.node_table.proofs.Refusing.{sent_on}
+use Rattle.plane.proofs.SentErrors.{sent_on}
 use Rattle.node_sweep.proofs.SideBySide.{keeps_on}
 use Rattle.node_sweep.proofs.Underway.{already_noted, block_inside, empty_noted}
 use Rattle.node_sweep.proofs.transfer.Transfer.+copy.Goals as goal

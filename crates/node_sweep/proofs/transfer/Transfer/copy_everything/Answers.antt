@@ -7,6 +7,7 @@ use Rattle.node_sweep.specs.Transfers.{old_bits, old_table}
 use Rattle.node_sweep.proofs.AllBlocks.{all_wanted, block_copied}
 use Rattle.node_sweep.proofs.Ordered.{all_copied, any_before}
 use Rattle.node_sweep.proofs.Underway.{copied_later}
+use Rattle.plane.proofs.SentErrors.{sent_on}
 use Rattle.node_sweep.proofs.transfer.Transfer.copy_everything.Goals as goal
 
 pub copy_ranks-requires-clause-order : goal.copy_ranks-requires-clause-order
@@ -34,3 +35,6 @@ returns-clause-copied c =
     on_ok_weaker _ (λ (pairs : AreCopiedTo transfer order.slots.items fresh.copies.items (slice_index order.ends 124)).
     let all = all_copied transfer.old.key.now transfer.old.words.now order.slots.items order.ends fresh.copies.items transfer.old.good.good c.requires.order kept pairs.copied in
     record { copied = λ rank n block is some. block_copied old fresh.copies.items all rank n block some }) c.copy_ranks.ensures.copied
+
+pub returns-in_err-copy_leaves-clause-full : goal.returns-in_err-copy_leaves-clause-full
+returns-in_err-copy_leaves-clause-full c = sent_on _ c.from_residual.result c.in_err-copy_leaves.field-0.0 c.from_residual.ensures.1 c.in_err-copy_leaves.ensures.full

@@ -11,6 +11,7 @@ use Rattle.node_sweep.proofs.RootSets.{is_collected}
 use Rattle.node_sweep.proofs.Gathered.{collected}
 use Rattle.node_sweep.proofs.Ordered.{ends_there, kept_at, marked_before, root_there}
 use Rattle.node_sweep.proofs.Underway.{copied_later}
+use Rattle.plane.proofs.SentErrors.{sent_on}
 use Rattle.node_sweep.proofs.transfer.Transfer.copy_kept.Goals as goal
 
 pub copy_marked_leaves-requires-clause-marks : goal.copy_marked_leaves-requires-clause-marks
@@ -56,3 +57,6 @@ returns-clause-copied c =
           transfer.to (wants transfer) last.words.items transfer.same_rule transfer.same_exponent c.copy_ranks.ensures.underway.copying
           n (is_collected old transfer.keep roots n c.requires.keep is) some;
     }) c.copy_ranks.ensures.copied
+
+pub returns-in_err-copy_marked_leaves-clause-full : goal.returns-in_err-copy_marked_leaves-clause-full
+returns-in_err-copy_marked_leaves-clause-full c = sent_on _ c.from_residual.result c.in_err-copy_marked_leaves.field-0.0 c.from_residual.ensures.1 c.in_err-copy_marked_leaves.ensures.full

@@ -10,6 +10,7 @@ use Rattle.node_sweep.proofs.Places.{sought_start}
 use Rattle.node_sweep.proofs.Recursing.{leaf_below}
 use Rattle.node_sweep.proofs.Underway.{copied_on}
 use Rattle.node_sweep.proofs.transfer.Transfer.copy_marked_leaves.Goals.{then-marks-number-ne0+in_ok-note, else-marks-number-ne0}
+use Rattle.plane.proofs.SentErrors.{sent_on}
 use Rattle.node_sweep.proofs.transfer.Transfer.copy_marked_leaves.Goals as goal
 
 pub note-requires-clause-wanted : goal.note-requires-clause-wanted
@@ -50,3 +51,6 @@ loop-number-preserved c =
         some = λ z. absurd (omega arith);
       }
     ]
+
+pub returns-in_err-note-clause-full : goal.returns-in_err-note-clause-full
+returns-in_err-note-clause-full c = sent_on _ c.from_residual.result c.in_err-note.field-0.0 c.from_residual.ensures.1 c.in_err-note.ensures.full

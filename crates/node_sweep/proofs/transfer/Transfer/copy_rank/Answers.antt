@@ -3,7 +3,7 @@ use Rattle.std.specs.Prelude.{slice_index, slice_range}
 use Rattle.std.proofs.lemmas.Result.{IfOk-from_err}
 use Rattle.node_sweep.specs.Blocks.{AreCopiedTo, AreReady}
 use Rattle.node_sweep.specs.Transfers.{SaysNoRoom, fresh_words, old_table}
-use Rattle.node_table.proofs.Refusing.{sent_on}
+use Rattle.plane.proofs.SentErrors.{sent_on}
 use Rattle.node_sweep.proofs.SideBySide.{copied_still, ends_rise, keeps_on, part_copied, part_few, part_ready, parts_copied}
 use Rattle.node_sweep.proofs.Underway.{noted_still}
 use Rattle.node_sweep.proofs.transfer.Transfer.copy_rank.Goals as goal

@@ -5,6 +5,7 @@ use Rattle.node_sweep.specs.Transfers.{old_table, wants}
 use Rattle.node_sweep.proofs.Futures.{keeping_start}
 use Rattle.node_sweep.proofs.Gathered.{reached_copied}
 use Rattle.node_sweep.proofs.Underway.{copy_there}
+use Rattle.plane.proofs.SentErrors.{sent_on}
 use Rattle.node_sweep.proofs.transfer.Transfer.copy_reached.Goals as goal
 
 pub copy-requires-clause-wanted : goal.copy-requires-clause-wanted
@@ -27,3 +28,6 @@ returns-clause-copied c =
           c.args.rank roots.root n c.requires.block there
           (subst (λ (keep : Keep). IsWanted old keep roots.root roots.low roots.high n) c.requires.keep is) some;
     }
+
+pub returns-in_err-copy-clause-full : goal.returns-in_err-copy-clause-full
+returns-in_err-copy-clause-full c = sent_on _ c.from_residual.result c.in_err-copy.field-0.0 c.from_residual.ensures.1 c.in_err-copy.ensures.full

@@ -6,6 +6,9 @@ use Rattle.node_sweep.specs.Transfers.{old_table, wants}
 use Rattle.node_sweep.proofs.RootSets.{root_wanted}
 use Rattle.node_sweep.proofs.Futures.{block_below}
 use Rattle.node_sweep.proofs.Gathered.{all_copied, copy_noted}
+use Rattle.plane.proofs.SentErrors.{sent_on}
+use Rattle.plane.specs.declared.refusal.Refusal.TheVariants.{NoMemory}
+use Rattle.std.proofs.Common.{refl}
 use Rattle.node_sweep.proofs.transfer.Transfer.fill.Goals as goal
 
 pub index-number-requires : goal.index-number-requires
@@ -34,3 +37,6 @@ returns-clause-root c =
     (same_or_other root 0) in
     copy_noted transfer.old.key.now transfer.to transfer.old.words.now (wants transfer) copies c.with_results-words.result.words.items transfer.old.good.good transfer.same_rule transfer.same_exponent
     c.with_results-words.ensures.kept root c.index-number.result.now there (sym (c.index-number.ensures ∙ get_or_default copies root c.index-number.result.now 0 inside))
+
+pub returns-in_err-fresh-clause-refusal : goal.returns-in_err-fresh-clause-refusal
+returns-in_err-fresh-clause-refusal c = sent_on _ c.from_residual.result NoMemory c.from_residual.ensures.1 (inl refl)

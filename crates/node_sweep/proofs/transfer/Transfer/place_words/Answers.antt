@@ -6,6 +6,7 @@ use Rattle.node_sweep.specs.Blocks.{pair_at}
 use Rattle.node_sweep.specs.Transfers.{fresh_table, fresh_words, old_bits, old_table, wants, IsWordNeeded}
 use Rattle.table_core.proofs.Ways.{not_head}
 use Rattle.node_sweep.proofs.SideBySide.{copied_to_on, keeps_on, needed_later, needed_slot, sought_tried}
+use Rattle.plane.proofs.SentErrors.{sent_on}
 use Rattle.node_sweep.proofs.transfer.Transfer.place_words.Goals as goal
 
 pub index-pair-requires : goal.index-pair-requires
@@ -49,3 +50,6 @@ loop-i-preserved c =
           c.loop-i.invariant.copied c.index-pair.ensures.index c.in_ok-note.ensures.ok (not_head (old_bits transfer) Pair c.index-pair.result c.index-pair.ensures.slot)
           (subst (IsBlockIn (old_table transfer) (suc n.0)) (sym c.index-pair.ensures.index) n.1);
     }
+
+pub returns-in_err-note-clause-full : goal.returns-in_err-note-clause-full
+returns-in_err-note-clause-full c = sent_on _ c.from_residual.result c.in_err-note.field-0.0 c.from_residual.ensures.1 c.in_err-note.ensures.full

@@ -1,5 +1,6 @@
 use Rattle.std.proofs.lemmas.Result.{IfOk-from_err}
-use Rattle.node_table.proofs.Refusing.{on_err, sent_on}
+use Rattle.plane.proofs.SentErrors.{sent_on}
+use Rattle.node_table.proofs.Refusing.{on_err}
 use Rattle.node_table.proofs.TwoHalves.{beside_parts, half_made}
 use Rattle.node_table.proofs.at.At.half.Goals as goal
 

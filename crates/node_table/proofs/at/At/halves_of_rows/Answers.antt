@@ -1,8 +1,11 @@
 use Rattle.std.proofs.Common.{◌≡◌, length, arith, rules, ⊎_elim}
 use Rattle.node_table.proofs.OverlapsByHalves.{all_kept, no_half_above, no_half_below, two_beside}
+use Rattle.plane.proofs.SentErrors.{sent_on}
 use Rattle.node_table.proofs.Refusing.{on_err}
 use Rattle.node_table.proofs.TwoHalves.{half_stays}
 use Rattle.node_table.proofs.Working.{book_kept, learns_trans}
+use Rattle.squares.specs.Book.{MayRefuse}
+use Rattle.node_table.specs.DesksAtWork.{book_here}
 use Rattle.node_table.proofs.at.At.halves_of_rows.Goals as goal
 
 pub halves_of_row-requires-clause-first : goal.halves_of_row-requires-clause-first
@@ -67,3 +70,15 @@ returns-in_err-middle-clause-full c =
 pub returns-in_err-lower-clause-full : goal.returns-in_err-lower-clause-full
 returns-in_err-lower-clause-full c =
     on_err c.from_residual-in_err-lower.result (⊎_elim (no_half_below c.halves_of_row-3.new.self c.args.nine 1 0 (omega arith) (omega arith)) (no_half_below c.halves_of_row-3.new.self c.args.nine 1 1 (omega arith) (omega arith)) c.in_err-lower.ensures.full)
+
+pub returns-in_err-upper-clause-refusal : goal.returns-in_err-upper-clause-refusal
+returns-in_err-upper-clause-refusal c =
+    sent_on (MayRefuse (book_here c.halves_of_row.new.self)) c.from_residual.result c.in_err-upper.field-0.0 c.from_residual.ensures.1 c.in_err-upper.ensures.refusal
+
+pub returns-in_err-middle-clause-refusal : goal.returns-in_err-middle-clause-refusal
+returns-in_err-middle-clause-refusal c =
+    sent_on (MayRefuse (book_here c.halves_of_row-2.new.self)) c.from_residual-in_err-middle.result c.in_err-middle.field-0.0 c.from_residual-in_err-middle.ensures.1 c.in_err-middle.ensures.refusal
+
+pub returns-in_err-lower-clause-refusal : goal.returns-in_err-lower-clause-refusal
+returns-in_err-lower-clause-refusal c =
+    sent_on (MayRefuse (book_here c.halves_of_row-3.new.self)) c.from_residual-in_err-lower.result c.in_err-lower.field-0.0 c.from_residual-in_err-lower.ensures.1 c.in_err-lower.ensures.refusal

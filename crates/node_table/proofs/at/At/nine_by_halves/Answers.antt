@@ -1,10 +1,12 @@
 use Rattle.squares.proofs.NineSquares.{nine_made}
 use Rattle.node_table.specs.DesksAtWork.{book_here}
+use Rattle.plane.proofs.SentErrors.{sent_on}
 use Rattle.node_table.proofs.Refusing.{on_err}
 use Rattle.node_table.proofs.RefusedNine.{no_first, no_second, no_third, no_fourth, no_upper, no_left, no_middle, no_right, no_lower}
 use Rattle.node_table.proofs.TwoHalves.{half_kept, half_of, half_stays, joined_of}
 use Rattle.node_table.proofs.Working.{book_kept, learns_trans}
 use Rattle.node_table.proofs.NineByHalves.{are_parts, column_halves, left_halves, parts_kept, quarter_above, quarter_known, right_halves, first_beside, second_beside, third_beside, fourth_beside}
+use Rattle.squares.specs.Book.{MayRefuse}
 use Rattle.node_table.proofs.at.At.nine_by_halves.Goals as goal
 
 pub half-requires-2 : goal.half-requires-2
@@ -153,3 +155,39 @@ half-requires c = first_beside c.requires.level c.requires.known.high c.read_hal
 
 pub returns-in_err-first-clause-learns : goal.returns-in_err-first-clause-learns
 returns-in_err-first-clause-learns c = learns_trans c.read_halves_of_quarters-parts.ensures.learns c.half.ensures.learns
+
+pub returns-in_err-first-clause-refusal : goal.returns-in_err-first-clause-refusal
+returns-in_err-first-clause-refusal c =
+    sent_on (MayRefuse (book_here c.half.new.self)) c.from_residual.result c.in_err-first.field-0.0 c.from_residual.ensures.1 c.in_err-first.ensures.refusal
+
+pub returns-in_err-second-clause-refusal : goal.returns-in_err-second-clause-refusal
+returns-in_err-second-clause-refusal c =
+    sent_on (MayRefuse (book_here c.half-2.new.self)) c.from_residual-in_err-second.result c.in_err-second.field-0.0 c.from_residual-in_err-second.ensures.1 c.in_err-second.ensures.refusal
+
+pub returns-in_err-third-clause-refusal : goal.returns-in_err-third-clause-refusal
+returns-in_err-third-clause-refusal c =
+    sent_on (MayRefuse (book_here c.half-3.new.self)) c.from_residual-in_err-third.result c.in_err-third.field-0.0 c.from_residual-in_err-third.ensures.1 c.in_err-third.ensures.refusal
+
+pub returns-in_err-fourth-clause-refusal : goal.returns-in_err-fourth-clause-refusal
+returns-in_err-fourth-clause-refusal c =
+    sent_on (MayRefuse (book_here c.half-4.new.self)) c.from_residual-in_err-fourth.result c.in_err-fourth.field-0.0 c.from_residual-in_err-fourth.ensures.1 c.in_err-fourth.ensures.refusal
+
+pub returns-in_err-upper-clause-refusal : goal.returns-in_err-upper-clause-refusal
+returns-in_err-upper-clause-refusal c =
+    sent_on (MayRefuse (book_here c.whole.new.self)) c.from_residual-in_err-upper.result c.in_err-upper.field-0.0 c.from_residual-in_err-upper.ensures.1 c.in_err-upper.ensures.refusal
+
+pub returns-in_err-left-clause-refusal : goal.returns-in_err-left-clause-refusal
+returns-in_err-left-clause-refusal c =
+    sent_on (MayRefuse (book_here c.whole-2.new.self)) c.from_residual-in_err-left.result c.in_err-left.field-0.0 c.from_residual-in_err-left.ensures.1 c.in_err-left.ensures.refusal
+
+pub returns-in_err-middle-clause-refusal : goal.returns-in_err-middle-clause-refusal
+returns-in_err-middle-clause-refusal c =
+    sent_on (MayRefuse (book_here c.whole-3.new.self)) c.from_residual-in_err-middle.result c.in_err-middle.field-0.0 c.from_residual-in_err-middle.ensures.1 c.in_err-middle.ensures.refusal
+
+pub returns-in_err-right-clause-refusal : goal.returns-in_err-right-clause-refusal
+returns-in_err-right-clause-refusal c =
+    sent_on (MayRefuse (book_here c.whole-4.new.self)) c.from_residual-in_err-right.result c.in_err-right.field-0.0 c.from_residual-in_err-right.ensures.1 c.in_err-right.ensures.refusal
+
+pub returns-in_err-lower-clause-refusal : goal.returns-in_err-lower-clause-refusal
+returns-in_err-lower-clause-refusal c =
+    sent_on (MayRefuse (book_here c.whole-5.new.self)) c.from_residual-in_err-lower.result c.in_err-lower.field-0.0 c.from_residual-in_err-lower.ensures.1 c.in_err-lower.ensures.refusal

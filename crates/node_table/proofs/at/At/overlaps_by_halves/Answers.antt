@@ -1,7 +1,10 @@
 use Rattle.std.proofs.Common.{◌≡◌, length, arith, rules}
 use Rattle.node_table.proofs.OverlapsByHalves.{corner, corner_shown, no_corner, rows_kept}
+use Rattle.plane.proofs.SentErrors.{sent_on}
 use Rattle.node_table.proofs.Refusing.{on_err}
 use Rattle.node_table.proofs.Working.{learns_none, learns_trans}
+use Rattle.squares.specs.Book.{MayRefuse}
+use Rattle.node_table.specs.DesksAtWork.{book_here}
 use Rattle.node_table.proofs.at.At.overlaps_by_halves.Goals as goal
 
 pub whole-requires : goal.whole-requires
@@ -79,3 +82,23 @@ pub returns-in_err-se-clause-full : goal.returns-in_err-se-clause-full
 returns-in_err-se-clause-full c =
     let rows = rows_kept (learns_trans c.whole.ensures.learns (learns_trans c.whole-2.ensures.learns (learns_trans c.whole-3.ensures.learns c.whole-4.ensures.learns))) c.in_ok-rows.ensures.ok in
     on_err c.from_residual-in_err-se.result (no_corner c.whole-4.new.self c.args.nine 1 1 (omega arith) (omega arith) rows.middle_right rows.lower_right c.in_err-se.ensures.full)
+
+pub returns-in_err-rows-clause-refusal : goal.returns-in_err-rows-clause-refusal
+returns-in_err-rows-clause-refusal c =
+    sent_on (MayRefuse (book_here c.halves_of_rows.new.self)) c.from_residual.result c.in_err-rows.field-0.0 c.from_residual.ensures.1 c.in_err-rows.ensures.refusal
+
+pub returns-in_err-nw-clause-refusal : goal.returns-in_err-nw-clause-refusal
+returns-in_err-nw-clause-refusal c =
+    sent_on (MayRefuse (book_here c.whole.new.self)) c.from_residual-in_err-nw.result c.in_err-nw.field-0.0 c.from_residual-in_err-nw.ensures.1 c.in_err-nw.ensures.refusal
+
+pub returns-in_err-ne-clause-refusal : goal.returns-in_err-ne-clause-refusal
+returns-in_err-ne-clause-refusal c =
+    sent_on (MayRefuse (book_here c.whole-2.new.self)) c.from_residual-in_err-ne.result c.in_err-ne.field-0.0 c.from_residual-in_err-ne.ensures.1 c.in_err-ne.ensures.refusal
+
+pub returns-in_err-sw-clause-refusal : goal.returns-in_err-sw-clause-refusal
+returns-in_err-sw-clause-refusal c =
+    sent_on (MayRefuse (book_here c.whole-3.new.self)) c.from_residual-in_err-sw.result c.in_err-sw.field-0.0 c.from_residual-in_err-sw.ensures.1 c.in_err-sw.ensures.refusal
+
+pub returns-in_err-se-clause-refusal : goal.returns-in_err-se-clause-refusal
+returns-in_err-se-clause-refusal c =
+    sent_on (MayRefuse (book_here c.whole-4.new.self)) c.from_residual-in_err-se.result c.in_err-se.field-0.0 c.from_residual-in_err-se.ensures.1 c.in_err-se.ensures.refusal

@@ -13,7 +13,8 @@ use Rattle.node_table.specs.declared.halves.Half.{Half}
 use Rattle.node_table.specs.DesksAtWork.{book_here}
 use Rattle.node_table.specs.Refusals.{HasNoRoom, known_by}
 use Rattle.node_table.proofs.Working.{book_kept, goes_on_here, learns_trans, no_room_later, squares_added}
-use Rattle.node_table.proofs.Refusing.{lacks, on_err, sent_on, no_upper_half, no_lower_half, no_whole}
+use Rattle.plane.proofs.SentErrors.{sent_on}
+use Rattle.node_table.proofs.Refusing.{lacks, on_err, no_upper_half, no_lower_half, no_whole}
 use Rattle.node_table.proofs.TwoHalves.{beside, half_before, half_kept, half_of, joined_earlier, joined_of, make_square, same_half}
 use Rattle.node_table.proofs.at.AtSquares.quad.Goals.{Start}
 use Rattle.node_table.proofs.at.AtSquares.quad.Goals as goal

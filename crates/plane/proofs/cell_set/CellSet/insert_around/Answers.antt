@@ -7,6 +7,7 @@ use Rattle.rule_text.specs.Neighbourhood.{step, stay}
 use Rattle.plane.specs.Plane.{Plane}
 use Rattle.plane.specs.Listing.{plane_of}
 use Rattle.plane.proofs.Listings.{IsKept-inserted, has_inserted}
+use Rattle.plane.proofs.SentErrors.{sent_on}
 use Rattle.plane.proofs.cell_set.CellSet.insert_around.Goals as goal
 
 -- the cell that the offset leads from is live
@@ -37,3 +38,6 @@ returns-clause-around c = record {
   itself = c.loop-offset.invariant.itself;
   around = rw (← c.offsets-offset-items.ensures.offsets) (rw (take_all c.loop-offset.offset-index c.offsets-offset-items.result.now c.loop-offset-test.false) at c.loop-offset.invariant.around);
 }
+
+pub returns-in_err-insert-clause-memory : goal.returns-in_err-insert-clause-memory
+returns-in_err-insert-clause-memory c = sent_on _ c.from_residual.result c.in_err-insert.field-0.0 c.from_residual.ensures.1 c.in_err-insert.ensures.memory

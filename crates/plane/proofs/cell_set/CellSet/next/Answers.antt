@@ -10,6 +10,7 @@ use Rattle.plane.proofs.Boxes.{room_for_next}
 use Rattle.plane.proofs.Living.{LiveAmong, none_live, none_rise, one_lives, one_dies, all_live}
 use Rattle.plane.proofs.Growth.{reach_after}
 use Rattle.plane.proofs.Turns.{one_done, holds_of_item}
+use Rattle.plane.proofs.SentErrors.{sent_on}
 use Rattle.plane.proofs.cell_set.CellSet.next.Goals as goal
 
 pub candidates-requires : goal.candidates-requires
@@ -72,3 +73,9 @@ returns-clause-ok c = listing_of c
 
 pub returns-clause-reach : goal.returns-clause-reach
 returns-clause-reach c = reach_after c.args.rule.now c.args.self.now c.loop-cell.living c.neighbourhood.ensures.rule.no_birth_on_zero (listing_of c)
+
+pub returns-in_err-candidates-clause-memory : goal.returns-in_err-candidates-clause-memory
+returns-in_err-candidates-clause-memory c = sent_on _ c.from_residual.result c.in_err-candidates.field-0.0 c.from_residual.ensures.1 c.in_err-candidates.ensures.memory
+
+pub returns-in_err-insert-clause-memory : goal.returns-in_err-insert-clause-memory
+returns-in_err-insert-clause-memory c = sent_on _ c.from_residual-in_err-insert.result c.in_err-insert.field-0.0 c.from_residual-in_err-insert.ensures.1 c.in_err-insert.ensures.memory

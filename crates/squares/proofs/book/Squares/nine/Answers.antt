@@ -1,6 +1,8 @@
 use Rattle.squares.specs.declared.subsquares.Parts.{Parts}
 use Rattle.squares.proofs.Kept.{adds_trans}
 use Rattle.squares.proofs.NineSquares.{read_all, read_kept, make_upper, make_left, make_middle, make_right, make_lower, nine_made}
+use Rattle.squares.specs.Book.{MayRefuse}
+use Rattle.plane.proofs.SentErrors.{sent_on}
 use Rattle.squares.proofs.book.Squares.nine.Goals as goal
 
 pub returns-in_err-upper-clause-adds : goal.returns-in_err-upper-clause-adds
@@ -98,3 +100,23 @@ quad-requires-5 g c =
     c.read_parts-4.ensures.adds.keeps c.read_parts-4.ensures.value c.read_parts-5.ensures.adds.keeps c.read_parts-5.ensures.value in
     let made = make_lower c.requires.level c.requires.known.high (read_kept c.quad-4.ensures.adds.keeps (read_kept c.quad-3.ensures.adds.keeps (read_kept c.quad-2.ensures.adds.keeps (read_kept c.quad.ensures.adds.keeps read)))) in
     record { level = made.fits; known = made.known }
+
+pub returns-in_err-upper-clause-refusal : goal.returns-in_err-upper-clause-refusal
+returns-in_err-upper-clause-refusal g c =
+    sent_on (MayRefuse (g.Self.Squares.book c.quad.new.self)) c.from_residual.result c.in_err-upper.field-0.0 c.from_residual.ensures.1 c.in_err-upper.ensures.refusal
+
+pub returns-in_err-left-clause-refusal : goal.returns-in_err-left-clause-refusal
+returns-in_err-left-clause-refusal g c =
+    sent_on (MayRefuse (g.Self.Squares.book c.quad-2.new.self)) c.from_residual-in_err-left.result c.in_err-left.field-0.0 c.from_residual-in_err-left.ensures.1 c.in_err-left.ensures.refusal
+
+pub returns-in_err-middle-clause-refusal : goal.returns-in_err-middle-clause-refusal
+returns-in_err-middle-clause-refusal g c =
+    sent_on (MayRefuse (g.Self.Squares.book c.quad-3.new.self)) c.from_residual-in_err-middle.result c.in_err-middle.field-0.0 c.from_residual-in_err-middle.ensures.1 c.in_err-middle.ensures.refusal
+
+pub returns-in_err-right-clause-refusal : goal.returns-in_err-right-clause-refusal
+returns-in_err-right-clause-refusal g c =
+    sent_on (MayRefuse (g.Self.Squares.book c.quad-4.new.self)) c.from_residual-in_err-right.result c.in_err-right.field-0.0 c.from_residual-in_err-right.ensures.1 c.in_err-right.ensures.refusal
+
+pub returns-in_err-lower-clause-refusal : goal.returns-in_err-lower-clause-refusal
+returns-in_err-lower-clause-refusal g c =
+    sent_on (MayRefuse (g.Self.Squares.book c.quad-5.new.self)) c.from_residual-in_err-lower.result c.in_err-lower.field-0.0 c.from_residual-in_err-lower.ensures.1 c.in_err-lower.ensures.refusal

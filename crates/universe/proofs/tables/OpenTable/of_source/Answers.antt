@@ -7,6 +7,9 @@ use Rattle.squares.specs.Book.{Book}
 use Rattle.node_table.proofs.AtWork.{is_back}
 use Rattle.universe.proofs.Filling.{filled_up, full_book, no_result_at_first, no_result_back}
 use Rattle.universe.proofs.OpenedWords.{back_as_round}
+use Rattle.plane.proofs.SentErrors.{sent_on}
+use Rattle.plane.specs.declared.refusal.Refusal.TheVariants.{NoMemory}
+use Rattle.std.proofs.Common.{inl}
 use Rattle.universe.proofs.tables.OpenTable.of_source.Goals as goal
 
 pub returns-clause-ok : goal.returns-clause-ok
@@ -37,3 +40,6 @@ returns-in_err-root-clause-full g c =
       no_result = no_result_back back (ap (λ (b : Book). b.results) c.at-at.ensures.book) c.build-made.ensures.adds
           (no_result_at_first opened.still c.args.rule.now 0 _ fresh.table fresh.desk opened.vacant opened.is.opens);
     })
+
+pub returns-in_err-opened-clause-refusal : goal.returns-in_err-opened-clause-refusal
+returns-in_err-opened-clause-refusal g c = sent_on _ c.from_residual.result NoMemory c.from_residual.ensures.1 (inl refl)

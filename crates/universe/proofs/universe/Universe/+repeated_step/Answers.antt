@@ -5,6 +5,7 @@ use Rattle.plane.specs.declared.refusal.Refusal.TheVariants.{NodesFull}
 use Rattle.universe.specs.Runs.{IsLater, IsStuck}
 use Rattle.universe.proofs.Halves.{err_then, ok_then, two_halves}
 use Rattle.universe.proofs.Onward.{held_on, none_later, same_universe, stuck_on, two_steps}
+use Rattle.plane.proofs.SentErrors.{sent_on}
 use Rattle.universe.proofs.universe.Universe.+repeated_step.Goals as goal
 
 pub repeated_step-requires-clause-held : goal.repeated_step-requires-clause-held
@@ -45,3 +46,6 @@ returns-clause-full g t c =
     let within : half + half ≤ steps = omega (arith, whole) in
     err_then (λ refusal. refusal ≡ NodesFull → IsStuck c.in_ok-middle.middle half) (λ refusal. refusal ≡ NodesFull → IsStuck c.args.self steps) c.repeated_step-2.result
     (λ refusal stuck full. stuck_on steps half half c.in_ok-middle.ensures.ok within (stuck full)) c.repeated_step-2.ensures.full
+
+pub returns-in_err-middle-clause-refusal : goal.returns-in_err-middle-clause-refusal
+returns-in_err-middle-clause-refusal g t c = sent_on _ c.from_residual.result c.in_err-middle.field-0.0 c.from_residual.ensures.1 c.in_err-middle.ensures.refusal

@@ -7,6 +7,10 @@ use Rattle.universe.specs.Runs.{IsAttempt, IsFullAtLimit, IsLater, IsSameUnivers
 use Rattle.universe.specs.declared.attempts.Attempt.{Attempt}
 use Rattle.universe.proofs.Halves.{err_then, ok_then, two_halves}
 use Rattle.universe.proofs.Onward.{held_on, may_step, none_later, same_then, still_same, stuck_at_once, stuck_on, step_at_exponent, two_steps}
+use Rattle.plane.proofs.SentErrors.{sent_on}
+use Rattle.plane.specs.declared.refusal.Refusal.TheVariants.{NoMemory}
+use Rattle.std.proofs.Common.{inl}
+use Rattle.std.proofs.Common.{refl}
 use Rattle.universe.proofs.universe.Universe.+step.Goals as goal
 
 pub step_with_growth-requires-after_bounds : goal.step_with_growth-requires-after_bounds
@@ -73,3 +77,6 @@ returns-clause-full g t c =
     let first : IsLater c.args.self half c.in_ok-middle.middle = same_then half same c.in_ok-middle.ensures.ok in
     err_then (λ refusal. refusal ≡ NodesFull → IsStuck c.in_ok-middle.middle half) (λ refusal. refusal ≡ NodesFull → IsStuck c.args.self steps) c.step-2.result
     (λ refusal stuck full. stuck_on steps half half first within (stuck full)) c.step-2.ensures.full
+
+pub returns-in_err-there-clause-refusal : goal.returns-in_err-there-clause-refusal
+returns-in_err-there-clause-refusal g t c = sent_on _ c.from_residual.result NoMemory c.from_residual.ensures.1 (inl refl)

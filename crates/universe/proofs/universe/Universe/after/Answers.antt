@@ -10,6 +10,7 @@ use Rattle.universe.specs.Cells.{live_cells, rule_of}
 use Rattle.universe.specs.Runs.{IsLater}
 use Rattle.universe.proofs.Later.{empty_stays, low_exponent, next_within}
 use Rattle.universe.proofs.Onward.{held_on, later_on, none_later, same_universe, stuck_on}
+use Rattle.plane.proofs.SentErrors.{sent_on}
 use Rattle.universe.proofs.universe.Universe.after.Goals as goal
 
 pub returns-then-is_empty-clause-ok : goal.returns-then-is_empty-clause-ok
@@ -66,3 +67,15 @@ returns-in_err-universe-clause-full g c =
     let within = next_within exponents c.args.generations i sum c.steps-test.true in
     let is : c.from_residual.result ≡ Err c.in_err-universe.field-0.0 = err_is _ _ c.from_residual.ensures.1 in
     rw is (λ refusal. stuck_on c.args.generations done steps c.steps.invariant within (c.in_err-universe.ensures.full refusal))
+
+pub returns-then-is_empty-clause-no_step : goal.returns-then-is_empty-clause-no_step
+returns-then-is_empty-clause-no_step g c = λ none. refl
+
+pub returns-in_err-universe-clause-no_step : goal.returns-in_err-universe-clause-no_step
+returns-in_err-universe-clause-no_step g c = λ none. absurd (false≢true (c.if-is_empty.ensures.1 none))
+
+pub returns-clause-no_step : goal.returns-clause-no_step
+returns-clause-no_step g c = λ none. absurd (false≢true (c.if-is_empty.ensures.1 none))
+
+pub returns-in_err-universe-clause-refusal : goal.returns-in_err-universe-clause-refusal
+returns-in_err-universe-clause-refusal g c = sent_on _ c.from_residual.result c.in_err-universe.field-0.0 c.from_residual.ensures.1 c.in_err-universe.ensures.refusal

@@ -9,6 +9,9 @@ use Rattle.table_core.specs.declared.shape.Shape.{Shape}
 use Rattle.universe.specs.Sums.{pair_sum}
 use Rattle.universe.specs.Tables.{HasFullTable}
 use Rattle.universe.specs.declared.tables.OpenTable.{OpenTable}
+use Rattle.plane.proofs.SentErrors.{sent_on}
+use Rattle.plane.specs.declared.refusal.Refusal.TheVariants.{NoMemory}
+use Rattle.std.proofs.Common.{inl}
 use Rattle.universe.proofs.universe.Universe.of.Goals as goal
 
 pub invariant_of-result : goal.invariant_of-result
@@ -30,3 +33,6 @@ returns-in_err-shape-clause-full g c =
     let is : c.from_residual-in_err-shape.result ≡ Err c.in_err-shape.field-0.0 = err_is _ _ c.from_residual-in_err-shape.ensures.1 in
     let table = subst (λ (r : Result (OpenTable × Sq) Refusal). IfErr r (λ refusal. refusal ≡ NodesFull → HasFullTable c.args.rule.now (2 ^ c.sizes.shape.bits))) full c.of_source-made.ensures.full refl in
     rw is (λ refusal. subst (HasFullTable c.args.rule.now) (ap (λ n. 2 ^ n) bits ∙ c.new-limit.ensures) table)
+
+pub returns-in_err-here-clause-refusal : goal.returns-in_err-here-clause-refusal
+returns-in_err-here-clause-refusal g c = sent_on _ c.from_residual.result NoMemory c.from_residual.ensures.1 (inl refl)
