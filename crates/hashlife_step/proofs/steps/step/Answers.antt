@@ -1,5 +1,4 @@
-use Rattle.std.proofs.Common.{arith, ◌^◌, sym, ◌∙◌, subst}
-use Rattle.std.proofs.Common.{Result, Ok, Err, IfOk}
+use Rattle.std.proofs.Common.{arith, ◌^◌, sym, ◌∙◌, subst, Result, Ok, Err, IfOk}
 use Rattle.std.proofs.lemmas.Result.{IfOk-weaker}
 use Rattle.squares.specs.declared.sq.Sq.{Sq}
 use Rattle.plane.specs.Centred.{centred, IsSmallestLevel}

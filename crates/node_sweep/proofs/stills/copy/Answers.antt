@@ -1,11 +1,9 @@
-use Rattle.std.proofs.Common.{subst}
+use Rattle.std.proofs.Common.{subst, inl, refl}
 use Rattle.table_core.specs.declared.key.Key.{Key}
 use Rattle.node_sweep.specs.CopiedStills.{IsResized}
 use Rattle.node_sweep.proofs.Transferred.{all_copied, none_copied, root_there}
 use Rattle.plane.proofs.SentErrors.{sent_on}
 use Rattle.plane.specs.declared.refusal.Refusal.TheVariants.{NoMemory}
-use Rattle.std.proofs.Common.{inl}
-use Rattle.std.proofs.Common.{refl}
 use Rattle.node_sweep.proofs.stills.copy.Goals as goal
 
 pub fill-requires-clause-block : goal.fill-requires-clause-block

@@ -1,4 +1,4 @@
-use Rattle.std.proofs.Common.{rules, subst}
+use Rattle.std.proofs.Common.{rules, subst, inl, refl}
 use Rattle.table_core.specs.declared.key.Key.{Key}
 use Rattle.node_sweep.specs.CopiedStills.{IsResized}
 use Rattle.node_sweep.specs.Plans.{IsTransferOf}
@@ -7,8 +7,6 @@ use Rattle.node_sweep.proofs.stills.copy_beside.Given.{Over}
 use Rattle.node_sweep.proofs.stills.copy_beside.Goals.{In_ok-words}
 use Rattle.plane.proofs.SentErrors.{sent_on}
 use Rattle.plane.specs.declared.refusal.Refusal.TheVariants.{NoMemory}
-use Rattle.std.proofs.Common.{inl}
-use Rattle.std.proofs.Common.{refl}
 use Rattle.node_sweep.proofs.stills.copy_beside.Goals as goal
 
 -- what the first thread prepared

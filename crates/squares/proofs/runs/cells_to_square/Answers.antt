@@ -1,4 +1,4 @@
-use Rattle.std.proofs.Common.{◌∙◌, sym, subst}
+use Rattle.std.proofs.Common.{◌∙◌, sym, subst, inl, refl}
 use Rattle.std.specs.List.{AllByRecursion}
 use Rattle.std.proofs.lemmas.Result.{IfOk-weaker}
 use Rattle.plane.specs.Runs.{IsRun}
@@ -6,8 +6,6 @@ use Rattle.squares.specs.declared.sq.Sq.{Sq}
 use Rattle.squares.proofs.RunLevels.{round_cells_of, single_runs}
 use Rattle.plane.proofs.SentErrors.{sent_on}
 use Rattle.plane.specs.declared.refusal.Refusal.TheVariants.{NoMemory}
-use Rattle.std.proofs.Common.{inl}
-use Rattle.std.proofs.Common.{refl}
 use Rattle.squares.proofs.runs.cells_to_square.Goals as goal
 
 pub runs_to_square-requires : goal.runs_to_square-requires

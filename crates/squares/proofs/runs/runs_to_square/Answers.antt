@@ -1,4 +1,4 @@
-use Rattle.std.proofs.Common.{◌≡◌, ◌∙◌, sym, subst, ap}
+use Rattle.std.proofs.Common.{◌≡◌, ◌∙◌, sym, subst, ap, inl, refl}
 use Rattle.std.specs.Prelude.{Result, Ok, Err, IfOk}
 use Rattle.std.specs.List.{AllByRecursion}
 use Rattle.plane.specs.Square.{IsSame}
@@ -11,8 +11,6 @@ use Rattle.squares.proofs.RunLevels.{round_known}
 use Rattle.squares.proofs.RunOrder.{all_sorted, same_runs_plane}
 use Rattle.plane.proofs.SentErrors.{sent_on}
 use Rattle.plane.specs.declared.refusal.Refusal.TheVariants.{NoMemory}
-use Rattle.std.proofs.Common.{inl}
-use Rattle.std.proofs.Common.{refl}
 use Rattle.squares.proofs.runs.runs_to_square.Goals as goal
 
 pub smallest_level-level-requires : goal.smallest_level-level-requires

@@ -1,8 +1,7 @@
 use Rattle.worker_split.proofs.Books.{here_book, works_kept, works_then}
 use Rattle.plane.proofs.SentErrors.{sent_on}
 use Rattle.plane.specs.declared.refusal.Refusal.TheVariants.{NoMemory}
-use Rattle.std.proofs.Common.{inl}
-use Rattle.std.proofs.Common.{refl}
+use Rattle.std.proofs.Common.{inl, refl}
 use Rattle.worker_split.proofs.batches.batch.Goals as goal
 
 pub returns-in_err-unknown-clause-continues : goal.returns-in_err-unknown-clause-continues

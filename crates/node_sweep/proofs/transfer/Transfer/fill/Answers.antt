@@ -1,4 +1,4 @@
-use Rattle.std.proofs.Common.{◌≡◌, ◌≢◌, ◌⊎◌, ◌<◌, ◌∙◌, length, sym, inl, inr, ⊎_elim, arith}
+use Rattle.std.proofs.Common.{◌≡◌, ◌≢◌, ◌⊎◌, ◌<◌, ◌∙◌, length, sym, inl, inr, ⊎_elim, arith, refl}
 use Rattle.std.specs.Prelude.{slice_index}
 use Rattle.std.proofs.lemmas.List.{get_or_default}
 use Rattle.table_core.proofs.Comparisons.{same_or_other}
@@ -8,7 +8,6 @@ use Rattle.node_sweep.proofs.Futures.{block_below}
 use Rattle.node_sweep.proofs.Gathered.{all_copied, copy_noted}
 use Rattle.plane.proofs.SentErrors.{sent_on}
 use Rattle.plane.specs.declared.refusal.Refusal.TheVariants.{NoMemory}
-use Rattle.std.proofs.Common.{refl}
 use Rattle.node_sweep.proofs.transfer.Transfer.fill.Goals as goal
 
 pub index-number-requires : goal.index-number-requires

@@ -1,4 +1,4 @@
-use Rattle.std.proofs.Common.{◌≡◌, ap, refl}
+use Rattle.std.proofs.Common.{◌≡◌, ap, refl, inl}
 use Rattle.std.specs.Prelude.{Err}
 use Rattle.std.proofs.lemmas.Result.{IfErr-at_err, IfOk-at_ok}
 use Rattle.std.proofs.result.Match.{err_is}
@@ -9,7 +9,6 @@ use Rattle.universe.proofs.Filling.{filled_up, full_book, no_result_at_first, no
 use Rattle.universe.proofs.OpenedWords.{back_as_round}
 use Rattle.plane.proofs.SentErrors.{sent_on}
 use Rattle.plane.specs.declared.refusal.Refusal.TheVariants.{NoMemory}
-use Rattle.std.proofs.Common.{inl}
 use Rattle.universe.proofs.tables.OpenTable.of_source.Goals as goal
 
 pub returns-clause-ok : goal.returns-clause-ok

@@ -1,16 +1,13 @@
-use Rattle.std.proofs.Common.{◌≡◌, ◌+◌, ◌-◌, ◌^◌, ◌≤◌, ◌∙◌, subst, arith}
+use Rattle.std.proofs.Common.{◌≡◌, ◌+◌, ◌-◌, ◌^◌, ◌≤◌, ◌∙◌, subst, arith, inl, refl}
 use Rattle.std.specs.Prelude.{Err}
 use Rattle.std.proofs.lemmas.Nat.{pow_pos}
 use Rattle.std.proofs.result.Match.{err_is}
-use Rattle.plane.specs.declared.refusal.Refusal.TheVariants.{NodesFull}
+use Rattle.plane.specs.declared.refusal.Refusal.TheVariants.{NodesFull, NoMemory}
 use Rattle.universe.specs.Runs.{IsAttempt, IsFullAtLimit, IsLater, IsSameUniverse, IsStuck}
 use Rattle.universe.specs.declared.attempts.Attempt.{Attempt}
 use Rattle.universe.proofs.Halves.{err_then, ok_then, two_halves}
 use Rattle.universe.proofs.Onward.{held_on, may_step, none_later, same_then, still_same, stuck_at_once, stuck_on, step_at_exponent, two_steps}
 use Rattle.plane.proofs.SentErrors.{sent_on}
-use Rattle.plane.specs.declared.refusal.Refusal.TheVariants.{NoMemory}
-use Rattle.std.proofs.Common.{inl}
-use Rattle.std.proofs.Common.{refl}
 use Rattle.universe.proofs.universe.Universe.+step.Goals as goal
 
 pub step_with_growth-requires-after_bounds : goal.step_with_growth-requires-after_bounds

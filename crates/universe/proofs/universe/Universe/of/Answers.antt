@@ -1,17 +1,15 @@
-use Rattle.std.proofs.Common.{◌≡◌, ◌≤◌, ◌^◌, ◌∙◌, refl, ap, subst, arith, pow_mono, rules}
+use Rattle.std.proofs.Common.{◌≡◌, ◌≤◌, ◌^◌, ◌∙◌, refl, ap, subst, arith, pow_mono, rules, inl}
 use Rattle.std.specs.Prelude.{Option, IfSome, Result, Ok, Err, IfErr}
 use Rattle.std.proofs.lemmas.Result.{IfOk-at_ok}
 use Rattle.std.proofs.result.Match.{err_is}
 use Rattle.plane.specs.declared.refusal.Refusal.{Refusal}
-use Rattle.plane.specs.declared.refusal.Refusal.TheVariants.{NodesFull}
+use Rattle.plane.specs.declared.refusal.Refusal.TheVariants.{NodesFull, NoMemory}
 use Rattle.squares.specs.declared.sq.Sq.{Sq}
 use Rattle.table_core.specs.declared.shape.Shape.{Shape}
 use Rattle.universe.specs.Sums.{pair_sum}
 use Rattle.universe.specs.Tables.{HasFullTable}
 use Rattle.universe.specs.declared.tables.OpenTable.{OpenTable}
 use Rattle.plane.proofs.SentErrors.{sent_on}
-use Rattle.plane.specs.declared.refusal.Refusal.TheVariants.{NoMemory}
-use Rattle.std.proofs.Common.{inl}
 use Rattle.universe.proofs.universe.Universe.of.Goals as goal
 
 pub invariant_of-result : goal.invariant_of-result
