@@ -30,6 +30,10 @@ result_block key words pair future good slot told =
     let same : t.0 ≡ future = omega arith in
     (square_rank (f.level - 1), subst (IsBlockIn (table_by key words) (square_rank (f.level - 1))) same f.shown.stands)
 
+-- the copy of a number without a copy is 0
+uncopied : (copies : List ℕ) (number original copy : ℕ) → slice_index copies number ≡ copy → number ≡ original → slice_index copies original ≡ 0 → copy ≡ 0
+uncopied copies number original copy is same none = sym is ∙ ap (slice_index copies) same ∙ none
+
 module _ (from to : Key) (old : List ℕ) (wanted : ℕ → Type 0) (copies new : List ℕ) (good : IsGood from (slice_index old)) (same_rule : to.rule ≡ from.rule) (same_exponent : to.exponent ≡ from.exponent)
     (done : ℕ) (h : IsKeeping (table_by from old) to wanted copies new done) where
   -- whatever a number with a copy reaches has a copy
@@ -44,7 +48,7 @@ module _ (from to : Key) (old : List ℕ) (wanted : ℕ → Type 0) (copies new 
       let c : IsWantedCopy (table_by from old) (table_by to new) wanted m.0 (slice_index copies m.0) = h.copied m.0 (λ z. nonzero (sym m.1 ∙ z)) in
       let same : m.0 ≡ n = same_original from to old new good h.good.good c.rank t.rank m.0 n t.twin
       (subst (IsCopy (table_by from old) (table_by to new) c.rank m.0) m.1 c.shown) t.is nonzero in
-      λ z. nonzero (sym m.1 ∙ ap (slice_index copies) same ∙ z)
+      λ z. nonzero (uncopied copies m.0 n t.twin m.1 same z)
 
 module _ (from to : Key) (old : List ℕ) (wanted : ℕ → Type 0) (copies new : List ℕ) (good : IsGood from (slice_index old)) (same_rule : to.rule ≡ from.rule) (same_exponent : to.exponent ≡ from.exponent)
     (h : IsKeeping (table_by from old) to wanted copies new (2 ^ from.shape.bits)) where
