@@ -15,7 +15,7 @@ use engine::{Format, Options};
 use program_parts::{Misfit, WordsReason, number_for, rule_asked, run_numbers};
 
 /// What the words of a command line ask for.
-#[derive(Debug, Drop)]
+#[derive(Drop)]
 pub struct Asked {
     /// What the run is to do.
     pub options: Options,

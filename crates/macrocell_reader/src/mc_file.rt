@@ -20,7 +20,7 @@ use text_lines::{Comments, Line, Lines, begins_with, fault_at, is_blank_line, is
 
 /// A macrocell file whose whole text was checked. What it hands out are slices of that text, and
 /// they stay good after it is gone.
-#[derive(Debug, Drop)]
+#[derive(Drop)]
 pub struct McFile<'a> {
     /// The lines after the first.
     body: Lines<'a>,

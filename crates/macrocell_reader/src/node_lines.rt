@@ -10,7 +10,7 @@ use std::marker::Model;
 use text_lines::Lines;
 
 /// The node lines of a file, in order. A contract sees those that are still to come.
-#[derive(Debug, Drop)]
+#[derive(Drop)]
 pub struct NodeLines<'a> {
     rest: Lines<'a>,
 }

@@ -10,7 +10,7 @@ use plane::{Fault, GENERATION_LIMIT, Refusal};
 use text_lines::{Line, begins_with, fault_at, number, trim};
 
 /// What the lines `#R` and `#G` say, of each the last.
-#[derive(Clone, Copy, Debug)]
+#[derive(Clone, Copy)]
 pub(crate) struct Settings<'a> {
     pub(crate) generation: u64,
     pub(crate) rule: Option<&'a [u8]>,

@@ -14,7 +14,7 @@ use std::collections::btree_set::Iter;
 use std::marker::Model;
 
 /// Some cells in the range, each once. It is seen as the list of them in the order of reading.
-#[derive(Debug, Drop)]
+#[derive(Drop)]
 pub struct CellSet {
     cells: BTreeSet<Cell>,
 }

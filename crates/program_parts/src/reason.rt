@@ -45,7 +45,7 @@ impl fmt::Display for Misfit {
 impl error::Error for Misfit {}
 
 /// Why a command line asks for no run. As text it says so to the user.
-#[derive(Debug, Drop)]
+#[derive(Drop)]
 pub enum WordsReason {
     /// The arguments have a syntax error, or ask for the help.
     Clap(clap::Error),

@@ -13,7 +13,7 @@ pub struct LocatedByte {
 }
 
 /// What is left of a body. No comment begins at `at`.
-#[derive(Clone, Copy, Debug)]
+#[derive(Clone, Copy)]
 pub(crate) struct Body<'a> {
     source: &'a [u8],
     at: usize,

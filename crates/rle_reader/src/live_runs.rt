@@ -13,7 +13,7 @@ use text_lines::with_digit;
 
 /// The live items of a file, in order, each as its first cell and how many cells it has to the
 /// right. A contract sees those that are still to come.
-#[derive(Debug, Drop)]
+#[derive(Drop)]
 pub struct LiveRuns<'a> {
     rest: LiveRest<'a>,
 }
@@ -61,7 +61,7 @@ impl<'a> Iterator for LiveRuns<'a> {
 
 // What is left of a body without faults, and where its next item begins. No comment begins at
 // `at`.
-#[derive(Clone, Copy, Debug)]
+#[derive(Clone, Copy)]
 struct LiveRest<'a> {
     source: &'a [u8],
     at: usize,

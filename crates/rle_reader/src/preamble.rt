@@ -12,7 +12,7 @@ use plane::{Fault, Refusal};
 use text_lines::{Line, Lines, fault_at, is_blank_line, is_comment};
 
 /// What stands before the body.
-#[derive(Clone, Copy, Debug)]
+#[derive(Clone, Copy)]
 pub(crate) struct Preamble<'a> {
     pub(crate) settings: Settings,
     /// The rule that the header names.

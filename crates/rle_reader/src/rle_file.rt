@@ -24,7 +24,7 @@ use text_lines::{Comments, Lines};
 
 /// An RLE file whose whole text was checked. What it hands out are slices of that text, and they
 /// stay good after it is gone.
-#[derive(Debug, Drop)]
+#[derive(Drop)]
 pub struct RleFile<'a> {
     source: &'a [u8],
     preamble: Preamble<'a>,

@@ -12,7 +12,7 @@ use crate::item::{Run, next_run};
 use std::marker::Model;
 
 /// The items of a file, in order. A contract sees the items that are still to come.
-#[derive(Debug, Drop)]
+#[derive(Drop)]
 pub struct Runs<'a> {
     body: Body<'a>,
 }

@@ -13,7 +13,7 @@ use plane::{Cell, Fault, GENERATION_LIMIT, Refusal, is_coordinate};
 use text_lines::{Line, fault_at, first_blank, is_settings_line, number};
 
 /// What the `#CXRLE` lines say.
-#[derive(Clone, Copy, Debug)]
+#[derive(Clone, Copy)]
 pub(crate) struct Settings {
     /// Where the pattern's upper left corner lies.
     pub(crate) pos: Cell,

@@ -29,7 +29,7 @@ pub fn smallest(most: Shape) -> Shape
 }
 
 /// By which factor a full table grows, as long as it isn't large.
-#[derive(Clone, Copy, Debug)]
+#[derive(Clone, Copy)]
 pub enum GrowthFactor {
     Four,
     Sixteen,

@@ -46,7 +46,7 @@ fn is_kept(line: &[u8]) -> bool
 
 /// The kept comments among the lines of a text, in order, each without its line end. A contract
 /// sees the comments that are still to come.
-#[derive(Debug, Drop)]
+#[derive(Drop)]
 pub struct Comments<'a> {
     rest: Lines<'a>,
 }

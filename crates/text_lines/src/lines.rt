@@ -7,7 +7,7 @@ ghost use Rattle.text_lines.specs.Lines.{is_line_feed, lines_from, without_retur
 use memchr::memchr;
 
 /// A line: the place of its first byte, and its bytes without its line end.
-#[derive(Clone, Copy, Debug)]
+#[derive(Clone, Copy)]
 pub struct Line<'a> {
     /// The index of its first byte in the text.
     pub place: usize,
@@ -16,7 +16,7 @@ pub struct Line<'a> {
 
 /// The lines of a text from a place on. A line goes up to the next LF or to the end of the text,
 /// and one CR at its end is left out.
-#[derive(Clone, Copy, Debug)]
+#[derive(Clone, Copy)]
 pub struct Lines<'a> {
     /// The whole text.
     pub source: &'a [u8],

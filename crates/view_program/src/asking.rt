@@ -33,7 +33,7 @@ pub struct View {
 }
 
 /// What the words of a command line ask for.
-#[derive(Debug, Drop)]
+#[derive(Drop)]
 pub struct Asked {
     /// What is drawn.
     pub view: View,

@@ -14,7 +14,7 @@ use squares::Sq;
 use std::alloc::{AllocError, Global};
 
 /// What came of the job at a place.
-#[derive(Clone, Copy, Debug)]
+#[derive(Clone, Copy)]
 pub(crate) struct Answer {
     pub(crate) place: usize,
     pub(crate) future: Result<Sq, Refusal>,

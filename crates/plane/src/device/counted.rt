@@ -12,7 +12,7 @@ use std::io::{Read, Write};
 
 /// A reader or a writer of `std` as a device. A call that is interrupted, and a write that takes
 /// none of some bytes, are failures.
-#[derive(Debug, Drop)]
+#[derive(Drop)]
 pub struct Counted<T> {
     inner: T,
     failures: u64,

@@ -9,7 +9,7 @@ ghost use Rattle.plane.specs.DeviceParts.{PassesOn, calls_until_failure, fail_at
 use super::{Failed, Sink, Source};
 
 /// A device that fails at one of its calls, and passes all others on.
-#[derive(Debug, Drop)]
+#[derive(Drop)]
 pub struct FailAt<T> {
     inner: T,
     calls_until_failure: u64,

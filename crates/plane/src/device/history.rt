@@ -3,7 +3,6 @@
 ghost use Rattle.std.specs.Prelude.{◌≡◌, ℕ, List, [], ◌++◌};
 ghost use Rattle.std.specs.Borrow.{ftrue};
 
-use std::fmt;
 use std::marker::Model;
 
 /// The bytes that went through a device, in order. It takes no memory, and its calls do nothing at
@@ -29,10 +28,4 @@ impl History {
     pub(crate) fn extend(&mut self, _bytes: &[u8])
         ensures { self.new.bytes ≡ self.old.bytes ++ _bytes.now }
     {}
-}
-
-impl fmt::Debug for History {
-    fn fmt<W: fmt::Write>(&self, f: &mut fmt::Formatter<W>) -> fmt::Result {
-        f.write_str("History")
-    }
 }

@@ -11,7 +11,7 @@ use std::marker::Model;
 
 /// Bytes in memory as a device: writes go to their end, and reads begin at their front. All room is
 /// taken when it is made, and a write that is longer than the room that is left fails.
-#[derive(Debug, Drop)]
+#[derive(Drop)]
 pub struct Memory {
     bytes: Vec<u8>,
     position: usize,
