@@ -31,7 +31,7 @@ known_at_work table desk begun level sq begins k =
 
 same_keeps : (n : ℕ) (table : NodeTable) (desk back : Desk) → Keeps (work_at n table desk) (work_at n table back) → Keeps (book_at table desk) (book_at table back)
 same_keeps n table desk back k =
-    record { rule = k.rule; exponent = k.exponent; known = k.known; cells = k.cells; results = k.results; full = k.full; memory = k.memory; store = refl }
+    record { rule = k.rule; exponent = k.exponent; known = k.known; cells = k.cells; results = k.results; learned = k.learned; facts = k.facts; full = k.full; memory = k.memory; store = refl }
 
 same_known : (n : ℕ) (table : NodeTable) (desk : Desk) (level : ℕ) (sq : Sq) → IsKnown (work_at n table desk) level sq → IsKnown (book_at table desk) level sq
 same_known n table desk level sq k = record { known = k.known; at_level = k.at_level; low = k.low; high = k.high }

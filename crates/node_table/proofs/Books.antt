@@ -1,9 +1,8 @@
 -- What a desk knows is a book, which keeps what it knows while the desk learns.
-use Rattle.std.proofs.Common.{◌≡◌, ◌≢◌, ℕ, zero, suc, ◌+◌, ◌-◌, ◌/◌, ◌^◌, ◌<◌, ◌≤◌, ◌⊎◌, Bool, true, false, List, [], ◌∷◌, map, length, sym, ◌∙◌, ap, subst, arith, refl, inl, inr, ⊎_elim}
-use Rattle.std.specs.Prelude.{IsTrue, ◌&&◌, Contains, slice_get, slice_index_or, Some}
+use Rattle.std.proofs.Common.{◌≡◌, ◌≢◌, ℕ, zero, suc, ◌+◌, ◌-◌, ◌/◌, ◌^◌, ◌<◌, ◌≤◌, ◌⊎◌, Bool, true, false, List, [], ◌∷◌, map, sym, ◌∙◌, ap, subst, arith, refl, inl, inr, ⊎_elim}
+use Rattle.std.specs.Prelude.{IsTrue, ◌&&◌, Contains, slice_get, Some}
 use Rattle.std.proofs.Math.Logic.{∥∥₁_elim}
 use Rattle.std.proofs.Props.{props}
-use Rattle.std.proofs.lemmas.List.Elements.{Contains-append_right}
 use Rattle.plane.specs.Plane.{Plane}
 use Rattle.plane.specs.Square.{IsSame, IsSquare, empty, spans}
 use Rattle.plane.specs.Block.{IsInside}
@@ -13,7 +12,6 @@ use Rattle.squares.specs.declared.sq.Sq.{Sq}
 use Rattle.squares.specs.Book.{IsBook, IsEmpty, Shows, Keeps, Store, numbered}
 use Rattle.squares.proofs.SquareNumbers.{same_sq}
 use Rattle.table_core.specs.declared.key.Key.{Key}
-use Rattle.table_core.specs.declared.knowledge.KnownBlock.{KnownBlock}
 use Rattle.table_core.specs.declared.knowledge.KnownResult.{KnownResult}
 use Rattle.table_core.specs.declared.knowledge.Knowledge.{Knowledge}
 use Rattle.table_core.specs.Blocks.{square_rank, width, height}
@@ -22,10 +20,12 @@ use Rattle.table_core.specs.Knowledge.{KnowsBlock, KnowsSquareOf, Grows}
 use Rattle.table_core.proofs.Comparisons.{same_or_other}
 use Rattle.table_core.proofs.FullShards.{full_later, full_shard_is_seen}
 use Rattle.table_core.proofs.Knowing.{knows_same, knows_more}
-use Rattle.table_core.proofs.Lists.{all_contains, contains_here}
+use Rattle.table_core.proofs.Lists.{all_contains}
 use Rattle.table_core.proofs.Results.{one_place}
-use Rattle.node_table.specs.Books.{knows_in, known_cells, square_of, book_of, IsCoherent, IsSoundFor}
+use Rattle.node_table.specs.Books.{knows_in, known_cells, square_of, book_of, IsCoherent}
 use Rattle.node_table.proofs.Entries.{known_level, block_of, square_known}
+use Rattle.node_table.proofs.Facts.{facts_grow}
+use Rattle.node_table.proofs.Mapped.{mapped_from, mapped_to}
 
 -- two accounts of one number agree
 agree : (bits : ℕ) (known : Knowledge) (rank n : ℕ) (p q : Plane) → IsCoherent bits known → KnowsBlock known rank n p →
@@ -72,24 +72,12 @@ inside_square level plane above h = record {
       (λ t. h.rows x y (ap (λ n. spans (2 ^ n) y) (side_down level above) ∙ t)) (one_out (spans (2 ^ level) x) (spans (2 ^ level) y) e);
 }
 
-mapped_at : (xs : List KnownResult) (sq : Sq) (k : ℕ) → k < length (map square_of xs) → slice_index_or (map square_of xs) k sq ≡ sq →
-    (result : KnownResult) × Contains xs result × (square_of result ≡ sq)
-mapped_at [] sq k less e = absurd (omega arith)
-mapped_at (x ∷ xs) sq zero less e = (x, contains_here x xs, e)
-mapped_at (x ∷ xs) sq (suc k) less e =
-    let t = mapped_at xs sq k (omega arith) e in (t.0, Contains-append_right (x ∷ []) xs t.0 t.1, t.2)
-
 -- a square whose result the book has is that of a result
 pub result_there : (xs : List KnownResult) (sq : Sq) → Contains (map square_of xs) sq → (result : KnownResult) × Contains xs result × (square_of result ≡ sq)
-result_there xs sq h = mapped_at xs sq h.0 h.1 h.2
-
-has_mapped : (xs : List KnownResult) (result : KnownResult) (k : ℕ) → k < length xs → slice_index_or xs k result ≡ result → Contains (map square_of xs) (square_of result)
-has_mapped [] result k less e = absurd (omega arith)
-has_mapped (x ∷ xs) result zero less e = subst (λ sq. Contains (square_of x ∷ map square_of xs) sq) (ap square_of e) (contains_here (square_of x) (map square_of xs))
-has_mapped (x ∷ xs) result (suc k) less e = Contains-append_right (square_of x ∷ []) (map square_of xs) (square_of result) (has_mapped xs result k (omega arith) e)
+result_there xs sq = mapped_from square_of xs sq
 
 pub there_result : (xs : List KnownResult) (result : KnownResult) → Contains xs result → Contains (map square_of xs) (square_of result)
-there_result xs result h = has_mapped xs result h.0 h.1 h.2
+there_result xs result = mapped_to square_of xs result
 
 got_mapped : (xs : List KnownResult) (i : ℕ) (sq : Sq) → slice_get (map square_of xs) i ≡ Some sq → (result : KnownResult) × (slice_get xs i ≡ Some result) × (square_of result ≡ sq)
 got_mapped [] i sq e = let no : ⊥ = cc in absurd no
@@ -128,33 +116,25 @@ is_book store key known rule h = record {
       one_place known.results i j a.0 b.0 h.consistent.once a.1 b.1 (ap (λ (q : Sq). q.num.0) (a.2 ∙ sym b.2));
 }
 
-pub sound_for : (key : Key) (known : Knowledge) → IsRule key.rule → IsCoherent key.shape.bits known → IsSoundFor key known
-sound_for key known rule h = record { book = λ store. is_book store key known rule h; coherent = ∣ h ∣₁ }
-
--- a book keeps all that another desk, or the same one before, knew: the words, the blocks and the
--- squares whose results are known
-pub covers_keeps : (store : Store) (key : Key) (old new : Knowledge) → ∥ IsCoherent key.shape.bits new ∥₁ →
-    ((entry : ℕ × ℕ) → Contains old.words entry → Contains new.words entry) → ((entry : KnownBlock) → Contains old.blocks entry → Contains new.blocks entry) →
-    ((sq : Sq) → Contains (map square_of old.results) sq → Contains (map square_of new.results) sq) → Keeps (book_of store key old) (book_of store key new)
-covers_keeps store key old new h words blocks results = record {
+-- a book keeps all while its desk learns
+pub grows_keeps : (store : Store) (key : Key) (old new : Knowledge) → ∥ IsCoherent key.shape.bits new ∥₁ → Grows old new → Keeps (book_of store key old) (book_of store key new)
+grows_keeps store key old new h grows = record {
   rule = refl;
   exponent = refl;
   known = λ sq s. let l = known_level old sq s in
-      square_known new sq (known_cells old sq) l.0 l.1 (knows_more old new (square_rank sq.level) sq.num.0 (known_cells old sq) blocks (block_of old sq s));
+      square_known new sq (known_cells old sq) l.0 l.1 (knows_more old new (square_rank sq.level) sq.num.0 (known_cells old sq) grows.blocks (block_of old sq s));
   cells = λ sq s. let l = known_level old sq s in
-      let knows = knows_more old new (square_rank sq.level) sq.num.0 (known_cells old sq) blocks (block_of old sq s) in
+      let knows = knows_more old new (square_rank sq.level) sq.num.0 (known_cells old sq) grows.blocks (block_of old sq s) in
       alike key.shape.bits new (square_rank sq.level) sq.num.0 (known_cells new sq) (known_cells old sq) h (block_of new sq (square_known new sq (known_cells old sq) l.0 l.1 knows)) knows;
-  results = results;
+  results = λ sq s.
+      let t = result_there old.results sq s in
+      subst (Contains (map square_of new.results)) t.2 (there_result new.results t.0 (grows.results t.0 t.1));
+  learned = grows.learned;
+  facts = facts_grow old new grows;
   full = λ s.
       let seen = full_shard_is_seen key.shape.bits old key.shape.range.0 in
       let now = full_shard_is_seen key.shape.bits new key.shape.range.0 in
-      now.1 (full_later key.shape.bits old new words (seen.0 s));
+      now.1 (full_later key.shape.bits old new grows.words (seen.0 s));
   memory = refl;
   store = refl;
 }
-
--- a book keeps all while its desk learns
-pub grows_keeps : (store : Store) (key : Key) (old new : Knowledge) → ∥ IsCoherent key.shape.bits new ∥₁ → Grows old new → Keeps (book_of store key old) (book_of store key new)
-grows_keeps store key old new h grows = covers_keeps store key old new h grows.words grows.blocks (λ sq s.
-    let t = result_there old.results sq s in
-    subst (Contains (map square_of new.results)) t.2 (there_result new.results t.0 (grows.results t.0 t.1)))

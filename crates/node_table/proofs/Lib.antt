@@ -1,4 +1,6 @@
 pub mod Books
+mod Facts
+mod Mapped
 pub mod WordBooks
 pub mod Listings
 pub mod Entries

@@ -36,6 +36,7 @@ showing plane book = record {
   is_full = false;
   takes_memory = false;
   store = own_store;
+  facts = [];
 }
 
 -- four squares that make one of the nine are its quarters

@@ -16,7 +16,7 @@ at_work n table old new e = ap (λ (b : Book). record b { store = work_store n t
 
 pub keeps_at_work : (n : ℕ) (table : NodeTable) (old new : Desk) → Keeps (book_at table old) (book_at table new) → Keeps (work_at n table old) (work_at n table new)
 keeps_at_work n table old new k =
-    record { rule = k.rule; exponent = k.exponent; known = k.known; cells = k.cells; results = k.results; full = k.full; memory = k.memory; store = refl }
+    record { rule = k.rule; exponent = k.exponent; known = k.known; cells = k.cells; results = k.results; learned = k.learned; facts = k.facts; full = k.full; memory = k.memory; store = refl }
 
 -- desks at work at one table are desks of it
 pub same_place : (one other : At) → AreAtOneTable (book_here one) (book_here other) →

@@ -15,17 +15,17 @@ use Rattle.table_core.proofs.Learned.{known_word}
 use Rattle.table_core.specs.Laws.{KnowsAll}
 use Rattle.node_table.specs.declared.still.Still.{Still}
 use Rattle.node_table.specs.declared.view.View.{View}
-use Rattle.node_table.specs.Books.{IsSound, IsCoherent}
+use Rattle.node_table.specs.Books.{IsSound, IsTrueOfGoodWords}
 use Rattle.node_table.specs.Rule.{IsSoundState, IsTrueView, opened}
 use Rattle.node_table.specs.Stills.{words_of}
 use Rattle.table_core.proofs.Everything.{all_of, all_known}
-use Rattle.node_table.proofs.Steps.{all_at, is_coherent, sound_by}
+use Rattle.node_table.proofs.Steps.{all_at, sound_by}
 
-all_coherent : (still : Still) → IsCoherent still.key.shape.bits (all_of still.key still.words still.good)
-all_coherent still = is_coherent still.key (words_of still) (all_of still.key still.words still.good) still.good.good (all_known still.key still.words still.good).true_of
+all_true : (still : Still) → IsTrueOfGoodWords still.key (all_of still.key still.words still.good)
+all_true still = record { words = still.words; good = still.good; true_of = (all_known still.key still.words still.good).true_of }
 
 pub opened_sound : (still : Still) → IsRule still.key.rule → IsSound (opened still)
-opened_sound still rule = sound_by still.key (opened still) rule (all_coherent still) refl
+opened_sound still rule = sound_by still.key (opened still) rule (all_true still) refl
 
 any_default : {X : Type 0} (xs : List X) (k : ℕ) (d e : X) → k < length xs → slice_index_or xs k d ≡ slice_index_or xs k e
 any_default [] k d e less = absurd (omega arith)

@@ -31,10 +31,10 @@ use Rattle.node_table.specs.declared.desk.Desk.{Desk}
 use Rattle.node_table.specs.declared.still.Still.{Still}
 use Rattle.node_table.specs.declared.table.NodeTable.{NodeTable}
 use Rattle.node_table.specs.declared.view.View.{View}
-use Rattle.node_table.specs.Books.{IsCoherent, IsSound, IsSoundFor}
+use Rattle.node_table.specs.Books.{IsCoherent, IsSound, IsSoundFor, IsTrueOfGoodWords}
 use Rattle.node_table.specs.Desks.{IsDeskOf}
 use Rattle.node_table.specs.Rule.{IsTrueView, IsKnownToSome, IsSoundState, with_known, Met, HasMet, merged, spent}
-use Rattle.node_table.proofs.Books.{sound_for}
+use Rattle.node_table.proofs.Books.{is_book}
 
 pub all_at : {X : Type 0} (P : X → Type 0) (xs : List X) (i : ℕ) (a : X) → AllByRecursion P xs → get_elem? xs i ≡ core.some a → P a
 all_at P [] i a all e = let no : ⊥ = cc in absurd no
@@ -49,6 +49,17 @@ pub is_coherent : (key : Key) (words : Words) (known : Knowledge) → IsGood key
 is_coherent key words known good h = record {
   consistent = every_truth_is_consistent key words known good h;
   zero = λ rank plane knows. same_trans (same_of empty (cells_of words rank 0) (sym (empty_cells words rank))) (block_true key.shape.bits words known rank 0 plane h knows).cells;
+}
+
+pub coherent_of : (key : Key) (known : Knowledge) → IsTrueOfGoodWords key known → IsCoherent key.shape.bits known
+coherent_of key known t = is_coherent key (slice_index t.words) known t.good.good t.true_of
+
+-- and sound
+sound_for : (key : Key) (known : Knowledge) → IsRule key.rule → IsTrueOfGoodWords key known → IsSoundFor key known
+sound_for key known rule t = record {
+  book = λ store. is_book store key known rule (coherent_of key known t);
+  coherent = ∣ coherent_of key known t ∣₁;
+  words = ∣ t ∣₁;
 }
 
 block_some : (bits : ℕ) (words : Words) (rank n : ℕ) → n ≢ 0 → IsBlock bits words rank n → words n ≢ 0
@@ -129,7 +140,7 @@ meets {S} still slots id me event present lawful s h n at fits =
       slots = refl;
       learns = d.learns;
       grows = d.grows;
-      coherent = is_coherent still.key (slice_index (words_after event s.words)) d.after d.stays.words.good d.true_of;
+      words = record { words = words_after event s.words; good = d.stays.words; true_of = d.true_of };
       stands = λ rank plane some knows z. block_some still.key.shape.bits (slice_index (words_after event s.words)) rank (index_of event) some
           (block_true still.key.shape.bits (slice_index (words_after event s.words)) me.0.known rank (index_of event) plane later knows).stands (there ∙ z);
     } in (
@@ -164,7 +175,7 @@ same_key a b e = cc
 pub sound_after : {S : Type 0} (key : Key) (event : Event) (before after : Me S View) (word : ℕ) → before.0.key ≡ Some key → IsSound before.0 →
     Met key event before word after → IsSound after.0
 sound_after {S} key event before after word present sound met k e =
-    subst (λ (a : Key). IsSoundFor a after.0.known) (same_key key k (sym present ∙ sym met.same_key ∙ e)) (sound_for key after.0.known ((sound key present).book own_store).rule met.coherent)
+    subst (λ (a : Key). IsSoundFor a after.0.known) (same_key key k (sym present ∙ sym met.same_key ∙ e)) (sound_for key after.0.known ((sound key present).book own_store).rule met.words)
 
 pub splits : {S : Type 0} (still : Still) (id : ℕ) (v : View) → Splits (IsSoundState {S = S} still) id v v v
 splits still id v s h at =
@@ -188,9 +199,9 @@ joins still id other v w s h at apart at_other =
       known = λ i some. joined_known still.key i (slice_index s.words i) s.views id v (place_of s.views id v at) other w apart (place_of s.views other w whose) (h.known i some);
     }
 
-pub sound_by : (key : Key) (view : View) → IsRule key.rule → IsCoherent key.shape.bits view.known → view.key ≡ Some key → IsSound view
-sound_by key view rule coherent present k e =
-    subst (λ (a : Key). IsSoundFor a view.known) (same_key key k (sym present ∙ e)) (sound_for key view.known rule coherent)
+pub sound_by : (key : Key) (view : View) → IsRule key.rule → IsTrueOfGoodWords key view.known → view.key ≡ Some key → IsSound view
+sound_by key view rule words present k e =
+    subst (λ (a : Key). IsSoundFor a view.known) (same_key key k (sym present ∙ e)) (sound_for key view.known rule words)
 
 pub some_words : (bits words : ℕ) → words ≡ size bits → 0 < words
 some_words bits words e = omega arith

@@ -3,6 +3,7 @@ pub mod Desks
 pub mod DesksAtWork
 pub mod Halves
 pub mod Held
+pub mod KeptBooks
 pub mod Numbers
 pub mod Rule
 pub mod Shared

@@ -15,7 +15,7 @@ use Rattle.table_core.specs.Events.{index_of, word_after}
 use Rattle.table_core.proofs.Everything.{all_of}
 use Rattle.node_table.specs.declared.still.Still.{Still}
 use Rattle.node_table.specs.declared.view.View.{View}
-use Rattle.node_table.specs.Books.{IsCoherent}
+use Rattle.node_table.specs.Books.{IsTrueOfGoodWords}
 
 -- what a desk knows is true of the words; one that was joined into another has no key
 pub record IsTrueView (key : Key) (words : List ℕ) (view : View) : Type 0 where
@@ -41,14 +41,15 @@ opened still = record { key = Some still.key; known = all_of still.key still.wor
 abbrev pub with_known : View → Knowledge → View
 with_known view known = record { key = view.key; known = known }
 
--- an event of the desk happened, by the word that stands there afterwards
+-- an event of the desk happened, by the word that stands there afterwards. What the desk knows then
+-- is true of good words
 pub record Met {S : Type 0} (key : Key) (event : Event) (before : Me S View) (word : ℕ)
     (after : Me S View) : Type 0 where
   pub same_key : after.0.key ≡ before.0.key
   pub slots : after.1 ≡ before.1
   pub learns : LearnsFrom key event before.0.known word after.0.known
   pub grows : Grows before.0.known after.0.known
-  pub coherent : IsCoherent key.shape.bits after.0.known
+  pub words : IsTrueOfGoodWords key after.0.known
   pub stands : (rank : ℕ) (plane : Plane) → index_of event ≢ 0 →
       KnowsBlock before.0.known rank (index_of event) plane → word ≢ 0
 

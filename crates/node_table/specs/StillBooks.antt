@@ -1,5 +1,5 @@
 -- What words show that nobody changes, as a book that is only read.
-use Rattle.std.specs.Prelude.{ℕ, zero, suc, ◌+◌, ◌^◌, ◌==◌, nat_le, nat_lt, Bool, true, false, not, ◌&&◌, List, map, filter, slice_index}
+use Rattle.std.specs.Prelude.{ℕ, zero, suc, ◌+◌, ◌^◌, ◌==◌, nat_le, nat_lt, Bool, true, false, not, ◌&&◌, List, [], map, filter, slice_index}
 use Rattle.std.specs.List.{flat_map, range_with_len}
 use Rattle.plane.specs.declared.cell.TheConstants.{HIGHEST_LEVEL}
 use Rattle.squares.specs.declared.sq.Sq.{Sq}
@@ -60,4 +60,5 @@ book_of_words key words = record {
   is_full = false;
   takes_memory = false;
   store = own_store;
+  facts = [];
 }

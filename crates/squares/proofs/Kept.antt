@@ -1,5 +1,5 @@
 -- What stays known from one book to the next, and results with it.
-use Rattle.std.proofs.Common.{ℕ, ◌∙◌, refl}
+use Rattle.std.proofs.Common.{ℕ, ◌∙◌, arith, refl}
 use Rattle.plane.specs.Plane.{Plane}
 use Rattle.plane.proofs.Same.{same_trans, same_refl}
 use Rattle.plane.specs.Square.{IsSame}
@@ -13,6 +13,8 @@ keeps_trans h k = record {
   known = λ sq s. k.known sq (h.known sq s);
   cells = λ sq s. same_trans (k.cells sq (h.known sq s)) (h.cells sq s);
   results = λ sq s. k.results sq (h.results sq s);
+  learned = let first = h.learned in let second = k.learned in omega arith;
+  facts = λ fact told. k.facts fact (h.facts fact told);
   full = λ s. k.full (h.full s);
   memory = k.memory ∙ h.memory;
   store = k.store ∙ h.store;
@@ -35,6 +37,8 @@ keeps_none a = record {
   known = λ sq s. s;
   cells = λ sq s. same_refl (a.cells sq);
   results = λ sq s. s;
+  learned = omega arith;
+  facts = λ fact told. told;
   full = λ s. s;
   memory = refl;
   store = refl;

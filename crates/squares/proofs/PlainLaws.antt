@@ -92,6 +92,8 @@ keeps_more rule exponent old new more good e results = record {
       subst (λ nodes. IsSame (plane_at nodes (sq.level - 3) sq.num.0) (plane_at (nodes_of old) (sq.level - 3) sq.num.0)) (sym e)
       (plane_later (nodes_of old) more good (sq.level - 3) sq.num.0 (at_height (nodes_of old) sq.level sq.num.0 low s));
   results = results;
+  learned = omega arith;
+  facts = λ fact told. told;
   full = λ s. s;
   memory = refl;
   store = refl;

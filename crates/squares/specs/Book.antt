@@ -7,6 +7,7 @@ use Rattle.plane.specs.Square.{IsSame, IsSquare, cut, joined, subsquare, empty, 
 use Rattle.plane.specs.declared.refusal.Refusal.{Refusal}
 use Rattle.plane.specs.declared.refusal.Refusal.TheVariants.{NodesFull, NoMemory}
 use Rattle.squares.specs.declared.sq.Sq.{Sq}
+use Rattle.squares.specs.Facts.{Fact}
 
 -- the store of a book's squares
 pub record Store : Type 0 where
@@ -21,7 +22,8 @@ own_store = record { numbers = []; expansions = 0 }
 
 -- What a book knows: the rule and the exponent of its results; which squares it knows, and their
 -- cells; the nonempty squares whose result it knows, and how many of these somebody else told it;
--- whether it has no room for some square; whether it takes memory; and the store of its squares.
+-- whether it has no room for some square; whether it takes memory; the store of its squares, and
+-- what else that told it.
 pub record Book : Type 0 where
   pub rule : CountRule
   pub exponent : ℕ
@@ -32,6 +34,7 @@ pub record Book : Type 0 where
   pub is_full : Bool
   pub takes_memory : Bool
   pub store : Store
+  pub facts : List Fact
 
 -- a known square of this level, which is from 3 to the highest
 pub record IsKnown (book : Book) (level : ℕ) (sq : Sq) : Type 0 where
@@ -84,14 +87,16 @@ pub record IsFresh (rule : CountRule) (exponent : ℕ) (book : Book) : Type 0 wh
   pub results : book.results ≡ []
   pub learned : book.learned ≡ 0
 
--- all that was known stays known, with the same cells, a full book stays full, and the store is the
--- same
+-- all that was known stays known, with the same cells, and so does all that the store told; a full
+-- book stays full, and the store is the same
 pub record Keeps (old new : Book) : Type 0 where
   pub rule : new.rule ≡ old.rule
   pub exponent : new.exponent ≡ old.exponent
   pub known : (sq : Sq) → IsTrue (old.knows sq) → IsTrue (new.knows sq)
   pub cells : (sq : Sq) → IsTrue (old.knows sq) → IsSame (new.cells sq) (old.cells sq)
   pub results : (sq : Sq) → Contains old.results sq → Contains new.results sq
+  pub learned : old.learned ≤ new.learned
+  pub facts : (fact : Fact) → Contains old.facts fact → Contains new.facts fact
   pub full : IsTrue old.is_full → IsTrue new.is_full
   pub memory : new.takes_memory ≡ old.takes_memory
   pub store : new.store ≡ old.store

@@ -2,6 +2,7 @@ pub mod Accounts
 pub mod Book
 pub mod Borders
 pub mod Copies
+pub mod Facts
 pub mod Nodes
 pub mod Noted
 pub mod Overlaps

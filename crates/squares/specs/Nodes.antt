@@ -74,6 +74,7 @@ plain_book rule exponent records = record {
   is_full = false;
   takes_memory = true;
   store = own_store;
+  facts = [];
 }
 
 -- the quarters are known, and not all empty

@@ -15,8 +15,8 @@ use rule_text::Rule;
 use std::alloc::{AllocError, Global};
 use std::collections::BTreeMap;
 
-/// A book in one owner's hands. It is never full, nobody else tells it results, and it refuses
-/// Only `NoMemory`: where memory ran out, or its 2^32 numbers did.
+/// A book in one owner's hands. It is never full, nobody else tells it results, and it refuses only
+/// `NoMemory`: where memory ran out, or its 2^32 numbers did.
 #[derive(Drop)]
 pub struct PlainBook {
     rule: Rule,

@@ -86,6 +86,7 @@ filled_up still rule exponent {opened} {now} is stays full = record {
   opens = subst (λ (t : NodeTable). Opens still rule exponent t opened.desk) (sym stays.same_table) is.opens;
   keeps = subst (λ (t : NodeTable). Keeps (book_at t opened.desk) (known_at now)) (sym stays.same_table) stays.keeps;
   full = full;
+  words = (now.desk.sound (key_at now) now.of_table.same_key).words;
 }
 
 -- the table has just been opened from words of the largest size with what the root reaches and

@@ -3,8 +3,10 @@ use Rattle.std.specs.Prelude.{◌≡◌, ℕ, ◌≤◌, ◌^◌, IsTrue, []}
 use Rattle.rule_text.specs.CountRule.{CountRule}
 use Rattle.node_table.specs.declared.desk.Desk.{Desk}
 use Rattle.node_table.specs.declared.still.Still.{Still}
+use Rattle.node_table.specs.Books.{IsTrueOfGoodWords}
 use Rattle.node_table.specs.Desks.{book_at}
 use Rattle.node_table.specs.Openings.{Opens}
+use Rattle.node_table.specs.Refusals.{known_by}
 use Rattle.node_table.specs.Stills.{IsVacant, book_in}
 use Rattle.squares.specs.declared.sq.Sq.{Sq}
 use Rattle.table_core.specs.declared.key.Key.{Key}
@@ -62,13 +64,15 @@ pub record IsBuilt (rule : CountRule) (live : Plane) (pairs : ℕ) (opened : Ope
   pub round : IsRound (known_at opened) live root
   pub level : root.level ≤ 63
 
--- the table was opened from these words under this rule and exponent, and is full now
+-- the table was opened from these words under this rule and exponent, and is full now; and all that
+-- its desk knows is true of some good words under the table's key
 pub record HasFilledUp (still : Still) (rule : CountRule) (exponent : ℕ)
     (table : OpenTable) : Type 0 where
   pub first : Desk
   pub opens : Opens still rule exponent table.table first
   pub keeps : Keeps (book_at table.table first) (known_at table)
   pub full : IsTrue (known_at table).is_full
+  pub words : ∥ IsTrueOfGoodWords (key_at table) (known_by table.desk) ∥₁
 
 -- a table is full as building may leave it: it has so many pair slots, is for single generations by
 -- this rule, was opened without a square, and knows no result. Which squares fill it is not said:

@@ -2,6 +2,7 @@
 
 mod books;
 mod cells;
+mod copies;
 mod futures;
 mod kernels;
 mod leaves;

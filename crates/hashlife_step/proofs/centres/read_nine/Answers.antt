@@ -1,6 +1,6 @@
 use Rattle.std.proofs.Common.{◌≡◌, length, arith, rules}
 use Rattle.squares.specs.Book.{numbered}
-use Rattle.squares.proofs.Kept.{keeps_none, keeps_trans}
+use Rattle.squares.proofs.Kept.{adds_trans, keeps_none, keeps_trans}
 use Rattle.hashlife_step.proofs.RowsRead.{row_known, rows_read}
 use Rattle.hashlife_step.proofs.centres.read_nine.Goals as goal
 
@@ -23,3 +23,6 @@ pub returns-clause-value : goal.returns-clause-value
 returns-clause-value g c =
     let nine : length c.args.nine ≡ 9 = search rules in
     rows_read nine c.requires.known c.read_row.ensures.adds.keeps c.read_row-2.ensures.adds.keeps c.read_row-3.ensures.adds.keeps c.read_row.ensures.value c.read_row-2.ensures.value c.read_row-3.ensures.value
+
+pub returns-clause-adds : goal.returns-clause-adds
+returns-clause-adds g c = adds_trans c.read_row.ensures.adds (adds_trans c.read_row-2.ensures.adds c.read_row-3.ensures.adds)

@@ -1,6 +1,6 @@
 use Rattle.std.proofs.Common.{◌≡◌, length, arith, rules}
 use Rattle.squares.specs.Book.{numbered}
-use Rattle.squares.proofs.Kept.{keeps_none, keeps_trans}
+use Rattle.squares.proofs.Kept.{adds_trans, keeps_none, keeps_trans}
 use Rattle.hashlife_step.proofs.RowsRead.{own, row_read}
 use Rattle.hashlife_step.proofs.centres.read_row.Goals as goal
 
@@ -41,3 +41,6 @@ pub returns-clause-value : goal.returns-clause-value
 returns-clause-value g c =
     let three : length c.args.row ≡ 3 = search rules in
     row_read three c.requires.known c.read_parts.ensures.adds.keeps c.read_parts-2.ensures.adds.keeps c.read_parts-3.ensures.adds.keeps c.read_parts.ensures.value c.read_parts-2.ensures.value c.read_parts-3.ensures.value
+
+pub returns-clause-adds : goal.returns-clause-adds
+returns-clause-adds g c = adds_trans c.read_parts.ensures.adds (adds_trans c.read_parts-2.ensures.adds c.read_parts-3.ensures.adds)

@@ -1,5 +1,6 @@
 use Rattle.std.proofs.Common.{refl}
 use Rattle.leaf_kernels.specs.Rows.{sixteen_plane}
+use Rattle.squares.proofs.Kept.{adds_trans}
 use Rattle.hashlife_step.proofs.LeafSquares.{quarters_shown}
 use Rattle.hashlife_step.proofs.leaf_squares.read_quarters.Goals as goal
 
@@ -11,3 +12,9 @@ returns-clause-value g c =
     refl c.requires.level ((g.met.S.Squares.is_book c.args.book.now).square c.args.sq c.requires.known.known)
     c.read_parts.ensures.value c.read_sixteen-upper_left.ensures.adds.keeps c.read_sixteen-upper_right.ensures.adds.keeps c.read_sixteen-lower_left.ensures.adds.keeps
     c.read_sixteen-upper_left.ensures.value c.read_sixteen-upper_right.ensures.value c.read_sixteen-lower_left.ensures.value c.read_sixteen-lower_right.ensures.value
+
+pub returns-clause-adds : goal.returns-clause-adds
+returns-clause-adds g c =
+    adds_trans c.read_parts.ensures.adds
+    (adds_trans (adds_trans c.read_sixteen-upper_left.ensures.adds c.read_sixteen-upper_right.ensures.adds)
+    (adds_trans c.read_sixteen-lower_left.ensures.adds c.read_sixteen-lower_right.ensures.adds))

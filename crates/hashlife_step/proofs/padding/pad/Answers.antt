@@ -1,9 +1,23 @@
 use Rattle.std.proofs.Common.{arith}
-use Rattle.squares.proofs.Kept.{adds_trans}
+use Rattle.squares.proofs.Kept.{adds_none, adds_trans}
 use Rattle.squares.specs.Book.{MayRefuse}
 use Rattle.hashlife_step.proofs.RoundSquares.{room_after}
 use Rattle.plane.proofs.SentErrors.{sent_on}
+use Rattle.plane.proofs.Same.{same_refl}
 use Rattle.hashlife_step.proofs.padding.pad.Goals as goal
+use Rattle.hashlife_step.proofs.padding.pad.Goals.{then-sq-eq-LEAF_LEVEL+in_ok-padded, else-sq-eq-LEAF_LEVEL}
+
+pub loop-padded-init : goal.loop-padded-init
+loop-padded-init g c =
+    let known = c.requires.known in
+    let low = known.low in
+    let most = c.max-level.ensures in
+    elim c.if-sq-eq-LEAF_LEVEL.branch [
+      | then-sq-eq-LEAF_LEVEL+in_ok-padded w ↦ let four = w.in_ok-padded.ensures.level in rw (w.book-is, w.padded-is)
+          (record { adds = w.in_ok-padded.ensures.adds; shown = w.in_ok-padded.ensures.cells; above = omega (arith, four); below = omega (arith, four, low, most) })
+      | else-sq-eq-LEAF_LEVEL w ↦ let other = w.if-sq-eq-LEAF_LEVEL.false in rw (w.book-is, w.padded-is)
+          (record { adds = adds_none _; shown = record { known = known; cells = same_refl _ }; above = omega (arith, low, other); below = omega (arith, low, most) })
+    ]
 
 pub returns-clause-room : goal.returns-clause-room
 returns-clause-room g c =

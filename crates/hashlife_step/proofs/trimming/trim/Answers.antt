@@ -1,10 +1,23 @@
 use Rattle.std.proofs.Common.{arith, sym, ◌∙◌}
 use Rattle.std.proofs.lemmas.Bool.{false≢true}
-use Rattle.squares.proofs.Kept.{adds_trans}
+use Rattle.squares.proofs.Kept.{adds_none, adds_trans}
 use Rattle.hashlife_step.proofs.Trimmed.{centre_reached, round_kept, smallest_reached}
 use Rattle.squares.specs.Book.{MayRefuse}
 use Rattle.plane.proofs.SentErrors.{sent_on}
+use Rattle.plane.proofs.Same.{same_refl}
 use Rattle.hashlife_step.proofs.trimming.trim.Goals as goal
+use Rattle.hashlife_step.proofs.trimming.trim.Goals.{then-sq-eq-LEAF_LEVEL+in_ok-trimmed, else-sq-eq-LEAF_LEVEL}
+
+pub loop-trimmed-init : goal.loop-trimmed-init
+loop-trimmed-init g c =
+    let known = c.requires.known in
+    let low = known.low in
+    elim c.if-sq-eq-LEAF_LEVEL.branch [
+      | then-sq-eq-LEAF_LEVEL+in_ok-trimmed w ↦ let four = w.in_ok-trimmed.ensures.level in rw (w.book-is, w.trimmed-is)
+          (record { adds = w.in_ok-trimmed.ensures.adds; shown = w.in_ok-trimmed.ensures.cells; above = omega (arith, four); below = omega (arith, four, low) })
+      | else-sq-eq-LEAF_LEVEL w ↦ let other = w.if-sq-eq-LEAF_LEVEL.false in rw (w.book-is, w.trimmed-is)
+          (record { adds = adds_none _; shown = record { known = known; cells = same_refl _ }; above = omega (arith, low, other); below = omega (arith, low) })
+    ]
 
 pub loop-trimmed-preserved : goal.loop-trimmed-preserved
 loop-trimmed-preserved g c =

@@ -6,7 +6,7 @@ use Rattle.table_core.specs.Knowledge.{Grows}
 use Rattle.node_table.specs.declared.view.View.{View}
 use Rattle.node_table.specs.Desks.{store_of}
 use Rattle.node_table.proofs.Joining.{first_known, second_known, first_kept, second_kept}
-use Rattle.node_table.proofs.Steps.{meets, joins, sound_by, some_words}
+use Rattle.node_table.proofs.Steps.{coherent_of, meets, joins, sound_by, some_words}
 use Rattle.node_table.proofs.desk.Desk.join.Goals as goal
 
 pub join_seat-requires : goal.join_seat-requires
@@ -36,7 +36,7 @@ invariant_of-self c =
     let met = c.load-self.ensures.2 key present in
     record {
       free = met.slots ∙ ap (λ me. me.1) c.join_seat.ensures.2 ∙ c.args.self.now.free;
-      sound = sound_by key c.load-self.new.seat.me.0 ((c.args.self.now.sound key c.requires.own.same_key).book (store_of c.args.table.now)).rule met.coherent (met.same_key ∙ present);
+      sound = sound_by key c.load-self.new.seat.me.0 ((c.args.self.now.sound key c.requires.own.same_key).book (store_of c.args.table.now)).rule met.words (met.same_key ∙ present);
     }
 
 pub returns-clause-table : goal.returns-clause-table
@@ -51,7 +51,7 @@ returns-clause-first c =
     let after = c.load-self.new.seat.me.0.known in
     let met = c.load-self.ensures.2 t.key (ap (λ me. me.0.key) c.join_seat.ensures.2 ∙ c.requires.own.same_key) in
     first_kept c.args.self.now.seat.me.0.known c.args.other.seat.me.0.known after
-    (subst (λ (me : Me (Unit {0}) View). Grows me.0.known after) c.join_seat.ensures.2 met.grows) (store_of t) t.key ∣ met.coherent ∣₁
+    (subst (λ (me : Me (Unit {0}) View). Grows me.0.known after) c.join_seat.ensures.2 met.grows) (store_of t) t.key ∣ coherent_of t.key after met.words ∣₁
 
 pub returns-clause-second : goal.returns-clause-second
 returns-clause-second c =
@@ -59,7 +59,7 @@ returns-clause-second c =
     let after = c.load-self.new.seat.me.0.known in
     let met = c.load-self.ensures.2 t.key (ap (λ me. me.0.key) c.join_seat.ensures.2 ∙ c.requires.own.same_key) in
     second_kept c.args.self.now.seat.me.0.known c.args.other.seat.me.0.known after
-    (subst (λ (me : Me (Unit {0}) View). Grows me.0.known after) c.join_seat.ensures.2 met.grows) (store_of t) t.key ∣ met.coherent ∣₁
+    (subst (λ (me : Me (Unit {0}) View). Grows me.0.known after) c.join_seat.ensures.2 met.grows) (store_of t) t.key ∣ coherent_of t.key after met.words ∣₁
 
 pub returns-clause-grows : goal.returns-clause-grows
 returns-clause-grows c =
