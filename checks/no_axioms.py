@@ -6,7 +6,8 @@
 
 The script searches each .rt and .antt file of src/, specs/ and proofs/, including comments and texts, for the words that declare such a thing, and
 for holes, which are written ?, ?name or {! .. !}. It also looks for `also_owns`, by which a type says of itself what it owns, in all files but the
-one of History, and for files of C. It reads no proof: `rt ci` shows that the rest is proved. The kit's
+one of History, for proofs by hand (Proof.antt) outside of the crate plane that name the notes of a device, Counted and History, which such a proof could
+set to anything, and for files of C. It reads no proof: `rt ci` shows that the rest is proved. The kit's
 own list of what the proofs of a crate take as written is `rt check --list-axioms`, in the crate's folder.
 """
 import pathlib
@@ -29,6 +30,9 @@ WORDS = {
 }
 C_FILES = {".c", ".h", ".o", ".a", ".so"}
 OWNS = re.compile(r"\b(also_owns|also_shares)\b")
+# A device that notes what went through it, and its notes.
+NOTES = re.compile(r"\b(Counted|History|counted_\w+|given|taken)\b")
+NOTES_CRATE = pathlib.PurePath("crates/plane")
 # The bytes that only contracts read.
 OWNER = pathlib.PurePath("crates/plane/src/device/history.rt")
 
@@ -47,6 +51,8 @@ def findings(file: pathlib.Path, name: pathlib.PurePath) -> list[str]:
     if words is None:
         return []
     searched = [words] if name == OWNER else [words, OWNS]
+    if file.name == "Proof.antt" and NOTES_CRATE not in name.parents:
+        searched.append(NOTES)
     lines = enumerate(file.read_text(encoding="utf-8").splitlines(), 1)
     return [f"line {number}: {found}" for number, line in lines for it in searched for found in it.findall(line)]
 

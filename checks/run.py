@@ -38,6 +38,7 @@ NAMES = [
     "small_tables",
     "golly_patterns",
     "refused_memory",
+    "failing_reads",
     "hostile_files",
     "many_patterns",
     "launcher_runs",

@@ -16,7 +16,6 @@ use plane::{Fault, Sink, Source};
 use program_parts::{Application, Misfit, WordsFault, WordsReason, command_with, copied};
 use std::alloc::{AllocError, Global};
 use std::rt::Files;
-use std::sync::Wait;
 use std::thread::Threads;
 
 /// The program lifebatch.
@@ -58,7 +57,7 @@ impl Application for Lifebatch {
     }
 
     // Reads the source and runs it.
-    fn perform<R: Threads + Wait + Sync, S: Source, O: Sink, V: Sink>(
+    fn perform<R: Threads + Sync, S: Source, O: Sink, V: Sink>(
         rt: &R,
         alloc: Global,
         asked: &Asked,
@@ -93,7 +92,7 @@ pub fn asked<'a>(alloc: Global, words: &'a [&'a str]) -> Result<Asked, WordsFaul
 /// - 3: the input could not be read, or the report or the output could not be written.
 ///
 /// The output file is created at its first byte. A failure of `err` changes nothing else.
-pub fn program<R: Files + Input + Threads + Wait + Sync, O: Sink, E: Sink>(
+pub fn program<R: Files + Input + Threads + Sync, O: Sink, E: Sink>(
     rt: &R,
     alloc: Global,
     words: &[&str],

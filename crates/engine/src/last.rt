@@ -13,7 +13,6 @@ use crate::running::{Summary, finish, team_of};
 use plane::Fault;
 use run_options::RunOptions;
 use std::alloc::Global;
-use std::sync::Wait;
 use std::thread::Threads;
 use worker_split::OpenGate;
 
@@ -22,7 +21,7 @@ use worker_split::OpenGate;
 ///
 /// It refuses what `run` refuses before its report, and then `NoMemory` and `NodesFull` as `run`
 /// does.
-pub fn last_pattern<R: Threads + Wait + Sync>(
+pub fn last_pattern<R: Threads + Sync>(
     rt: &R,
     alloc: Global,
     bytes: &[u8],

@@ -17,7 +17,6 @@ ghost use Rattle.engine.specs.Room.{IsStuckWithin};
 use crate::options::Options;
 use crate::report::report_generation;
 use plane::{Refusal, Sink};
-use std::sync::Wait;
 use std::thread::Threads;
 use universe::Universe;
 use worker_split::{Gate, Team};
@@ -26,7 +25,7 @@ use worker_split::{Gate, Team};
 /// reports generations on the way. It answers the last one, and how many cells are live in it if
 /// that is reported. `NoMemory` and `NodesFull` come between two lines. Where the sink failed, it
 /// took a beginning of some lines.
-pub(crate) fn run_reported<R: Threads + Wait + Sync, G: Gate, W: Sink>(
+pub(crate) fn run_reported<R: Threads + Sync, G: Gate, W: Sink>(
     team: &Team<'_, R, G>,
     start: Universe,
     generation: u64,

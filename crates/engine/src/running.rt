@@ -20,7 +20,6 @@ use crate::reported::run_reported;
 use plane::{Bounds, Fault, Refusal, Sink, Source};
 use run_options::RunOptions;
 use std::alloc::Global;
-use std::sync::Wait;
 use std::thread::Threads;
 use universe::Universe;
 use worker_split::{Gate, OpenGate, Team};
@@ -51,7 +50,7 @@ pub struct Summary {
 ///
 /// `WriteFailed` comes if a sink failed, and whenever one did; that sink took a beginning of its
 /// text. Nothing is written to `file` before the box is known to fit.
-pub fn run<R: Threads + Wait + Sync, W: Sink, V: Sink>(
+pub fn run<R: Threads + Sync, W: Sink, V: Sink>(
     rt: &R,
     alloc: Global,
     bytes: &[u8],
@@ -71,7 +70,7 @@ pub fn run<R: Threads + Wait + Sync, W: Sink, V: Sink>(
 /// Reads all bytes of a source, and runs the pattern in them as [`run`] does. It refuses
 /// `ReadFailed` where the source failed, and `NoMemory`; before all bytes are read, nothing is
 /// written.
-pub fn run_from<R: Threads + Wait + Sync, S: Source, W: Sink, V: Sink>(
+pub fn run_from<R: Threads + Sync, S: Source, W: Sink, V: Sink>(
     rt: &R,
     alloc: Global,
     source: &mut S,
@@ -95,7 +94,7 @@ pub fn run_from<R: Threads + Wait + Sync, S: Source, W: Sink, V: Sink>(
 /// The same as [`run`], with a gate, which is called before and after each job of several workers.
 /// No clause can say that it is called. Tests show it: in a run with two workers each sees, before
 /// its first job, that the other has begun.
-pub fn run_gated<R: Threads + Wait + Sync, G: Gate, W: Sink, V: Sink>(
+pub fn run_gated<R: Threads + Sync, G: Gate, W: Sink, V: Sink>(
     rt: &R,
     alloc: Global,
     bytes: &[u8],

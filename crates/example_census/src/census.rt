@@ -8,7 +8,6 @@ ghost use Rattle.example_census.specs.Census.{IsCensusRun, IsSummaryAfter, run_o
 use engine::{RunOptions, Summary, last_pattern, write_summary};
 use plane::{Fault, Sink};
 use std::alloc::Global;
-use std::sync::Wait;
 use std::thread::Threads;
 
 // The most pair slots that a run's tables may have.
@@ -17,7 +16,7 @@ const PAIRS: u32 = 4194304;
 /// Writes `lines` lines, one each after 1, 2, 4, 8, .. generations: the generation, the population
 /// and the bounding box. Each run has two workers. It refuses what `last_pattern` refuses, behind
 /// the lines until then, and `WriteFailed`.
-pub(crate) fn census<R: Threads + Wait + Sync, W: Sink>(
+pub(crate) fn census<R: Threads + Sync, W: Sink>(
     rt: &R,
     alloc: Global,
     bytes: &[u8],
@@ -43,7 +42,7 @@ fn power_of_two(power: u8) -> u64
 }
 
 // The summary of a run of this many generations.
-fn summary_after<R: Threads + Wait + Sync>(
+fn summary_after<R: Threads + Sync>(
     rt: &R,
     alloc: Global,
     bytes: &[u8],

@@ -13,7 +13,6 @@ use census::census;
 use engine::load;
 use plane::{Counted, Fault, Sink, Source};
 use std::process::ExitCode;
-use std::sync::Wait;
 use std::thread::Threads;
 
 // Up to 2^11 generations.
@@ -31,7 +30,7 @@ fn main(rt: HostRuntime) -> ExitCode {
 }
 
 // Reads all bytes of a source, and writes the census of the pattern in them.
-fn census_of_input<R: AllocGlobal + Threads + Wait + Sync, S: Source, W: Sink>(
+fn census_of_input<R: AllocGlobal + Threads + Sync, S: Source, W: Sink>(
     rt: &R,
     input: &mut S,
     out: &mut W,

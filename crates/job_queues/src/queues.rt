@@ -6,7 +6,6 @@ use crossbeam_deque::protocol::{Outcome, Protocol, Split};
 use crossbeam_deque::{Pass, Steal, Stealer, Worker};
 use std::alloc::{AllocError, Global};
 use std::collections::LinkedList;
-use std::sync::Wait;
 
 /// What a pass knows of a deque: whether no other pass was made, all jobs that were ever pushed, in
 /// order, and an end of them that contains all jobs which are left. No value of it is ever made:
@@ -156,8 +155,9 @@ impl JobStealer {
     ghost use Rattle.job_queues.specs.Queues.{IsEnd};
     ghost use Rattle.job_queues.specs.Shares.{left_of, share_of};
 
-    /// The first job that another's queue still holds. A steal that lost is tried again.
-    pub fn steal<R: Wait>(&mut self, runtime: &R) -> Option<usize>
+    /// The first job that another's queue still holds. A steal that lost found that another took a
+    /// job, so it is tried again at most as often as there are jobs.
+    pub fn steal(&mut self) -> Option<usize>
         ensures count { self.new.count ≡ self.old.count }
         ensures share { share_of self.new ≡ share_of self.old }
         ensures job { IfSome result (λ job. job < self.old.count) }
@@ -166,7 +166,7 @@ impl JobStealer {
         ensures first { MatchOption result (left_of self.new ≡ left_of self.old)
             (λ job. IsEnd (job ∷ left_of self.new) (left_of self.old)) }
     {
-        for _ in runtime.forever() {
+        'tries: for _ in 0..self.count {
             match self.thief.steal_as::<Steals>(&mut self.pass) {
                 Steal::Success(job) => return Some(job),
                 Steal::Empty => return None,

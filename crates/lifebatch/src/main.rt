@@ -1,14 +1,10 @@
-//! The program `lifebatch`: it hands standard output and standard error to
-//! [`program_parts::start`], and ends with the status that this answers.
+//! The program `lifebatch`: [`program_parts::start`] runs it.
 #![tactic(auto)]
 
 use batch_program::Lifebatch;
-use plane::Counted;
 use program_parts::start;
 use std::process::ExitCode;
 
 fn main(rt: HostRuntime) -> ExitCode {
-    let mut out = Counted::new(rt.stdout());
-    let mut err = Counted::new(rt.stderr());
-    ExitCode::from(start::<Lifebatch, _, _, _>(&rt, &mut out, &mut err))
+    start::<Lifebatch, _>(&rt, rt.stdout(), rt.stderr())
 }

@@ -1,14 +1,10 @@
-//! The program `lifeview`: it hands standard output and standard error to
-//! [`program_parts::start`], and ends with the status that this answers.
+//! The program `lifeview`: [`program_parts::start`] runs it.
 #![tactic(auto)]
 
-use plane::Counted;
 use program_parts::start;
 use std::process::ExitCode;
 use view_program::Lifeview;
 
 fn main(rt: HostRuntime) -> ExitCode {
-    let mut out = Counted::new(rt.stdout());
-    let mut err = Counted::new(rt.stderr());
-    ExitCode::from(start::<Lifeview, _, _, _>(&rt, &mut out, &mut err))
+    start::<Lifeview, _>(&rt, rt.stdout(), rt.stderr())
 }

@@ -19,7 +19,8 @@ use Rattle.program_parts.proofs.AskedWords.{text_by}
 -- a number of the run is not fit
 pub unfit_number : (line : CommandLine) (words : List Text) (reason : WordsReason) → fault_of line.form words ≡ [] → IsUnfitNumber line.form words reason → IsReasonOf line words reason
 unfit_number line words reason form (inl (is, unfit)) = subst (IsReasonOf line words) (sym is) (form, unfit)
-unfit_number line words reason form (inr (is, unfit)) = subst (IsReasonOf line words) (sym is) (form, λ fit. unfit fit.run)
+unfit_number line words reason form (inr (inl (is, unfit))) = subst (IsReasonOf line words) (sym is) (form, unfit)
+unfit_number line words reason form (inr (inr (is, unfit))) = subst (IsReasonOf line words) (sym is) (form, λ fit. unfit fit.run)
 
 module _ (line : CommandLine) (words : List Text) (matches : ArgMatches) (are : AreMatchesIn line.form words matches) (text : Option Text)
     (given : text ≡ first_value (found_of matches) (codes "rule")) where

@@ -1,7 +1,7 @@
 -- What an exit status says of how a program ended.
 use Rattle.std.proofs.Common.{◌≡◌, ◌≤◌, ◌⊎◌, ℕ, List, Result, Ok, Err, IfErr, OnOk, refl, ap, ⊎_elim, inl, inr, arith}
 use Rattle.plane.specs.Fault.{placeless}
-use Rattle.plane.specs.SinkChange.{SinkChange, Fails}
+use Rattle.plane.specs.SinkChange.{SinkChange}
 use Rattle.plane.specs.declared.fault.Fault.{Fault}
 use Rattle.plane.specs.declared.refusal.Refusal.{Refusal}
 use Rattle.plane.specs.declared.refusal.Refusal.TheVariants.{ReadFailed, WriteFailed}
@@ -46,6 +46,6 @@ module _ {T : Type 0} where
 
 -- what was told of an ending, from what was told where it was well and where not
 pub told_end : {E : Type 0} (program : List ℕ) (ended : Result Unit Stop) (messages : SinkChange E) → OnOk ended (messages.new ≡ messages.old) →
-    IfErr ended (λ stop. Fails messages ⊎ HasTold program stop (messages.taken messages.old) (messages.taken messages.new)) → HasToldEnd program ended messages
+    IfErr ended (λ stop. HasTold program stop messages) → HasToldEnd program ended messages
 told_end program (Ok done) messages well told = well
 told_end program (Err stop) messages well told = told

@@ -1,15 +1,19 @@
 -- What a program does, by its command line.
-use Rattle.std.specs.Prelude.{◌≡◌, ◌⊎◌, ℕ, IfErr, List, OnOk, Option, Result, Err, Ok}
+use Rattle.std.specs.Prelude.{◌≡◌, ◌⊎◌, ℕ, IfErr, List, OnOk, Option, Result, Err, Ok, Some}
+use Rattle.std.specs.declared.rt.Stderr.{Stderr}
+use Rattle.std.specs.declared.rt.Stdout.{Stdout}
 use Rattle.clap.specs.Words.{Text}
+use Rattle.plane.specs.DeviceParts.{counted_failures, counted_taken}
 use Rattle.plane.specs.Fault.{placeless}
-use Rattle.plane.specs.SinkChange.{SinkChange, Fails, IsUnfailed, Takes}
+use Rattle.plane.specs.SinkChange.{SinkChange, Fails, IsUnfailed, Takes, change_of}
 use Rattle.plane.specs.SourceChange.{SourceChange}
+use Rattle.plane.specs.declared.device.counted.Counted.{Counted}
 use Rattle.plane.specs.declared.fault.Fault.{Fault}
 use Rattle.plane.specs.declared.refusal.Refusal.{Refusal}
 use Rattle.plane.specs.declared.refusal.Refusal.TheVariants.{WriteFailed}
 use Rattle.program_parts.specs.Asking.{AsksForHelp, AsksForNothing, Refuses}
 use Rattle.program_parts.specs.CommandLine.{CommandLine}
-use Rattle.program_parts.specs.Files.{InputState, IsUnread, IsUnwritten, OutputState, reading, writing}
+use Rattle.program_parts.specs.Files.{InputState, IsFresh, IsUnread, IsUnwritten, OutputState, reading, writing}
 use Rattle.program_parts.specs.Messages.{HasNoWords, HasToldEnd, status_of}
 use Rattle.program_parts.specs.declared.stops.Stop.{Stop}
 use Rattle.program_parts.specs.declared.stops.Stop.TheVariants as stop
@@ -75,7 +79,8 @@ pub record EndsProgram {Asked O E : Type 0} (behaviour : Behaviour Asked) (name 
   pub stopped : IfErr ended (IsStop behaviour words out)
   -- standard output did not fail, or the answer is that a device did
   pub unfailed : (ended ≡ Err (stop.Refused (placeless WriteFailed))) ⊎ IsUnfailed out
-  -- where it ended well nothing is told; else one line says why, or standard error failed
+  -- where it ended well nothing is told; else one line says why, or standard error failed, which
+  -- took the beginning of that line
   pub told : HasToldEnd name ended err
 
 -- a program ran on some words; or it has none, and standard output is unchanged
@@ -84,3 +89,19 @@ abbrev pub StartsProgram : {Asked O E : Type 0} → Behaviour Asked → List ℕ
 StartsProgram behaviour name out err answer =
     ((words : List Text) × EndsProgram behaviour name words out err answer)
     ⊎ (HasNoWords name err answer × (out.new ≡ out.old))
+
+-- what was written to a stream that was so before and is so after
+abbrev pub stream_change : {S : Type 0} → Counted S → Counted S → SinkChange (Counted S)
+stream_change old new = change_of (λ stream. Some (counted_taken stream)) counted_failures old new
+
+-- a program started with standard output and standard error, of which no call was made before
+pub record StartsAtStreams {Asked : Type 0} (behaviour : Behaviour Asked) (name : List ℕ)
+    (answer : ℕ) : Type 0 where
+  pub out : Counted Stdout
+  pub out_after : Counted Stdout
+  pub err : Counted Stderr
+  pub err_after : Counted Stderr
+  pub out_is_fresh : IsFresh out
+  pub err_is_fresh : IsFresh err
+  pub starts :
+      StartsProgram behaviour name (stream_change out out_after) (stream_change err err_after) answer

@@ -2,11 +2,11 @@
 use Rattle.std.specs.Prelude.{ℕ, List, Option, codes}
 use Rattle.clap.specs.Words.{App, Text}
 use Rattle.plane.specs.Window.{Rectangle}
-use Rattle.program_parts.specs.RunWords.{AreFitNumbers, AreUnfitNodes}
+use Rattle.program_parts.specs.RunWords.{AreFitNumbers, AreUnfitNodes, AreUnfitWorkers}
 use Rattle.program_parts.specs.Texts.{HasText, text_in}
 use Rattle.program_parts.specs.WindowText.{IsFitWindow}
 use Rattle.program_parts.specs.declared.reason.Misfit.{Misfit}
-use Rattle.program_parts.specs.declared.reason.Misfit.TheVariants.{Ending, Window, Nodes, Other}
+use Rattle.program_parts.specs.declared.reason.Misfit.TheVariants.{Ending, Window, Nodes, Other, Workers}
 
 -- what a program says of its command line
 pub record CommandLine : Type 1 where
@@ -37,4 +37,5 @@ IsMisfit line words (Ending endings) =
 IsMisfit line words Window =
     IsFitWindow line.bits (text_in line.form (codes "window") words) → ⊥
 IsMisfit line words Nodes = AreUnfitNodes line.form words
+IsMisfit line words Workers = AreUnfitWorkers line.form words
 IsMisfit line words Other = IsFit line words → ⊥

@@ -1,9 +1,8 @@
 -- Exit statuses, and what is told on standard error.
-use Rattle.std.specs.Prelude.{◌≡◌, ◌≢◌, ◌⊎◌, ℕ, Option, Result, Ok, Err, List, ◌++◌, codes}
-use Rattle.std.specs.Io.KnownBytes.{Appends}
+use Rattle.std.specs.Prelude.{◌≡◌, ◌≢◌, ◌⊎◌, ℕ, Result, Ok, Err, List, ◌++◌, codes}
 use Rattle.std.specs.List.{All}
 use Rattle.plane.specs.Fault.{fault_text, placeless}
-use Rattle.plane.specs.SinkChange.{SinkChange, Fails}
+use Rattle.plane.specs.SinkChange.{SinkChange, Fails, IsUnfailed, Takes, TakesBeginning}
 use Rattle.plane.specs.declared.fault.Fault.{Fault}
 use Rattle.plane.specs.declared.refusal.Refusal.{Refusal}
 use Rattle.plane.specs.declared.refusal.Refusal.TheVariants.{NoMemory, ReadFailed, WriteFailed}
@@ -24,15 +23,20 @@ refused_status ReadFailed = 3
 refused_status WriteFailed = 3
 refused_status _ = 1
 
--- between the two the message of a program went out that words are bad, and why: one line, since
--- the reason has no line feed
-abbrev pub HasToldBadWords : List ℕ → Option (List ℕ) → Option (List ℕ) → Type 0
-HasToldBadWords program before after =
-    (why : List ℕ) × All (λ byte. byte ≢ 10) why × Appends before after (bad_words_text program why)
+-- the sink took this text, and did not fail; or it failed, and took only the beginning of the text
+abbrev pub IsTold : {E : Type 0} → SinkChange E → List ℕ → Type 0
+IsTold messages text =
+    (Takes messages text × IsUnfailed messages) ⊎ (TakesBeginning messages text × Fails messages)
 
--- between the two the line of a program went out that says why a run was refused
-abbrev pub HasToldFault : List ℕ → Fault → Option (List ℕ) → Option (List ℕ) → Type 0
-HasToldFault program fault before after = Appends before after (fault_line program fault)
+-- the message of a program was told that words are bad, and why: one line, since the reason has no
+-- line feed
+abbrev pub HasToldBadWords : {E : Type 0} → List ℕ → SinkChange E → Type 0
+HasToldBadWords program messages =
+    (why : List ℕ) × All (λ byte. byte ≢ 10) why × IsTold messages (bad_words_text program why)
+
+-- the line of a program was told that says why a run was refused
+abbrev pub HasToldFault : {E : Type 0} → List ℕ → Fault → SinkChange E → Type 0
+HasToldFault program fault messages = IsTold messages (fault_line program fault)
 
 -- the exit status of a program that did what its words ask for, or stopped
 abbrev pub status_of : {T : Type 0} → Result T Stop → ℕ
@@ -40,23 +44,18 @@ status_of (Ok _) = 0
 status_of (Err (BadWords reason)) = 2
 status_of (Err (Refused fault)) = refused_status fault.refusal
 
--- between the two the message of a program went out that says why it stopped
-abbrev pub HasTold : List ℕ → Stop → Option (List ℕ) → Option (List ℕ) → Type 0
-HasTold program (BadWords reason) before after = HasToldBadWords program before after
-HasTold program (Refused fault) before after = HasToldFault program fault before after
+-- the message of a program was told that says why it stopped
+abbrev pub HasTold : {E : Type 0} → List ℕ → Stop → SinkChange E → Type 0
+HasTold program (BadWords reason) messages = HasToldBadWords program messages
+HasTold program (Refused fault) messages = HasToldFault program fault messages
 
--- a program told nothing where it ended well; else the message went out that says why it stopped,
--- or the sink failed
+-- a program told nothing where it ended well; else the message was told that says why it stopped
 abbrev pub HasToldEnd : {E : Type 0} → List ℕ → Result Unit Stop → SinkChange E → Type 0
 HasToldEnd program (Ok done) messages = messages.new ≡ messages.old
-HasToldEnd program (Err stop) messages =
-    Fails messages
-    ⊎ HasTold program stop (messages.taken messages.old) (messages.taken messages.new)
+HasToldEnd program (Err stop) messages = HasTold program stop messages
 
--- a program has no words: one is not UTF-8, or memory ran out, which one line says; or standard
--- error failed
+-- a program has no words: one is not UTF-8, or memory ran out, which one line tells
 abbrev pub HasNoWords : {E : Type 0} → List ℕ → SinkChange E → ℕ → Type 0
 HasNoWords name err answer =
-    ((answer ≡ 2) × (Fails err ⊎ HasToldBadWords name (err.taken err.old) (err.taken err.new)))
-    ⊎ ((answer ≡ 1)
-    × (Fails err ⊎ HasToldFault name (placeless NoMemory) (err.taken err.old) (err.taken err.new)))
+    ((answer ≡ 2) × HasToldBadWords name err)
+    ⊎ ((answer ≡ 1) × HasToldFault name (placeless NoMemory) err)

@@ -40,18 +40,19 @@ rule_option = valued_in_short (codes "rule") 114
 abbrev pub window_option : Rule
 window_option = valued (codes "window")
 
--- `--nodes N`: a number from 1024 to 268435456, 4194304 if it is left out
+-- `--nodes N`: a number below 2^64, 4194304 if it is left out
 abbrev pub node_option : Rule
 node_option = record (valued (codes "nodes")) {
   defaults = codes "4194304" ∷ [];
-  parser = Some (parser.Unsigned 1024 268435456);
+  parser = Some (parser.Unsigned 0 18446744073709551615);
 }
 
--- `--workers N`: a number from 1 to 64, 1 if it is left out
+-- `--workers N`: a number below 2^64, 1 if it is left out
 abbrev pub worker_option : Rule
-worker_option =
-    record
-    (valued (codes "workers")) { defaults = codes "1" ∷ []; parser = Some (parser.Unsigned 1 64) }
+worker_option = record (valued (codes "workers")) {
+  defaults = codes "1" ∷ [];
+  parser = Some (parser.Unsigned 0 18446744073709551615);
+}
 
 -- FILE, which has to be there
 abbrev pub file_argument : Rule

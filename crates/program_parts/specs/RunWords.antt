@@ -5,7 +5,7 @@ use Rattle.clap.specs.Words.{App, Text}
 use Rattle.run_options.specs.declared.options.RunOptions.{RunOptions}
 use Rattle.program_parts.specs.Texts.{text_in, value_in}
 use Rattle.program_parts.specs.Values.{IsAskedRule, IsNumber, IsPairNumber, IsWorkerNumber}
-use Rattle.program_parts.specs.declared.reason.Misfit.TheVariants.{Nodes, Other}
+use Rattle.program_parts.specs.declared.reason.Misfit.TheVariants.{Nodes, Other, Workers}
 use Rattle.program_parts.specs.declared.reason.WordsReason.{WordsReason}
 use Rattle.program_parts.specs.declared.reason.WordsReason.TheVariants.{Unfit}
 
@@ -29,8 +29,14 @@ abbrev pub AreUnfitNodes : App → List Text → Type 0
 AreUnfitNodes form words =
     (pairs : ℕ) → IsPairNumber (value_in form (codes "nodes") words) pairs → ⊥
 
--- the number of slots, or another one that words of this form give, is not fit
+-- no run may have the number of workers that words of this form give
+abbrev pub AreUnfitWorkers : App → List Text → Type 0
+AreUnfitWorkers form words =
+    (workers : ℕ) → IsWorkerNumber (value_in form (codes "workers") words) workers → ⊥
+
+-- the number of slots, that of workers, or another one that words of this form give, is not fit
 abbrev pub IsUnfitNumber : App → List Text → WordsReason → Type 0
 IsUnfitNumber form words reason =
     ((reason ≡ Unfit Nodes) × AreUnfitNodes form words)
+    ⊎ ((reason ≡ Unfit Workers) × AreUnfitWorkers form words)
     ⊎ ((reason ≡ Unfit Other) × (AreFitNumbers form words → ⊥))

@@ -15,7 +15,6 @@ use crate::reason::WordsReason;
 use clap::{ArgMatches, Command};
 use plane::{Fault, Refusal, Sink, Source};
 use std::alloc::{AllocError, Global};
-use std::sync::Wait;
 use std::thread::Threads;
 
 /// A program that runs patterns: its command line, and what it does where words ask for something.
@@ -54,7 +53,7 @@ pub trait Application {
 
     /// Does what some words ask for: reads `source`, says to `out` what there is to say, and writes
     /// `file`, if there is something to write. It has no other device.
-    fn perform<R: Threads + Wait + Sync, S: Source, O: Sink, V: Sink>(
+    fn perform<R: Threads + Sync, S: Source, O: Sink, V: Sink>(
         rt: &R,
         alloc: Global,
         asked: &Self::Asked,

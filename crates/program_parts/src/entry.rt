@@ -1,27 +1,23 @@
-//! A whole program, over any standard output and standard error, or on the words that the system
-//! gives.
+//! A whole program, over any words, standard output and standard error.
 
 ghost use Rattle.std.specs.Prelude.{◌≡◌, ◌⊎◌, List, Err, IfOk, OnOk, IfErr};
 ghost use Rattle.clap.specs.Words.{Text};
 ghost use Rattle.plane.specs.Fault.{placeless};
 ghost use Rattle.plane.specs.SinkChange.{change_of};
 ghost use Rattle.program_parts.specs.Asking.{IsFaultOf, IsReasonOf};
-ghost use Rattle.program_parts.specs.Behaviour.{EndsProgram, IsDone, IsPerformed, IsStop, StartsProgram};
+ghost use Rattle.program_parts.specs.Behaviour.{EndsProgram, IsDone, IsPerformed, IsStop};
 ghost use Rattle.program_parts.specs.Texts.{texts_of};
 ghost use Rattle.program_parts.specs.declared.stops.Stop.TheVariants.{Refused};
 
 use crate::application::Application;
 use crate::input_file::InputFile;
-use crate::messages::tell_no_words;
 use crate::output_file::OutputFile;
 use crate::reason::{WordsFault, WordsReason};
 use crate::stops::{Stop, end_of_words, tell_end};
 use plane::{Fault, Refusal, Sink};
 use std::alloc::{AllocError, Global};
-use std::rt::{Env, Files};
-use std::sync::Wait;
+use std::rt::Files;
 use std::thread::Threads;
-use std::{env, io};
 
 /// Reads the words of a command line, the program's name first.
 pub fn asked<'a, A: Application>(
@@ -53,7 +49,7 @@ fn read_words<'a, A: Application>(
 /// for, or writes the help to `out`, and messages to `err`, and returns the exit status: 0, 2 for
 /// bad words, else 3 where a device failed and 1 where not. A failure of `err` changes nothing
 /// else.
-pub fn program<A: Application, R: Files + Input + Threads + Wait + Sync, O: Sink, E: Sink>(
+pub fn program<A: Application, R: Files + Input + Threads + Sync, O: Sink, E: Sink>(
     rt: &R,
     alloc: Global,
     words: &[&str],
@@ -70,7 +66,7 @@ pub fn program<A: Application, R: Files + Input + Threads + Wait + Sync, O: Sink
 
 // Does what the words ask for, with the files that they name. What the program then tells has no
 // part in it.
-fn perform<A: Application, R: Files + Input + Threads + Wait + Sync, O: Sink>(
+fn perform<A: Application, R: Files + Input + Threads + Sync, O: Sink>(
     rt: &R,
     alloc: Global,
     words: &[&str],
@@ -92,7 +88,7 @@ fn perform<A: Application, R: Files + Input + Threads + Wait + Sync, O: Sink>(
 }
 
 // Does what some words ask for, with the files that they name.
-fn perform_asked<A: Application, R: Files + Input + Threads + Wait + Sync, O: Sink>(
+fn perform_asked<A: Application, R: Files + Input + Threads + Sync, O: Sink>(
     rt: &R,
     alloc: Global,
     asked: &A::Asked,
@@ -107,37 +103,4 @@ fn perform_asked<A: Application, R: Files + Input + Threads + Wait + Sync, O: Si
     let mut source = InputFile::open(rt, A::input(asked));
     let mut file = OutputFile::new(rt, A::output(asked));
     A::perform(rt, alloc, asked, &mut source, out, &mut file)
-}
-
-/// Runs a program on the words that the system gives it (no clause says that they are these: the
-/// kit's `Env` says nothing of them), and answers its exit status: that of [`program`], or that of
-/// [`tell_no_words`] where there are none, since one is not UTF-8 or memory ran out.
-pub fn start<
-    A: Application,
-    R: Env + Files + Input + AllocGlobal + Threads + Wait + Sync,
-    O: Sink,
-    E: Sink,
->(rt: &R, out: &mut O, err: &mut E) -> u8
-    ensures { StartsProgram A.behaviour A.name
-        (change_of O.taken O.failure_count out.old out.new)
-        (change_of E.taken E.failure_count err.old err.new) result }
-{
-    let owned = match system_words(rt) {
-        Ok(words) => words,
-        Err(error) => return tell_no_words(err, A::name(), &error),
-    };
-    match texts(rt.alloc(), owned.as_slice()) {
-        Ok(words) => program::<A, R, O, E>(rt, rt.alloc(), words.as_slice(), out, err),
-        Err(error) => tell_no_words(err, A::name(), &io::Error::from(error)),
-    }
-}
-
-// The words that the system gives.
-fn system_words<R: Env + AllocGlobal>(rt: &R) -> io::Result<Vec<String>> {
-    Ok(env::args(rt)?.collect(rt.alloc())?)
-}
-
-// The words as texts.
-fn texts<'a>(alloc: Global, words: &'a [String]) -> Result<Vec<&'a str>, AllocError> {
-    words.iter().map(|word| word.as_str()).collect(alloc)
 }

@@ -1,12 +1,14 @@
 //! The file that is read.
 
-ghost use Rattle.std.specs.Prelude.{None, Some, IsTrue};
-ghost use Rattle.program_parts.specs.Files.{IsUnread};
+ghost use Rattle.std.specs.Prelude.{◌≡◌, ◌↔◌, None, Some, IfOk, IfSome, IsErr, IsTrue, OnErr, false};
+ghost use Rattle.std.specs.Io.{ReadsAtMost};
+ghost use Rattle.std.specs.Io.KnownBytes.{ReadConsumes};
+ghost use Rattle.plane.specs.Device.{FindsEnd, ReadGives, failures_after};
+ghost use Rattle.program_parts.specs.Files.{IsFresh, IsUnread};
 
 use either::Either;
 use plane::{Counted, Failed, Source};
 use std::fs;
-use std::io::{self, ErrorKind, Read};
 use std::marker::Model;
 use std::rt::Files;
 
@@ -18,20 +20,23 @@ const STANDARD_INPUT: &str = "/dev/stdin";
 #[derive(Drop)]
 pub struct InputFile<'a, R: Files + Input> {
     path: &'a str,
-    reader: Counted<Opened<Either<R::Reader, R::File>>>,
+    file: Option<Counted<Either<R::Reader, R::File>>>,
+    // How many reads failed since there is no file.
+    failures_without: u64,
 }
 
 impl<'a, R: Files + Input> Model for InputFile<'a, R> {
-    ghost use Rattle.plane.specs.DeviceParts.{counted_ended, counted_failures, counted_given};
-    ghost use Rattle.program_parts.specs.Files.{InputState};
+    ghost use Rattle.std.specs.Option.{is_some};
+    ghost use Rattle.program_parts.specs.Files.{InputState, failures_of, given_by, has_found_end};
 
     ghost Value = { InputState };
 
-    ghost view = { λ file. record {
-      path = file.path.now;
-      given = counted_given file.reader;
-      has_ended = counted_ended file.reader;
-      failures = counted_failures file.reader;
+    ghost view = { λ input. record {
+      path = input.path.now;
+      is_open = is_some input.file;
+      given = given_by input.file;
+      has_ended = has_found_end input.file;
+      failures = failures_of input.file input.failures_without;
     } };
 }
 
@@ -42,20 +47,24 @@ impl<'a, R: Files + Input> InputFile<'a, R> {
     {
         InputFile {
             path,
-            reader: Counted::new(Opened {
-                reader: open_reader(runtime, path),
-            }),
+            file: open_reader(runtime, path),
+            failures_without: 0,
         }
     }
 }
 
 // The file of this name, or standard input, if it could be opened.
-fn open_reader<R: Files + Input>(runtime: &R, path: &str) -> Option<Either<R::Reader, R::File>> {
+fn open_reader<R: Files + Input>(
+    runtime: &R,
+    path: &str,
+) -> Option<Counted<Either<R::Reader, R::File>>>
+    ensures { IfSome result IsFresh }
+{
     if path == STANDARD_INPUT {
-        return Some(Either::Left(runtime.reader()));
+        return Some(Counted::new(Either::Left(runtime.reader())));
     }
     match fs::open(runtime, path) {
-        Ok(file) => Some(Either::Right(file)),
+        Ok(file) => Some(Counted::new(Either::Right(file))),
         Err(_) => None,
     }
 }
@@ -63,32 +72,41 @@ fn open_reader<R: Files + Input>(runtime: &R, path: &str) -> Option<Either<R::Re
 impl<'a, R: Files + Input> Source for InputFile<'a, R> {
     ghost remaining = { λ _. None };
 
-    ghost given = { λ file. Some file.given };
+    ghost given = { λ input. Some input.given };
 
-    ghost has_ended = { λ file. IsTrue file.has_ended };
+    ghost has_ended = { λ input. IsTrue input.has_ended };
 
-    ghost failure_count = { λ file. file.failures };
+    ghost failure_count = { λ input. input.failures };
 
-    fn read_some(&mut self, buffer: &mut [u8]) -> Result<usize, Failed> {
-        self.reader.read_some(buffer)
+    fn read_some(&mut self, buffer: &mut [u8]) -> Result<usize, Failed>
+        ensures bound { ReadsAtMost result buffer.new }
+        ensures bytes { ReadConsumes None None result buffer.new }
+        ensures given { ReadGives (Some self.old.given) (Some self.new.given) result buffer.new }
+        ensures end { FindsEnd result buffer.new → IsTrue self.new.has_ended }
+        ensures failures { self.new.failures ≡ failures_after result self.old.failures }
+        // It finds an end nowhere else.
+        ensures ended { IfOk result (λ count.
+            IsTrue self.new.has_ended ↔ FindsEnd result buffer.new) }
+        // A call that fails leaves that as it was.
+        ensures still { OnErr result (self.new.has_ended ≡ self.old.has_ended) }
+        // A file that could not be opened fails at each call.
+        ensures closed { self.old.is_open ≡ false → IsErr result }
+        ensures open { self.new.is_open ≡ self.old.is_open }
+        ensures named { self.new.path ≡ self.old.path }
+    {
+        match &mut self.file {
+            Some(file) => file.read_some(buffer),
+            None => {
+                self.failures_without = self.failures_without.saturating_add(1);
+                Err(Failed)
+            }
+        }
     }
 
     fn failures(&self) -> u64 {
-        self.reader.failures()
-    }
-}
-
-// What was opened, if it could be.
-#[derive(Drop)]
-struct Opened<T> {
-    reader: Option<T>,
-}
-
-impl<T: Read> Read for Opened<T> {
-    fn read(&mut self, buffer: &mut [u8]) -> io::Result<usize> {
-        match &mut self.reader {
-            Some(reader) => reader.read(buffer),
-            None => Err(io::Error::from(ErrorKind::NotFound)),
+        match &self.file {
+            Some(file) => file.failures(),
+            None => self.failures_without,
         }
     }
 }

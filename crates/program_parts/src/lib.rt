@@ -12,10 +12,11 @@ mod options;
 mod output_file;
 mod reason;
 mod stops;
+mod system;
 mod window_text;
 
 pub use application::Application;
-pub use entry::{asked, program, start};
+pub use entry::{asked, program};
 pub use input_file::InputFile;
 pub use messages::tell_no_words;
 pub use numbers::{copied, number_for, rule_asked, run_numbers};
@@ -25,4 +26,5 @@ pub use options::{
 };
 pub use output_file::OutputFile;
 pub use reason::{Misfit, WordsFault, WordsReason};
+pub use system::start;
 pub use window_text::{WindowNumbers, window_numbers};

@@ -1,10 +1,10 @@
 //! Messages and exit statuses.
 
-ghost use Rattle.std.specs.Prelude.{◌≡◌, ◌≢◌, ◌≤◌, ◌⊎◌, ℕ, List, length, OnOk, IfErr};
+ghost use Rattle.std.specs.Prelude.{◌≡◌, ◌≢◌, ◌≤◌, ℕ, List, length, OnErr, OnOk};
 ghost use Rattle.std.specs.Io.KnownBytes.{Appends};
 ghost use Rattle.std.specs.IoError.{error_kind};
 ghost use Rattle.std.specs.List.{All};
-ghost use Rattle.plane.specs.Device.{HasFailed, IsWriteRefusal, TellsFailure};
+ghost use Rattle.plane.specs.Device.{AppendsBeginning, TellsFailure};
 ghost use Rattle.plane.specs.Fault.{placeless};
 ghost use Rattle.plane.specs.SinkChange.{change_of};
 ghost use Rattle.plane.specs.declared.refusal.Refusal.TheVariants.{NoMemory};
@@ -27,10 +27,10 @@ pub(crate) fn tell_fault<E: Sink>(
     fault: Fault,
 ) -> Result<(), Refusal>
     requires { length program.now ≤ 32 }
-    ensures told { OnOk result
-        (HasToldFault program.now fault (E.taken messages.old) (E.taken messages.new)) }
-    ensures refused { IfErr result
-        (IsWriteRefusal (E.failure_count messages.old) (E.failure_count messages.new)) }
+    ensures told { HasToldFault program.now fault
+        (change_of E.taken E.failure_count messages.old messages.new) }
+    ensures failure { TellsFailure
+        (E.failure_count messages.old) (E.failure_count messages.new) result }
 {
     fault_line(program, fault).write_to(messages)
 }
@@ -72,10 +72,10 @@ pub(crate) fn tell_bad_words<E: Sink>(
     program: &str,
     reason: &WordsReason,
 ) -> Result<(), Refusal>
-    ensures told { OnOk result
-        (HasToldBadWords program.now (E.taken messages.old) (E.taken messages.new)) }
-    ensures refused { IfErr result
-        (IsWriteRefusal (E.failure_count messages.old) (E.failure_count messages.new)) }
+    ensures told { HasToldBadWords program.now
+        (change_of E.taken E.failure_count messages.old messages.new) }
+    ensures failure { TellsFailure
+        (E.failure_count messages.old) (E.failure_count messages.new) result }
 {
     match reason.to_string(alloc) {
         Ok(text) => tell_reason(messages, program, Some(text.as_str())),
@@ -90,10 +90,10 @@ pub(crate) fn tell_reason<E: Sink>(
     program: &str,
     reason: Option<&str>,
 ) -> Result<(), Refusal>
-    ensures told { OnOk result
-        (HasToldBadWords program.now (E.taken messages.old) (E.taken messages.new)) }
-    ensures refused { IfErr result
-        (IsWriteRefusal (E.failure_count messages.old) (E.failure_count messages.new)) }
+    ensures told { HasToldBadWords program.now
+        (change_of E.taken E.failure_count messages.old messages.new) }
+    ensures failure { TellsFailure
+        (E.failure_count messages.old) (E.failure_count messages.new) result }
 {
     write_all(messages, program.as_bytes())?;
     write_all(messages, b": bad words:")?;
@@ -109,6 +109,9 @@ fn tell_first_paragraph<E: Sink>(messages: &mut E, text: &str) -> Result<(), Ref
     ensures told { OnOk result
         ((why : List ℕ) × All (λ byte. byte ≢ 10) why
         × Appends (E.taken messages.old) (E.taken messages.new) why) }
+    ensures beginning { OnErr result
+        ((why : List ℕ) × All (λ byte. byte ≢ 10) why
+        × AppendsBeginning (E.taken messages.old) (E.taken messages.new) why) }
     ensures failure { TellsFailure
         (E.failure_count messages.old) (E.failure_count messages.new) result }
 {
@@ -129,12 +132,11 @@ fn tell_first_paragraph<E: Sink>(messages: &mut E, text: &str) -> Result<(), Ref
 pub fn tell_no_words<E: Sink>(messages: &mut E, program: &str, error: &io::Error) -> u8
     requires { length program.now ≤ 32 }
     ensures no_memory { ¬ (error_kind error.now ≡ ErrorKind.InvalidData) → (result ≡ 1)
-        × (HasFailed (E.failure_count messages.old) (E.failure_count messages.new)
-        ⊎ HasToldFault program.now (placeless NoMemory)
-        (E.taken messages.old) (E.taken messages.new)) }
+        × HasToldFault program.now (placeless NoMemory)
+        (change_of E.taken E.failure_count messages.old messages.new) }
     ensures bad_words { error_kind error.now ≡ ErrorKind.InvalidData → (result ≡ 2)
-        × (HasFailed (E.failure_count messages.old) (E.failure_count messages.new)
-        ⊎ HasToldBadWords program.now (E.taken messages.old) (E.taken messages.new)) }
+        × HasToldBadWords program.now
+        (change_of E.taken E.failure_count messages.old messages.new) }
     ensures told { HasNoWords program.now
         (change_of E.taken E.failure_count messages.old messages.new) result }
 {

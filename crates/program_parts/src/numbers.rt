@@ -42,15 +42,17 @@ fn pairs_asked(matches: &ArgMatches<'_>) -> Result<u32, WordsReason>
     }
 }
 
-// How many workers run. `Unfit` with `Other` if it is not from 1 to 64.
+// How many workers run. `Unfit` with `Workers` if the number is not from 1 to 64.
 fn workers_asked(matches: &ArgMatches<'_>) -> Result<usize, WordsReason>
     ensures ok { IfOk result (IsWorkerNumber (one_text (found_of matches.now) (codes "workers"))) }
-    ensures err { IfErr result (IsUnfit Misfit.Other
+    ensures err { IfErr result (IsUnfit Misfit.Workers
         (IsWorkerNumber (one_text (found_of matches.now) (codes "workers")))) }
 {
-    let number = number_for(matches, "workers")?;
+    let Some(number) = matches.get_one::<u64>("workers") else {
+        return Err(WordsReason::Unfit(Misfit::Workers));
+    };
     if number == 0 || number > MOST_WORKERS as u64 {
-        return Err(WordsReason::Unfit(Misfit::Other));
+        return Err(WordsReason::Unfit(Misfit::Workers));
     }
     Ok(number as usize)
 }
@@ -80,7 +82,7 @@ pub fn copied(alloc: Global, text: Option<&str>) -> Result<Option<String>, Alloc
 }
 
 /// The generations, the slots and the workers of the run that words ask for; it has no rule yet.
-/// `Unfit` with `Nodes` or `Other` if one of the numbers is not fit.
+/// `Unfit` with `Nodes`, `Workers` or `Other` if one of the numbers is not fit.
 pub fn run_numbers(matches: &ArgMatches<'_>) -> Result<RunOptions, WordsReason>
     ensures ok { (form : App) (words : List Text) → AreMatchesIn form words matches.now →
         IfOk result (GiveNumbers form words) }

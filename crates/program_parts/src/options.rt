@@ -4,17 +4,8 @@ ghost use Rattle.std.specs.Prelude.{◌≡◌, List, fold, IfOk};
 ghost use Rattle.clap.specs.Words.{Rule, app_of, new_app, with_rule};
 ghost use Rattle.program_parts.specs.OptionRules.{HasRule, HaveRules, file_argument, generation_option, node_option, numeric, rule_option, valued, valued_in_short, window_option, worker_option};
 
-use clap::builder::ValueParser;
 use clap::{Arg, Command, value_parser};
-use run_options::MOST_WORKERS;
 use std::alloc::{AllocError, Global};
-use table_core::{LARGEST_PAIR_COUNT, SMALLEST_PAIR_COUNT};
-
-/// The fewest slots of the node tables.
-pub(crate) const FEWEST_SLOTS: u64 = SMALLEST_PAIR_COUNT as u64;
-
-/// The most slots of the node tables.
-pub(crate) const MOST_SLOTS: u64 = LARGEST_PAIR_COUNT as u64;
 
 /// The form of the words of a program: its name, what the help says first, its options and
 /// arguments, and what the help says last.
@@ -66,7 +57,8 @@ pub fn window_option<'a>(alloc: Global, help: &'a str) -> Arg<'a>
     long_option(alloc, "window", "X,Y,W,H", help)
 }
 
-/// `--nodes N`: a number from 1024 to 268435456, 4194304 if it is left out.
+/// `--nodes N`: a number below 2^64, 4194304 if it is left out. Which numbers are fit is for
+/// [`crate::run_numbers`] to say.
 pub fn node_option<'a>(alloc: Global) -> Arg<'a>
     ensures { HasRule result node_option }
 {
@@ -76,16 +68,17 @@ pub fn node_option<'a>(alloc: Global) -> Arg<'a>
         "N",
         "Limit the node tables to N slots in total (18 bytes each), a power of two from 1024 to 268435456",
     )
-    .value_parser(ValueParser::Unsigned(FEWEST_SLOTS, MOST_SLOTS))
+    .value_parser(value_parser!(u64))
     .default_value("4194304")
 }
 
-/// `--workers N`: a number from 1 to 64, 1 if it is left out.
+/// `--workers N`: a number below 2^64, 1 if it is left out. Which numbers are fit is for
+/// [`crate::run_numbers`] to say.
 pub fn worker_option<'a>(alloc: Global) -> Arg<'a>
     ensures { HasRule result worker_option }
 {
     long_option(alloc, "workers", "N", "Run with N workers, from 1 to 64")
-        .value_parser(ValueParser::Unsigned(1, MOST_WORKERS as u64))
+        .value_parser(value_parser!(u64))
         .default_value("1")
 }
 

@@ -5,11 +5,12 @@ ghost use Rattle.plane.specs.declared.refusal.Refusal.TheVariants.{NoMemory};
 ghost use Rattle.program_parts.specs.Faults.{IsToldAs};
 ghost use Rattle.program_parts.specs.declared.reason.WordsReason.TheVariants.{Refused};
 
-use crate::options::{FEWEST_SLOTS, MOST_SLOTS};
 use clap::error::ErrorKind;
 use plane::Refusal;
+use run_options::MOST_WORKERS;
 use std::alloc::AllocError;
 use std::{error, fmt};
+use table_core::{LARGEST_PAIR_COUNT, SMALLEST_PAIR_COUNT};
 
 /// Which value of a command line is not fit. As text it says what is allowed.
 #[derive(Clone, Copy, Debug, PartialEq, Eq)]
@@ -20,6 +21,8 @@ pub enum Misfit {
     Window,
     /// The number of slots in the node tables is not a power of two from 1024 to 268435456.
     Nodes,
+    /// The number of workers is not from 1 to 64.
+    Workers,
     /// A value is missing, or out of its range.
     Other,
 }
@@ -34,9 +37,10 @@ impl fmt::Display for Misfit {
             Misfit::Nodes => {
                 write!(
                     f,
-                    "--nodes takes a power of two from {FEWEST_SLOTS} to {MOST_SLOTS}"
+                    "--nodes takes a power of two from {SMALLEST_PAIR_COUNT} to {LARGEST_PAIR_COUNT}"
                 )
             }
+            Misfit::Workers => write!(f, "--workers takes a number from 1 to {MOST_WORKERS}"),
             Misfit::Other => f.write_str("a value is missing, or out of its range"),
         }
     }

@@ -44,9 +44,8 @@ pub(crate) fn tell_end<E: Sink>(
     requires { length program.now ≤ 32 }
     ensures status { result ≡ status_of ended }
     ensures well { OnOk ended (messages.new ≡ messages.old) }
-    ensures told { IfErr ended (λ stop.
-        HasFailed (E.failure_count messages.old) (E.failure_count messages.new)
-        ⊎ HasTold program.now stop (E.taken messages.old) (E.taken messages.new)) }
+    ensures told { IfErr ended (λ stop. HasTold program.now stop
+        (change_of E.taken E.failure_count messages.old messages.new)) }
 {
     match ended {
         Ok(()) => 0,

@@ -6,7 +6,6 @@ use crate::refusals::unless_full;
 use crate::universe::Universe;
 use node_sweep::Keep;
 use std::alloc::AllocError;
-use std::sync::Wait;
 use std::thread::Threads;
 use table_core::Shape;
 use table_growth::{COLLECTION_SHARES, Retry, RetryPlan, pair_count};
@@ -28,7 +27,7 @@ impl Universe {
 
     /// Takes one step of the cells at their table, or, where that is full, at new ones, as the plan
     /// says.
-    pub(crate) fn step_with_growth<R: Threads + Wait + Sync, G: Gate>(
+    pub(crate) fn step_with_growth<R: Threads + Sync, G: Gate>(
         self,
         team: &Team<'_, R, G>,
     ) -> Result<Attempt, AllocError>
@@ -59,7 +58,7 @@ impl Universe {
     }
 
     // Takes one step at the new table that this retry means.
-    fn retry<R: Threads + Wait + Sync, G: Gate>(
+    fn retry<R: Threads + Sync, G: Gate>(
         self,
         team: &Team<'_, R, G>,
         retry: Retry,
@@ -82,7 +81,7 @@ impl Universe {
 
     // Takes one step at a larger table with all squares: of this shape, where a smaller one was full
     // too.
-    fn step_enlarged<R: Threads + Wait + Sync, G: Gate>(
+    fn step_enlarged<R: Threads + Sync, G: Gate>(
         self,
         team: &Team<'_, R, G>,
         shape: Shape,
@@ -102,7 +101,7 @@ impl Universe {
     }
 
     // Takes one step at the table of the cells.
-    fn step_here<R: Threads + Wait + Sync, G: Gate>(
+    fn step_here<R: Threads + Sync, G: Gate>(
         self,
         team: &Team<'_, R, G>,
     ) -> Result<Attempt, AllocError>
@@ -124,7 +123,7 @@ impl Universe {
 
     // Takes one step at a new table of this shape, or of a smaller one, if it has room for what is
     // kept.
-    fn step_in<R: Threads + Wait + Sync, G: Gate>(
+    fn step_in<R: Threads + Sync, G: Gate>(
         self,
         team: &Team<'_, R, G>,
         shape: Shape,

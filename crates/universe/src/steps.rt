@@ -10,7 +10,6 @@ use crate::attempts::Attempt;
 use crate::digits::{digits_from, table_for};
 use crate::universe::Universe;
 use plane::Refusal;
-use std::sync::Wait;
 use std::thread::Threads;
 use worker_split::{Gate, Team};
 
@@ -20,7 +19,7 @@ impl Universe {
     // The cells after 2^exponent generations. Where the largest table is too small for the step, it
     // is taken in two halves. `NodesFull` where it is too small for a single generation, and
     // `NoMemory`.
-    fn step<R: Threads + Wait + Sync, G: Gate>(
+    fn step<R: Threads + Sync, G: Gate>(
         self,
         team: &Team<'_, R, G>,
         exponent: u8,
@@ -45,7 +44,7 @@ impl Universe {
 
     // The cells after 2^exponent generations, by steps at the table of this exponent, or of a lower
     // one.
-    fn repeated_step<R: Threads + Wait + Sync, G: Gate>(
+    fn repeated_step<R: Threads + Sync, G: Gate>(
         self,
         team: &Team<'_, R, G>,
         exponent: u8,
@@ -69,7 +68,7 @@ impl Universe {
     /// `NodesFull` where the largest table, opened with only the cells of a generation, fills up
     /// before the next one is made or has no room for these cells; `NoMemory` where memory runs
     /// out.
-    pub fn after<R: Threads + Wait + Sync, G: Gate>(
+    pub fn after<R: Threads + Sync, G: Gate>(
         self,
         team: &Team<'_, R, G>,
         generations: u64,

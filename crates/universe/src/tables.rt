@@ -18,7 +18,6 @@ use plane::Refusal;
 use rule_text::Rule;
 use squares::{Sq, Squares, copy_between};
 use std::alloc::{AllocError, Global};
-use std::sync::Wait;
 use std::thread::Threads;
 use table_core::{Key, Kind, Shape};
 use table_growth::{TableHistory, pair_count};
@@ -133,7 +132,7 @@ impl OpenTable {
     }
 
     /// One step of 2^exponent generations from a square, by a team.
-    pub(crate) fn step<R: Threads + Wait + Sync, G: Gate>(
+    pub(crate) fn step<R: Threads + Sync, G: Gate>(
         &mut self,
         team: &Team<'_, R, G>,
         root: Sq,

@@ -11,7 +11,6 @@ use clap::{ArgMatches, Command};
 use plane::{Fault, Sink, Source};
 use program_parts::{Application, Misfit, WordsReason, command_with};
 use std::alloc::{AllocError, Global};
-use std::sync::Wait;
 use std::thread::Threads;
 
 /// The program lifeview, for [`program_parts::program`] and [`program_parts::start`]. It writes two
@@ -71,7 +70,7 @@ impl Application for Lifeview {
     }
 
     // Reads the source, runs it, and writes its picture.
-    fn perform<R: Threads + Wait + Sync, S: Source, O: Sink, V: Sink>(
+    fn perform<R: Threads + Sync, S: Source, O: Sink, V: Sink>(
         rt: &R,
         alloc: Global,
         asked: &Asked,

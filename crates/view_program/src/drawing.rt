@@ -15,7 +15,6 @@ use engine::{last_pattern, load, write_summary};
 use plane::{Fault, Sink, Source, write_all};
 use png_writer::Image;
 use std::alloc::Global;
-use std::sync::Wait;
 use std::thread::Threads;
 
 /// Runs the pattern in a file's bytes, and draws its last generation as a PNG file. It writes two
@@ -28,7 +27,7 @@ use std::thread::Threads;
 /// range (`TooFar`). `NoMemory` and `NodesFull` come as in a run of lifebatch, before anything is
 /// written. `WriteFailed` comes if a sink failed, and whenever one did; that sink took a beginning
 /// of its text. Nothing is written to `file` where the report failed.
-pub fn draw<R: Threads + Wait + Sync, W: Sink, V: Sink>(
+pub fn draw<R: Threads + Sync, W: Sink, V: Sink>(
     rt: &R,
     alloc: Global,
     bytes: &[u8],
@@ -65,7 +64,7 @@ pub fn draw<R: Threads + Wait + Sync, W: Sink, V: Sink>(
 /// Reads all bytes of a source, and draws the pattern in them as [`draw`] does. It refuses
 /// `ReadFailed` where the source failed, and `NoMemory`; before all bytes are read, nothing is
 /// written.
-pub fn draw_from<R: Threads + Wait + Sync, S: Source, W: Sink, V: Sink>(
+pub fn draw_from<R: Threads + Sync, S: Source, W: Sink, V: Sink>(
     rt: &R,
     alloc: Global,
     source: &mut S,

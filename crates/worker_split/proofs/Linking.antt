@@ -9,7 +9,7 @@ use Rattle.worker_split.specs.declared.members.Member.{Member}
 use Rattle.job_queues.specs.declared.queues.JobQueue.{JobQueue}
 use Rattle.job_queues.specs.declared.queues.JobStealer.{JobStealer}
 use Rattle.worker_split.specs.Rounds.{IsIdle, StayIdle}
-use Rattle.job_queues.specs.Shares.{share_in}
+use Rattle.job_queues.specs.Shares.{left_in, share_in}
 use Rattle.worker_split.proofs.Places.{pushed}
 
 pub stay_same : (members : List Member) → StayIdle members members
@@ -27,11 +27,12 @@ stay_set members i new d share idle = record {
 }
 
 -- an end of a worker's queue was made
-pub end_made : (members : List Member) (j : ℕ) (d : Member) (own : JobQueue) → j < length members → own.count ≡ (get_or members j d).own.count → share_in own ≡ share_in (get_or members j d).own →
+pub end_made : (members : List Member) (j : ℕ) (d : Member) (own : JobQueue) → j < length members → own.count ≡ (get_or members j d).own.count → share_in own ≡ share_in (get_or members j d).own → left_in own ≡ left_in (get_or members j d).own →
     StayIdle members (set members j (record (get_or members j d) { own = own }))
-end_made members j d own within same share =
+end_made members j d own within same share left =
     stay_set members j (record (get_or members j d) { own = own }) d share (λ count all. let one = all j d within in record {
       queues = record { own = same ∙ one.queues.own; others = one.queues.others };
+      left = left ∙ (one.left ∙ sym share);
       at = one.at;
       counted = one.counted;
       answers = one.answers;
@@ -49,6 +50,7 @@ end_given old members i d others end ok stay within is fits = record {
       let one = now i d (subst (λ n. i < n) (sym stay.len) within) in
       All-set (IsIdle count) members i (record (get_or members i d) { others = others }) (record {
         queues = record { own = one.queues.own; others = pushed (λ (other : JobStealer). other.count ≡ count) ok _ _ end is one.queues.others (fits count all) };
+        left = one.left;
         at = one.at;
         counted = one.counted;
         answers = one.answers;

@@ -11,6 +11,7 @@ use Rattle.worker_split.specs.declared.members.Answer.{Answer}
 use Rattle.worker_split.specs.declared.members.Member.{Member}
 use Rattle.worker_split.specs.declared.members.Solver.{Solver}
 use Rattle.worker_split.specs.declared.members.Room.{Room}
+use Rattle.job_queues.specs.Shares.{left_in, share_in}
 use Rattle.worker_split.specs.Shares.{AreShares, shares_of}
 use Rattle.worker_split.specs.Work.{Works}
 
@@ -37,9 +38,11 @@ pub record HasQueues (count : ℕ) (member : Member) : Type 0 where
   pub own : member.own.count ≡ count
   pub others : All (λ other. other.count ≡ count) member.others.items
 
--- a worker for a round of so many jobs, to whom no desk was given yet
+-- a worker for a round of so many jobs, who has all of its own jobs left, and to whom no desk was
+-- given yet
 pub record IsIdle (count : ℕ) (member : Member) : Type 0 where
   pub queues : HasQueues count member
+  pub left : left_in member.own ≡ share_in member.own
   pub at : member.at ≡ None
   pub counted : member.solver.tally.expansions ≡ 0
   pub answers : member.solver.answers.items ≡ []

@@ -18,7 +18,6 @@ use plane::Refusal;
 use squares::{Sq, Squares};
 use std::alloc::{AllocError, Global};
 use std::collections::BTreeSet;
-use std::sync::Wait;
 use std::thread::Threads;
 
 // The lowest level of the squares that are expanded. The futures of squares of the level below are
@@ -49,7 +48,7 @@ fn unknown_of(
 }
 
 // Finds the results of squares of one level, by a round of those that aren't known.
-fn batch<R: Threads + Wait + Sync, G: Gate>(
+fn batch<R: Threads + Sync, G: Gate>(
     team: &Team<'_, R, G>,
     at: &mut At<'_>,
     level: u8,
@@ -89,7 +88,7 @@ fn overlaps_of_futures(
 }
 
 // Finds the results of the squares, one level lower, that the future of a square takes.
-fn expand<R: Threads + Wait + Sync, G: Gate>(
+fn expand<R: Threads + Sync, G: Gate>(
     team: &Team<'_, R, G>,
     at: &mut At<'_>,
     sq: Sq,
@@ -112,7 +111,7 @@ fn expand<R: Threads + Wait + Sync, G: Gate>(
 }
 
 // Finds the results that the future of a square takes, or, of a low one, its own.
-fn prepare<R: Threads + Wait + Sync, G: Gate>(
+fn prepare<R: Threads + Sync, G: Gate>(
     team: &Team<'_, R, G>,
     at: &mut At<'_>,
     sq: Sq,
@@ -132,7 +131,7 @@ fn prepare<R: Threads + Wait + Sync, G: Gate>(
 }
 
 /// The future of a square, by a team, at a desk that is at work.
-pub(crate) fn team_future<R: Threads + Wait + Sync, G: Gate>(
+pub(crate) fn team_future<R: Threads + Sync, G: Gate>(
     team: &Team<'_, R, G>,
     at: &mut At<'_>,
     sq: Sq,
@@ -152,7 +151,7 @@ pub(crate) fn team_future<R: Threads + Wait + Sync, G: Gate>(
 ///
 /// The top level of a square of level 8 or more is expanded, and rounds take the squares of the
 /// level below whose results the desk doesn't find; of a lower square they take the square itself.
-pub fn batch_future<R: Threads + Wait + Sync, G: Gate>(
+pub fn batch_future<R: Threads + Sync, G: Gate>(
     rt: &R,
     alloc: Global,
     table: &NodeTable,

@@ -14,8 +14,8 @@ use plane::Refusal;
 use squares::Sq;
 
 // What stands at a place, or is made where it is empty.
-fn fill_one<R, G: Gate>(
-    shared: &Shared<'_, R, G>,
+fn fill_one<G: Gate>(
+    shared: &Shared<'_, G>,
     at: &mut At<'_>,
     k: usize,
     place: Option<Result<Sq, Refusal>>,
@@ -34,8 +34,8 @@ fn fill_one<R, G: Gate>(
 }
 
 /// The list of all futures, for which there is room. A refusal doesn't stop the other jobs.
-pub(crate) fn fill<R, G: Gate>(
-    shared: &Shared<'_, R, G>,
+pub(crate) fn fill<G: Gate>(
+    shared: &Shared<'_, G>,
     at: &mut At<'_>,
     places: &[Option<Result<Sq, Refusal>>],
     mut futures: Vec<Sq>,

@@ -14,8 +14,7 @@ use squares::Sq;
 
 /// What all workers of a round share.
 #[derive(Drop)]
-pub(crate) struct Shared<'a, R, G> {
-    pub(crate) runtime: &'a R,
+pub(crate) struct Shared<'a, G> {
     pub(crate) jobs: &'a [Sq],
     pub(crate) gate: &'a G,
 }
@@ -37,8 +36,8 @@ pub(crate) fn future_of(
 }
 
 /// The future of one job, or its refusal, between the calls of its gate.
-pub(crate) fn settle<R, G: Gate>(
-    shared: &Shared<'_, R, G>,
+pub(crate) fn settle<G: Gate>(
+    shared: &Shared<'_, G>,
     at: &mut At<'_>,
     job: usize,
     order: Option<EvaluationOrder>,
@@ -57,12 +56,7 @@ pub(crate) fn settle<R, G: Gate>(
 
 impl Solver {
     /// Settles one job, and notes the answer. One that finds no room is left out.
-    pub(crate) fn solve<R, G: Gate>(
-        &mut self,
-        shared: &Shared<'_, R, G>,
-        at: &mut At<'_>,
-        job: usize,
-    )
+    pub(crate) fn solve<G: Gate>(&mut self, shared: &Shared<'_, G>, at: &mut At<'_>, job: usize)
         requires job { job < length shared.now.jobs.now }
         requires solver { CanSolve shared.now.jobs.now at.old self.old }
         ensures solver { CanSolve shared.now.jobs.now at.new self.new }

@@ -21,12 +21,11 @@ use node_table::{At, Desk, NodeTable};
 use plane::Refusal;
 use squares::Sq;
 use std::alloc::Global;
-use std::sync::Wait;
 use std::thread;
 use std::thread::Threads;
 
 // Runs a worker until its own queue and then each other one was found empty, and then lets it help.
-fn run<R: Wait, G: Gate>(shared: &Shared<'_, R, G>, member: &mut Member<'_>)
+fn run<G: Gate>(shared: &Shared<'_, G>, member: &mut Member<'_>)
     requires { IsReady shared.now.jobs.now member.old }
     ensures queues { HasQueues (length shared.now.jobs.now) member.new }
     ensures found { FindsMore shared.now.jobs.now member.old member.new }
@@ -42,7 +41,11 @@ fn run<R: Wait, G: Gate>(shared: &Shared<'_, R, G>, member: &mut Member<'_>)
 }
 
 // Runs all workers.
-fn run_all<R: Threads + Wait + Sync, G: Gate>(shared: &Shared<'_, R, G>, members: &mut [Member<'_>])
+fn run_all<R: Threads + Sync, G: Gate>(
+    runtime: &R,
+    shared: &Shared<'_, G>,
+    members: &mut [Member<'_>],
+)
     requires some { 0 < length members.old }
     requires ready { All (IsReady shared.now.jobs.now) members.old }
     ensures members { (base : Book) → All (IsMember base shared.now.jobs.now) members.old
@@ -51,7 +54,7 @@ fn run_all<R: Threads + Wait + Sync, G: Gate>(shared: &Shared<'_, R, G>, members
 {
     let workers = members.len();
     thread::for_each_mut(
-        shared.runtime,
+        runtime,
         members,
         workers,
         &|_, member: &mut Member|
@@ -62,7 +65,7 @@ fn run_all<R: Threads + Wait + Sync, G: Gate>(shared: &Shared<'_, R, G>, members
 }
 
 /// The futures of all jobs, by a team, at a desk that is at work. All memory was taken.
-pub(crate) fn carry_out<'t, R: Threads + Wait + Sync, G: Gate>(
+pub(crate) fn carry_out<'t, R: Threads + Sync, G: Gate>(
     team: &Team<'_, R, G>,
     at: &mut At<'t>,
     jobs: &[Sq],
@@ -79,12 +82,11 @@ pub(crate) fn carry_out<'t, R: Threads + Wait + Sync, G: Gate>(
     let members = members.as_mut_slice();
     let places = places.as_mut_slice();
     let shared = Shared {
-        runtime: team.runtime,
         jobs,
         gate: team.gate,
     };
     hand_out(at, members);
-    run_all(&shared, members);
+    run_all(team.runtime, &shared, members);
     gather(at, members, places, tally);
     fill(&shared, at, places, room.futures, tally)
 }
@@ -94,7 +96,7 @@ pub(crate) fn carry_out<'t, R: Threads + Wait + Sync, G: Gate>(
 /// list. A refused job doesn't stop the others.
 ///
 /// `NoMemory` comes before the first job. `NodesFull` comes where a job was refused.
-pub fn round<R: Threads + Wait + Sync, G: Gate>(
+pub fn round<R: Threads + Sync, G: Gate>(
     rt: &R,
     alloc: Global,
     table: &NodeTable,

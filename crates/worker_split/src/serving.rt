@@ -12,11 +12,10 @@ use crate::team::Gate;
 use job_queues::{JobQueue, JobStealer};
 use node_table::At;
 use squares::Sq;
-use std::sync::Wait;
 
 /// Solves the jobs that the worker finds in its own queue.
-pub(crate) fn own_share<R: Wait, G: Gate>(
-    shared: &Shared<'_, R, G>,
+pub(crate) fn own_share<G: Gate>(
+    shared: &Shared<'_, G>,
     at: &mut At<'_>,
     own: &mut JobQueue,
     solver: &mut Solver,
@@ -27,17 +26,14 @@ pub(crate) fn own_share<R: Wait, G: Gate>(
     ensures solver { CanSolve shared.now.jobs.now at.new solver.new }
     ensures continues { Continues 1 at.old at.new solver.old.tally solver.new.tally }
 {
-    for _ in shared.runtime.forever() {
-        let Some(job) = own.take() else {
-            break;
-        };
+    while let Some(job) = own.take() {
         solver.solve(shared, at, job);
     }
 }
 
 // Solves the jobs that it finds in another's queue.
-fn other_share<R: Wait, G: Gate>(
-    shared: &Shared<'_, R, G>,
+fn other_share<G: Gate>(
+    shared: &Shared<'_, G>,
     at: &mut At<'_>,
     other: &mut JobStealer,
     solver: &mut Solver,
@@ -48,17 +44,14 @@ fn other_share<R: Wait, G: Gate>(
     ensures solver { CanSolve shared.now.jobs.now at.new solver.new }
     ensures continues { Continues 1 at.old at.new solver.old.tally solver.new.tally }
 {
-    for _ in shared.runtime.forever() {
-        let Some(job) = other.steal(shared.runtime) else {
-            break;
-        };
+    while let Some(job) = other.steal() {
         solver.solve(shared, at, job);
     }
 }
 
 /// Solves the jobs that it finds in the others' queues, one after the other.
-pub(crate) fn other_shares<R: Wait, G: Gate>(
-    shared: &Shared<'_, R, G>,
+pub(crate) fn other_shares<G: Gate>(
+    shared: &Shared<'_, G>,
     at: &mut At<'_>,
     others: &mut [JobStealer],
     solver: &mut Solver,

@@ -15,11 +15,10 @@ use hashlife_step::{Tally, pad, trim};
 use node_table::{At, Desk, NodeTable};
 use plane::Refusal;
 use squares::{Sq, Squares};
-use std::sync::Wait;
 use std::thread::Threads;
 
 // One step, at a desk that is at work.
-fn advance<R: Threads + Wait + Sync, G: Gate>(
+fn advance<R: Threads + Sync, G: Gate>(
     team: &Team<'_, R, G>,
     at: &mut At<'_>,
     root: Sq,
@@ -45,7 +44,7 @@ fn advance<R: Threads + Wait + Sync, G: Gate>(
 /// future taken and trimmed. The answer has the cells that those of the root become, at the
 /// smallest level of at least 4, round the same centre. The desk comes back with all that the team
 /// found out. A team of one starts no thread and calls no gate.
-pub fn step<R: Threads + Wait + Sync, G: Gate>(
+pub fn step<R: Threads + Sync, G: Gate>(
     team: &Team<'_, R, G>,
     table: &NodeTable,
     desk: Desk,

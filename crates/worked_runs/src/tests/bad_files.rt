@@ -6,7 +6,6 @@ use plane::{Fault, Refusal};
 use sample_patterns::chain;
 use std::alloc::{AllocError, Global};
 use std::process::Abort;
-use std::sync::Wait;
 use std::thread::Threads;
 
 const THREE_CELLS: &str = "x = 1, y = 1\n3o!";
@@ -75,7 +74,7 @@ fn with_byte(alloc: Global, text: &str, place: usize, byte: u8) -> Result<Vec<u8
 }
 
 // Runs a text with each strange byte at a place.
-fn assert_strange<R: Abort + AllocGlobal + Threads + Wait + Sync>(
+fn assert_strange<R: Abort + AllocGlobal + Threads + Sync>(
     rt: &R,
     text: &str,
     place: usize,

@@ -8,7 +8,6 @@ use engine::load;
 use plane::{FailAt, Fault, Memory, Refusal};
 use std::alloc::{AllocError, Global};
 use std::process::Abort;
-use std::sync::Wait;
 use std::test::Fail;
 use std::thread::Threads;
 
@@ -71,7 +70,7 @@ fn first_wrong_read(alloc: Global, bytes: &[u8], reads: u64) -> Result<Option<u6
 
 // Fails each read of a source in turn, and none: so many reads load the bytes, and the last one
 // finds their end.
-fn assert_reads_fail<R: Abort + AllocGlobal + Threads + Wait + Sync>(
+fn assert_reads_fail<R: Abort + AllocGlobal + Threads + Sync>(
     rt: &R,
     bytes: &[u8],
     reads: u64,
@@ -156,7 +155,7 @@ fn is_cut(row: &Row, end: &Ended, failing: Failing) -> bool {
 }
 
 // Runs a row with sinks that take so many bytes at a time, of which one fails at this call.
-fn ended<R: Abort + AllocGlobal + Threads + Wait + Sync>(
+fn ended<R: Abort + AllocGlobal + Threads + Sync>(
     rt: &R,
     row: &Row,
     most: usize,
@@ -169,7 +168,7 @@ fn ended<R: Abort + AllocGlobal + Threads + Wait + Sync>(
 
 // How many calls a run makes of a sink: at least one, and one for each byte where it takes one at
 // a time.
-fn calls_of<R: Abort + AllocGlobal + Threads + Wait + Sync>(
+fn calls_of<R: Abort + AllocGlobal + Threads + Sync>(
     rt: &R,
     row: &Row,
     most: usize,
@@ -184,7 +183,7 @@ fn calls_of<R: Abort + AllocGlobal + Threads + Wait + Sync>(
 
 // The first call at which, if it fails, a run with so many calls of the sink does not end as it
 // should; call 0, and one behind the last, fail at none.
-fn first_wrong_call<R: Abort + AllocGlobal + Threads + Wait + Sync>(
+fn first_wrong_call<R: Abort + AllocGlobal + Threads + Sync>(
     rt: &R,
     row: &Row,
     most: usize,
@@ -207,7 +206,7 @@ fn first_wrong_call<R: Abort + AllocGlobal + Threads + Wait + Sync>(
 }
 
 // Fails each call of a sink in turn, and none, for each row.
-fn assert_fails<R: Abort + AllocGlobal + Threads + Wait + Sync>(
+fn assert_fails<R: Abort + AllocGlobal + Threads + Sync>(
     rt: &R,
     most: usize,
     failing: Failing,

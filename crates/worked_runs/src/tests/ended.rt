@@ -5,7 +5,6 @@ use engine::{Options, Summary, run};
 use plane::Fault;
 use std::alloc::AllocError;
 use std::process::Abort;
-use std::sync::Wait;
 use std::thread::Threads;
 use table_core::Shape;
 
@@ -19,7 +18,7 @@ pub(crate) struct Ended {
 
 impl Ended {
     /// Runs a file with devices that take all that is written.
-    pub(crate) fn of<R: Abort + AllocGlobal + Threads + Wait + Sync>(
+    pub(crate) fn of<R: Abort + AllocGlobal + Threads + Sync>(
         rt: &R,
         file: &str,
         options: &Options,
@@ -28,7 +27,7 @@ impl Ended {
     }
 
     /// The same for a file that need not be a text.
-    pub(crate) fn of_bytes<R: Abort + AllocGlobal + Threads + Wait + Sync>(
+    pub(crate) fn of_bytes<R: Abort + AllocGlobal + Threads + Sync>(
         rt: &R,
         file: &[u8],
         options: &Options,
@@ -38,7 +37,7 @@ impl Ended {
 
     /// Runs a file with devices that take so many bytes at a time, of which the report and the file
     /// fail at these calls, or at none for 0.
-    pub(crate) fn with_devices<R: Abort + AllocGlobal + Threads + Wait + Sync>(
+    pub(crate) fn with_devices<R: Abort + AllocGlobal + Threads + Sync>(
         rt: &R,
         file: &[u8],
         options: &Options,

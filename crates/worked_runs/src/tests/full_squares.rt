@@ -2,9 +2,10 @@
 
 use crate::tests::ended::Ended;
 use crate::tests::macrocell::FULL;
-use crate::tests::rows::{MACROCELL, RLE, Row, assert_rows, assert_told};
+use crate::tests::rows::{MACROCELL, RLE, Row, assert_told};
+use engine::Options;
 use plane::Refusal;
-use std::alloc::AllocError;
+use std::alloc::{AllocError, Global};
 
 // Where no RLE file can hold the box.
 const TOO_LARGE: Row = Row {
@@ -40,28 +41,55 @@ const SQUARES: &[(&str, Row)] = &[
     ),
 ];
 
-/// The file up to a line.
-pub(crate) fn full_square(line_behind: &str) -> &'static str {
-    match FULL.split_once(line_behind) {
-        Some((file, _)) => file,
+// What stands before the nodes in a file that a run writes.
+const HEAD: &str = "[M2] (lifebatch 1)\n#R B3/S23\n#G 0\n";
+
+// The nodes up to a line.
+fn nodes_before(line_behind: &str) -> &'static str {
+    let nodes = match FULL.split_once(HEAD) {
+        Some((_, nodes)) => nodes,
+        None => "",
+    };
+    match nodes.split_once(line_behind) {
+        Some((before, _)) => before,
         None => "",
     }
+}
+
+// These nodes, behind a first line or more.
+fn file_of(alloc: Global, head: &str, nodes: &str) -> Result<String, AllocError> {
+    let mut file = String::from_str(alloc, head)?;
+    file.push_str(nodes)?;
+    Ok(file)
+}
+
+/// A file of the nodes up to a line, which has neither a rule nor a generation.
+pub(crate) fn full_square(alloc: Global, line_behind: &str) -> Result<String, AllocError> {
+    file_of(alloc, "[M2]\n", nodes_before(line_behind))
 }
 
 #[test]
 fn counts_the_cells_of_full_squares(rt: HostRuntime) -> Result<(), AllocError> {
     for (line_behind, row) in SQUARES {
-        let file = full_square(line_behind);
-        assert_rows(&rt, &[Row { file, ..*row }])?;
+        let file = full_square(rt.alloc(), line_behind)?;
+        for (quiet, report) in [(false, row.report), (true, "")] {
+            let options = Options {
+                quiet,
+                ..row.options()
+            };
+            let end = Ended::of(&rt, file.as_str(), &options)?;
+            assert_told(&rt, line_behind, &end, (row.fault(), report, ""));
+        }
     }
     Ok(())
 }
 
 #[test]
 fn writes_a_full_square_by_the_lines_that_it_has(rt: HostRuntime) -> Result<(), AllocError> {
-    let file = full_square("62 59");
-    let end = Ended::of(&rt, file, &MACROCELL.options())?;
+    let file = full_square(rt.alloc(), "62 59")?;
+    let end = Ended::of(&rt, file.as_str(), &MACROCELL.options())?;
     let report = "0: 5316911983139663491615228241121378304\n";
-    assert_told(&rt, "62 59", &end, (None, report, file));
+    let written = file_of(rt.alloc(), HEAD, nodes_before("62 59"))?;
+    assert_told(&rt, "62 59", &end, (None, report, written.as_str()));
     Ok(())
 }

@@ -15,7 +15,6 @@ use plane::Refusal;
 use sample_patterns::many_leaves;
 use std::alloc::AllocError;
 use std::process::Abort;
-use std::sync::Wait;
 use std::thread::Threads;
 
 // The fewest slots there can be for a run of so many generations. In half as many as a glider for
@@ -34,7 +33,7 @@ fn in_the_fewest(row: &Row, workers: usize) -> Row {
 
 // Runs rows that have room in the fewest slots. One worker takes the same steps in each run, and
 // so writes all of it each time.
-fn assert_room<R: Abort + AllocGlobal + Threads + Wait + Sync>(
+fn assert_room<R: Abort + AllocGlobal + Threads + Sync>(
     rt: &R,
     rows: &[Row],
 ) -> Result<(), AllocError> {
@@ -48,7 +47,7 @@ fn assert_room<R: Abort + AllocGlobal + Threads + Wait + Sync>(
 
 // Runs rows in the fewest slots, where it isn't known whether there is room: with two workers the
 // schedule decides it.
-fn assert_whole_or_full<R: Abort + AllocGlobal + Threads + Wait + Sync>(
+fn assert_whole_or_full<R: Abort + AllocGlobal + Threads + Sync>(
     rt: &R,
     rows: &[Row],
     workers: usize,
@@ -146,10 +145,10 @@ const FULL_SQUARES: &[(&str, Row)] = &[
 #[test]
 fn runs_full_squares_in_the_fewest_slots(rt: HostRuntime) -> Result<(), AllocError> {
     for (line_behind, row) in FULL_SQUARES {
-        let file = full_square(line_behind);
+        let file = full_square(rt.alloc(), line_behind)?;
         for workers in [1, 2] {
             let few = in_the_fewest(row, workers);
-            let end = Ended::of(&rt, file, &few.options())?;
+            let end = Ended::of(&rt, file.as_str(), &few.options())?;
             assert_told(&rt, line_behind, &end, (few.fault(), few.report, ""));
         }
     }

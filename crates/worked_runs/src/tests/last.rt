@@ -8,15 +8,11 @@ use engine::{RunOptions, Summary, last_pattern};
 use plane::{Fault, Refusal};
 use std::alloc::AllocError;
 use std::process::Abort;
-use std::sync::Wait;
 use std::thread::Threads;
 use table_core::Shape;
 
 // What is answered beside the last pattern of a row.
-fn answer_of<R: Abort + AllocGlobal + Threads + Wait + Sync>(
-    rt: &R,
-    row: &Row,
-) -> Result<Summary, Fault> {
+fn answer_of<R: Abort + AllocGlobal + Threads + Sync>(rt: &R, row: &Row) -> Result<Summary, Fault> {
     let run = RunOptions {
         gens: row.generations,
         rule: None,
@@ -30,7 +26,7 @@ fn answer_of<R: Abort + AllocGlobal + Threads + Wait + Sync>(
 }
 
 // Whether the last pattern of a row is answered as its run is.
-fn assert_answered_as_run<R: Abort + AllocGlobal + Threads + Wait + Sync>(
+fn assert_answered_as_run<R: Abort + AllocGlobal + Threads + Sync>(
     rt: &R,
     row: &Row,
 ) -> Result<(), AllocError> {
@@ -40,7 +36,7 @@ fn assert_answered_as_run<R: Abort + AllocGlobal + Threads + Wait + Sync>(
 }
 
 // Whether the last patterns of rows are answered as their runs are.
-fn assert_answered_as_runs<R: Abort + AllocGlobal + Threads + Wait + Sync>(
+fn assert_answered_as_runs<R: Abort + AllocGlobal + Threads + Sync>(
     rt: &R,
     rows: &[Row],
 ) -> Result<(), AllocError> {

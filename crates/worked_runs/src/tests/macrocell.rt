@@ -8,7 +8,6 @@ use engine::Options;
 use plane::Refusal;
 use std::alloc::AllocError;
 use std::process::Abort;
-use std::sync::Wait;
 use std::thread::Threads;
 
 const GLIDER: &str = "[M2] (golly 2.0)\n#R B3/S23\n$$..*$...*$.***$$$$\n4 0 0 0 1\n";
@@ -245,7 +244,7 @@ fn reads_and_writes_macrocell_files(rt: HostRuntime) -> Result<(), AllocError> {
 
 // Runs what rows write, and compares what is written again, and the report, which is the last line
 // of theirs.
-fn assert_written_again<R: Abort + AllocGlobal + Threads + Wait + Sync>(
+fn assert_written_again<R: Abort + AllocGlobal + Threads + Sync>(
     rt: &R,
     rows: &[Row],
 ) -> Result<(), AllocError> {

@@ -6,7 +6,6 @@ use engine::{Format, Options};
 use plane::{Fault, Refusal, Window};
 use sample_patterns::BLINKER;
 use std::process::Abort;
-use std::sync::Wait;
 use std::test::Fail;
 use std::thread::Threads;
 
@@ -84,7 +83,7 @@ fn asked(generations: u64, window: (i64, i64, u32, u32), quiet: bool) -> Result<
 }
 
 // Runs a row with its lines and without, with one worker and by two.
-fn assert_pictured<R: Abort + AllocGlobal + Threads + Wait + Sync>(
+fn assert_pictured<R: Abort + AllocGlobal + Threads + Sync>(
     rt: &R,
     row: &Pictured,
 ) -> Result<(), Fail> {
@@ -111,7 +110,7 @@ fn draws_the_window_behind_the_lines(rt: HostRuntime) -> Result<(), Fail> {
 
 // Runs a row with one worker in the fewest slots, where it has room: the worker takes the same
 // steps in each run.
-fn assert_pictured_in_the_fewest<R: Abort + AllocGlobal + Threads + Wait + Sync>(
+fn assert_pictured_in_the_fewest<R: Abort + AllocGlobal + Threads + Sync>(
     rt: &R,
     row: &Pictured,
 ) -> Result<(), Fail> {

@@ -5,7 +5,6 @@ use engine::{Format, Options};
 use plane::{Fault, Refusal};
 use std::alloc::AllocError;
 use std::process::Abort;
-use std::sync::Wait;
 use std::thread::Threads;
 
 /// What is asked for where no word asks for anything.
@@ -194,7 +193,7 @@ pub(crate) fn assert_whole_or_refused<R: Abort>(
 }
 
 /// Runs rows, with their reports and without, and compares what is written with what they say.
-pub(crate) fn assert_rows<R: Abort + AllocGlobal + Threads + Wait + Sync>(
+pub(crate) fn assert_rows<R: Abort + AllocGlobal + Threads + Sync>(
     rt: &R,
     rows: &[Row],
 ) -> Result<(), AllocError> {
@@ -212,7 +211,7 @@ pub(crate) fn assert_rows<R: Abort + AllocGlobal + Threads + Wait + Sync>(
 }
 
 /// Runs rows with so many workers, and compares what is written with what they say.
-pub(crate) fn assert_rows_by<R: Abort + AllocGlobal + Threads + Wait + Sync>(
+pub(crate) fn assert_rows_by<R: Abort + AllocGlobal + Threads + Sync>(
     rt: &R,
     rows: &[Row],
     workers: usize,
@@ -224,7 +223,7 @@ pub(crate) fn assert_rows_by<R: Abort + AllocGlobal + Threads + Wait + Sync>(
 }
 
 /// Runs a file that writes no pattern, and compares how the run ended and what it reports.
-pub(crate) fn assert_reported<R: Abort + AllocGlobal + Threads + Wait + Sync>(
+pub(crate) fn assert_reported<R: Abort + AllocGlobal + Threads + Sync>(
     rt: &R,
     file: &str,
     options: &Options,

@@ -6,7 +6,6 @@ use plane::{Counted, FailAt, Refusal};
 use std::alloc::AllocError;
 use std::io::{self, Read};
 use std::process::Abort;
-use std::sync::Wait;
 use std::thread::Threads;
 use table_core::Shape;
 
@@ -54,7 +53,7 @@ struct Ended {
 }
 
 impl Ended {
-    fn of<R: Abort + AllocGlobal + Threads + Wait + Sync>(
+    fn of<R: Abort + AllocGlobal + Threads + Sync>(
         rt: &R,
         row: &Row,
         most: usize,
@@ -91,7 +90,7 @@ impl Ended {
 
 // Whether a run ends as it should whose reader, which comes to its end in so many reads, fails at
 // this one, or at none.
-fn is_right<R: Abort + AllocGlobal + Threads + Wait + Sync>(
+fn is_right<R: Abort + AllocGlobal + Threads + Sync>(
     rt: &R,
     row: &Row,
     most: usize,
@@ -111,7 +110,7 @@ fn is_right<R: Abort + AllocGlobal + Threads + Wait + Sync>(
 
 // The first read at which, if it fails, a run does not end as it should; 0, and one behind the
 // last, fail at none.
-fn first_wrong_read<R: Abort + AllocGlobal + Threads + Wait + Sync>(
+fn first_wrong_read<R: Abort + AllocGlobal + Threads + Sync>(
     rt: &R,
     row: &Row,
     most: usize,
@@ -127,7 +126,7 @@ fn first_wrong_read<R: Abort + AllocGlobal + Threads + Wait + Sync>(
 }
 
 // Runs each row from a reader that gives so many bytes at a time.
-fn assert_runs<R: Abort + AllocGlobal + Threads + Wait + Sync>(
+fn assert_runs<R: Abort + AllocGlobal + Threads + Sync>(
     rt: &R,
     most: usize,
 ) -> Result<(), AllocError> {

@@ -14,13 +14,12 @@ use crate::tests::rows::{
 use engine::{Options, load};
 use plane::{Memory, Refusal, Window};
 use std::process::Abort;
-use std::sync::Wait;
 use std::test::Fail;
 use std::thread::Threads;
 
 // Runs a row: it writes its whole texts, or is refused between two lines of the report, with
 // nothing in the file.
-fn assert_runs_or_refuses<R: Abort + AllocGlobal + Print + Threads + Wait + Sync>(
+fn assert_runs_or_refuses<R: Abort + AllocGlobal + Print + Threads + Sync>(
     rt: &R,
     row: &Row,
 ) -> Result<(), Fail> {
@@ -28,7 +27,7 @@ fn assert_runs_or_refuses<R: Abort + AllocGlobal + Print + Threads + Wait + Sync
 }
 
 // The same where more is asked for than the row says.
-fn assert_asked_or_refuses<R: Abort + AllocGlobal + Print + Threads + Wait + Sync>(
+fn assert_asked_or_refuses<R: Abort + AllocGlobal + Print + Threads + Sync>(
     rt: &R,
     row: &Row,
     options: &Options,

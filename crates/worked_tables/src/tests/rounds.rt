@@ -5,4 +5,5 @@ mod futures;
 mod gates;
 mod jobs;
 mod jobs_of_leaves;
+mod queues;
 mod want_of_memory;

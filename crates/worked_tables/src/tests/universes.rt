@@ -8,7 +8,6 @@ use rule_text::Rule;
 use squares::{Build, Sq, Squares, runs_to_square};
 use std::alloc::Global;
 use std::process::Abort;
-use std::sync::Wait;
 use std::test::Fail;
 use std::thread::Threads;
 use table_core::Shape;
@@ -46,7 +45,7 @@ const GLIDER: [(Cell, u64); 3] = [
 const ONE_CELL: [(Cell, u64); 1] = [(Cell { x: 0, y: 0 }, 1)];
 
 // The universe so many generations later, if these stay in the range.
-fn later<R: Threads + Wait + Sync + AllocGlobal>(
+fn later<R: Threads + Sync + AllocGlobal>(
     rt: &R,
     mut universe: Universe,
     generations: u64,
@@ -63,7 +62,7 @@ fn later<R: Threads + Wait + Sync + AllocGlobal>(
 }
 
 /// Goes on by so many generations, again and again, and asserts the population that each comes to.
-pub(crate) fn assert_comes_to<R: Threads + Wait + Sync + Abort + AllocGlobal>(
+pub(crate) fn assert_comes_to<R: Threads + Sync + Abort + AllocGlobal>(
     rt: &R,
     start: Universe,
     reports: &[(u64, u128)],

@@ -8,8 +8,8 @@ returns-clause-performed g c = λ words asks. record {
   read = c.perform.new.source;
   unwritten = c.new-file.result;
   written = c.perform.new.file;
-  input = record { named = cc; unread = c.open-source.ensures.unread; unfailed = c.open-source.ensures.unfailed };
-  output = record { named = cc; unwritten = c.new-file.ensures.unwritten; unfailed = c.new-file.ensures.unfailed };
+  input = record { named = cc; unread = c.open-source.ensures.unread; unended = c.open-source.ensures.unended; unfailed = c.open-source.ensures.unfailed };
+  output = record { named = cc; uncreated = c.new-file.ensures.uncreated; unwritten = c.new-file.ensures.unwritten; unfailed = c.new-file.ensures.unfailed; file_unfailed = c.new-file.ensures.file_unfailed };
   does = c.perform.ensures.does;
 }
 

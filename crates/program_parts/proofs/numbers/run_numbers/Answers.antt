@@ -9,7 +9,7 @@ returns-in_err-gens-clause-err c = λ form words are.
     let value = value_by form words c.args.matches.now are (codes "generation") in
     let is : c.from_residual.result ≡ Err c.in_err-gens.field-0.0 = err_is _ _ c.from_residual.ensures.1 in
     rw (is, c.in_err-gens.ensures.err.0)
-    (inr (refl, λ fit. c.in_err-gens.ensures.err.1 fit.0.gens (subst (λ given. IsNumber given fit.0.gens) (sym value) fit.1.gens)))
+    (inr (inr (refl, λ fit. c.in_err-gens.ensures.err.1 fit.0.gens (subst (λ given. IsNumber given fit.0.gens) (sym value) fit.1.gens))))
 
 pub returns-in_err-pairs-clause-err : goal.returns-in_err-pairs-clause-err
 returns-in_err-pairs-clause-err c = λ form words are.
@@ -23,7 +23,7 @@ returns-in_err-workers-clause-err c = λ form words are.
     let value = value_by form words c.args.matches.now are (codes "workers") in
     let is : c.from_residual-in_err-workers.result ≡ Err c.in_err-workers.field-0.0 = err_is _ _ c.from_residual-in_err-workers.ensures.1 in
     rw (is, c.in_err-workers.ensures.err.0)
-    (inr (refl, λ fit. c.in_err-workers.ensures.err.1 fit.0.workers (subst (λ given. IsWorkerNumber given fit.0.workers) (sym value) fit.1.workers)))
+    (inr (inl (refl, λ workers fit. c.in_err-workers.ensures.err.1 workers (subst (λ given. IsWorkerNumber given workers) (sym value) fit))))
 
 pub returns-clause-ok : goal.returns-clause-ok
 returns-clause-ok c = λ form words are.

@@ -14,7 +14,6 @@ use rule_text::Rule;
 use sample_patterns::R_PENTOMINO_LEAVES;
 use squares::{PlainBook, Sq, Squares, copy_square, join_leaves};
 use std::process::Abort;
-use std::sync::Wait;
 use std::test::Fail;
 use std::thread::Threads;
 use worker_split::{OpenGate, batch_future};
@@ -46,7 +45,7 @@ struct Made {
     expansions: u64,
 }
 
-fn made_by<R: Threads + Wait + Sync + Abort + AllocGlobal>(
+fn made_by<R: Threads + Sync + Abort + AllocGlobal>(
     rt: &R,
     workers: usize,
     exponent: u8,

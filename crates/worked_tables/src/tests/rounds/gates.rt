@@ -3,7 +3,6 @@
 use crate::tests::rounds::jobs_of_leaves::{jobs_at, leaves_of};
 use crate::tests::tables::{PAIRS, empty_table};
 use std::process::Abort;
-use std::sync::Wait;
 use std::sync::atomic::{AtomicU64, Ordering};
 use std::test::Fail;
 use std::thread::Threads;
@@ -80,7 +79,7 @@ impl Gate for Meets {
 }
 
 // A round of so many jobs with two workers, with this gate.
-fn by_two<R: Threads + Wait + Sync + Abort + AllocGlobal, G: Gate>(
+fn by_two<R: Threads + Sync + Abort + AllocGlobal, G: Gate>(
     rt: &R,
     gate: &G,
     jobs: u64,

@@ -6,7 +6,6 @@ use crate::tests::rounds::jobs_of_leaves::{jobs_at, leaves_of};
 use crate::tests::tables::{PAIRS, empty_table};
 use sample_patterns::BLINKER_LEAVES;
 use std::process::Abort;
-use std::sync::Wait;
 use std::sync::atomic::{AtomicU64, Ordering};
 use std::test::Fail;
 use std::thread::Threads;
@@ -72,7 +71,7 @@ fn ones(counts: &[AtomicU64]) -> usize {
 }
 
 // A round of so many jobs at a table of so many pair slots: the gate sees each job once.
-fn assert_each_done_once<R: Threads + Wait + Sync + Abort + AllocGlobal>(
+fn assert_each_done_once<R: Threads + Sync + Abort + AllocGlobal>(
     rt: &R,
     pairs: u32,
     count: usize,

@@ -10,7 +10,6 @@ use crate::tests::want_of_memory::{empty_words, opened};
 use node_table::{Desk, NodeTable};
 use plane::Refusal;
 use squares::Sq;
-use std::sync::Wait;
 use std::test::Fail;
 use std::thread::Threads;
 use worker_split::{OpenGate, batch_future};
@@ -19,7 +18,7 @@ use worker_split::{OpenGate, batch_future};
 const PAIRS: u32 = 262144;
 
 // Whether two workers find the future of a square, at the second try if memory was wanting.
-fn is_found<R: Threads + Wait + Sync + Print + AllocGlobal>(
+fn is_found<R: Threads + Sync + Print + AllocGlobal>(
     rt: &R,
     table: &NodeTable,
     desk: Desk,

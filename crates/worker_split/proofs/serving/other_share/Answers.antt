@@ -3,8 +3,8 @@ use Rattle.squares.proofs.Kept.{keeps_none}
 use Rattle.worker_split.proofs.Books.{here_book, works_kept, works_then}
 use Rattle.worker_split.proofs.serving.other_share.Goals as goal
 
-pub loop-init : goal.loop-init
-loop-init g c = (c.requires.other, c.requires.solver, works_kept 1 _ (here_book c.args.at.now) (keeps_none _))
+pub loop-job-init : goal.loop-job-init
+loop-job-init g c = (c.requires.other, c.requires.solver, works_kept 1 _ (here_book c.args.at.now) (keeps_none _))
 
-pub loop-preserved : goal.loop-preserved
-loop-preserved g c = (search rules, c.solve.ensures.solver, works_then c.loop.invariant.2 c.solve.ensures.continues)
+pub loop-job-preserved : goal.loop-job-preserved
+loop-job-preserved g c = (search rules, c.solve.ensures.solver, works_then c.loop-job.invariant.2 c.solve.ensures.continues)
