@@ -1,22 +1,20 @@
 -- How a run is accepted, and how it is refused before its first line.
-use Rattle.std.proofs.Common.{◌≡◌, ◌⊎◌, ℕ, true, List, Option, Some, Ok, Err, sym, ap, subst, inl, inr}
+use Rattle.std.proofs.Common.{◌≡◌, ◌⊎◌, ℕ, true, List, Some, Ok, Err, refl, sym, ap, subst, inl, inr}
 use Rattle.rule_text.specs.CountRule.{CountRule, IsRule}
 use Rattle.rule_text.specs.declared.fault.RuleFault.{RuleFault}
 use Rattle.plane.specs.Fault.{placeless}
 use Rattle.plane.specs.Plane.{Plane}
-use Rattle.plane.specs.Range.{StaysWithin}
 use Rattle.plane.specs.Refusal.{rule_refusal}
 use Rattle.plane.specs.SinkChange.{SinkChange}
 use Rattle.plane.specs.Square.{IsSame}
-use Rattle.plane.specs.declared.cell.Bounds.{Bounds}
 use Rattle.plane.specs.declared.fault.Fault.{Fault}
 use Rattle.plane.specs.declared.refusal.Refusal.{Refusal}
 use Rattle.plane.specs.declared.refusal.Refusal.TheVariants.{NodesFull, NoMemory, TooFar}
 use Rattle.universe.specs.Outcomes.{LacksMemoryOrRoom}
+use Rattle.universe.specs.Ranges.{KeepsToRange, LeavesRange}
 use Rattle.universe.specs.Tables.{HasFullTable}
-use Rattle.viewport.specs.BoundingBox.{HasBounds}
 use Rattle.run_options.specs.declared.options.RunOptions.{RunOptions}
-use Rattle.engine.specs.Accepted.{KeepsToRange, IsAccepted, LeavesRange}
+use Rattle.engine.specs.Accepted.{HasCellsInRange, IsAccepted}
 use Rattle.engine.specs.Judgement.{ReadsRule}
 use Rattle.patterns.specs.Meaning.{Meaning, is_macrocell, judged}
 use Rattle.engine.specs.Refused.{HasRule, IsRefused}
@@ -27,19 +25,12 @@ use Rattle.engine.proofs.Endings.{listing_as, stays_as, stopped_early, unfailed_
 
 -- ---- the range
 
-pub bounds_as : {here there : Plane} {box : Option Bounds} → IsSame here there → HasBounds here box → HasBounds there box
-bounds_as same bounds = record { cells = bounds.cells; listing = listing_as same bounds.listing; bounds = bounds.bounds }
+-- what stays in the range, or leaves it, does so as each plane with the same cells
+pub keeps_as : {here there : Plane} {start generation generations : ℕ} → IsSame here there → start ≡ generation → KeepsToRange here start generations → KeepsToRange there generation generations
+keeps_as same is keeps = record { cells = keeps.cells; listing = listing_as same keeps.listing; stays = stays_as refl is keeps.stays }
 
-module _ (meaning : Meaning) (generations : ℕ) (here : Plane) (box : Option Bounds) (start : ℕ) (bounds : HasBounds here box) (same : IsSame here meaning.live) (is : start ≡ meaning.generation) where
-  pub has_room : StaysWithin box start generations → KeepsToRange meaning generations here
-  has_room stays = record { cells = bounds.cells; listing = bounds.listing; same = same; stays = stays_as bounds.bounds is stays }
-
-  pub leaves_range : (StaysWithin box start generations → ⊥) → LeavesRange meaning generations
-  leaves_range far = record {
-    cells = bounds.cells;
-    listing = listing_as same bounds.listing;
-    outside = λ stays. far (stays_as (sym bounds.bounds) (sym is) stays);
-  }
+pub leaves_as : {here there : Plane} {start generation generations : ℕ} → IsSame here there → start ≡ generation → LeavesRange here start generations → LeavesRange there generation generations
+leaves_as same is leaves = record { cells = leaves.cells; listing = listing_as same leaves.listing; outside = λ stays. leaves.outside (stays_as refl (sym is) stays) }
 
 -- ---- the judgement
 
@@ -60,7 +51,7 @@ module _ (bytes : List ℕ) (run : RunOptions) (meaning : Meaning) (text : judge
     has_rule : HasRule bytes run rule
     has_rule = record { meaning = meaning; text = text; read = read }
 
-    pub range_refused : (refusal : Refusal) → LacksMemoryOrRoom refusal ⊎ ((refusal ≡ TooFar) × LeavesRange meaning run.gens) →
+    pub range_refused : (refusal : Refusal) → LacksMemoryOrRoom refusal ⊎ ((refusal ≡ TooFar) × LeavesRange meaning.live meaning.generation run.gens) →
         (refusal ≡ NodesFull → HasFullTable rule run.pairs) → IsRefused bytes run (placeless refusal)
     unfolding IsRefused
     range_refused refusal (inl (inl memory)) full = inr (inl (ap placeless memory, inr (rule, has_rule)))
@@ -72,13 +63,13 @@ module _ (bytes : List ℕ) (run : RunOptions) (meaning : Meaning) (text : judge
       is = ap placeless far;
     })))
 
-    pub accepted : (here : Plane) → IsRule rule → KeepsToRange meaning run.gens here → IsAccepted bytes run meaning rule here
+    pub accepted : (here : Plane) → IsRule rule → HasCellsInRange meaning run.gens here → IsAccepted bytes run meaning rule here
     accepted here lawful room = record {
-      cells = room.cells;
-      listing = room.listing;
+      cells = room.stays.cells;
+      listing = room.stays.listing;
       same = room.same;
       lawful = lawful;
-      accepted = (record { text = text; rule = read; cells = listing_as room.same room.listing }, room.stays);
+      accepted = (record { text = text; rule = read; cells = listing_as room.same room.stays.listing }, room.stays.stays);
     }
 
 -- what is accepted as one run is so as each that is the same

@@ -50,7 +50,7 @@ held_listing level plane holds =
 -- the square of level 63 holds the cells of a pattern
 pub pattern_held : (pattern : Pattern) → Holds 63 (plane_of pattern)
 pattern_held pattern =
-    square_in_range (book_in (still_of pattern.cells)) (root_of pattern.cells) pattern.cells.still.is_book pattern.cells.known pattern.cells.level.1
+    square_in_range (book_in (still_of pattern.resting.cells)) (root_of pattern.resting.cells) pattern.resting.cells.still.is_book pattern.resting.cells.known pattern.resting.cells.level.1
 
 pub pattern_listed : (pattern : Pattern) → (cells : List Cell) × IsListing cells (plane_of pattern)
 pattern_listed pattern = held_listing 63 (plane_of pattern) (pattern_held pattern)

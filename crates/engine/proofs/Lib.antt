@@ -1,13 +1,17 @@
 pub mod Acceptance
 mod CellsAtRest
+pub mod CutRuns
 pub mod Endings
 mod FileTexts
-mod LastPatterns
+pub mod KeptComments
+pub mod LastPatterns
 mod Onward
 pub mod OneRun
 pub mod OtherWorkers
 pub mod Pictures
 pub mod Reports
+pub mod SessionRuns
+pub mod Sessions
 pub mod ShownBoxes
 pub mod Steps
 mod WholeReports

@@ -1,5 +1,5 @@
 -- Runs for whose cells the tables are too small.
-use Rattle.std.proofs.Common.{◌≡◌, ℕ, ◌^◌, ap}
+use Rattle.std.proofs.Common.{ℕ, ◌^◌, ap}
 use Rattle.rule_text.specs.CountRule.{CountRule}
 use Rattle.plane.specs.Plane.{Plane}
 use Rattle.plane.specs.Square.{IsSame}
@@ -14,13 +14,13 @@ use Rattle.engine.proofs.Reports.{same_generation}
 pub stuck_within : {start : Universe} → (generations : ℕ) → IsStuck start generations → IsStuckWithin (rule_of start) (live_cells start) (limit_of start) generations
 stuck_within {start} generations stuck = record {
   done = stuck.done;
-  before = stuck.before;
+  before = stuck.stuck.before;
   there = stuck.there;
-  cells = stuck.later.cells;
-  rule = stuck.later.rule;
-  limit = ap (λ (s : Shape). 2 ^ s.bits) stuck.later.limit;
-  one = stuck.one;
-  exhausted = stuck.exhausted;
+  cells = stuck.stuck.later.cells;
+  rule = stuck.stuck.later.rule;
+  limit = ap (λ (s : Shape). 2 ^ s.bits) stuck.stuck.later.limit;
+  one = stuck.stuck.one;
+  exhausted = stuck.stuck.exhausted;
 }
 
 -- where a plane is stuck, each with the same cells is

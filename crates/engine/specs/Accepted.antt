@@ -1,12 +1,11 @@
 -- What stands between the parts of a run.
 use Rattle.std.specs.Prelude.{◌≡◌, ℕ, List, Ok}
 use Rattle.rule_text.specs.CountRule.{CountRule, IsRule}
-use Rattle.plane.specs.Bounds.{bounds_of}
 use Rattle.plane.specs.Listing.{IsListing}
 use Rattle.plane.specs.Plane.{Plane}
-use Rattle.plane.specs.Range.{StaysWithin}
 use Rattle.plane.specs.Square.{IsSame}
 use Rattle.plane.specs.declared.cell.Cell.{Cell}
+use Rattle.universe.specs.Ranges.{KeepsToRange}
 use Rattle.viewport.specs.BoundingBox.{HasBounds}
 use Rattle.viewport.specs.Population.{HasPopulation}
 use Rattle.engine.specs.Judgement.{Judges}
@@ -15,17 +14,9 @@ use Rattle.run_options.specs.declared.options.RunOptions.{RunOptions}
 use Rattle.engine.specs.declared.running.Summary.{Summary}
 
 -- the plane has the cells of the file, and from there so many generations stay in the range
-pub record KeepsToRange (meaning : Meaning) (generations : ℕ) (here : Plane) : Type 0 where
-  pub cells : List Cell
-  pub listing : IsListing cells here
+pub record HasCellsInRange (meaning : Meaning) (generations : ℕ) (here : Plane) : Type 0 where
   pub same : IsSame here meaning.live
-  pub stays : StaysWithin (bounds_of cells) meaning.generation generations
-
--- from the cells of the file so many generations leave the range
-pub record LeavesRange (meaning : Meaning) (generations : ℕ) : Type 0 where
-  pub cells : List Cell
-  pub listing : IsListing cells meaning.live
-  pub outside : StaysWithin (bounds_of cells) meaning.generation generations → ⊥
+  pub stays : KeepsToRange here meaning.generation generations
 
 -- the run is accepted, by this rule and of a file that means this, and the plane has the cells of
 -- the file

@@ -1,6 +1,8 @@
 pub mod Accepted
+pub mod CutRuns
 pub mod Formats
 pub mod Judgement
+pub mod KeptComments
 pub mod Last
 pub mod Pattern
 pub mod Pictures
@@ -9,4 +11,6 @@ pub mod Report
 pub mod Room
 pub mod Run
 pub mod RunOptions
+pub mod Sessions
+pub mod States
 pub mod SummaryLine

@@ -1,7 +1,7 @@
 -- The live cells of patterns.
 use Rattle.plane.specs.Plane.{Plane}
-use Rattle.universe.specs.Cells.{still_cells}
+use Rattle.universe.specs.Cells.{resting_cells}
 use Rattle.engine.specs.declared.pattern.Pattern.{Pattern}
 
 abbrev pub plane_of : Pattern → Plane
-plane_of pattern = still_cells pattern.cells
+plane_of pattern = resting_cells pattern.resting

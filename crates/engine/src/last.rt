@@ -7,9 +7,9 @@ ghost use Rattle.engine.specs.Last.{EndsWith};
 ghost use Rattle.engine.specs.Pattern.{plane_of};
 ghost use Rattle.engine.specs.Refused.{IsRefused};
 
-use crate::accepted::judge;
 use crate::pattern::Pattern;
 use crate::running::{Summary, finish, team_of};
+use crate::session::Session;
 use plane::Fault;
 use run_options::RunOptions;
 use std::alloc::Global;
@@ -36,10 +36,9 @@ pub fn last_pattern<R: Threads + Sync>(
     // out or the tables are full.
     ensures refused { IfErr result (IsRefused bytes.now run.now) }
 {
-    let begun = judge(alloc, bytes, run)?;
-    let start = begun.text.generation();
+    let mut session = Session::open_for(alloc, bytes, run)?;
     let team = team_of(rt, alloc, run, &OpenGate);
-    let universe = begun.universe.after(&team, run.gens)?;
-    let last = finish(alloc, universe, None, start + run.gens)?;
-    Ok(last)
+    session.advance_within(&team, run.gens)?;
+    let summary = finish(alloc, &mut session, None)?;
+    Ok((session.into_pattern(alloc)?, summary))
 }

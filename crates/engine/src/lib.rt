@@ -2,7 +2,9 @@
 #![tactic(auto)]
 
 mod accepted;
+mod advancing;
 mod input;
+mod kept_comments;
 mod last;
 mod laws;
 mod options;
@@ -10,15 +12,18 @@ mod pattern;
 mod report;
 mod reported;
 mod running;
+mod session;
+mod state;
 mod summary_line;
 
 pub use input::load;
 pub use last::last_pattern;
-pub use laws::{every_number_of_workers, one_ending, one_judgement};
+pub use laws::{a_cut_run_goes_on, every_number_of_workers, one_ending, one_judgement};
 pub use options::{Format, Options};
 pub use pattern::{Heading, Pattern};
 pub use pattern_picture::{Drawing, Scale};
 pub use run_options::RunOptions;
 pub use running::{Summary, run, run_from, run_gated};
+pub use session::Session;
 pub use summary_line::write_summary;
-pub use worker_split::{Gate, OpenGate};
+pub use worker_split::{Gate, OpenGate, Team};

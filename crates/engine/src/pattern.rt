@@ -1,26 +1,34 @@
 //! A pattern, as live cells at rest.
 
-ghost use Rattle.std.specs.Prelude.{◌≡◌, None, IfOk, IfErr, OnErr, OnOk, IsOkUnless};
-ghost use Rattle.plane.specs.Square.{IsSame};
-ghost use Rattle.universe.specs.Cells.{live_cells};
+ghost use Rattle.std.specs.Prelude.{◌≡◌, ◌<◌, ◌≤◌, None, IfOk, IfErr, OnErr, OnOk, IsOkUnless};
+ghost use Rattle.node_table.specs.Openings.{SaysAll};
+ghost use Rattle.node_table.specs.Stills.{book_in};
+ghost use Rattle.squares.specs.Book.{IsKnown};
+ghost use Rattle.universe.specs.Cells.{known_by, resting_limit, resting_rule, root_of, rooted_of, shown_by, still_of};
+ghost use Rattle.universe.specs.Rests.{IsAtRest};
+ghost use Rattle.viewport.specs.Population.{HasPopulation};
+ghost use Rattle.viewport.specs.RowRuns.{AreRowRuns};
+ghost use Rattle.viewport.specs.Rows.{IsFirstRow};
 ghost use Rattle.pattern_picture.specs.Drawings.{IsDrawingOf};
 ghost use Rattle.pattern_picture.specs.Scale.{IsShown, IsSize};
 ghost use Rattle.viewport.specs.BoundingBox.{HasBounds};
 
 use crate::options::Format;
+use node_table::Still;
 use pattern_picture::Drawing;
 use pattern_writers::{write_mc, write_rle};
 use plane::{Bounds, Refusal, Sink, Window};
 use rule_text::Rule;
-use std::alloc::Global;
+use squares::Sq;
+use std::alloc::{AllocError, Global};
 use std::thread::Threads;
 use text_lines::Comments;
-use universe::{RootedStill, Universe};
+use universe::{Resting, Universe};
 
-/// Live cells in the range, of which no more generations are asked for.
+/// Live cells in the range, at rest.
 #[derive(Drop)]
 pub struct Pattern {
-    cells: RootedStill,
+    resting: Resting,
 }
 
 /// What stands in a pattern file before its cells.
@@ -40,14 +48,40 @@ impl Pattern {
     ghost use Rattle.engine.specs.Report.{window_text};
     ghost use Rattle.std.specs.Io.KnownBytes.{Appends};
 
-    /// The live cells of a universe. Its tables are freed, except for the words that hold these
-    /// cells.
+    /// The live cells of a universe, which may go on later. Nothing is copied.
     pub(crate) fn of(universe: Universe) -> Pattern
-        ensures { IsSame (plane_of result) (live_cells universe) }
+        ensures same { IsAtRest universe result.resting }
+        ensures shows { SaysAll (known_by universe) (shown_by result.resting) }
     {
         Pattern {
-            cells: universe.into_still(),
+            resting: universe.rest(),
         }
+    }
+
+    /// The universe, at work again.
+    pub(crate) fn resume(self, alloc: Global) -> Result<Universe, AllocError>
+        ensures { IfOk result (λ universe. IsAtRest universe self.resting) }
+    {
+        self.resting.resume(alloc)
+    }
+
+    /// Only the words that hold these cells: all other tables are freed.
+    pub(crate) fn without_other_tables(self, alloc: Global) -> Pattern
+        ensures cells { plane_of result ≡ plane_of self }
+        ensures rule { resting_rule result.resting ≡ resting_rule self.resting }
+        ensures limit { resting_limit result.resting ≡ resting_limit self.resting }
+    {
+        Pattern {
+            resting: self.resting.without_others(alloc),
+        }
+    }
+
+    /// How many cells are live. `NoMemory` where there is no room to count them.
+    pub fn population(&self, alloc: Global) -> Result<u128, Refusal>
+        ensures ok { IfOk result (HasPopulation (plane_of self.now)) }
+        ensures memory { IsOkUnless result Refusal.NoMemory }
+    {
+        self.resting.population(alloc)
     }
 
     /// The smallest box that holds the live cells. `NoMemory` where there is no room to find it.
@@ -55,7 +89,24 @@ impl Pattern {
         ensures ok { IfOk result (HasBounds (plane_of self.now)) }
         ensures memory { IsOkUnless result Refusal.NoMemory }
     {
-        self.cells.bounds(alloc)
+        self.resting.bounds(alloc)
+    }
+
+    /// The first row with a live cell from row y on downwards. Its time follows what the pattern has
+    /// near the rows from y to that one, and not how many rows lie between.
+    pub fn first_row(&self, y: i64) -> Option<i64>
+        ensures { IsFirstRow (plane_of self.now) y result }
+    {
+        viewport::first_row(self.still(), self.root(), y)
+    }
+
+    /// The runs of live cells in row y, from left to right, each as long as it can be: its first
+    /// cell, and how many there are. `NoMemory` where there is no room for one more run.
+    pub fn row_runs(&self, alloc: Global, y: i64) -> Result<Vec<(i64, u64)>, Refusal>
+        ensures ok { IfOk result (λ runs. AreRowRuns (plane_of self.now) y runs.items) }
+        ensures memory { IsOkUnless result Refusal.NoMemory }
+    {
+        viewport::row_runs(alloc, self.still(), self.root(), y)
     }
 
     /// The drawing of a rectangle of the pattern, whose sides lie from -2^62 to 2^62, as large as
@@ -67,7 +118,7 @@ impl Pattern {
         ensures drawn { IfOk result (IsDrawingOf (plane_of self.now) shown size) }
         ensures memory { IsOkUnless result Refusal.NoMemory }
     {
-        let (still, root) = (self.cells.still(), self.cells.root());
+        let (still, root) = (self.still(), self.root());
         pattern_picture::picture(alloc, still, root, shown, size)
     }
 
@@ -86,9 +137,7 @@ impl Pattern {
             (W.failure_count report.old) (W.failure_count report.new) result }
     {
         match window {
-            Some(window) => {
-                viewport::picture(self.cells.still(), self.cells.root(), &window, report)
-            }
+            Some(window) => viewport::picture(self.still(), self.root(), &window, report),
             None => Ok(()),
         }
     }
@@ -121,7 +170,7 @@ impl Pattern {
             heading.entry.comments heading.entry.rule heading.entry.generation
             (AppendsBeginning (V.taken file.old) (V.taken file.new)))) }
     {
-        let (book, root) = (self.cells.still(), self.cells.root());
+        let (book, root) = (self.still(), self.root());
         let Heading {
             comments,
             rule,
@@ -137,5 +186,21 @@ impl Pattern {
             ),
             None => Ok(()),
         }
+    }
+
+    // The words that hold the cells.
+    fn still(&self) -> &Still
+        ensures { result.now ≡ still_of (rooted_of self.now.resting) }
+    {
+        self.resting.cells().still()
+    }
+
+    // The square of the cells in these words.
+    fn root(&self) -> Sq
+        ensures root { result ≡ root_of (rooted_of self.now.resting) }
+        ensures known { IsKnown (book_in (still_of (rooted_of self.now.resting))) result.level result }
+        ensures level { (3 < result.level) × (result.level ≤ 63) }
+    {
+        self.resting.cells().root()
     }
 }

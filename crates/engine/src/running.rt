@@ -4,24 +4,20 @@ ghost use Rattle.std.specs.Prelude.{◌≡◌, IfOk, IfSome, IsOkUnless};
 ghost use Rattle.run_options.specs.Workers.{IsWorkerCount};
 ghost use Rattle.table_core.specs.Sizes.{IsPairCount};
 ghost use Rattle.plane.specs.SinkChange.{change_of};
-ghost use Rattle.plane.specs.Square.{IsSame};
-ghost use Rattle.universe.specs.Cells.{live_cells};
 ghost use Rattle.viewport.specs.Population.{HasPopulation};
 ghost use Rattle.engine.specs.Accepted.{SumsUp};
 ghost use Rattle.plane.specs.SourceChange.{IsDoneWithAll, reading_of};
-ghost use Rattle.engine.specs.Pattern.{plane_of};
 ghost use Rattle.engine.specs.Run.{IsRun};
+ghost use Rattle.engine.specs.Sessions.{IsSameSession, cells_of};
 
-use crate::accepted::judge;
 use crate::input::load;
 use crate::options::Options;
-use crate::pattern::{Heading, Pattern};
 use crate::reported::run_reported;
+use crate::session::Session;
 use plane::{Bounds, Fault, Refusal, Sink, Source};
 use run_options::RunOptions;
 use std::alloc::Global;
 use std::thread::Threads;
-use universe::Universe;
 use worker_split::{Gate, OpenGate, Team};
 
 /// What a run ends with.
@@ -110,18 +106,12 @@ pub fn run_gated<R: Threads + Sync, G: Gate, W: Sink, V: Sink>(
         (change_of V.taken V.failure_count file.old file.new) result }
 {
     let run = options.run();
-    let begun = judge(alloc, bytes, &run)?;
-    let start = begun.text.generation();
+    let mut session = Session::open_for(alloc, bytes, &run)?;
     let team = team_of(rt, alloc, &run, gate);
-    let (universe, counted) = run_reported(&team, begun.universe, start, options, report)?;
-    let (last, summary) = finish(alloc, universe, counted, start + options.gens)?;
-    last.write_window(options.window, report)?;
-    let heading = Heading {
-        comments: begun.text.comments(),
-        rule: begun.rule,
-        generation: summary.generation,
-    };
-    last.write(rt, alloc, options.format, heading, file)?;
+    let counted = run_reported(&team, &mut session, options, report)?;
+    let summary = finish(alloc, &mut session, counted)?;
+    session.write_window(options.window, report)?;
+    session.write(rt, alloc, options.format, file)?;
     Ok(summary)
 }
 
@@ -143,43 +133,22 @@ pub(crate) fn team_of<'a, R, G>(
     }
 }
 
-/// The pattern of the last generation, whose live cells may have been counted, and what the run
-/// ends with.
+/// What a run ends with: a session of its last generation, whose live cells may have been counted.
+/// All tables beside the words that hold these cells are freed.
 pub(crate) fn finish(
     alloc: Global,
-    mut universe: Universe,
+    session: &mut Session,
     counted: Option<u128>,
-    generation: u64,
-) -> Result<(Pattern, Summary), Refusal>
-    requires counted { IfSome counted (HasPopulation (live_cells universe)) }
-    ensures same { IfOk result (λ ended. IsSame (plane_of ended.0) (live_cells universe)) }
-    ensures ok { IfOk result (λ ended. SumsUp generation (plane_of ended.0) ended.1) }
+) -> Result<Summary, Refusal>
+    requires counted { IfSome counted (HasPopulation (cells_of session.old)) }
+    ensures same { IsSameSession session.old session.new }
+    ensures ok { IfOk result (SumsUp session.new.generation (cells_of session.new)) }
     ensures memory { IsOkUnless result Refusal.NoMemory }
 {
-    let population = population_of(alloc, &mut universe, counted)?;
-    let last = Pattern::of(universe);
-    let bounds = last.bounds(alloc)?;
-    let summary = Summary {
-        generation,
-        population,
-        bounds,
+    let population = match counted {
+        Some(population) => population,
+        None => session.population(alloc)?,
     };
-    Ok((last, summary))
-}
-
-// How many cells are live, counted unless that was done.
-fn population_of(
-    alloc: Global,
-    universe: &mut Universe,
-    counted: Option<u128>,
-) -> Result<u128, Refusal>
-    requires counted { IfSome counted (HasPopulation (live_cells universe.old)) }
-    ensures ok { IfOk result (HasPopulation (live_cells universe.old)) }
-    ensures same { IsSame (live_cells universe.new) (live_cells universe.old) }
-    ensures memory { IsOkUnless result Refusal.NoMemory }
-{
-    match counted {
-        Some(population) => Ok(population),
-        None => universe.population(alloc),
-    }
+    session.free_other_tables(alloc);
+    session.summary_with(alloc, population)
 }

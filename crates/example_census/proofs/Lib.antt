@@ -1,1 +1,2 @@
 mod CensusLines
+mod CensusSessions

@@ -1,12 +1,11 @@
 //! The census: its runs and its lines.
 
-ghost use Rattle.std.specs.Prelude.{◌≡◌, ◌<◌, ◌≤◌, ◌^◌, IfErr, IfOk};
+ghost use Rattle.std.specs.Prelude.{◌≡◌, ◌<◌, ◌≤◌, ◌^◌};
 ghost use Rattle.plane.specs.SinkChange.{change_of};
-ghost use Rattle.engine.specs.Refused.{IsRefused};
-ghost use Rattle.example_census.specs.Census.{IsCensusRun, IsSummaryAfter, run_of};
+ghost use Rattle.example_census.specs.Census.{IsCensusRun};
 
-use engine::{RunOptions, Summary, last_pattern, write_summary};
-use plane::{Fault, Sink};
+use engine::{OpenGate, Session, Team, write_summary};
+use plane::{Fault, Sink, reach};
 use std::alloc::Global;
 use std::thread::Threads;
 
@@ -14,8 +13,8 @@ use std::thread::Threads;
 const PAIRS: u32 = 4194304;
 
 /// Writes `lines` lines, one each after 1, 2, 4, 8, .. generations: the generation, the population
-/// and the bounding box. Each run has two workers. It refuses what `last_pattern` refuses, behind
-/// the lines until then, and `WriteFailed`.
+/// and the bounding box. One session is advanced from line to line, with two workers. It refuses
+/// what a run to each line's generation refuses, behind the lines until then, and `WriteFailed`.
 pub(crate) fn census<R: Threads + Sync, W: Sink>(
     rt: &R,
     alloc: Global,
@@ -27,9 +26,20 @@ pub(crate) fn census<R: Threads + Sync, W: Sink>(
     ensures { IsCensusRun bytes.now lines
         (change_of W.taken W.failure_count out.old out.new) result }
 {
+    if lines == 0 {
+        return Ok(());
+    }
+    let team = team_of_two(rt, alloc);
+    let mut session = Session::open(alloc, bytes, None, PAIRS)?;
+    let first = session.generation();
+    let bounds = session.bounds(alloc)?;
+    let mut done = 0;
     for power in 0..lines {
-        let summary = summary_after(rt, alloc, bytes, power_of_two(power))?;
-        write_summary(out, &summary)?;
+        let generations = power_of_two(power);
+        reach(bounds, first, generations)?;
+        session.advance(&team, generations - done)?;
+        done = generations;
+        write_summary(out, &session.summary(alloc)?)?;
     }
     Ok(())
 }
@@ -41,22 +51,11 @@ fn power_of_two(power: u8) -> u64
     1 << power
 }
 
-// The summary of a run of this many generations.
-fn summary_after<R: Threads + Sync>(
-    rt: &R,
-    alloc: Global,
-    bytes: &[u8],
-    generations: u64,
-) -> Result<Summary, Fault>
-    ensures summary { IfOk result (IsSummaryAfter bytes.now generations) }
-    ensures refused { IfErr result (IsRefused bytes.now (run_of generations)) }
-{
-    let run = RunOptions {
-        gens: generations,
-        rule: None,
-        pairs: PAIRS,
+fn team_of_two<R>(rt: &R, alloc: Global) -> Team<'_, R, OpenGate> {
+    Team {
+        runtime: rt,
+        alloc,
         workers: 2,
-    };
-    let (_, summary) = last_pattern(rt, alloc, bytes, &run)?;
-    Ok(summary)
+        gate: &OpenGate,
+    }
 }

@@ -1,11 +1,10 @@
 -- A run that stays in the range is held by the square of level 63 around (0,0), generation by
 -- generation.
-use Rattle.std.proofs.Common.{◌≡◌, ◌≢◌, ℕ, ◌^◌, ◌<◌, ◌≤◌, ℤ, pos, ◌+ℤ◌, ◌-ℤ◌, ◌≤ℤ◌, true, false, Option, None, Some, List, [], ◌∷◌, IfSome, refl, sym, ◌∙◌, subst, arith}
-use Rattle.std.specs.List.{AllByRecursion}
+use Rattle.std.proofs.Common.{◌≡◌, ℕ, ◌^◌, ◌<◌, ◌≤◌, ℤ, pos, ◌+ℤ◌, ◌-ℤ◌, true, false, Option, List, [], ◌∷◌, IfSome, refl, sym, ◌∙◌, subst, arith}
 use Rattle.std.proofs.lemmas.Bool.{false≢true}
 use Rattle.std.proofs.lemmas.Int.{ints}
 use Rattle.rule_text.specs.CountRule.{CountRule, IsRule, has}
-use Rattle.plane.specs.Bounds.{HasReach, IsWithin, bounds_of}
+use Rattle.plane.specs.Bounds.{HasReach}
 use Rattle.plane.specs.Centred.{Holds}
 use Rattle.plane.specs.Laws.{IsNear}
 use Rattle.plane.specs.Listing.{IsListing, plane_of}
@@ -15,42 +14,14 @@ use Rattle.plane.specs.Square.{IsSame, empty}
 use Rattle.plane.specs.declared.cell.Bounds.{Bounds}
 use Rattle.plane.specs.declared.cell.Cell.{Cell}
 use Rattle.plane.proofs.Around.{live_cell}
-use Rattle.plane.proofs.Boxes.{box_at, coordinate_between, some_box, within_bounds}
+use Rattle.plane.proofs.Boxes.{coordinate_between}
 use Rattle.plane.proofs.Paddings.{quiet}
-use Rattle.plane.proofs.Elements.{AllByRecursion-weaker}
 use Rattle.plane.proofs.Parts.{after_same}
 use Rattle.plane.proofs.Same.{same_sym, same_trans}
 use Rattle.viewport.specs.BoundingBox.{HasBounds}
 use Rattle.universe.specs.Held.{StaysHeld}
 use Rattle.universe.proofs.Rounds.{both, held_same, in_square}
-
--- so many cells on each side of the cell lie in the range
-record HasRoom (far : ℕ) (cell : Cell) : Type 0 where
-  left : IsCoordinate (cell.x -ℤ pos far)
-  right : IsCoordinate (cell.x +ℤ pos far)
-  above : IsCoordinate (cell.y -ℤ pos far)
-  below : IsCoordinate (cell.y +ℤ pos far)
-
-between : (far : ℕ) (first z last : ℤ) → first ≤ℤ z → z ≤ℤ last → IsCoordinate (first -ℤ pos far) → IsCoordinate (last +ℤ pos far) → IsCoordinate (z -ℤ pos far) × IsCoordinate (z +ℤ pos far)
-between far first z last from to low high = (
-  coordinate_between (first -ℤ pos far) (z -ℤ pos far) (last +ℤ pos far) low high (omega (arith, ints)) (omega (arith, ints)),
-  coordinate_between (first -ℤ pos far) (z +ℤ pos far) (last +ℤ pos far) low high (omega (arith, ints)) (omega (arith, ints)),
-)
-
-room_in_box : (far : ℕ) (box : Bounds) (cell : Cell) → IsBoxInRange (widened far box) → IsWithin box cell → HasRoom far cell
-room_in_box far box cell range within =
-    let across = between far box.left cell.x box.right within.left within.right range.left range.right in
-    let down = between far box.top cell.y box.bottom within.top within.bottom range.top range.bottom in
-    record { left = across.0; right = across.1; above = down.0; below = down.1 }
-
-room_by_box : (far : ℕ) (bounds : Option Bounds) (cells : List Cell) → IfSome bounds (λ box. AllByRecursion (IsWithin box) cells) → IfSome bounds (λ box. IsBoxInRange (widened far box)) → bounds ≢ None →
-    AllByRecursion (HasRoom far) cells
-room_by_box far None cells within range some = absurd (some refl)
-room_by_box far (Some box) cells within range some = AllByRecursion-weaker (IsWithin box) (HasRoom far) (λ cell. room_in_box far box cell range) cells within
-
-rooms : (far : ℕ) (cells : List Cell) → HasReach far cells → AllByRecursion (HasRoom far) cells
-rooms far [] reach = tt
-rooms far (cell ∷ cells) reach = room_by_box far (bounds_of (cell ∷ cells)) (cell ∷ cells) (within_bounds (cell ∷ cells)) reach (some_box (box_at cell) cells)
+use Rattle.universe.proofs.Spread.{HasRoom, rooms}
 
 near_in_range : (far n : ℕ) (z u w : ℤ) → n ≤ far → IsNear n z u → u ≡ w → IsCoordinate (w -ℤ pos far) → IsCoordinate (w +ℤ pos far) → IsCoordinate z
 near_in_range far n z u w less near same low high =

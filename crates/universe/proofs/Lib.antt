@@ -1,11 +1,16 @@
 pub mod OpenedWords
+mod OpenedResults
 pub mod Filling
 pub mod Halves
 pub mod Held
+pub mod InRange
 pub mod Later
 pub mod Evicting
 pub mod Onward
+mod Advancing
+pub mod AtRest
 pub mod Copying
 pub mod Rounds
 pub mod SecondDesks
+pub mod Spread
 pub mod Staying

@@ -9,7 +9,7 @@ use Rattle.plane.proofs.Parts.{after_same}
 use Rattle.plane.proofs.Same.{same_refl, same_sym, same_trans}
 use Rattle.universe.specs.Cells.{exponent_of, live_cells, rule_of}
 use Rattle.universe.specs.Held.{StaysHeld}
-use Rattle.universe.specs.Runs.{IsAttempt, IsExhausted, IsLater, IsSameUniverse, IsStuck, ReachesExponent, IsAtExponent, MayStep}
+use Rattle.universe.specs.Runs.{IsAttempt, IsExhausted, IsLater, IsSameUniverse, IsStuck, IsStuckAt, ReachesExponent, IsAtExponent, MayStep}
 use Rattle.universe.specs.declared.attempts.Attempt.{Attempt}
 use Rattle.universe.specs.declared.attempts.Attempt.TheVariants.{Done, Full}
 use Rattle.universe.specs.declared.universe.Universe.{Universe}
@@ -108,26 +108,25 @@ pub reaches_again : {first second : Universe} → (exponent wanted : ℕ) (attem
 reaches_again exponent wanted (Done at_exponent) same is turn = record { same = still_same same turn.same; exponent = turn.exponent ∙ is }
 reaches_again exponent wanted (Full still) same is turn = still_same same turn
 
--- who is stuck later is stuck
-pub stuck_on : {first second : Universe} → (generations done more : ℕ) → IsLater first done second → done + more ≤ generations → IsStuck second more → IsStuck first generations
-stuck_on {first} {second} generations done more later within stuck = record {
-  done = done + stuck.done;
+-- where a universe is stuck, each is of which it is a later one
+pub stuck_further : {first second there : Universe} → (generations done more further : ℕ) → IsLater first done second → done + more ≤ generations → IsStuckAt second more there further →
+    IsStuckAt first generations there (done + further)
+stuck_further {first} {second} {there} generations done more further later within stuck = record {
   before = let before = stuck.before in omega (arith, before, within);
-  there = stuck.there;
-  later = later_on {first = first} {second = second} {third = stuck.there} done stuck.done later stuck.later;
+  later = later_on {first = first} {second = second} {third = there} done further later stuck.later;
   one = stuck.one;
   exhausted = stuck.exhausted;
 }
 
-pub stuck_at_once : {first second : Universe} → (generations : ℕ) → 0 < generations → IsSameUniverse first second → exponent_of second ≡ 0 → IsExhausted second → IsStuck first generations
-stuck_at_once {first} {second} generations some same one exhausted = record {
-  done = 0;
-  before = some;
-  there = second;
-  later = none_later same;
-  one = one;
-  exhausted = exhausted;
+pub stuck_on : {first second : Universe} → (generations done more : ℕ) → IsLater first done second → done + more ≤ generations → IsStuck second more → IsStuck first generations
+stuck_on {first} {second} generations done more later within stuck = record {
+  there = stuck.there;
+  done = done + stuck.done;
+  stuck = stuck_further {first = first} {second = second} {there = stuck.there} generations done more stuck.done later within stuck.stuck;
 }
+
+pub stuck_at_once : {first second : Universe} → (generations : ℕ) → 0 < generations → IsSameUniverse first second → exponent_of second ≡ 0 → IsExhausted second → IsStuckAt first generations second 0
+stuck_at_once {first} {second} generations some same one exhausted = record { before = some; later = none_later same; one = one; exhausted = exhausted }
 
 pub result_again : {E : Type 0} {first second : Universe} → (exponent wanted : ℕ) (r : Result Attempt E) → IfOk r (ReachesExponent exponent second) → IsSameUniverse first second → exponent ≡ wanted → IfOk r (ReachesExponent wanted first)
 result_again exponent wanted (Ok attempt) turn same is = reaches_again exponent wanted attempt same is turn

@@ -23,7 +23,7 @@ use Rattle.node_table.proofs.Books.{shows_of}
 use Rattle.node_table.proofs.Steps.{is_coherent}
 use Rattle.node_sweep.proofs.Squares.{known_shows}
 
-slots_kept : (was key : Key) (old new : Words) → Reopens was key old new → KeepsSlots key.shape.bits old new
+pub slots_kept : (was key : Key) (old new : Words) → Reopens was key old new → KeepsSlots key.shape.bits old new
 slots_kept was key old new r = record {
   kept = λ kind i slot some. r.slots kind i (subst (λ s. IsSlot s.bits kind i) r.shape slot);
 }

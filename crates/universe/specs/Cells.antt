@@ -1,11 +1,14 @@
--- The live cells of a universe.
+-- The live cells of a universe, at work and at rest.
 use Rattle.std.specs.Prelude.{ℕ, ◌+◌, ◌^◌}
 use Rattle.rule_text.specs.CountRule.{CountRule}
 use Rattle.plane.specs.Plane.{Plane, after}
 use Rattle.node_table.specs.declared.still.Still.{Still}
-use Rattle.node_table.specs.Stills.{book_in}
+use Rattle.node_table.specs.Stills.{book_in, key_of}
+use Rattle.squares.specs.Book.{Book}
 use Rattle.squares.specs.Rounds.{square_plane}
 use Rattle.squares.specs.declared.sq.Sq.{Sq}
+use Rattle.universe.specs.declared.other_tables.OtherTables.{OtherTables}
+use Rattle.universe.specs.declared.resting.Resting.{Resting}
 use Rattle.universe.specs.declared.rooted_still.RootedStill.{RootedStill}
 use Rattle.universe.specs.declared.tables.OpenTable.{OpenTable}
 use Rattle.universe.specs.declared.universe.Universe.{Universe}
@@ -45,3 +48,30 @@ pairs_of universe = pairs_in universe.here + pair_sum universe.others.tables.ite
 -- how many generations a step of the table with its square takes, as a power of two
 abbrev pub exponent_of : Universe → ℕ
 exponent_of universe = (key_at universe.here).exponent
+
+-- what is known at the table with its square
+abbrev pub known_by : Universe → Book
+known_by universe = known_at universe.here
+
+-- ---- at rest
+
+-- its live cells, as a square in words
+abbrev pub rooted_of : Resting → RootedStill
+rooted_of resting = resting.cells
+
+abbrev pub resting_cells : Resting → Plane
+resting_cells resting = still_cells (rooted_of resting)
+
+abbrev pub resting_rule : Resting → CountRule
+resting_rule resting = (key_of (still_of (rooted_of resting))).rule
+
+-- its tables beside the one of its cells
+abbrev pub others_of : Resting → OtherTables
+others_of resting = resting.others
+
+abbrev pub resting_limit : Resting → ℕ
+resting_limit resting = 2 ^ (others_of resting).limit.bits
+
+-- what its words show
+abbrev pub shown_by : Resting → Book
+shown_by resting = book_in (still_of (rooted_of resting))

@@ -1,7 +1,10 @@
+pub mod Advances
 pub mod Cells
 pub mod Held
 pub mod Outcomes
+pub mod Ranges
 pub mod Readers
+pub mod Rests
 pub mod Runs
 pub mod Stills
 pub mod Sums

@@ -77,11 +77,16 @@ abbrev pub IsFullAtLimit : Attempt → Type 0
 IsFullAtLimit (Done later) = Unit {0}
 IsFullAtLimit (Full start) = IsExhausted start
 
--- at a generation before so many there is no larger table to take the step of one generation at
-pub record IsStuck (start : Universe) (generations : ℕ) : Type 0 where
-  pub done : ℕ
+-- fewer than so many generations on, at a table for single generations, there is no larger one to
+-- take the next step at
+pub record IsStuckAt (start : Universe) (generations : ℕ) (there : Universe) (done : ℕ) : Type 0 where
   pub before : done < generations
-  pub there : Universe
   pub later : IsLater start done there
   pub one : exponent_of there ≡ 0
   pub exhausted : IsExhausted there
+
+-- so it is at some generation before so many
+pub record IsStuck (start : Universe) (generations : ℕ) : Type 0 where
+  pub there : Universe
+  pub done : ℕ
+  pub stuck : IsStuckAt start generations there done

@@ -2,7 +2,8 @@
 
 ghost use Rattle.std.specs.Prelude.{◌≡◌, ◌<◌, ◌≤◌, ◌^◌, ◌↔◌, IfErr, IfOk, IsTrue};
 ghost use Rattle.node_table.specs.Desks.{IsDeskOf, book_at};
-ghost use Rattle.node_table.specs.Stills.{key_of};
+ghost use Rattle.node_table.specs.Openings.{SaysAll};
+ghost use Rattle.node_table.specs.Stills.{book_in, key_of};
 ghost use Rattle.plane.specs.Square.{IsSame};
 ghost use Rattle.squares.specs.Book.{IsKnown, Shows};
 ghost use Rattle.squares.specs.Rounds.{IsRound, square_plane};
@@ -126,6 +127,7 @@ impl OpenTable {
         requires level { (3 < root.level) × (root.level ≤ 63) }
         ensures cells { IsSame (still_cells result) (square_plane (known_at self) root) }
         ensures key { key_of (still_of result) ≡ key_at self }
+        ensures says { SaysAll (known_at self) (book_in (still_of result)) }
     {
         let still = self.table.close(self.desk);
         RootedStill { still, root }

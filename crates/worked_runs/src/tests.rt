@@ -2,6 +2,7 @@
 
 mod accepted;
 mod bad_files;
+mod cut;
 mod devices;
 mod ended;
 mod full_squares;
@@ -13,6 +14,7 @@ mod pictures;
 mod plans;
 mod refused;
 mod rows;
+mod sessions;
 mod short_writes;
 mod sources;
 mod want_of_memory;

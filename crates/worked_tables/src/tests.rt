@@ -1,10 +1,12 @@
 //! Worked examples of desks at one table, of its words, of rounds of jobs and of universes.
 
+mod advances;
 mod collections;
 mod few_words;
 mod glider;
 mod histories;
 mod leaves;
+mod ranges;
 mod reopened;
 mod retries;
 mod rounds;

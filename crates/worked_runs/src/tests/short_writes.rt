@@ -6,7 +6,7 @@ use plane::{Failed, Memory, Sink};
 use std::alloc::{AllocError, Global};
 
 // Room for the longest text of a test.
-const ROOM: usize = 4096;
+const ROOM: usize = 65536;
 
 /// A sink that takes at most so many bytes at a time, and at least one, fails at one of its calls,
 /// counted from 1, or at none for 0, and counts its calls and failures.

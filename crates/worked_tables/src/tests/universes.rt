@@ -1,9 +1,13 @@
 //! Universes some generations on, at tables of several sizes. The populations were found apart from
 //! this program.
 
+ghost use Rattle.std.specs.Prelude.{◌<◌, ◌^◌, IfOk};
 ghost use Rattle.plane.specs.Runs.{AreRuns, runs_plane};
+ghost use Rattle.plane.specs.Square.{IsSame, empty};
+ghost use Rattle.universe.specs.Cells.{live_cells, rule_of};
+ghost use Rattle.universe.specs.Held.{StaysHeld};
 
-use plane::{Bounds, Cell, Refusal, reach};
+use plane::{Bounds, Cell, Refusal};
 use rule_text::Rule;
 use squares::{Build, Sq, Squares, runs_to_square};
 use std::alloc::Global;
@@ -30,13 +34,13 @@ impl Build for Runs<'_> {
     }
 }
 
-const R_PENTOMINO: [(Cell, u64); 3] = [
+pub(crate) const R_PENTOMINO: [(Cell, u64); 3] = [
     (Cell { x: 1, y: 0 }, 2),
     (Cell { x: 0, y: 1 }, 2),
     (Cell { x: 1, y: 2 }, 1),
 ];
 
-const GLIDER: [(Cell, u64); 3] = [
+pub(crate) const GLIDER: [(Cell, u64); 3] = [
     (Cell { x: 1, y: 0 }, 1),
     (Cell { x: 2, y: 1 }, 1),
     (Cell { x: 0, y: 2 }, 3),
@@ -44,21 +48,38 @@ const GLIDER: [(Cell, u64); 3] = [
 
 const ONE_CELL: [(Cell, u64); 1] = [(Cell { x: 0, y: 0 }, 1)];
 
-// The universe so many generations later, if these stay in the range.
-fn later<R: Threads + Sync + AllocGlobal>(
-    rt: &R,
-    mut universe: Universe,
-    generations: u64,
-) -> Result<Universe, Refusal> {
-    let team = Team {
+/// A team of one worker.
+pub(crate) fn one_worker<R: AllocGlobal>(rt: &R) -> Team<'_, R, OpenGate> {
+    Team {
         runtime: rt,
         alloc: rt.alloc(),
         workers: 1,
         gate: &OpenGate,
-    };
-    let bounds = universe.bounds(rt.alloc())?;
-    reach(bounds, 0, generations)?;
-    universe.after(&team, generations)
+    }
+}
+
+/// The universe, if so many generations of it stay in the range.
+pub(crate) fn in_range(
+    alloc: Global,
+    mut universe: Universe,
+    generations: u64,
+) -> Result<Universe, Refusal>
+    ensures held { IfOk result
+        (λ same. StaysHeld (rule_of same) (live_cells same) generations) }
+    ensures short { IfOk result
+        (λ same. (IsSame (live_cells same) empty → ⊥) → generations < 2 ^ 63) }
+{
+    universe.judge_range(alloc, 0, generations)?;
+    Ok(universe)
+}
+
+// The universe so many generations later.
+fn later<R: Threads + Sync + AllocGlobal>(
+    rt: &R,
+    universe: Universe,
+    generations: u64,
+) -> Result<Universe, Refusal> {
+    in_range(rt.alloc(), universe, generations)?.after(&one_worker(rt), generations)
 }
 
 /// Goes on by so many generations, again and again, and asserts the population that each comes to.
@@ -76,8 +97,8 @@ pub(crate) fn assert_comes_to<R: Threads + Sync + Abort + AllocGlobal>(
     Ok(())
 }
 
-// The universe of these runs, with so many pair slots at most.
-fn of_runs<R: Abort + AllocGlobal>(
+/// The universe of these runs, with so many pair slots at most.
+pub(crate) fn of_runs<R: Abort + AllocGlobal>(
     rt: &R,
     rule: &[u8],
     runs: &[(Cell, u64)],
@@ -90,8 +111,8 @@ fn of_runs<R: Abort + AllocGlobal>(
     Ok(Universe::of(rt.alloc(), &rule, &Runs { runs }, 0, limit)?)
 }
 
-// Few slots, so that tables grow, are swept and let go, and steps are halved; some; and many.
-const LIMITS: [u32; 4] = [4096, 16384, 65536, 4194304];
+/// Few slots, so that tables grow, are swept and let go, and steps are halved; some; and many.
+pub(crate) const LIMITS: [u32; 4] = [4096, 16384, 65536, 4194304];
 
 #[test]
 fn r_pentomino_at_some_generations(rt: HostRuntime) -> Result<(), Fail> {

@@ -1,44 +1,62 @@
-use Rattle.std.proofs.Common.{◌≡◌, Err, rules, refl, subst, arith, inl}
+use Rattle.std.proofs.Common.{◌≡◌, ℕ, ◌+◌, ◌≤◌, Err, rules, refl, subst, sym, arith, inl}
 use Rattle.std.proofs.result.Match.{err_is}
 use Rattle.plane.specs.Fault.{placeless}
+use Rattle.plane.specs.declared.range.TheConstants.{GENERATION_LIMIT}
 use Rattle.plane.specs.declared.refusal.Refusal.TheVariants.{NoMemory}
-use Rattle.plane.proofs.Same.{same_trans}
-use Rattle.engine.specs.Pattern.{plane_of}
-use Rattle.patterns.specs.Meaning.{meaning_of}
-use Rattle.universe.proofs.Held.{held, short_run}
-use Rattle.universe.specs.Cells.{live_cells, rule_of}
+use Rattle.plane.proofs.Same.{same_sym, same_trans}
 use Rattle.engine.specs.Room.{IsStuckWithin}
+use Rattle.engine.specs.Sessions.{cells_of}
+use Rattle.universe.proofs.Held.{held, short_run}
 use Rattle.engine.proofs.LastPatterns.{ends_with, stops}
-use Rattle.engine.proofs.Onward.{stuck_within}
+use Rattle.engine.proofs.Sessions.{lacks, later_same, none_later, same_session, stuck_if_full, sums_up_as}
 use Rattle.engine.proofs.last.last_pattern.Goals as goal
 
-pub after-requires-clause-held : goal.after-requires-clause-held
-after-requires-clause-held g c κs within =
-    let run = c.in_ok-begun.ensures.accepted in
-    λ n less. held (rule_of c.in_ok-begun.begun.universe) run.lawful.no_birth_on_zero run.cells (live_cells c.in_ok-begun.begun.universe) c.args.run.now.gens n run.listing run.accepted.1.coordinates less
+pub advance_within-requires-clause-held : goal.advance_within-requires-clause-held
+advance_within-requires-clause-held g c κs within =
+    let run = c.in_ok-session.ensures.ok.accepted in
+    λ n less. held c.in_ok-session.session.rule run.lawful.no_birth_on_zero run.cells (cells_of c.in_ok-session.session) c.args.run.now.gens n run.listing run.accepted.1.coordinates less
 
-pub after-requires-clause-short : goal.after-requires-clause-short
-after-requires-clause-short g c κs within =
-    let run = c.in_ok-begun.ensures.accepted in
-    short_run run.cells (live_cells c.in_ok-begun.begun.universe) c.args.run.now.gens run.listing run.accepted.1.coordinates
+pub advance_within-requires-clause-short : goal.advance_within-requires-clause-short
+advance_within-requires-clause-short g c κs within =
+    let run = c.in_ok-session.ensures.ok.accepted in
+    short_run run.cells (cells_of c.in_ok-session.session) c.args.run.now.gens run.listing run.accepted.1.coordinates
 
-pub returns-in_err-universe-clause-refused : goal.returns-in_err-universe-clause-refused
-returns-in_err-universe-clause-refused g c =
-    let start = c.in_ok-begun.begun.universe in
+pub advance_within-requires-clause-last : goal.advance_within-requires-clause-last
+advance_within-requires-clause-last g c κs within =
+    let opened = c.in_ok-session.ensures.ok in
+    subst (λ n. n + c.args.run.now.gens ≤ GENERATION_LIMIT) (sym opened.generation) opened.accepted.accepted.1.last_generation
+
+pub returns-in_err-advance_within-clause-refused : goal.returns-in_err-advance_within-clause-refused
+returns-in_err-advance_within-clause-refused g c =
+    let opened = c.in_ok-session.ensures.ok in
+    let start = c.in_ok-session.session in
     let gens = c.args.run.now.gens in
-    let is : c.from_residual-in_err-universe.result ≡ Err (placeless c.in_err-universe.field-0.0) = err_is _ _ c.from_residual-in_err-universe.ensures.1 in
-    rw is (stops c.args.bytes.now c.args.run.now (meaning_of c.in_ok-begun.begun.text) (rule_of start) (live_cells start) c.in_ok-begun.ensures.accepted
-    c.in_err-universe.field-0.0 c.in_err-universe.ensures.refusal
-    (λ full. subst (λ n. IsStuckWithin (rule_of start) (live_cells start) n gens) c.in_ok-begun.ensures.limit (stuck_within gens (c.in_err-universe.ensures.full full))))
+    let is : c.from_residual-in_err-advance_within.result ≡ Err (placeless c.in_err-advance_within.field-0.0) = err_is _ _ c.from_residual-in_err-advance_within.ensures.1 in
+    rw is (stops c.args.bytes.now c.args.run.now opened.meaning start.rule (cells_of start) opened.accepted
+    c.in_err-advance_within.field-0.0 (lacks gens c.in_err-advance_within.field-0.0 c.in_err-advance_within.ensures.refused)
+    (λ full. subst (λ (n : ℕ). IsStuckWithin start.rule (cells_of start) n gens) opened.limit
+    (stuck_if_full {first = start} {second = start} {third = c.advance_within.new.self} gens 0 gens c.in_err-advance_within.field-0.0 (none_later (same_session start)) (omega arith) c.in_err-advance_within.ensures.refused full)))
 
-pub returns-in_err-last-clause-refused : goal.returns-in_err-last-clause-refused
-returns-in_err-last-clause-refused g c =
-    let start = c.in_ok-begun.begun.universe in
-    let is : c.from_residual-in_err-last.result ≡ Err (placeless NoMemory) = search rules in
-    rw is (stops c.args.bytes.now c.args.run.now (meaning_of c.in_ok-begun.begun.text) (rule_of start) (live_cells start) c.in_ok-begun.ensures.accepted
-    NoMemory (inl refl) (λ full. cc))
+pub returns-in_err-summary-clause-refused : goal.returns-in_err-summary-clause-refused
+returns-in_err-summary-clause-refused g c =
+    let opened = c.in_ok-session.ensures.ok in
+    let start = c.in_ok-session.session in
+    let is : c.from_residual-in_err-summary.result ≡ Err (placeless NoMemory) = search rules in
+    rw is (stops c.args.bytes.now c.args.run.now opened.meaning start.rule (cells_of start) opened.accepted NoMemory (inl refl) (λ full. cc))
+
+pub returns-in_err-into_pattern-clause-refused : goal.returns-in_err-into_pattern-clause-refused
+returns-in_err-into_pattern-clause-refused g c =
+    let opened = c.in_ok-session.ensures.ok in
+    let start = c.in_ok-session.session in
+    let is : c.from_residual-in_err-into_pattern.result ≡ Err (placeless NoMemory) = search rules in
+    rw is (stops c.args.bytes.now c.args.run.now opened.meaning start.rule (cells_of start) opened.accepted NoMemory (inl refl) (λ full. cc))
 
 pub returns-clause-ok : goal.returns-clause-ok
 returns-clause-ok g c =
-    ends_with c.args.bytes.now c.args.run.now (meaning_of c.in_ok-begun.begun.text) (rule_of c.in_ok-begun.begun.universe) (live_cells c.in_ok-begun.begun.universe) c.in_ok-begun.ensures.accepted
-    (plane_of c.in_ok-last.last.0) c.in_ok-last.last.1 c.generation-start.result c.generation-start.ensures (same_trans c.in_ok-last.ensures.same c.in_ok-universe.ensures.ok.cells) c.in_ok-last.ensures.ok
+    let opened = c.in_ok-session.ensures.ok in
+    let start = c.in_ok-session.session in
+    let gens = c.args.run.now.gens in
+    let finished = later_same gens c.in_ok-advance_within.ensures.ok c.in_ok-summary.ensures.same in
+    let same = c.in_ok-into_pattern.ensures.ok in
+    ends_with c.args.bytes.now c.args.run.now opened.meaning start.rule (cells_of start) opened.accepted _ c.in_ok-summary.summary start.generation opened.generation
+    (same_trans same finished.cells) (sums_up_as finished.generation (same_sym same) c.in_ok-summary.ensures.ok)

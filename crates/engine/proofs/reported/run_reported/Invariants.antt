@@ -1,8 +1,7 @@
 use Rattle.std.proofs.Common.{◌≡◌, ◌≤◌, ℕ, ◌-◌, List, not}
 use Rattle.std.specs.Io.KnownBytes.{Appends}
-use Rattle.universe.specs.Cells.{live_cells, rule_of}
-use Rattle.universe.specs.Runs.{IsLater}
 use Rattle.engine.specs.Report.{AreLinesAfter, is_shown}
+use Rattle.engine.specs.Sessions.{IsLaterSession, cells_of}
 use Rattle.engine.proofs.Reports.{shown_below}
 use Rattle.engine.proofs.reported.run_reported.Given as goal
 
@@ -10,9 +9,9 @@ abbrev pub invariant-lines : goal.invariant-lines
 invariant-lines g l = record {
   within : l.done ≤ l.options.gens;
   shown : is_shown l.options l.done ≡ not l.options.quiet;
-  later : IsLater l.fn.start l.done l.universe;
+  later : IsLaterSession l.fn.session l.done l.session;
   unfailed : g.W.Sink.failure_count l.report ≡ g.W.Sink.failure_count l.fn.report;
-  said : (said : List ℕ) × AreLinesAfter (rule_of l.fn.start) (live_cells l.fn.start) l.generation (shown_below l.options l.done) said
+  said : (said : List ℕ) × AreLinesAfter l.fn.session.rule (cells_of l.fn.session) l.fn.session.generation (shown_below l.options l.done) said
       × Appends (g.W.Sink.taken l.fn.report) (g.W.Sink.taken l.report) said;
 }
 

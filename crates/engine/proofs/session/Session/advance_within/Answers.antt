@@ -1,0 +1,18 @@
+use Rattle.std.proofs.Common.{refl, subst, inl}
+use Rattle.universe.specs.Advances.{IsAdvance}
+use Rattle.universe.specs.declared.advances.Advance.{Advance}
+use Rattle.engine.proofs.Sessions.{held_at_work, later_by, stuck_by}
+use Rattle.engine.proofs.session.Session.advance_within.Goals as goal
+
+pub advance-requires-clause-held : goal.advance-requires-clause-held
+advance-requires-clause-held g c κs within = held_at_work c.args.self.now c.in_ok-universe.universe c.args.generations c.in_ok-universe.ensures.same c.requires.held
+
+pub returns-in-Done-clause-ok : goal.returns-in-Done-clause-ok
+returns-in-Done-clause-ok g c =
+    let later = subst (λ (advance : Advance). IsAdvance c.in_ok-universe.universe c.args.generations advance) c.in-Done.is c.in_ok-later.ensures.ok in
+    later_by c.args.self.now _ c.in_ok-universe.universe c.in-Done.later c.args.generations refl refl refl c.in_ok-universe.ensures.same later refl
+
+pub returns-in-Stuck-clause-refused : goal.returns-in-Stuck-clause-refused
+returns-in-Stuck-clause-refused g c =
+    let stuck = subst (λ (advance : Advance). IsAdvance c.in_ok-universe.universe c.args.generations advance) c.in-Stuck.is c.in_ok-later.ensures.ok in
+    inl (refl, stuck_by c.args.self.now _ c.in_ok-universe.universe c.in-Stuck.there c.args.generations c.in-Stuck.done refl refl refl c.in_ok-universe.ensures.same stuck refl)

@@ -1,0 +1,76 @@
+use Rattle.std.proofs.Common.{◌+◌, ◌^◌, ℕ, get_or, refl, sym, ◌∙◌, ap, subst, arith, rules}
+use Rattle.std.specs.Prelude.{sum_by}
+use Rattle.std.proofs.lemmas.Bool.{false≢true}
+use Rattle.std.proofs.lemmas.List.Sums.{sum_by_more}
+use Rattle.std.proofs.lemmas.Nat.{one_shl}
+use Rattle.rule_text.specs.CountRule.{IsRule}
+use Rattle.plane.specs.Square.{IsSame, empty}
+use Rattle.universe.specs.Advances.{IsAdvance}
+use Rattle.universe.specs.Cells.{live_cells, rule_of}
+use Rattle.universe.specs.Runs.{IsLater}
+use Rattle.universe.proofs.Advancing.{by_count, stuck_on_part}
+use Rattle.universe.proofs.Later.{empty_stays, low_exponent, next_within}
+use Rattle.universe.proofs.Onward.{held_on, later_on}
+use Rattle.universe.proofs.universe.Universe.advance.Goals as goal
+
+pub returns-then-is_empty-clause-ok : goal.returns-then-is_empty-clause-ok
+returns-then-is_empty-clause-ok g c =
+    let rule : IsRule (rule_of c.args.self) = search rules in
+    record {
+      cells = empty_stays (rule_of c.args.self) rule.no_birth_on_zero (live_cells c.args.self) c.args.generations (c.if-is_empty.ensures.0 refl);
+      rule = refl;
+      limit = refl;
+    }
+
+pub step-requires-clause-exponent : goal.step-requires-clause-exponent
+step-requires-clause-exponent g c κs lives =
+    let exponents = c.as_slice-exponent-items.result.now in
+    let next = get_or exponents c.steps.exponent-index 0 in
+    let sum = ap (sum_by (λ exponent. 2 ^ exponent)) c.as_slice-exponent-items.ensures.value ∙ c.digits_from-digits.ensures in
+    let within = next_within exponents c.args.generations c.steps.done c.steps.exponent-index sum c.steps.invariant.counted c.steps-test.true in
+    let some : IsSame (live_cells c.args.self) empty → ⊥ = λ none. false≢true (c.if-is_empty.ensures.1 none) in
+    low_exponent next c.steps.done c.args.generations within (c.requires.short some)
+
+pub step-requires-clause-held : goal.step-requires-clause-held
+step-requires-clause-held g c κs lives =
+    let exponents = c.as_slice-exponent-items.result.now in
+    let next = get_or exponents c.steps.exponent-index 0 in
+    let sum = ap (sum_by (λ exponent. 2 ^ exponent)) c.as_slice-exponent-items.ensures.value ∙ c.digits_from-digits.ensures in
+    let within = next_within exponents c.args.generations c.steps.done c.steps.exponent-index sum c.steps.invariant.counted c.steps-test.true in
+    held_on c.args.generations c.steps.done (2 ^ next) c.requires.held c.steps.invariant.later within
+
+pub returns-in_default-clause-ok : goal.returns-in_default-clause-ok
+returns-in_default-clause-ok g c =
+    let exponents = c.as_slice-exponent-items.result.now in
+    let next = get_or exponents c.steps.exponent-index 0 in
+    let sum = ap (sum_by (λ exponent. 2 ^ exponent)) c.as_slice-exponent-items.ensures.value ∙ c.digits_from-digits.ensures in
+    let within = next_within exponents c.args.generations c.steps.done c.steps.exponent-index sum c.steps.invariant.counted c.steps-test.true in
+    by_count c.args.self c.args.generations c.steps.done c.steps.done c.in_ok-stuck.stuck c.with_earlier.result c.with_earlier.ensures refl
+    (stuck_on_part c.args.generations c.steps.done (2 ^ next) c.in_ok-stuck.stuck c.in_default.not-Done c.steps.invariant.later within c.in_ok-stuck.ensures)
+
+pub overflow_shl-done : goal.overflow_shl-done
+overflow_shl-done g c =
+    let exponents = c.as_slice-exponent-items.result.now in
+    let next = get_or exponents c.steps.exponent-index 0 in
+    let sum = ap (sum_by (λ exponent. 2 ^ exponent)) c.as_slice-exponent-items.ensures.value ∙ c.digits_from-digits.ensures in
+    let within = next_within exponents c.args.generations c.steps.done c.steps.exponent-index sum c.steps.invariant.counted c.steps-test.true in
+    let some : IsSame (live_cells c.args.self) empty → ⊥ = λ none. false≢true (c.if-is_empty.ensures.1 none) in
+    let low = low_exponent next c.steps.done c.args.generations within (c.requires.short some) in
+    omega (arith, low)
+
+pub steps-preserved : goal.steps-preserved
+steps-preserved g c =
+    let exponents = c.as_slice-exponent-items.result.now in
+    let next = get_or exponents c.steps.exponent-index 0 in
+    let sum = ap (sum_by (λ exponent. 2 ^ exponent)) c.as_slice-exponent-items.ensures.value ∙ c.digits_from-digits.ensures in
+    let within = next_within exponents c.args.generations c.steps.done c.steps.exponent-index sum c.steps.invariant.counted c.steps-test.true in
+    let some : IsSame (live_cells c.args.self) empty → ⊥ = λ none. false≢true (c.if-is_empty.ensures.1 none) in
+    let low = low_exponent next c.steps.done c.args.generations within (c.requires.short some) in
+    let power = one_shl next 64 (omega (arith, low)) in
+    let later = subst (IsAdvance c.steps.universe (2 ^ next)) c.in-Done.is c.in_ok-stuck.ensures in
+    let more = sum_by_more (λ exponent. 2 ^ exponent) exponents c.steps.exponent-index 0 c.steps-test.true in
+    let counted = c.steps.invariant.counted in
+    record {
+      later = subst (λ (n : ℕ). IsLater c.args.self (c.steps.done + n) c.in-Done.later) (sym power) (later_on c.steps.done (2 ^ next) c.steps.invariant.later later);
+      counted = omega (arith, power, more, counted);
+    }

@@ -1,0 +1,11 @@
+use Rattle.std.proofs.Common.{◌≡◌, ◌^◌, take}
+use Rattle.std.specs.Prelude.{sum_by}
+use Rattle.universe.specs.Runs.{IsLater}
+use Rattle.universe.proofs.universe.Universe.advance.Given as goal
+
+-- the universe after the steps so far, whose generations are counted
+abbrev pub invariant-steps : goal.invariant-steps
+invariant-steps g l = record {
+  later : IsLater l.fn.self l.done l.universe;
+  counted : l.done ≡ sum_by (λ exponent. 2 ^ exponent) (take l.exponent-index l.exponent-items);
+}
