@@ -95,7 +95,7 @@ def what_of(goal: str) -> str:
 
 def place(function: str, goal: str, in_ring: bool) -> str:
     """The place of a goal. Before a goal of functions that call one another stands the name of its function."""
-    own = re.match(r"(\w+)-" if in_ring else r"(\w+)-(?=returns)", goal)
+    own = re.match(r"(?!returns-)(\w+)-" if in_ring else r"(\w+)-(?=returns)", goal)
     if own:
         modules, colons, _ = function.rpartition("::")
         function, goal = f"{modules}{colons}{own[1]}", goal[own.end() :]
