@@ -218,6 +218,9 @@ same_then_stuck {first} {second} {third} generations same stuck = record {
 
 -- ---- at work
 
+pub cells_at_work : (state : State) (universe : Universe) → state ≡ AtWork universe → IsSame (state_cells state) (live_cells universe)
+cells_at_work state universe is = subst (λ (s : State). IsSame (state_cells s) (live_cells universe)) (sym is) (same_refl (live_cells universe))
+
 pub held_at_work : (session : Session) (universe : Universe) (generations : ℕ) → IsSameState session.state (AtWork universe) → StaysHeld session.rule (cells_of session) generations → StaysHeld (rule_of universe) (live_cells universe) generations
 held_at_work session universe generations same held =
     let by_rule : rule_of universe ≡ session.rule = same.rule session.rule session.by_rule in

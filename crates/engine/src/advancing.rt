@@ -8,7 +8,6 @@ ghost use Rattle.universe.specs.Ranges.{KeepsToRange};
 ghost use Rattle.engine.specs.Sessions.{IsLaterSession, IsNotAdvanced, IsStuckOnTheWay, cells_of, is_open};
 
 use crate::session::Session;
-use crate::state::State;
 use plane::Refusal;
 use std::thread::Threads;
 use universe::Advance;
@@ -33,7 +32,7 @@ impl Session {
     {
         let mut universe = self.state.take_universe(team.alloc)?;
         let judged = universe.judge_range(team.alloc, self.generation, generations);
-        self.state = State::AtWork(universe);
+        self.state.put_universe(universe);
         judged?;
         self.advance_within(team, generations)
     }
@@ -55,12 +54,12 @@ impl Session {
         let universe = self.state.take_universe(team.alloc)?;
         match universe.advance(team, generations)? {
             Advance::Done(later) => {
-                self.state = State::AtWork(later);
+                self.state.put_universe(later);
                 self.generation += generations;
                 Ok(())
             }
             Advance::Stuck { there, done } => {
-                self.state = State::AtWork(there);
+                self.state.put_universe(there);
                 self.generation += done;
                 Err(Refusal::NodesFull)
             }

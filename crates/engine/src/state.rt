@@ -36,6 +36,13 @@ impl State {
         }
     }
 
+    /// Puts cells at an open table in their place.
+    pub(crate) fn put_universe(&mut self, universe: Universe)
+        ensures { self.new ≡ State.AtWork universe }
+    {
+        *self = State::AtWork(universe);
+    }
+
     /// Brings the cells to rest. Nothing is copied.
     pub(crate) fn rest(&mut self)
         ensures same { IsSameState self.old self.new }

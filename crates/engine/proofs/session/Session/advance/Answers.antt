@@ -3,27 +3,29 @@ use Rattle.plane.proofs.Same.{same_trans}
 use Rattle.universe.specs.Cells.{live_cells}
 use Rattle.universe.proofs.InRange.{keeps_held, keeps_short}
 use Rattle.universe.proofs.Onward.{held_again}
-use Rattle.engine.proofs.Sessions.{judged, later_result, refused_result}
+use Rattle.engine.proofs.Sessions.{cells_at_work, judged, later_result, refused_result}
 use Rattle.engine.proofs.session.Session.advance.Goals as goal
 
 pub advance_within-requires-clause-held : goal.advance_within-requires-clause-held
 advance_within-requires-clause-held g c κs within =
     let rule = c.args.self.now.rule in
     let start = live_cells c.in_ok-universe.universe in
-    λ n less. held_again rule start (live_cells c.judge_range-judged.new.self) n c.judge_range-judged.ensures.same.cells
+    let here = cells_at_work c.put_universe.new.self c.judge_range-judged.new.self c.put_universe.ensures in
+    λ n less. held_again rule start _ n (same_trans here c.judge_range-judged.ensures.same.cells)
     (keeps_held rule c.args.self.now.lawful start c.args.self.now.generation c.args.generations c.in_ok-judged.ensures.ok n less)
 
 pub advance_within-requires-clause-short : goal.advance_within-requires-clause-short
 advance_within-requires-clause-short g c κs within =
+    let here = cells_at_work c.put_universe.new.self c.judge_range-judged.new.self c.put_universe.ensures in
     λ some. keeps_short (live_cells c.in_ok-universe.universe) c.args.self.now.generation c.args.generations c.in_ok-judged.ensures.ok
-    (λ none. some (same_trans c.judge_range-judged.ensures.same.cells none))
+    (λ none. some (same_trans here (same_trans c.judge_range-judged.ensures.same.cells none)))
 
 pub returns-clause-ok : goal.returns-clause-ok
 returns-clause-ok g c =
     later_result c.args.self.now _ _ c.args.generations _
-    (judged c.args.self.now c.in_ok-universe.universe c.judge_range-judged.new.self _ c.in_ok-universe.ensures.same c.judge_range-judged.ensures.same refl refl refl refl) c.advance_within.ensures.ok
+    (judged c.args.self.now c.in_ok-universe.universe c.judge_range-judged.new.self _ c.in_ok-universe.ensures.same c.judge_range-judged.ensures.same refl refl refl c.put_universe.ensures) c.advance_within.ensures.ok
 
 pub returns-clause-refused : goal.returns-clause-refused
 returns-clause-refused g c =
     refused_result c.args.self.now _ _ c.args.generations _
-    (judged c.args.self.now c.in_ok-universe.universe c.judge_range-judged.new.self _ c.in_ok-universe.ensures.same c.judge_range-judged.ensures.same refl refl refl refl) c.advance_within.ensures.refused
+    (judged c.args.self.now c.in_ok-universe.universe c.judge_range-judged.new.self _ c.in_ok-universe.ensures.same c.judge_range-judged.ensures.same refl refl refl c.put_universe.ensures) c.advance_within.ensures.refused

@@ -10,9 +10,9 @@ advance-requires-clause-held g c κs within = held_at_work c.args.self.now c.in_
 pub returns-in-Done-clause-ok : goal.returns-in-Done-clause-ok
 returns-in-Done-clause-ok g c =
     let later = subst (λ (advance : Advance). IsAdvance c.in_ok-universe.universe c.args.generations advance) c.in-Done.is c.in_ok-later.ensures.ok in
-    later_by c.args.self.now _ c.in_ok-universe.universe c.in-Done.later c.args.generations refl refl refl c.in_ok-universe.ensures.same later refl
+    later_by c.args.self.now _ c.in_ok-universe.universe c.in-Done.later c.args.generations refl refl refl c.in_ok-universe.ensures.same later c.put_universe.ensures
 
 pub returns-in-Stuck-clause-refused : goal.returns-in-Stuck-clause-refused
 returns-in-Stuck-clause-refused g c =
     let stuck = subst (λ (advance : Advance). IsAdvance c.in_ok-universe.universe c.args.generations advance) c.in-Stuck.is c.in_ok-later.ensures.ok in
-    inl (refl, stuck_by c.args.self.now _ c.in_ok-universe.universe c.in-Stuck.there c.args.generations c.in-Stuck.done refl refl refl c.in_ok-universe.ensures.same stuck refl)
+    inl (refl, stuck_by c.args.self.now _ c.in_ok-universe.universe c.in-Stuck.there c.args.generations c.in-Stuck.done refl refl refl c.in_ok-universe.ensures.same stuck c.put_universe-in-Stuck.ensures)
