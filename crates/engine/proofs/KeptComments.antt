@@ -85,10 +85,6 @@ comments_are : (all : List Line) → AllByRecursion HasOneLine all → AllByRecu
 comments_are [] one = tt
 comments_are (line ∷ rest) one = comment_step (is_kept line.text) line.text (comments_of rest) refl one.0 (comments_are rest one.1)
 
--- each kept comment of a text is one, in one line
-pub all_comments : (bytes : List ℕ) (place : ℕ) → AllByRecursion IsComment (comments_of (lines_from bytes place))
-all_comments bytes place = comments_are (lines_from bytes place) (lines_all place (drop place bytes))
-
 -- ---- the comments of accepted files
 
 abbrev HasComments : List (List ℕ) → Type 0

@@ -7,18 +7,16 @@ use Rattle.plane.specs.Plane.{Plane, after}
 use Rattle.plane.specs.Square.{IsSame, empty}
 use Rattle.plane.specs.Centred.{Holds}
 use Rattle.plane.specs.declared.refusal.Refusal.{Refusal}
-use Rattle.plane.specs.declared.refusal.Refusal.TheVariants.{NodesFull, NoMemory}
+use Rattle.plane.specs.declared.refusal.Refusal.TheVariants.{NodesFull, NoMemory, TooFar}
 use Rattle.plane.proofs.Parts.{after_same}
-use Rattle.plane.proofs.Same.{plane_equal, same_refl, same_sym, same_trans}
+use Rattle.plane.proofs.Same.{plane_equal, same_refl, same_trans}
 use Rattle.plane.specs.Window.{Rectangle}
-use Rattle.table_core.specs.declared.key.Key.{Key}
 use Rattle.table_core.specs.declared.shape.Shape.{Shape}
 use Rattle.universe.specs.Cells.{live_cells, resting_limit, resting_rule, rule_of}
 use Rattle.universe.specs.Held.{StaysHeld}
 use Rattle.universe.specs.Outcomes.{LacksMemoryOrRoom}
-use Rattle.universe.specs.Rests.{IsAtRest}
+use Rattle.universe.specs.Ranges.{LeavesRange}
 use Rattle.universe.specs.Runs.{IsLater, IsSameUniverse, IsStuckAt}
-use Rattle.universe.specs.declared.other_tables.OtherTables.{OtherTables}
 use Rattle.universe.specs.declared.universe.Universe.{Universe}
 use Rattle.universe.proofs.Later.{after_step, empty_later, held_later}
 use Rattle.universe.proofs.Onward.{held_again}
@@ -26,6 +24,7 @@ use Rattle.engine.specs.Accepted.{SumsUp}
 use Rattle.engine.specs.Pattern.{plane_of}
 use Rattle.engine.specs.Report.{window_text}
 use Rattle.engine.specs.declared.running.Summary.{Summary}
+use Rattle.engine.proofs.Acceptance.{leaves_as}
 use Rattle.engine.proofs.Endings.{listing_as, population_as}
 use Rattle.engine.specs.Room.{IsStuckWithin}
 use Rattle.engine.specs.Sessions.{IsLaterSession, IsNotAdvanced, IsSameSession, IsStuckOnTheWay, cells_of, comments_of, is_open, pairs_of}
@@ -37,32 +36,12 @@ use Rattle.engine.specs.declared.state.State.TheVariants.{AtRest, AtWork}
 
 -- ---- states
 
-pub same_state : (state : State) → IsSameState state state
-same_state state = record { cells = same_refl (state_cells state); rule = λ rule is. is; limit = refl; there = refl }
-
 pub state_then : {first second third : State} → IsSameState first second → IsSameState second third → IsSameState first third
 state_then before now = record {
   cells = same_trans now.cells before.cells;
   rule = λ rule is. now.rule rule (before.rule rule is);
   limit = now.limit ∙ before.limit;
   there = now.there ∙ before.there;
-}
-
--- a universe that came to rest, or went on
-pub rested : (universe : Universe) (pattern : Pattern) → IsAtRest universe pattern.resting → IsSameState (AtWork universe) (AtRest pattern)
-rested universe pattern is = record {
-  cells = is.cells;
-  rule = λ rule by. ap (λ (k : Key). k.rule) is.key ∙ by;
-  limit = ap (λ (o : OtherTables). 2 ^ o.limit.bits) is.others;
-  there = refl;
-}
-
-pub went_on : (universe : Universe) (pattern : Pattern) → IsAtRest universe pattern.resting → IsSameState (AtRest pattern) (AtWork universe)
-went_on universe pattern is = record {
-  cells = same_sym is.cells;
-  rule = λ rule by. sym (ap (λ (k : Key). k.rule) is.key) ∙ by;
-  limit = sym (ap (λ (o : OtherTables). 2 ^ o.limit.bits) is.others);
-  there = refl;
 }
 
 -- a universe that was asked
@@ -241,6 +220,17 @@ pub refused_result : (first second third : Session) (generations : ℕ) (result 
 refused_result first second third generations (Ok done) same refused = tt
 refused_result first second third generations (Err refusal) same (inl (full, stuck)) = inr (inl (full, same_then_stuck {first = first} {second = second} {third = third} generations same stuck))
 refused_result first second third generations (Err refusal) same (inr (memory, closed)) = inr (inr (memory, inr closed))
+
+-- what holds at any rate holds of an answer
+pub whenever : {T E P : Type 0} (result : Result T E) → P → OnOk result P
+whenever (Ok done) holds = holds
+whenever (Err refusal) holds = tt
+
+-- a session whose range was not judged, or leaves the range
+pub not_judged : (old new : Session) (universe : Universe) (generations : ℕ) (refusal : Refusal) → IsSame (live_cells universe) (cells_of old) → IsSameSession old new →
+    (refusal ≡ NoMemory) ⊎ ((refusal ≡ TooFar) × LeavesRange (live_cells universe) old.generation generations) → IsNotAdvanced old generations new refusal
+not_judged old new universe generations refusal cells same (inl memory) = inr (inr (memory, inl same))
+not_judged old new universe generations refusal cells same (inr (far, leaves)) = inl (far, leaves_as cells refl leaves, same)
 
 -- ---- at rest
 

@@ -1,6 +1,6 @@
 -- Universes that come as far as they get, part by part.
 use Rattle.std.proofs.Common.{◌≡◌, ◌≢◌, ℕ, ◌+◌, ◌-◌, ◌^◌, ◌≤◌, refl, subst, sym, arith}
-use Rattle.universe.specs.Advances.{IsAdvance, with_earlier}
+use Rattle.universe.specs.Advances.{IsAdvance, stuck_after, with_earlier}
 use Rattle.universe.specs.Runs.{IsLater, IsSameUniverse}
 use Rattle.universe.specs.declared.advances.Advance.{Advance}
 use Rattle.universe.specs.declared.advances.Advance.TheVariants.{Done, Stuck}
@@ -38,3 +38,8 @@ pub stuck_on_part : {first second : Universe} → (generations done more : ℕ) 
 stuck_on_part generations done more (Done third) stuck later within is = absurd (stuck third refl)
 stuck_on_part {first} {second} generations done more (Stuck there further) stuck later within is =
     stuck_further {first = first} {second = second} {there = there} generations done more further later within is
+
+-- it is not stuck after more than it was asked for
+pub stuck_below : (start : Universe) (generations : ℕ) (advance : Advance) → IsAdvance start generations advance → stuck_after advance ≤ generations
+stuck_below start generations (Done later) is = omega arith
+stuck_below start generations (Stuck there done) is = let before = is.before in omega (arith, before)

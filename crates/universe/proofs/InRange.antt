@@ -19,7 +19,7 @@ use Rattle.universe.specs.Ranges.{Encloses, KeepsToRange}
 use Rattle.universe.specs.Tables.{known_at}
 use Rattle.universe.specs.declared.universe.Universe.{Universe}
 use Rattle.universe.proofs.Held.{held, short_run}
-use Rattle.universe.proofs.Spread.{each_listed, reach_of_rooms, room_in_box, stays_on, stays_shorter}
+use Rattle.universe.proofs.Spread.{each_listed, reach_of_rooms, room_in_box, stays_on}
 
 -- a plane that a square around (0,0) holds has a listing
 pub held_listing : (level : ℕ) (plane : Plane) → Holds level plane → (cells : List Cell) × IsListing cells plane
@@ -100,10 +100,6 @@ keeps_same plane other start generations same keeps = record {
   listing = record { rising = keeps.listing.rising; live = λ x y. keeps.listing.live x y ∙ same.same x y };
   stays = keeps.stays;
 }
-
--- fewer generations stay there
-pub keeps_shorter : (plane : Plane) (start less more : ℕ) → less ≤ more → KeepsToRange plane start more → KeepsToRange plane start less
-keeps_shorter plane start less more fewer keeps = record { cells = keeps.cells; listing = keeps.listing; stays = stays_shorter keeps.cells start less more fewer keeps.stays }
 
 -- what is left of them stays there
 pub keeps_on : (rule : CountRule) → IsRule rule → (plane : Plane) (start done more : ℕ) → KeepsToRange plane start (done + more) → KeepsToRange (after rule plane done) (start + done) more

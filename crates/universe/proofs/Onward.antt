@@ -1,5 +1,5 @@
 -- Universes some generations on, one after the other.
-use Rattle.std.proofs.Common.{◌≡◌, ◌≢◌, ℕ, ◌+◌, ◌-◌, ◌^◌, ◌<◌, ◌≤◌, sym, ◌∙◌, refl, subst, arith}
+use Rattle.std.proofs.Common.{◌≡◌, ℕ, ◌+◌, ◌^◌, ◌<◌, ◌≤◌, sym, ◌∙◌, refl, subst, arith}
 use Rattle.std.specs.Prelude.{Result, Ok, Err, IfOk}
 use Rattle.rule_text.specs.CountRule.{CountRule}
 use Rattle.plane.specs.Centred.{Holds}
@@ -9,11 +9,10 @@ use Rattle.plane.proofs.Parts.{after_same}
 use Rattle.plane.proofs.Same.{same_refl, same_sym, same_trans}
 use Rattle.universe.specs.Cells.{exponent_of, live_cells, rule_of}
 use Rattle.universe.specs.Held.{StaysHeld}
-use Rattle.universe.specs.Runs.{IsAttempt, IsExhausted, IsLater, IsSameUniverse, IsStuck, IsStuckAt, ReachesExponent, IsAtExponent, MayStep}
+use Rattle.universe.specs.Runs.{IsAttempt, IsExhausted, IsLater, IsSameUniverse, IsStuckAt, ReachesExponent, IsAtExponent, MayStep}
 use Rattle.universe.specs.declared.attempts.Attempt.{Attempt}
 use Rattle.universe.specs.declared.attempts.Attempt.TheVariants.{Done, Full}
 use Rattle.universe.specs.declared.universe.Universe.{Universe}
-use Rattle.universe.proofs.Halves.{two_halves}
 use Rattle.universe.proofs.Later.{after_step, held_later}
 use Rattle.universe.proofs.Rounds.{held_same}
 
@@ -26,10 +25,6 @@ still_same before now = record { cells = same_trans now.cells before.cells; rule
 -- the same cells are those after no generation
 pub none_later : {first second : Universe} → IsSameUniverse first second → IsLater first 0 second
 none_later same = record { cells = same.cells; rule = same.rule; limit = same.limit }
-
--- what is the same is as many generations on
-pub then_same : {first second third : Universe} → (generations : ℕ) → IsLater first generations second → IsSameUniverse second third → IsLater first generations third
-then_same generations later same = record { cells = same_trans same.cells later.cells; rule = same.rule ∙ later.rule; limit = same.limit ∙ later.limit }
 
 pub later_on : {first second third : Universe} → (done more : ℕ) → IsLater first done second → IsLater second more third → IsLater first (done + more) third
 later_on {first} {second} {third} done more before now = record {
@@ -53,11 +48,6 @@ pub held_on : {first second : Universe} → (generations done more : ℕ) → St
 held_on {first} {second} generations done more held before within = λ n less.
     subst (λ (r : CountRule). Holds 63 (after r (live_cells second) n)) (sym before.rule)
     (held_later (rule_of first) (live_cells first) (live_cells second) generations done n held before.cells (omega (arith, within, less)))
-
--- both halves are the step
-pub two_steps : {first second third : Universe} → (exponent : ℕ) → exponent ≢ 0 → IsLater first (2 ^ (exponent - 1)) second → IsLater second (2 ^ (exponent - 1)) third → IsLater first (2 ^ exponent) third
-two_steps {first} {second} {third} exponent some one two =
-    subst (λ n. IsLater first n third) (two_halves exponent some) (later_on (2 ^ (exponent - 1)) (2 ^ (exponent - 1)) one two)
 
 -- ---- at the same table, or at another of its exponent
 
@@ -116,13 +106,6 @@ stuck_further {first} {second} {there} generations done more further later withi
   later = later_on {first = first} {second = second} {third = there} done further later stuck.later;
   one = stuck.one;
   exhausted = stuck.exhausted;
-}
-
-pub stuck_on : {first second : Universe} → (generations done more : ℕ) → IsLater first done second → done + more ≤ generations → IsStuck second more → IsStuck first generations
-stuck_on {first} {second} generations done more later within stuck = record {
-  there = stuck.there;
-  done = done + stuck.done;
-  stuck = stuck_further {first = first} {second = second} {there = stuck.there} generations done more stuck.done later within stuck.stuck;
 }
 
 pub stuck_at_once : {first second : Universe} → (generations : ℕ) → 0 < generations → IsSameUniverse first second → exponent_of second ≡ 0 → IsExhausted second → IsStuckAt first generations second 0

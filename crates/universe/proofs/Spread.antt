@@ -1,9 +1,11 @@
 -- Which boxes of cells stay in the range: those whose cells all have room on each side. Cells spread
 -- by at most one place a generation, so later cells have the room that is left.
-use Rattle.std.proofs.Common.{◌≡◌, ◌≢◌, ℕ, ◌+◌, ◌≤◌, ℤ, pos, ◌+ℤ◌, ◌-ℤ◌, ◌≤ℤ◌, ◌<ℤ◌, true, false, ◌||◌, Bool, Option, None, Some, List, [], ◌∷◌, IfSome, fold, refl, sym, ◌∙◌, subst, arith}
+use Rattle.std.proofs.Common.{◌≡◌, ◌≢◌, ℕ, ◌+◌, ◌≤◌, ℤ, pos, ◌+ℤ◌, ◌-ℤ◌, ◌≤ℤ◌, ◌<ℤ◌, true, false, ◌||◌, Bool, Option, None, Some, List, [], ◌∷◌, IfSome, fold, cond, refl, sym, ◌∙◌, subst, arith}
+use Rattle.std.specs.Int.{int_min, int_max}
+use Rattle.std.specs.Prelude.{int_lt}
 use Rattle.std.specs.List.{AllByRecursion, list_any}
 use Rattle.std.proofs.lemmas.Bool.{false≢true}
-use Rattle.std.proofs.lemmas.Int.{ints, clamps, by_lt_z}
+use Rattle.std.proofs.lemmas.Int.{ints, by_lt_z}
 use Rattle.rule_text.specs.CountRule.{CountRule, IsRule, has}
 use Rattle.plane.specs.Bounds.{HasReach, IsWithin, bounds_of, box_with}
 use Rattle.plane.specs.Laws.{IsNear}
@@ -50,12 +52,18 @@ pub rooms : (far : ℕ) (cells : List Cell) → HasReach far cells → AllByRecu
 rooms far [] reach = tt
 rooms far (cell ∷ cells) reach = room_by_box far (bounds_of (cell ∷ cells)) (cell ∷ cells) (within_bounds (cell ∷ cells)) reach (some_box (box_at cell) cells)
 
+less_of_two : (P : ℤ → Type 0) (a b : ℤ) → P a → P b → P (int_min a b)
+less_of_two P a b first second = elim (int_lt b a) as (λ c. P (cond c b a)) [ true ↦ second | false ↦ first ]
+
+more_of_two : (P : ℤ → Type 0) (a b : ℤ) → P a → P b → P (int_max a b)
+more_of_two P a b first second = elim (int_lt b a) as (λ c. P (cond c a b)) [ true ↦ first | false ↦ second ]
+
 grown_in_range : (far : ℕ) (box : Bounds) (cell : Cell) → IsBoxInRange (widened far box) → HasRoom far cell → IsBoxInRange (widened far (grown box cell))
 grown_in_range far box cell range room = record {
-  left = record { low = omega (arith, ints, clamps, range.left.low, room.left.low); high = omega (arith, ints, clamps, range.left.high, room.left.high) };
-  top = record { low = omega (arith, ints, clamps, range.top.low, room.above.low); high = omega (arith, ints, clamps, range.top.high, room.above.high) };
-  right = record { low = omega (arith, ints, clamps, range.right.low, room.right.low); high = omega (arith, ints, clamps, range.right.high, room.right.high) };
-  bottom = record { low = omega (arith, ints, clamps, range.bottom.low, room.below.low); high = omega (arith, ints, clamps, range.bottom.high, room.below.high) };
+  left = less_of_two (λ z. IsCoordinate (z -ℤ pos far)) box.left cell.x range.left room.left;
+  top = less_of_two (λ z. IsCoordinate (z -ℤ pos far)) box.top cell.y range.top room.above;
+  right = more_of_two (λ z. IsCoordinate (z +ℤ pos far)) box.right cell.x range.right room.right;
+  bottom = more_of_two (λ z. IsCoordinate (z +ℤ pos far)) box.bottom cell.y range.bottom room.below;
 }
 
 fold_in_range : (far : ℕ) (box : Bounds) (cells : List Cell) → IsBoxInRange (widened far box) → AllByRecursion (HasRoom far) cells → IfSome (fold box_with (Some box) cells) (λ outer. IsBoxInRange (widened far outer))
@@ -87,13 +95,17 @@ each_listed P (cell ∷ cells) each = (
 
 -- ---- fewer generations
 
+less_far : (less more : ℕ) (z : ℤ) → less ≤ more → IsCoordinate (z -ℤ pos more) → IsCoordinate (z +ℤ pos more) → IsCoordinate (z -ℤ pos less) × IsCoordinate (z +ℤ pos less)
+less_far less more z fewer low high = (
+  coordinate_between (z -ℤ pos more) (z -ℤ pos less) (z +ℤ pos more) low high (omega (arith, ints)) (omega (arith, ints)),
+  coordinate_between (z -ℤ pos more) (z +ℤ pos less) (z +ℤ pos more) low high (omega (arith, ints)) (omega (arith, ints)),
+)
+
 less_room : (less more : ℕ) (cell : Cell) → less ≤ more → HasRoom more cell → HasRoom less cell
-less_room less more cell fewer room = record {
-  left = coordinate_between (cell.x -ℤ pos more) (cell.x -ℤ pos less) (cell.x +ℤ pos more) room.left room.right (omega (arith, ints)) (omega (arith, ints));
-  right = coordinate_between (cell.x -ℤ pos more) (cell.x +ℤ pos less) (cell.x +ℤ pos more) room.left room.right (omega (arith, ints)) (omega (arith, ints));
-  above = coordinate_between (cell.y -ℤ pos more) (cell.y -ℤ pos less) (cell.y +ℤ pos more) room.above room.below (omega (arith, ints)) (omega (arith, ints));
-  below = coordinate_between (cell.y -ℤ pos more) (cell.y +ℤ pos less) (cell.y +ℤ pos more) room.above room.below (omega (arith, ints)) (omega (arith, ints));
-}
+less_room less more cell fewer room =
+    let across = less_far less more cell.x fewer room.left room.right in
+    let down = less_far less more cell.y fewer room.above room.below in
+    record { left = across.0; right = across.1; above = down.0; below = down.1 }
 
 -- what stays in the range for so many generations does for fewer
 pub stays_shorter : (cells : List Cell) (start less more : ℕ) → less ≤ more → StaysWithin (bounds_of cells) start more → StaysWithin (bounds_of cells) start less

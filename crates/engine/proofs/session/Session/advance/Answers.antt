@@ -1,9 +1,13 @@
-use Rattle.std.proofs.Common.{refl}
+use Rattle.std.proofs.Common.{◌≡◌, Err, ap, inr, refl, rules}
+use Rattle.std.proofs.result.Match.{err_is}
+use Rattle.plane.specs.declared.refusal.Refusal.TheVariants.{NoMemory}
+use Rattle.engine.specs.States.{is_there}
+use Rattle.engine.proofs.Acceptance.{keeps_as}
 use Rattle.plane.proofs.Same.{same_trans}
 use Rattle.universe.specs.Cells.{live_cells}
 use Rattle.universe.proofs.InRange.{keeps_held, keeps_short}
 use Rattle.universe.proofs.Onward.{held_again}
-use Rattle.engine.proofs.Sessions.{cells_at_work, judged, later_result, refused_result}
+use Rattle.engine.proofs.Sessions.{cells_at_work, judged, later_result, not_judged, refused_result, whenever}
 use Rattle.engine.proofs.session.Session.advance.Goals as goal
 
 pub advance_within-requires-clause-held : goal.advance_within-requires-clause-held
@@ -29,3 +33,17 @@ pub returns-clause-refused : goal.returns-clause-refused
 returns-clause-refused g c =
     refused_result c.args.self.now _ _ c.args.generations _
     (judged c.args.self.now c.in_ok-universe.universe c.judge_range-judged.new.self _ c.in_ok-universe.ensures.same c.judge_range-judged.ensures.same refl refl refl c.put_universe.ensures) c.advance_within.ensures.refused
+
+pub returns-clause-in_range : goal.returns-clause-in_range
+returns-clause-in_range g c = whenever c.advance_within.result (keeps_as c.in_ok-universe.ensures.same.cells refl c.in_ok-judged.ensures.ok)
+
+pub returns-in_err-universe-clause-refused : goal.returns-in_err-universe-clause-refused
+returns-in_err-universe-clause-refused g c =
+    let is : c.from_residual.result ≡ Err NoMemory = search rules in
+    rw is (inr (inr (refl, inr (ap is_there c.take_universe.ensures.lost))))
+
+pub returns-in_err-judged-clause-refused : goal.returns-in_err-judged-clause-refused
+returns-in_err-judged-clause-refused g c =
+    let is : c.from_residual-in_err-judged.result ≡ Err c.in_err-judged.field-0.0 = err_is _ _ c.from_residual-in_err-judged.ensures.1 in
+    rw is (not_judged c.args.self.now _ c.in_ok-universe.universe c.args.generations c.in_err-judged.field-0.0 c.in_ok-universe.ensures.same.cells
+    (judged c.args.self.now c.in_ok-universe.universe c.judge_range-judged.new.self _ c.in_ok-universe.ensures.same c.judge_range-judged.ensures.same refl refl refl c.put_universe.ensures) c.in_err-judged.ensures.refused)

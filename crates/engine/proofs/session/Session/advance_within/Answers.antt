@@ -1,4 +1,6 @@
-use Rattle.std.proofs.Common.{refl, subst, inl}
+use Rattle.std.proofs.Common.{◌≡◌, ◌∙◌, Err, ap, arith, refl, rules, subst, sym, inl, inr}
+use Rattle.plane.specs.declared.refusal.Refusal.TheVariants.{NoMemory}
+use Rattle.engine.specs.States.{IsByRule, is_there}
 use Rattle.universe.specs.Advances.{IsAdvance}
 use Rattle.universe.specs.declared.advances.Advance.{Advance}
 use Rattle.engine.proofs.Sessions.{held_at_work, later_by, stuck_by}
@@ -16,3 +18,35 @@ pub returns-in-Stuck-clause-refused : goal.returns-in-Stuck-clause-refused
 returns-in-Stuck-clause-refused g c =
     let stuck = subst (λ (advance : Advance). IsAdvance c.in_ok-universe.universe c.args.generations advance) c.in-Stuck.is c.in_ok-later.ensures.ok in
     inl (refl, stuck_by c.args.self.now _ c.in_ok-universe.universe c.in-Stuck.there c.args.generations c.in-Stuck.done refl refl refl c.in_ok-universe.ensures.same stuck c.put_universe-in-Stuck.ensures)
+
+pub returns-in_err-universe-clause-refused : goal.returns-in_err-universe-clause-refused
+returns-in_err-universe-clause-refused g c =
+    let is : c.from_residual.result ≡ Err NoMemory = search rules in
+    rw is (inr (refl, ap is_there c.take_universe.ensures.lost))
+
+pub returns-in_err-later-clause-refused : goal.returns-in_err-later-clause-refused
+returns-in_err-later-clause-refused g c =
+    let is : c.from_residual-in_err-later.result ≡ Err NoMemory = search rules in
+    rw is (inr (refl, ap is_there c.take_universe.ensures.lost))
+
+pub invariant_of-self-in-Done : goal.invariant_of-self-in-Done
+invariant_of-self-in-Done g c =
+    let later = subst (λ (advance : Advance). IsAdvance c.in_ok-universe.universe c.args.generations advance) c.in-Done.is c.in_ok-later.ensures.ok in
+    let by = c.in_ok-universe.ensures.same.rule c.args.self.now.rule c.args.self.now.by_rule in
+    record {
+      lawful = c.args.self.now.lawful;
+      by_rule = subst (IsByRule c.args.self.now.rule) (sym c.put_universe.ensures) (later.rule ∙ by);
+      last = c.requires.last;
+    }
+
+pub invariant_of-self-in-Stuck : goal.invariant_of-self-in-Stuck
+invariant_of-self-in-Stuck g c =
+    let stuck = subst (λ (advance : Advance). IsAdvance c.in_ok-universe.universe c.args.generations advance) c.in-Stuck.is c.in_ok-later.ensures.ok in
+    let by = c.in_ok-universe.ensures.same.rule c.args.self.now.rule c.args.self.now.by_rule in
+    let before = stuck.before in
+    let last = c.requires.last in
+    record {
+      lawful = c.args.self.now.lawful;
+      by_rule = subst (IsByRule c.args.self.now.rule) (sym c.put_universe-in-Stuck.ensures) (stuck.later.rule ∙ by);
+      last = omega (arith, before, last);
+    }

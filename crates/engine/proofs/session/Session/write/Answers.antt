@@ -1,4 +1,4 @@
-use Rattle.std.proofs.Common.{◌≡◌, List, ℕ, rules, subst}
+use Rattle.std.proofs.Common.{◌≡◌, List, ℕ, refl, rules, subst}
 use Rattle.std.specs.Prelude.{OnOk}
 use Rattle.plane.specs.Plane.{Plane}
 use Rattle.pattern_writers.specs.Output.{IfTaken}
@@ -6,6 +6,7 @@ use Rattle.engine.specs.Formats.{format_of}
 use Rattle.engine.specs.Pattern.{plane_of}
 use Rattle.engine.specs.Sessions.{comments_of}
 use Rattle.engine.specs.States.{state_cells}
+use Rattle.engine.proofs.Sessions.{same_by_state}
 use Rattle.engine.proofs.session.Session.write.Goals as goal
 
 pub returns-clause-read_back : goal.returns-clause-read_back
@@ -13,3 +14,15 @@ returns-clause-read_back g c =
     let is : plane_of c.in_ok-pattern.pattern.now ≡ state_cells c.rest.new.self = search rules in
     let written : Plane → List (List ℕ) → Type 0 = λ (p : Plane) (comments : List (List ℕ)). OnOk c.write.result (IfTaken (g.V.Sink.taken c.args.file.now) (g.V.Sink.taken c.write.new.file) ((format_of c.args.format).IsReadBack p comments c.args.self.now.rule c.args.self.now.generation)) in
     subst (λ (p : Plane). written p (comments_of c.args.self.now)) is (subst (λ (comments : List (List ℕ)). written (plane_of c.in_ok-pattern.pattern.now) comments) c.comments.ensures c.write.ensures.read_back)
+
+pub returns-in_err-pattern-clause-same : goal.returns-in_err-pattern-clause-same
+returns-in_err-pattern-clause-same g c = same_by_state c.args.self.now _ refl refl refl c.rest.ensures.same
+
+pub returns-in_err-pattern-clause-results : goal.returns-in_err-pattern-clause-results
+returns-in_err-pattern-clause-results g c = c.rest.ensures.results
+
+pub returns-clause-same : goal.returns-clause-same
+returns-clause-same g c = same_by_state c.args.self.now _ refl refl refl c.rest.ensures.same
+
+pub returns-clause-results : goal.returns-clause-results
+returns-clause-results g c = c.rest.ensures.results

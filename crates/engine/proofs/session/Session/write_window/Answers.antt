@@ -1,11 +1,11 @@
-use Rattle.std.proofs.Common.{◌≡◌, rules, subst}
+use Rattle.std.proofs.Common.{◌≡◌, refl, rules, subst}
 use Rattle.std.specs.Prelude.{OnErr}
 use Rattle.plane.specs.Device.{AppendsBeginning}
 use Rattle.plane.specs.Plane.{Plane}
 use Rattle.engine.specs.Pattern.{plane_of}
 use Rattle.engine.specs.Report.{window_text}
 use Rattle.engine.specs.States.{state_cells}
-use Rattle.engine.proofs.Sessions.{refused_window}
+use Rattle.engine.proofs.Sessions.{refused_window, same_by_state}
 use Rattle.engine.proofs.session.Session.write_window.Goals as goal
 
 pub returns-clause-refused : goal.returns-clause-refused
@@ -13,3 +13,15 @@ returns-clause-refused g c =
     let is : plane_of c.in_ok-pattern.pattern.now ≡ state_cells c.rest.new.self = search rules in
     refused_window _ _ _ _ (c.write_window.ensures.failure.refused)
     (subst (λ (p : Plane). OnErr c.write_window.result (AppendsBeginning (g.W.Sink.taken c.args.report.now) (g.W.Sink.taken c.write_window.new.report) (window_text c.args.window p))) is c.write_window.ensures.beginning)
+
+pub returns-in_err-pattern-clause-same : goal.returns-in_err-pattern-clause-same
+returns-in_err-pattern-clause-same g c = same_by_state c.args.self.now _ refl refl refl c.rest.ensures.same
+
+pub returns-in_err-pattern-clause-results : goal.returns-in_err-pattern-clause-results
+returns-in_err-pattern-clause-results g c = c.rest.ensures.results
+
+pub returns-clause-same : goal.returns-clause-same
+returns-clause-same g c = same_by_state c.args.self.now _ refl refl refl c.rest.ensures.same
+
+pub returns-clause-results : goal.returns-clause-results
+returns-clause-results g c = c.rest.ensures.results

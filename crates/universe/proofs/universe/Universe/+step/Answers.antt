@@ -1,9 +1,9 @@
-use Rattle.std.proofs.Common.{◌-◌, ◌^◌, ◌<◌, ◌∙◌, subst, arith}
+use Rattle.std.proofs.Common.{◌-◌, ◌^◌, ◌<◌, ◌≤◌, ◌∙◌, subst, arith, pow_mono}
 use Rattle.std.proofs.lemmas.Nat.{one_shl, pow_pos}
 use Rattle.universe.specs.Advances.{IsAdvance}
 use Rattle.universe.specs.Runs.{IsAttempt, IsFullAtLimit, IsSameUniverse}
 use Rattle.universe.specs.declared.attempts.Attempt.{Attempt}
-use Rattle.universe.proofs.Advancing.{advance_again, by_count, halves_on}
+use Rattle.universe.proofs.Advancing.{advance_again, by_count, halves_on, stuck_below}
 use Rattle.universe.proofs.Halves.{ok_then, two_halves}
 use Rattle.universe.proofs.Onward.{held_on, may_step, none_later, same_universe, still_same, stuck_at_once, step_at_exponent}
 use Rattle.universe.proofs.universe.Universe.+step.Goals as goal
@@ -53,3 +53,12 @@ step_by_halves-returns g t c =
     let low : c.args.exponent - 1 < 64 = omega (arith, c.requires.exponent.1) in
     by_count c.args.self (2 ^ c.args.exponent) _ (2 ^ (c.args.exponent - 1)) c.in_ok-second.second c.with_earlier.result c.with_earlier.ensures (one_shl (c.args.exponent - 1) 64 low)
     (halves_on c.args.exponent c.in_ok-second.second (omega (arith, c.requires.exponent.0)) first c.in_ok-second.ensures)
+
+pub step_by_halves-with_earlier-requires : goal.step_by_halves-with_earlier-requires
+step_by_halves-with_earlier-requires g t c =
+    let half = c.args.exponent - 1 in
+    let low : half < 63 = omega (arith, c.requires.exponent.1) in
+    let power = one_shl half 64 (omega (arith, low)) in
+    let below = stuck_below c.in-Done.middle (2 ^ half) c.in_ok-second.second c.in_ok-second.ensures in
+    let small : 2 ^ half ≤ 2 ^ 62 = pow_mono {i = half} {j = 62} (omega (arith, low)) in
+    omega (arith, power, below, small)

@@ -8,8 +8,8 @@ use Rattle.plane.specs.Square.{IsSame, empty}
 use Rattle.universe.specs.Advances.{IsAdvance}
 use Rattle.universe.specs.Cells.{live_cells, rule_of}
 use Rattle.universe.specs.Runs.{IsLater}
-use Rattle.universe.proofs.Advancing.{by_count, stuck_on_part}
-use Rattle.universe.proofs.Later.{empty_stays, low_exponent, next_within}
+use Rattle.universe.proofs.Advancing.{by_count, stuck_below, stuck_on_part}
+use Rattle.universe.proofs.Later.{all_done, empty_stays, low_exponent, next_within}
 use Rattle.universe.proofs.Onward.{held_on, later_on}
 use Rattle.universe.proofs.universe.Universe.advance.Goals as goal
 
@@ -74,3 +74,38 @@ steps-preserved g c =
       later = subst (λ (n : ℕ). IsLater c.args.self (c.steps.done + n) c.in-Done.later) (sym power) (later_on c.steps.done (2 ^ next) c.steps.invariant.later later);
       counted = omega (arith, power, more, counted);
     }
+
+pub returns-in_err-stuck-clause-no_step : goal.returns-in_err-stuck-clause-no_step
+returns-in_err-stuck-clause-no_step g c = λ none. absurd (false≢true (c.if-is_empty.ensures.1 none))
+
+pub with_earlier-requires : goal.with_earlier-requires
+with_earlier-requires g c =
+    let exponents = c.as_slice-exponent-items.result.now in
+    let next = get_or exponents c.steps.exponent-index 0 in
+    let sum = ap (sum_by (λ exponent. 2 ^ exponent)) c.as_slice-exponent-items.ensures.value ∙ c.digits_from-digits.ensures in
+    let within = next_within exponents c.args.generations c.steps.done c.steps.exponent-index sum c.steps.invariant.counted c.steps-test.true in
+    let below = stuck_below c.steps.universe (2 ^ next) c.in_ok-stuck.stuck c.in_ok-stuck.ensures in
+    omega (arith, within, below)
+
+pub returns-in_default-clause-no_step : goal.returns-in_default-clause-no_step
+returns-in_default-clause-no_step g c = λ none. absurd (false≢true (c.if-is_empty.ensures.1 none))
+
+pub overflow_add-done : goal.overflow_add-done
+overflow_add-done g c =
+    let exponents = c.as_slice-exponent-items.result.now in
+    let next = get_or exponents c.steps.exponent-index 0 in
+    let sum = ap (sum_by (λ exponent. 2 ^ exponent)) c.as_slice-exponent-items.ensures.value ∙ c.digits_from-digits.ensures in
+    let within = next_within exponents c.args.generations c.steps.done c.steps.exponent-index sum c.steps.invariant.counted c.steps-test.true in
+    let some : IsSame (live_cells c.args.self) empty → ⊥ = λ none. false≢true (c.if-is_empty.ensures.1 none) in
+    let low = low_exponent next c.steps.done c.args.generations within (c.requires.short some) in
+    let power = one_shl next 64 (omega (arith, low)) in
+    omega (arith, power, within)
+
+pub returns-clause-ok : goal.returns-clause-ok
+returns-clause-ok g c =
+    let exponents = c.as_slice-exponent-items.result.now in
+    let sum = ap (sum_by (λ exponent. 2 ^ exponent)) c.as_slice-exponent-items.ensures.value ∙ c.digits_from-digits.ensures in
+    subst (λ (n : ℕ). IsLater c.args.self n c.steps.universe) (all_done exponents c.args.generations c.steps.done c.steps.exponent-index sum c.steps.invariant.counted c.steps-test.false) c.steps.invariant.later
+
+pub returns-clause-no_step : goal.returns-clause-no_step
+returns-clause-no_step g c = λ none. absurd (false≢true (c.if-is_empty.ensures.1 none))

@@ -8,3 +8,6 @@ returns-clause-full g c = λ _. record {
   done = c.in-Stuck.done;
   stuck = subst (IsAdvance c.args.self c.args.generations) c.in-Stuck.is c.in_ok-later.ensures.ok;
 }
+
+pub returns-in-Done-clause-ok : goal.returns-in-Done-clause-ok
+returns-in-Done-clause-ok g c = subst (IsAdvance c.args.self c.args.generations) c.in-Done.is c.in_ok-later.ensures.ok

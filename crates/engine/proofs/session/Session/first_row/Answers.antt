@@ -1,0 +1,15 @@
+use Rattle.std.proofs.Common.{refl}
+use Rattle.engine.proofs.Sessions.{same_by_state}
+use Rattle.engine.proofs.session.Session.first_row.Goals as goal
+
+pub returns-in_err-pattern-clause-same : goal.returns-in_err-pattern-clause-same
+returns-in_err-pattern-clause-same c = same_by_state c.args.self.now _ refl refl refl c.rest.ensures.same
+
+pub returns-in_err-pattern-clause-results : goal.returns-in_err-pattern-clause-results
+returns-in_err-pattern-clause-results c = c.rest.ensures.results
+
+pub returns-clause-same : goal.returns-clause-same
+returns-clause-same c = same_by_state c.args.self.now _ refl refl refl c.rest.ensures.same
+
+pub returns-clause-results : goal.returns-clause-results
+returns-clause-results c = c.rest.ensures.results
