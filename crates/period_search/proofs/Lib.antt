@@ -1,0 +1,9 @@
+mod BoxDifferences
+mod InRange
+mod LeastDivisors
+mod MovedBoxes
+mod MovedRows
+mod MovedRuns
+mod NextCandidates
+mod ReadNumbers
+mod SearchSteps
