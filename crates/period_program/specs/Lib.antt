@@ -1,0 +1,5 @@
+pub mod CandidateTexts
+pub mod CommandLine
+pub mod Finding
+pub mod PeriodLine
+pub mod Status
