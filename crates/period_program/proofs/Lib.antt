@@ -1,0 +1,3 @@
+mod Findings
+mod LastSessions
+mod PeriodLines

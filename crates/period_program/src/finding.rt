@@ -8,8 +8,9 @@ ghost use Rattle.period_search.specs.Candidates.{AreSome};
 ghost use Rattle.period_program.specs.Finding.{IsFinding};
 
 use crate::asking::Search;
+use crate::last_session::last_session;
 use crate::period_line::write_period_line;
-use engine::{OpenGate, Session, Team, last_pattern, load};
+use engine::{OpenGate, Team, load};
 use period_search::least_period;
 use plane::{Fault, Sink, Source};
 use std::alloc::Global;
@@ -38,16 +39,14 @@ pub fn find<R: Threads + Sync, W: Sink>(
     ensures { IsFinding bytes.now search.now
         (change_of W.taken W.failure_count report.old report.new) result }
 {
-    let (first, _) = last_pattern(rt, alloc, bytes, &search.run)?;
-    let mut session = Session::open(alloc, bytes, search.run.rule, search.run.pairs)?;
     let team = Team {
         runtime: rt,
         alloc,
         workers: search.run.workers,
         gate: &OpenGate,
     };
-    session.advance(&team, search.run.gens)?;
-    let found = least_period(&team, &first, &mut session, search.candidates)?;
+    let mut session = last_session(&team, bytes, &search.run)?;
+    let found = least_period(&team, &mut session, search.candidates)?;
     write_period_line(report, search.candidates, found)?;
     Ok(())
 }

@@ -6,6 +6,7 @@ mod application;
 mod asking;
 mod command_line;
 mod finding;
+mod last_session;
 mod period_line;
 
 pub use application::Lifeperiod;

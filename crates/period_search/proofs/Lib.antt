@@ -6,4 +6,5 @@ mod MovedRows
 mod MovedRuns
 mod NextCandidates
 mod ReadNumbers
+pub mod SearchEnds
 mod SearchSteps

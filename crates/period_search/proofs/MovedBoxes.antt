@@ -1,20 +1,24 @@
 -- Boxes and populations of planes of which one is the other, moved.
-use Rattle.std.proofs.Common.{◌≡◌, ℕ, ℤ, pos, ◌+ℤ◌, ◌-ℤ◌, ◌≤ℤ◌, ◌<ℤ◌, true, false, Option, None, Some, List, [], ◌∷◌, fold, map, length, refl, sym, ◌∙◌, ap, subst, arith}
+use Rattle.std.proofs.Common.{◌≡◌, ℕ, ℤ, pos, ◌+ℤ◌, ◌-ℤ◌, ◌≤ℤ◌, ◌<ℤ◌, true, false, Option, None, Some, Result, Ok, Err, List, [], ◌∷◌, fold, map, length, refl, sym, ◌∙◌, ap, subst, arith}
+use Rattle.std.specs.Prelude.{IfOk, IfSome}
 use Rattle.std.specs.Int.{int_min, int_max}
+use Rattle.std.proofs.lemmas.Bool.{false≢true}
 use Rattle.std.proofs.lemmas.Int.{ints, clamps}
 use Rattle.std.proofs.lemmas.List.{length-map}
 use Rattle.plane.specs.Bounds.{IsWithin, bounds_of, box_with}
 use Rattle.plane.specs.Laws.{IsSmallest, moved}
 use Rattle.plane.specs.Listing.{IsListing, plane_of}
 use Rattle.plane.specs.Plane.{Plane}
-use Rattle.plane.specs.Square.{IsSame}
+use Rattle.plane.specs.Square.{IsSame, empty}
 use Rattle.plane.specs.declared.cell.Bounds.{Bounds}
 use Rattle.plane.specs.declared.cell.Cell.{Cell}
+use Rattle.plane.specs.declared.refusal.Refusal.{Refusal}
 use Rattle.plane.proofs.Around.{live_cell}
 use Rattle.plane.proofs.Boxes.{box_at, smallest_box_lem, some_box}
 use Rattle.plane.proofs.Populations.{moved_cell, moved_listing}
 use Rattle.plane.proofs.Same.{same_sym}
 use Rattle.plane.proofs.Uniqueness.{one_listing_lem}
+use Rattle.periods.proofs.Displacements.{listed_live}
 use Rattle.viewport.specs.BoundingBox.{HasBounds, moved_bounds, moved_box}
 use Rattle.viewport.specs.Population.{HasPopulation}
 use Rattle.viewport.proofs.BoxesRound.{same_bounds}
@@ -129,3 +133,19 @@ only_other plane other box has has_other right down same = let e : Some box ≡ 
 
 pub only_this : (plane other : Plane) (box : Bounds) → HasBounds plane (Some box) → HasBounds other None → (right down : ℤ) → IsSame other (moved right down plane) → ⊥
 only_this plane other box has has_other right down same = let e : None ≡ Some (moved_bounds right down box) = bounds_moved plane other right down (Some box) None same has has_other in cc
+
+-- a plane that has a box has a live cell
+pub some_live : (plane : Plane) (box : Bounds) → HasBounds plane (Some box) → IsSame plane empty → ⊥
+some_live plane box has none = go has.cells has.listing has.bounds where
+  go : (cells : List Cell) → IsListing cells plane → Some box ≡ bounds_of cells → ⊥
+  go [] listing is = absurd cc
+  go (cell ∷ cells) listing is =
+      let live : plane cell.x cell.y ≡ true = sym (listing.live cell.x cell.y) ∙ (listed_live (cell ∷ cells)).0 in
+      false≢true (sym (none.same cell.x cell.y) ∙ live)
+
+-- so where no cell is live, what is found moves nothing
+pub nothing_still : (plane : Plane) (box : Bounds) (result : Result (Option (ℤ × ℤ)) Refusal) → HasBounds plane (Some box) →
+    IfOk result (λ found. IfSome found (λ by. IsSame plane empty → (by.0 ≡ pos 0) × (by.1 ≡ pos 0)))
+nothing_still plane box (Err refusal) has = tt
+nothing_still plane box (Ok None) has = tt
+nothing_still plane box (Ok (Some by)) has = λ none. absurd (some_live plane box has none)

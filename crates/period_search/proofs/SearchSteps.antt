@@ -6,19 +6,20 @@ use Rattle.std.proofs.Math.Nat.{mul_assoc}
 use Rattle.rule_text.specs.CountRule.{CountRule}
 use Rattle.plane.specs.Laws.{moved}
 use Rattle.plane.specs.Plane.{Plane}
-use Rattle.plane.specs.Square.{IsSame}
+use Rattle.plane.specs.Square.{IsSame, empty}
 use Rattle.plane.specs.declared.refusal.Refusal.{Refusal}
 use Rattle.plane.proofs.Same.{same_sym, same_trans}
 use Rattle.engine.specs.Sessions.{IsLaterSession, IsNotAdvanced, IsSameSession, cells_of}
 use Rattle.engine.specs.declared.session.Session.{Session}
-use Rattle.engine.proofs.Sessions.{later_on, later_same, none_later, same_session}
+use Rattle.engine.proofs.Sessions.{later_on, later_same, none_later}
 use Rattle.periods.specs.Periods.{HasPeriod, IsLeastPeriod, IsPeriod}
 use Rattle.periods.proofs.Moves.{moved_same}
 use Rattle.periods.proofs.Returns.{Returns, returns_rest, returns_times}
 use Rattle.period_search.specs.Candidates.{IsCandidate, IsNext, IsNoneBehind}
-use Rattle.period_search.specs.Searches.{IsNoPeriod, StopsOnTheWay}
+use Rattle.period_search.specs.Searches.{IsLeastAmong, IsNoPeriod, NoneIsPeriod, StopsOnTheWay}
 use Rattle.period_search.specs.declared.candidates.Candidates.{Candidates}
 use Rattle.period_search.specs.declared.candidates.Candidates.TheVariants.{UpTo, DivisorsOf}
+use Rattle.period_search.specs.declared.period.Period.{Period}
 
 -- ---- the least period
 
@@ -56,31 +57,28 @@ module _ (rule : CountRule) (plane : Plane) (n : ℕ) (right down : ℤ) (period
     least = λ fewer has. ⊎_elim (λ (less : fewer < n). absurd (none_under (suc fewer) fewer (omega arith) less has)) (λ (more : n ≤ fewer). more) (cases_lt fewer n);
   }
 
-pub least_as : (rule : CountRule) (plane : Plane) (n number : ℕ) (right across down below : ℤ) → number ≡ n → across ≡ right → below ≡ down → IsLeastPeriod rule plane n right down → IsLeastPeriod rule plane number across below
-least_as rule plane n number right across down below generations first second is =
-    subst (λ (d : ℤ). IsLeastPeriod rule plane number across d) (sym second)
-    (subst (λ (r : ℤ). IsLeastPeriod rule plane number r down) (sym first) (subst (λ (m : ℕ). IsLeastPeriod rule plane m right down) (sym generations) is))
-
 -- ---- what was tried
 
 -- the session came so far, and no number that was tried is a period
 pub record HasTried (candidates : Candidates) (start session : Session) (tried : ℕ) : Type 0 where
   pub later : IsLaterSession start tried session
-  pub none : (n : ℕ) → n ≤ tried → IsCandidate candidates n → HasPeriod start.rule (cells_of start) n → ⊥
+  pub none : NoneIsPeriod start.rule (cells_of start) candidates tried
 
 none_at_0 : (n : ℕ) → n ≤ 0 → 1 ≤ n → ⊥
 none_at_0 n most some = omega (arith, most, some)
 
-pub nothing_tried : (candidates : Candidates) (start : Session) → HasTried candidates start start 0
-nothing_tried candidates start = record { later = none_later (same_session start); none = λ n most _ has. none_at_0 n most has.2.some }
+pub nothing_tried : (candidates : Candidates) (start session : Session) → IsSameSession start session → HasTried candidates start session 0
+nothing_tried candidates start session same = record { later = none_later same; none = λ n most _ has. none_at_0 n most has.2.some }
 
 pub none_left : (candidates : Candidates) (start session : Session) (tried : ℕ) → HasTried candidates start session tried → IsNoneBehind candidates tried →
     (n : ℕ) → IsCandidate candidates n → IsNoPeriod start.rule (cells_of start) n
 none_left candidates start session tried has none n one period =
     ⊎_elim (λ (behind : tried < n). none n behind one) (λ (before : n ≤ tried). has.none n before one period) (cases_lt tried n)
 
-pub not_advanced : (candidates : Candidates) (start here new : Session) (tried more : ℕ) (refusal : Refusal) → HasTried candidates start here tried → IsNotAdvanced here more new refusal → StopsOnTheWay start new refusal
-not_advanced candidates start here new tried more refusal has refused = inr (record { here = here; done = tried; later = has.later; more = more; refused = refused })
+pub not_advanced : (candidates : Candidates) (start here new : Session) (tried next : ℕ) (refusal : Refusal) → HasTried candidates start here tried → IsNext candidates tried next →
+    IsNotAdvanced here (next - tried) new refusal → StopsOnTheWay candidates start new refusal
+not_advanced candidates start here new tried next refusal has is_next refused =
+    inr (record { here = here; done = tried; next = next; later = has.later; none = has.none; is_next = is_next; refused = refused })
 
 -- the session went on to the next number and was compared there
 module _ (candidates : Candidates) (start here there session : Session) (first : Plane) (tried next : ℕ) (same : IsSame first (cells_of start)) (has : HasTried candidates start here tried) (is_next : IsNext candidates tried next) (on : IsLaterSession here (next - tried) there) (compared : IsSameSession there session) where
@@ -93,13 +91,24 @@ module _ (candidates : Candidates) (start here there session : Session) (first :
   none_before : (k : ℕ) → k < next → IsCandidate candidates k → HasPeriod start.rule (cells_of start) k → ⊥
   none_before k less one period = ⊎_elim (λ (behind : tried < k). is_next.least k behind less one) (λ (before : k ≤ tried). has.none k before one period) (cases_lt tried k)
 
-  pub found_least : (right down : ℤ) → IsSame (cells_of there) (moved right down first) → IsLeastPeriod start.rule (cells_of start) next right down
+  found_least : (right down : ℤ) → IsSame (cells_of there) (moved right down first) → IsLeastPeriod start.rule (cells_of start) next right down
   found_least right down is =
       let behind = is_next.behind in
       is_least start.rule (cells_of start) next right down (record {
         some = omega (arith, behind);
         same = same_trans (same_sym came.cells) (same_trans is (moved_same right down first (cells_of start) same));
       }) (λ k times some less product. none_before k less (divisor_tried candidates next k times is_next.one some less product))
+
+  -- what is answered where the session's cells are the first ones, moved
+  pub answered : (right down : ℤ) (period : Period) → period.generations ≡ next → period.right ≡ right → period.down ≡ down → IsSame (cells_of there) (moved right down first) →
+      (IsSame first empty → (right ≡ pos 0) × (down ≡ pos 0)) → IsLeastAmong start.rule (cells_of start) candidates period
+  answered right down period generations across below is still = record {
+    least = subst (λ (d : ℤ). IsLeastPeriod start.rule (cells_of start) period.generations period.right d) (sym below)
+        (subst (λ (r : ℤ). IsLeastPeriod start.rule (cells_of start) period.generations r down) (sym across)
+        (subst (λ (n : ℕ). IsLeastPeriod start.rule (cells_of start) n right down) (sym generations) (found_least right down is)));
+    among = subst (IsCandidate candidates) (sym generations) is_next.one;
+    still = λ none. let zero = still (same_trans same none) in (across ∙ zero.0, below ∙ zero.1);
+  }
 
   pub tried_too : ((right down : ℤ) → IsSame (cells_of there) (moved right down first) → ⊥) → HasTried candidates start session next
   tried_too unlike = record {

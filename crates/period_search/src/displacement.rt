@@ -1,11 +1,11 @@
 //! How far an open pattern is one at rest, moved.
 
-ghost use Rattle.std.specs.Prelude.{◌≡◌, IfNone, IfOk, IfSome, IsOkUnless, Some, ℤ};
+ghost use Rattle.std.specs.Prelude.{◌≡◌, IfNone, IfOk, IfSome, IsOkUnless, Some, ℤ, pos};
 ghost use Rattle.engine.specs.Pattern.{plane_of};
 ghost use Rattle.engine.specs.Sessions.{IsSameSession, cells_of};
 ghost use Rattle.period_search.specs.Boxes.{IsInRange};
 ghost use Rattle.plane.specs.Laws.{moved};
-ghost use Rattle.plane.specs.Square.{IsSame};
+ghost use Rattle.plane.specs.Square.{IsSame, empty};
 ghost use Rattle.viewport.specs.BoundingBox.{HasBounds, moved_bounds};
 ghost use Rattle.viewport.specs.Population.{HasPopulation};
 
@@ -29,6 +29,8 @@ pub(crate) fn displacement(
     ensures session { IsSameSession session.old session.new }
     ensures some { IfOk result (λ found. IfSome found (λ by.
         IsSame (cells_of session.old) (moved by.0 by.1 (plane_of first.now)))) }
+    ensures still { IfOk result (λ found. IfSome found (λ by.
+        IsSame (plane_of first.now) empty → (by.0 ≡ pos 0) × (by.1 ≡ pos 0))) }
     ensures none { IfOk result (λ found. IfNone found ((right down : ℤ) →
         IsSame (cells_of session.old) (moved right down (plane_of first.now)) → ⊥)) }
     ensures memory { IsOkUnless result Refusal.NoMemory }

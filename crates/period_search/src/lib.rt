@@ -11,4 +11,4 @@ mod search;
 
 pub use candidates::Candidates;
 pub use period::Period;
-pub use search::least_period;
+pub use search::{least_period, one_answer};

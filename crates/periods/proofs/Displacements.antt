@@ -20,7 +20,7 @@ or_kept true c is = refl
 or_kept false c is = is
 
 -- each cell of a list is live on its plane
-listed_live : (cells : List Cell) → AllByRecursion (λ cell. plane_of cells cell.x cell.y ≡ true) cells
+pub listed_live : (cells : List Cell) → AllByRecursion (λ cell. plane_of cells cell.x cell.y ≡ true) cells
 unfolding plane_of
 listed_live [] = tt
 listed_live (cell ∷ cells) = (

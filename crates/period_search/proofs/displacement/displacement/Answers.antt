@@ -7,7 +7,7 @@ use Rattle.plane.specs.Laws.{moved}
 use Rattle.plane.specs.Plane.{Plane}
 use Rattle.plane.specs.Square.{IsSame}
 use Rattle.plane.proofs.Same.{plane_equal, same_refl}
-use Rattle.period_search.proofs.MovedBoxes.{both_empty, bounds_at, only_other, only_this, population_moved}
+use Rattle.period_search.proofs.MovedBoxes.{both_empty, bounds_at, nothing_still, only_other, only_this, population_moved}
 use Rattle.period_search.proofs.displacement.displacement.Goals as goal
 
 pub returns-then-branch-population-clause-none : goal.returns-then-branch-population-clause-none
@@ -41,3 +41,8 @@ returns-in_default-2-clause-none c =
     let other = cells_of c.args.session.now in
     only_this plane other c.in_default.field-0-0 (bounds_at plane plane c.args.bounds (Some c.in_default.field-0-0) (same_refl plane) c.in_default.is-0 c.requires.bounds)
     (bounds_at (cells_of c.population.new.self) other c.in_ok-bounds.field-0 None c.population.ensures.same.cells c.in_default.is-1 c.in_ok-bounds.ensures.ok)
+
+pub returns-in-Some-Some-clause-still : goal.returns-in-Some-Some-clause-still
+returns-in-Some-Some-clause-still c =
+    let plane = plane_of c.args.first.now in
+    nothing_still plane c.in-Some-Some.from c.displacement_of_boxes.result (bounds_at plane plane c.args.bounds (Some c.in-Some-Some.from) (same_refl plane) c.in-Some-Some.is-0 c.requires.bounds)
