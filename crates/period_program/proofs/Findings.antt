@@ -48,7 +48,7 @@ module _ {W : Type 0} (bytes : List ℕ) (search : Search) (report : SinkChange 
 
     -- and its period could not be found
     pub not_found : {there : Session} → report.new ≡ report.old → (refusal : Refusal) → StopsOnTheWay search.candidates session there refusal → IsFinding bytes search report (Err (placeless refusal))
-    not_found {there} same refusal stops = elim stops_in_plane search.candidates session there refusal stops [
+    not_found {there} same refusal stops = elim (stops_in_plane search.candidates session there refusal stops) [
       | inl memory ↦ refused_at_once same (placeless refusal) (subst (λ (r : Refusal). IsRefused bytes search.run (placeless r)) (sym memory) out_of_memory)
       | inr there ↦ stopped_at same (placeless refusal) (record { start = last.start; accepted = last.accepted; refusal = refusal; is = refl; stops = stops_there refusal there })
     ]

@@ -13,7 +13,7 @@ refused_in_plane : (candidates : Candidates) (old new : Session) (refusal : Refu
     (refusal ≡ NoMemory) ⊎ StopsInPlane old.rule (cells_of old) old.generation (pairs_of old) candidates refusal
 refused_in_plane candidates old new refusal way =
     let within : way.done + (way.next - way.done) ≤ way.next = let behind = way.is_next.behind in omega (arith, behind) in
-    elim way.refused [
+    elim (way.refused) [
       | inl (far, leaves, same) ↦ inr (record {
         done = way.done;
         next = way.next;

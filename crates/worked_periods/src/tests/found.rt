@@ -165,7 +165,10 @@ fn assert_found<R: Abort + AllocGlobal + Threads + Sync>(
         right,
         down,
     });
-    assert_eq!(rt; (row.file, row.candidates, found), (row.file, row.candidates, wanted));
+    assert_eq!(rt;
+        (row.file, row.candidates, found),
+        (row.file, row.candidates, wanted)
+    );
     if let Some(period) = wanted {
         assert_eq!(rt; session.generation(), period.generations);
     }
