@@ -40,6 +40,7 @@ NAMES = [
     "small_tables",
     "golly_patterns",
     "refused_memory",
+    "refused_session",
     "failing_reads",
     "hostile_files",
     "many_patterns",
