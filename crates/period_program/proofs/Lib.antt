@@ -1,3 +1,3 @@
+mod AskedCandidates
 mod Findings
 mod LastSessions
-mod PeriodLines

@@ -5,6 +5,7 @@ mod MovedBoxes
 mod MovedRows
 mod MovedRuns
 mod NextCandidates
+mod OneAnswers
 mod ReadNumbers
 pub mod SearchEnds
 mod SearchSteps
