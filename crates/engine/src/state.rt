@@ -51,6 +51,7 @@ impl State {
     /// The cells, if they are at rest.
     pub(crate) fn pattern(&self) -> Option<&Pattern>
         ensures some { IfSome result (λ pattern. plane_of pattern.now ≡ state_cells self.now) }
+        ensures there { IfSome result (λ _. is_there self.now ≡ true) }
         ensures none { IfNone result (is_at_rest self.now ≡ false) }
     {
         match self {
