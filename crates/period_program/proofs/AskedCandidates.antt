@@ -1,13 +1,11 @@
 -- The numbers of generations that words ask for, and why they ask for none.
-use Rattle.std.proofs.Common.{◌≡◌, ◌⊎◌, ◌≤◌, ◌^◌, ℕ, List, [], Option, None, Some, codes, refl, sym, subst, inl, inr, tt}
-use Rattle.std.specs.Borrow.{Bor}
+use Rattle.std.proofs.Common.{◌≡◌, List, [], Option, None, Some, codes, sym, subst, inl, inr}
 use Rattle.clap.specs.Words.{Text, fault_of}
 use Rattle.period_search.specs.Candidates.{AreSome}
 use Rattle.period_search.specs.declared.candidates.Candidates.{Candidates}
-use Rattle.period_search.specs.declared.candidates.Candidates.TheVariants.{UpTo, DivisorsOf}
 use Rattle.program_parts.specs.Asking.{IsReasonOf}
 use Rattle.program_parts.specs.declared.reason.WordsReason.{WordsReason}
-use Rattle.period_program.specs.CandidateTexts.{IsAskedCandidates, IsCount, IsUnfitCandidates}
+use Rattle.period_program.specs.CandidateTexts.{IsAskedCandidates, IsUnfitCandidates}
 use Rattle.period_program.specs.CommandLine.{AskForCandidates, command_form, command_line, text_for}
 
 -- some numbers are asked for

@@ -1,5 +1,5 @@
 -- How looking for a period ends.
-use Rattle.std.proofs.Common.{◌≡◌, ◌⊎◌, ℕ, Option, List, Ok, Err, refl, sym, ◌∙◌, ap, subst, inl, inr}
+use Rattle.std.proofs.Common.{◌≡◌, ℕ, Option, List, Ok, Err, refl, sym, ap, subst, inl, inr}
 use Rattle.rule_text.specs.CountRule.{CountRule}
 use Rattle.plane.specs.Fault.{placeless}
 use Rattle.plane.specs.Plane.{Plane}
@@ -59,7 +59,7 @@ module _ {W : Type 0} (bytes : List ℕ) (search : Search) (report : SinkChange 
       has_answer = record {
         start = last.start;
         accepted = last.accepted;
-        answer = subst (λ (r : CountRule). IsAnswer r (last_plane last.start search) search.candidates answer) last.rule
+        is = subst (λ (r : CountRule). IsAnswer r (last_plane last.start search) search.candidates answer) last.rule
             (subst (λ (p : Plane). IsAnswer session.rule p search.candidates answer) the_plane is);
       }
 

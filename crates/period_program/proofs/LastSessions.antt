@@ -1,7 +1,6 @@
 -- Sessions that are opened of a file and come to the last generation of a run.
-use Rattle.std.proofs.Common.{◌≡◌, ℕ, ◌+◌, List, Option, refl, sym, ◌∙◌, ap, subst, arith}
+use Rattle.std.proofs.Common.{◌≡◌, ℕ, ◌+◌, List, Option, refl, sym, ◌∙◌, ap, arith}
 use Rattle.plane.specs.Fault.{placeless}
-use Rattle.plane.specs.Plane.{after}
 use Rattle.plane.specs.Range.{StaysWithin}
 use Rattle.plane.specs.declared.cell.Bounds.{Bounds}
 use Rattle.plane.specs.declared.fault.Fault.{Fault}

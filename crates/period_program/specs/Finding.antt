@@ -21,7 +21,7 @@ last_plane start search = after start.rule start.meaning.live search.run.gens
 pub record HasAnswer (bytes : List ℕ) (search : Search) (answer : Option Period) : Type 0 where
   pub start : Start
   pub accepted : Judges bytes search.run (Ok start)
-  pub answer : IsAnswer start.rule (last_plane start search) search.candidates answer
+  pub is : IsAnswer start.rule (last_plane start search) search.candidates answer
 
 -- the run of these bytes is accepted, and the search in its last generation stops
 pub record IsStopped (bytes : List ℕ) (search : Search) (fault : Fault) : Type 0 where

@@ -1,5 +1,5 @@
 -- What lifeperiod does by what words ask for.
-use Rattle.std.specs.Prelude.{◌≡◌, List, ℕ, None, Result, string_bytes}
+use Rattle.std.specs.Prelude.{◌≡◌, None, Result, string_bytes}
 use Rattle.plane.specs.SinkChange.{SinkChange}
 use Rattle.plane.specs.SourceChange.{IsDoneWithAll, SourceChange}
 use Rattle.plane.specs.declared.fault.Fault.{Fault}

@@ -1,7 +1,7 @@
 //! The session of a run's last generation.
 
 ghost use Rattle.std.specs.Prelude.{IfErr, IfOk};
-ghost use Rattle.table_core.specs.Sizes.{IsPairCount};
+ghost use Rattle.engine.specs.RunOptions.{IsPairCount};
 ghost use Rattle.engine.specs.Refused.{IsRefused};
 ghost use Rattle.period_program.specs.LastSession.{IsLastSession};
 

@@ -1,5 +1,5 @@
 -- A search has one answer only.
-use Rattle.std.proofs.Common.{◌≡◌, ◌≢◌, ◌∙◌, ◌≤◌, ℕ, ℤ, pos, Option, None, Some, List, [], ◌∷◌, refl, sym, ap, subst, arith}
+use Rattle.std.proofs.Common.{◌≡◌, ◌∙◌, ◌≤◌, ℕ, ℤ, pos, None, Some, List, [], ◌∷◌, refl, sym, ap, subst, arith}
 use Rattle.rule_text.specs.CountRule.{CountRule}
 use Rattle.plane.specs.Listing.{IsListing, plane_of}
 use Rattle.plane.specs.Plane.{Plane}

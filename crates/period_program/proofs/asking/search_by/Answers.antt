@@ -1,4 +1,4 @@
-use Rattle.std.proofs.Common.{◌≡◌, ◌∙◌, Err, codes, tt}
+use Rattle.std.proofs.Common.{◌≡◌, ◌∙◌, Err, codes}
 use Rattle.std.proofs.result.Match.{err_is}
 use Rattle.program_parts.specs.declared.reason.WordsReason.TheVariants.{Refused}
 use Rattle.program_parts.proofs.AskedRuns.{asked_run, refused_by_rule, unfit_number}
