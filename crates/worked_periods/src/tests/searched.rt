@@ -11,16 +11,6 @@ use table_core::Shape;
 /// As many pair slots as the programs take where words do not say it.
 pub(crate) const PAIRS: u32 = 4194304;
 
-/// A team of so many workers.
-fn team_of<R: AllocGlobal>(rt: &R, workers: usize) -> Team<'_, R, OpenGate> {
-    Team {
-        runtime: rt,
-        alloc: rt.alloc(),
-        workers,
-        gate: &OpenGate,
-    }
-}
-
 /// A session of a file, by the rule that is given or else the file's.
 pub(crate) fn opened<R: Abort + AllocGlobal>(
     rt: &R,
@@ -32,7 +22,7 @@ pub(crate) fn opened<R: Abort + AllocGlobal>(
     Session::open(rt.alloc(), file.as_bytes(), rule, pairs)
 }
 
-/// The answer of a search in a session. The divisors of 0 are not tried.
+/// The answer of a search in a session, by so many workers, 1 to 64. The divisors of 0 are not tried.
 pub(crate) fn searched<R: Abort + AllocGlobal + Threads + Sync>(
     rt: &R,
     session: &mut Session,
@@ -40,5 +30,12 @@ pub(crate) fn searched<R: Abort + AllocGlobal + Threads + Sync>(
     workers: usize,
 ) -> Result<Option<Period>, Refusal> {
     assert!(rt; candidates != Candidates::DivisorsOf(0));
-    least_period(&team_of(rt, workers), session, candidates)
+    assert!(rt; 1 <= workers && workers <= 64);
+    let team = Team {
+        runtime: rt,
+        alloc: rt.alloc(),
+        workers,
+        gate: &OpenGate,
+    };
+    least_period(&team, session, candidates)
 }
