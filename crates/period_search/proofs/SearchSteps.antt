@@ -1,13 +1,14 @@
 -- What a search for periods has found out when it tries the next number of generations.
-use Rattle.std.proofs.Common.{◌≡◌, inr, ℕ, zero, suc, ◌+◌, ◌-◌, ◌*◌, ◌/◌, ◌%◌, ◌<◌, ◌≤◌, ℤ, pos, ◌-ℤ◌, ◌*ℤ◌, ⊎_elim, sym, ◌∙◌, ap, subst, arith, eq-zero-or-pos, div-add-mod'}
+use Rattle.std.proofs.Common.{◌≡◌, inl, inr, ℕ, zero, suc, ◌+◌, ◌-◌, ◌*◌, ◌/◌, ◌%◌, ◌<◌, ◌≤◌, ℤ, pos, ◌-ℤ◌, ◌*ℤ◌, ⊎_elim, sym, ◌∙◌, ap, subst, arith, eq-zero-or-pos, div-add-mod', one-mul}
 use Rattle.std.proofs.lemmas.Bool.{cases_lt}
 use Rattle.std.proofs.lemmas.Nat.{mod_below}
-use Rattle.std.proofs.Math.Nat.{mul_assoc}
+use Rattle.std.proofs.Math.Nat.{mul_assoc, suc-mul, zero-mul}
 use Rattle.rule_text.specs.CountRule.{CountRule}
 use Rattle.plane.specs.Laws.{moved}
 use Rattle.plane.specs.Plane.{Plane}
 use Rattle.plane.specs.Square.{IsSame, empty}
 use Rattle.plane.specs.declared.refusal.Refusal.{Refusal}
+use Rattle.plane.specs.declared.refusal.Refusal.TheVariants.{NoMemory}
 use Rattle.plane.proofs.Same.{same_sym, same_trans}
 use Rattle.engine.specs.Sessions.{IsLaterSession, IsNotAdvanced, IsSameSession, cells_of}
 use Rattle.engine.specs.declared.session.Session.{Session}
@@ -15,7 +16,7 @@ use Rattle.engine.proofs.Sessions.{later_on, later_same, none_later}
 use Rattle.periods.specs.Periods.{HasPeriod, IsLeastPeriod, IsPeriod}
 use Rattle.periods.proofs.Moves.{moved_same}
 use Rattle.periods.proofs.Returns.{Returns, returns_rest, returns_times}
-use Rattle.period_search.specs.Candidates.{IsCandidate, IsNext, IsNoneBehind}
+use Rattle.period_search.specs.Candidates.{AreSome, IsCandidate, IsNext, IsNoneBehind, last_of}
 use Rattle.period_search.specs.Searches.{IsLeastAmong, IsNoPeriod, NoneIsPeriod, StopsOnTheWay}
 use Rattle.period_search.specs.declared.candidates.Candidates.{Candidates}
 use Rattle.period_search.specs.declared.candidates.Candidates.TheVariants.{UpTo, DivisorsOf}
@@ -62,18 +63,40 @@ module _ (rule : CountRule) (plane : Plane) (n : ℕ) (right down : ℤ) (period
 -- the session came so far, and no number that was tried is a period
 pub record HasTried (candidates : Candidates) (start session : Session) (tried : ℕ) : Type 0 where
   pub later : IsLaterSession start tried session
+  pub within : tried ≤ last_of candidates
   pub none : NoneIsPeriod start.rule (cells_of start) candidates tried
 
 none_at_0 : (n : ℕ) → n ≤ 0 → 1 ≤ n → ⊥
 none_at_0 n most some = omega (arith, most, some)
 
 pub nothing_tried : (candidates : Candidates) (start session : Session) → IsSameSession start session → HasTried candidates start session 0
-nothing_tried candidates start session same = record { later = none_later same; none = λ n most _ has. none_at_0 n most has.2.some }
+nothing_tried candidates start session same = record { later = none_later same; within = omega arith; none = λ n most _ has. none_at_0 n most has.2.some }
 
 pub none_left : (candidates : Candidates) (start session : Session) (tried : ℕ) → HasTried candidates start session tried → IsNoneBehind candidates tried →
     (n : ℕ) → IsCandidate candidates n → IsNoPeriod start.rule (cells_of start) n
 none_left candidates start session tried has none n one period =
     ⊎_elim (λ (behind : tried < n). none n behind one) (λ (before : n ≤ tried). has.none n before one period) (cases_lt tried n)
+
+-- a candidate is at most the last one, which is one unless it is 0
+within_last : (candidates : Candidates) (n : ℕ) → AreSome candidates → IsCandidate candidates n → n ≤ last_of candidates
+within_last (UpTo most) n some one = one.1
+within_last (DivisorsOf whole) n some (zero, product) = let none : zero * n ≡ 0 = zero-mul n in absurd (omega (arith, none, product, some))
+within_last (DivisorsOf whole) n some (suc times, product) = let more : suc times * n ≡ times * n + n = suc-mul times n in omega (arith, product, more)
+
+last_one : (candidates : Candidates) (n : ℕ) → n < last_of candidates → IsCandidate candidates (last_of candidates)
+last_one (UpTo most) n less = (omega (arith, less), omega arith)
+last_one (DivisorsOf whole) n less = (1, sym (one-mul whole))
+
+-- where no candidate is left, the session came to the last one
+pub came_to_last : (candidates : Candidates) (start session : Session) (tried : ℕ) → HasTried candidates start session tried → IsNoneBehind candidates tried → IsLaterSession start (last_of candidates) session
+came_to_last candidates start session tried has none =
+    ⊎_elim (λ (less : tried < last_of candidates). absurd (none (last_of candidates) less (last_one candidates tried less)))
+    (λ (more : last_of candidates ≤ tried). let within = has.within in subst (λ (n : ℕ). IsLaterSession start n session) (omega (arith, more, within)) has.later)
+    (cases_lt tried (last_of candidates))
+
+-- memory ran out at a generation that it came to
+pub out_of_memory : (candidates : Candidates) (start here session : Session) (done : ℕ) (refusal : Refusal) → refusal ≡ NoMemory → IsLaterSession start done here → IsSameSession here session → StopsOnTheWay candidates start session refusal
+out_of_memory candidates start here session done refusal memory later same = inl (memory, (done, later_same {first = start} {second = here} {third = session} done later same))
 
 pub not_advanced : (candidates : Candidates) (start here new : Session) (tried next : ℕ) (refusal : Refusal) → HasTried candidates start here tried → IsNext candidates tried next →
     IsNotAdvanced here (next - tried) new refusal → StopsOnTheWay candidates start new refusal
@@ -82,7 +105,7 @@ not_advanced candidates start here new tried next refusal has is_next refused =
 
 -- the session went on to the next number and was compared there
 module _ (candidates : Candidates) (start here there session : Session) (first : Plane) (tried next : ℕ) (same : IsSame first (cells_of start)) (has : HasTried candidates start here tried) (is_next : IsNext candidates tried next) (on : IsLaterSession here (next - tried) there) (compared : IsSameSession there session) where
-  came : IsLaterSession start next there
+  pub came : IsLaterSession start next there
   came = let behind = is_next.behind in subst (λ (n : ℕ). IsLaterSession start n there) (omega (arith, behind)) (later_on {first = start} {second = here} {third = there} tried (next - tried) has.later on)
 
   pub came_on : IsLaterSession start next session
@@ -110,9 +133,10 @@ module _ (candidates : Candidates) (start here there session : Session) (first :
     still = λ none. let zero = still (same_trans same none) in (across ∙ zero.0, below ∙ zero.1);
   }
 
-  pub tried_too : ((right down : ℤ) → IsSame (cells_of there) (moved right down first) → ⊥) → HasTried candidates start session next
-  tried_too unlike = record {
+  pub tried_too : AreSome candidates → ((right down : ℤ) → IsSame (cells_of there) (moved right down first) → ⊥) → HasTried candidates start session next
+  tried_too some unlike = record {
     later = came_on;
+    within = within_last candidates next some is_next.one;
     none = λ n most one period. ⊎_elim (λ (less : n < next). none_before n less one period)
         (λ (more : next ≤ n). no_period (subst (HasPeriod start.rule (cells_of start)) (omega (arith, most, more)) period)) (cases_lt n next);
   } where

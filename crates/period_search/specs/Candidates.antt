@@ -9,6 +9,11 @@ abbrev pub IsCandidate : Candidates → ℕ → Type 0
 IsCandidate (UpTo most) n = (1 ≤ n) × (n ≤ most)
 IsCandidate (DivisorsOf whole) n = IsDivisor whole n
 
+-- the greatest of them, and 0 where there are none
+abbrev pub last_of : Candidates → ℕ
+last_of (UpTo most) = most
+last_of (DivisorsOf whole) = whole
+
 -- the number whose divisors are tried is not 0
 abbrev pub AreSome : Candidates → Type 0
 AreSome (UpTo most) = Unit {0}

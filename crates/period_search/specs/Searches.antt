@@ -61,10 +61,11 @@ pub record IsRefusedOnTheWay (candidates : Candidates) (old new : Session)
   pub is_next : IsNext candidates done next
   pub refused : IsNotAdvanced here (next - done) new refusal
 
--- memory ran out, or the session did not advance to a candidate
+-- memory ran out at a generation that it came to, or it did not advance to a candidate
 abbrev pub StopsOnTheWay : Candidates → Session → Session → Refusal → Type 0
 StopsOnTheWay candidates old new refusal =
-    (refusal ≡ NoMemory) ⊎ IsRefusedOnTheWay candidates old new refusal
+    ((refusal ≡ NoMemory) × ((done : ℕ) × IsLaterSession old done new))
+    ⊎ IsRefusedOnTheWay candidates old new refusal
 
 -- the same without the session: no candidate up to a number of generations is a period, and from
 -- there the plane does not come to the next one. The range is left, or tables of so many pair slots

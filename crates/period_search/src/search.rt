@@ -1,8 +1,8 @@
 //! The search for the least period of an open pattern.
 
-ghost use Rattle.std.specs.Prelude.{IfErr, IfOk, IfSome};
+ghost use Rattle.std.specs.Prelude.{IfErr, IfNone, IfOk, IfSome};
 ghost use Rattle.engine.specs.Sessions.{IsLaterSession, cells_of};
-ghost use Rattle.period_search.specs.Candidates.{AreSome};
+ghost use Rattle.period_search.specs.Candidates.{AreSome, last_of};
 ghost use Rattle.period_search.specs.Searches.{IsAnswer, OneAnswer, StopsOnTheWay};
 
 use crate::candidates::Candidates;
@@ -14,7 +14,7 @@ use std::thread::Threads;
 
 /// The least period of the session's cells, if it is one of the candidates: each of these is tried
 /// in turn from the least on, and the session is that many generations later then. `None` if no
-/// candidate is a period.
+/// candidate is a period; the session is as many generations later as the greatest says.
 ///
 /// `NoMemory` if memory runs out; else it refuses what the session refuses on its way to a
 /// candidate, where none before it is a period.
@@ -27,6 +27,8 @@ pub fn least_period<R: Threads + Sync, G: Gate>(
     ensures answer { IfOk result (IsAnswer session.old.rule (cells_of session.old) candidates) }
     ensures later { IfOk result (λ found. IfSome found (λ period.
         IsLaterSession session.old period.generations session.new)) }
+    ensures ended { IfOk result (λ found. IfNone found
+        (IsLaterSession session.old (last_of candidates) session.new)) }
     ensures refused { IfErr result (StopsOnTheWay candidates session.old session.new) }
 {
     let first = session.snapshot(team.alloc)?;
