@@ -1,7 +1,7 @@
 #!/usr/bin/env python3
 """Proves and builds a program of this repository, for the launcher of its name.
 
-    launcher/build.py lifebatch             prove and build lifebatch, or lifeview
+    launcher/build.py lifebatch             prove and build lifebatch, lifeview or lifeperiod
     launcher/build.py lifebatch --about     say about how long that takes, and build nothing
 
 Crates are proved side by side, as many as cores and memory allow, each after those below it. For each proved crate the build writes a library
