@@ -1,10 +1,14 @@
 # Starts the program $name of the repository $root in the caller's folder, with the caller's arguments and streams. If the
 # program is missing, or older than its code or contracts, it is proved and built first. A newer proof of the same contracts
-# does not change a proved program. The scripts ./lifebatch and ./lifeview read this one, and set both names.
+# does not change a proved program. ./lifebatch and the scripts beside it read this one, and set $name, $root and, where
+# the program writes a file, $endings.
 set -u
 
 out=$root/crates/$name/out
 program=$out/$name
+endings=${endings-}
+. "$root/launcher/call.sh"
+test_output "$@" || exit
 
 # NAME.built has the time at which the last build began. Read in its own folder, it returns 0 if code or contracts are newer.
 # It tests some 500 files, so no other process is started, and the paths are short.
@@ -43,7 +47,4 @@ if $is_due; then
     esac
     build || exit
 fi
-# Asks for large pages for the tables, and that vectors of a megabyte or more stand outside of the heap, so that the
-# system gets their memory back when they are freed. The caller's own setting wins.
-export GLIBC_TUNABLES="${GLIBC_TUNABLES-glibc.malloc.hugetlb=1:glibc.malloc.mmap_threshold=1048576}"
-exec "$program" "$@"
+call "$@"
