@@ -121,6 +121,8 @@ ROWS = [
     Row("failing_reads", "--only help --number 1", "crashes", DIFFERS),
     Row("failing_reads", "--only help --number 100000", RIGHT, NOT_RUN),
     Row("failing_reads", "--only no-such-name", RIGHT, NOT_RUN),
+    Row("installations", "", RIGHT, HOLDS),
+    Row("installations", "", "is missing", NOT_RUN),
     *(Row("page_links", "", it, DIFFERS) for it in PAGES if it != "is only in code"),
     Row("page_links", "", "is only in code", NOT_RUN),
     Row("../bench/compare", "--rounds 1 --rows replicator", RIGHT, HOLDS),
@@ -153,7 +155,7 @@ class Bench:
     def run(self, row: Row) -> subprocess.CompletedProcess:
         words = [sys.executable, str(FOLDER / f"{row.check}.py"), *row.options.split()]
         words += ["--root" if row.check == "page_links" else "--program", str(self.folder / (row.fault or RIGHT))]
-        words += ["--view", str(self.view)] if row.check in ("failing_reads", "golly_scripts", "many_patterns") else []
+        words += ["--view", str(self.view)] if row.check in ("failing_reads", "golly_scripts", "installations", "many_patterns") else []
         settings = os.environ | {"TMPDIR": str(self.folder)} | ({} if row.fault else {"PATH": "/nowhere"})
         return subprocess.run(words, cwd=FOLDER, env=settings, stdin=subprocess.DEVNULL, capture_output=True, text=True)
 

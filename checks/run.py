@@ -42,6 +42,7 @@ NAMES = [
     "hostile_files",
     "many_patterns",
     "launcher_runs",
+    "installations",
 ]
 ANSWERS = {HOLDS: "holds", DIFFERS: "DIFFERS", NOT_RUN: "NOT RUN"}
 
