@@ -282,7 +282,7 @@ def time_left(it: Repository) -> bool:
     ran, said = it.start(SLEEPS=str(sleeps)), []
     ran.stdin.close()
     for line in ran.stderr:
-        words = re.search(r": (\d+) % after \d+:\d\d, about (\d+) s left; \d+ of \d+ crates proved, proving \w", line)
+        words = re.search(r": (\d+) % after \d+:\d\d, (?:about|\d+ to) (\d+) s left; \d+ of \d+ crates proved, proving \w", line)
         if words:
             said.append((time.monotonic(), int(words[1]), int(words[2])))
         elif "proved and built" in line:
@@ -291,6 +291,26 @@ def time_left(it: Repository) -> bool:
     when, share, left = next(it for it in said if it[1] >= 20)
     print(f"    with {share} % done {left} s were said to be left, and {ended - when:.1f} s were; the first estimate was {said[0][2]} s for {ended - said[0][0]:.1f}")
     return ran.wait() == 0 and shares == sorted(shares) and abs(left - (ended - when)) <= (ended - when) / 4 + 2
+
+
+def says_a_range(it: Repository) -> bool:
+    """A range before anything was built, and one number once a crate was."""
+    _, before = told(it)
+    ran = it.start(SECONDS_EACH="0.5")
+    ran.stdin.close()
+    while "1 of " not in (line := ran.stderr.readline()) and line:
+        pass
+    os.killpg(ran.pid, signal.SIGTERM)
+    ran.stderr.read()
+    ran.wait()
+    _, after = told(it)
+    return bool(re.search(r" takes \d+ to \d+ minutes here", before) and re.search(r" takes about \d+ s here", after))
+
+
+def told(it: Repository) -> tuple[int, str]:
+    """What the launcher says of a build that it does not begin."""
+    ran = subprocess.run([it.folder / "launcher" / "build.py", "lifebatch", "--about"], env=it.environment(), capture_output=True, text=True)
+    return ran.returncode, ran.stderr
 
 
 def simulated_machines(_: Repository) -> bool:
@@ -349,6 +369,9 @@ GROUPS: list[list[tuple[str, Callable[[Repository], bool]]]] = [
         ("a file, or a folder specs, that comes or goes has its crate proved anew", comes_and_goes),
         ("the program runs in the caller's folder, by whichever name and link the launcher is called", from_anywhere),
         ("a file that changes during the build has its crate proved anew by the next call", changed_meanwhile),
+    ],
+    [
+        ("before anything was built the launcher says a range of times, and afterwards one", says_a_range),
     ],
     [
         ("an interrupted build leaves no process, and keeps what is proved", interrupted),

@@ -40,7 +40,8 @@ def pace_of(program: Program, proved: set[str]) -> Pace:
     """How a build goes on this machine, where these crates are proved."""
     crates = crates_below(program.name)
     plan = Plan(crates, len(os.sched_getaffinity(0)), free_memory())
-    return Pace(plan, machine_factor(crates), proved)
+    factor = machine_factor(crates)
+    return Pace(plan, factor.likely, proved, doubt=(factor.least, factor.most))
 
 
 def proved_crates(program: Program) -> set[str]:
@@ -56,7 +57,7 @@ def tell_about(program: Program) -> int:
     if proved == crates_below(program.name).keys():
         Progress(program.name, 0).tell(f"the program is built; version {whole_version()}")
         return 0
-    left = duration(pace_of(program, proved).seconds_left())
+    left = duration(*pace_of(program, proved).range_left())
     why = "older than its code or contracts" if program.built.exists() else "not built yet"
     Progress(program.name, 0).tell(f"the program is {why}; the next run builds it, which takes {left} here; version {whole_version()}")
     return 0
@@ -65,7 +66,7 @@ def tell_about(program: Program) -> int:
 def tell_needs(progress: Progress, pace: Pace) -> None:
     """Says what the build needs, and about how long it takes."""
     memory, disk = pace.plan.memory // GIGABYTE, shutil.disk_usage(ROOT).free // GIGABYTE
-    progress.tell(f"proving and building the program first; this takes {duration(pace.seconds_left())} here")
+    progress.tell(f"proving and building the program first; this takes {duration(*pace.range_left())} here")
     progress.tell(
         f"it needs rt ({shutil.which('rt')}), {MEMORY // GIGABYTE} GB of memory for each crate at a time ({memory} GB free)"
         f" and {DISK // GIGABYTE} GB of disk ({disk} GB free), and uses all cores ({pace.plan.cores})"
