@@ -121,6 +121,10 @@ ROWS = [
     Row("failing_reads", "--only help --number 1", "crashes", DIFFERS),
     Row("failing_reads", "--only help --number 100000", RIGHT, NOT_RUN),
     Row("failing_reads", "--only no-such-name", RIGHT, NOT_RUN),
+    Row("page_commands", "--only gun", RIGHT, HOLDS),
+    Row("page_commands", "--only gun", "crashes", DIFFERS),
+    Row("page_commands", "--only gun", "prints another population", DIFFERS),
+    Row("page_commands", "--only no-such-name", RIGHT, NOT_RUN),
     Row("installations", "", RIGHT, HOLDS),
     Row("installations", "", "is missing", NOT_RUN),
     *(Row("page_links", "", it, DIFFERS) for it in PAGES if it != "is only in code"),
@@ -155,7 +159,7 @@ class Bench:
     def run(self, row: Row) -> subprocess.CompletedProcess:
         words = [sys.executable, str(FOLDER / f"{row.check}.py"), *row.options.split()]
         words += ["--root" if row.check == "page_links" else "--program", str(self.folder / (row.fault or RIGHT))]
-        words += ["--view", str(self.view)] if row.check in ("failing_reads", "golly_scripts", "installations", "many_patterns") else []
+        words += ["--view", str(self.view)] if row.check in ("failing_reads", "golly_scripts", "installations", "many_patterns", "page_commands") else []
         settings = os.environ | {"TMPDIR": str(self.folder)} | ({} if row.fault else {"PATH": "/nowhere"})
         return subprocess.run(words, cwd=FOLDER, env=settings, stdin=subprocess.DEVNULL, capture_output=True, text=True)
 

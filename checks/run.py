@@ -24,6 +24,7 @@ from common.check import BUILT, BUILT_VIEW, DIFFERS, HOLDS, NOT_RUN, STATUSES, C
 FOLDER = pathlib.Path(__file__).resolve().parent
 NAMES = [
     "page_links",
+    "page_commands",
     "page_counts",
     "no_axioms",
     "wrong_bodies",

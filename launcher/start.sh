@@ -1,11 +1,11 @@
 # Starts the program $name of the repository $root in the caller's folder, with the caller's arguments and streams. If the
 # program is missing, or older than its code or contracts, it is proved and built first. A newer proof of the same contracts
-# does not change a proved program. ./lifebatch and the scripts beside it read this one, and set $name, $root and, where
-# the program writes a file, $endings.
+# does not change a proved program. The scripts ./lifebatch and ./lifeview read this one, and set both names.
 set -u
 
 out=$root/crates/$name/out
 program=$out/$name
+# Where the program writes a file, its script has set those of the file.
 endings=${endings-}
 . "$root/launcher/call.sh"
 test_output "$@" || exit
