@@ -21,6 +21,7 @@ from common.check import BUILT, BUILT_VIEW, SHLIBDEPS, CannotRun, Check, end, su
 from common.fake_kit import Repository
 from common.manuals import faults_of_page, offered_by_bash, offered_by_fish, offered_by_zsh, options_of, printed
 from common.program import ROOT
+from common.programs import all_programs
 
 CHECK = Check(
     text=__doc__,
@@ -212,10 +213,9 @@ ROWS: list[tuple[str, Callable[[Places], bool]]] = [
 
 def main() -> int:
     options = CHECK.options(CHECK.parser())
-    programs = {"lifebatch": options.program, "lifeview": options.view}
     held = []
     with tempfile.TemporaryDirectory() as name:
-        places = Places(pathlib.Path(name), programs)
+        places = Places(pathlib.Path(name), all_programs(options))
         for says, holds in ROWS:
             held.append(holds(places))
             print(f"{'holds  ' if held[-1] else 'differs'}  {says}", flush=True)

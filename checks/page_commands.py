@@ -4,7 +4,7 @@
     checks/page_commands.py
     checks/page_commands.py --only grows    the commands under headings with this text in them
 
-A block of commands runs by bash, beside a copy of examples/ and both programs, and has to end with status 0. Where a block without a language follows it under the
+A block of commands runs by bash, beside a copy of examples/ and the programs, and has to end with status 0. Where a block without a language follows it under the
 same heading, the commands have to print that at their end. The rule of a Makefile has to make its file, and to leave none if the run fails. Blocks that build, install
 or call the kit are left out, and a line says so.
 """
@@ -19,6 +19,7 @@ from dataclasses import dataclass
 
 from common.check import BUILT, BUILT_VIEW, GOLLY_PATTERNS, Check, end, sum_up, tool
 from common.program import ROOT
+from common.programs import all_programs
 
 CHECK = Check(
     text=__doc__,
@@ -69,7 +70,7 @@ class Folder:
         self.path = path
         shutil.copytree(ROOT / "examples", path / "examples")
         for name, program in programs.items():
-            (path / name).symlink_to(program.resolve())
+            (path / name).symlink_to(program)
         (path / "body.txt").write_text("bob$2bo$3o!\n")
         (path / "marked.rle").write_bytes(b"\xef\xbb\xbfx = 3, y = 1\n3o!\n")
         (path / "x.rle").write_text("x = 3, y = 1\n3o!\n")
@@ -104,7 +105,7 @@ def main() -> int:
     options = CHECK.options(parser)
     held = []
     with tempfile.TemporaryDirectory() as name:
-        folder = Folder(pathlib.Path(name), {"lifebatch": options.program, "lifeview": options.view})
+        folder = Folder(pathlib.Path(name), all_programs(options))
         for block in (it for page in PAGES for it in blocks(page) if options.only in it.heading):
             if LEFT_OUT.search(block.text):
                 print(f"left out {block.says()}")
