@@ -5,7 +5,7 @@
     checks/page_counts.py --root FOLDER    the page and the crates of another copy
 
 The page says how many lines of code, definitions, proofs and tests there are. Each number may differ from the count by one percent. The crates
-worked_* count as tests, with all their files. The script also prints how many tests and edits there are. README.md, CHANGELOG.md and docs/*.md may have 15000 words
+worked_* count as tests, with all their files. The script also prints how many tests and edits there are. README.md and docs/*.md may have 15000 words
 together: what has a letter or a digit, outside of blocks of code.
 """
 import pathlib
@@ -73,7 +73,7 @@ def said(root: pathlib.Path, kind: str) -> int:
 
 def words(root: pathlib.Path) -> int:
     """The words of all pages."""
-    pages = [root / "README.md", root / "CHANGELOG.md", *sorted((root / "docs").glob("*.md"))]
+    pages = [root / "README.md", *sorted((root / "docs").glob("*.md"))]
     prose = (BLOCK.sub("", it.read_text(encoding="utf-8")) for it in pages if it.is_file())
     return sum(len(re.findall(r"\S*\w\S*", it)) for it in prose)
 
