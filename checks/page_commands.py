@@ -1,5 +1,5 @@
 #!/usr/bin/env python3
-"""Runs the commands that README.md, docs/questions.md and docs/formats.md show, and compares what they print with what the pages show.
+"""Runs the commands that README.md, questions, formats and from-bgolly show, and compares what they print with what the pages show.
 
     checks/page_commands.py
     checks/page_commands.py --only grows    the commands under headings with this text in them
@@ -17,18 +17,18 @@ import tempfile
 from collections.abc import Iterator
 from dataclasses import dataclass
 
-from common.check import BUILT, BUILT_VIEW, GOLLY_PATTERNS, Check, end, sum_up, tool
+from common.check import BGOLLY, BUILT, BUILT_VIEW, GOLLY_PATTERNS, Check, end, sum_up, tool
 from common.program import ROOT
 from common.programs import all_programs
 
 CHECK = Check(
     text=__doc__,
-    needs=(BUILT, BUILT_VIEW, GOLLY_PATTERNS, tool("make", "make"), tool("curl", "curl")),
-    takes="15 s",
+    needs=(BUILT, BUILT_VIEW, BGOLLY, GOLLY_PATTERNS, tool("make", "make"), tool("curl", "curl")),
+    takes="10 s",
     replay="give the heading, or a part of it, to --only.",
 )
 
-PAGES = ["README.md", "docs/questions.md", "docs/formats.md"]
+PAGES = ["README.md", "docs/questions.md", "docs/formats.md", "docs/from-bgolly.md"]
 HEADING = re.compile(r"^#+ ([^\n]*)$|^```(\w*)\n(.*?)^```$", re.MULTILINE | re.DOTALL)
 # What this check can't run.
 LEFT_OUT = re.compile(r"\brt \w|launcher/|checks/|apt install")

@@ -41,7 +41,7 @@ Depends: {depends}
 Suggests: golly
 Section: science
 Priority: optional
-Description: proved HashLife for Golly's pattern files
+Description: HashLife for Golly's pattern files on the command line
 {description}
 """
 COPYRIGHT = """{name}
@@ -52,7 +52,7 @@ or hand on what is in it is for its authors to say. The owner of the copy of the
 repository from which it was built is {maintainer}.
 """
 # lintian takes a name in an executable for a fault of its builder. These are as the kit's linker wrote them.
-OVERRIDES = f"# The programs are packed as they were built and proved, with their symbols.\n{NAME}: unstripped-binary-or-object *\n"
+OVERRIDES = f"# The programs are packed as they were built, with their symbols.\n{NAME}: unstripped-binary-or-object *\n"
 
 
 def run(words: list[str], **how) -> str:
