@@ -1,5 +1,5 @@
 #!/usr/bin/env python3
-"""Runs lifebatch and lifeview with each read and write failed, or cut to one byte, in turn, and checks the result of each run.
+"""Runs the programs with each read and write failed, or cut to one byte, in turn, and checks the result of each run.
 
     checks/failing_reads.py
     checks/failing_reads.py --only picture              the runs with "picture" in their names
@@ -23,12 +23,12 @@ from collections import Counter
 from collections.abc import Iterator
 from dataclasses import dataclass, replace
 
-from common.check import BUILT, BUILT_VIEW, C_COMPILER, CannotRun, Check, end, status_of
+from common.check import BUILT, BUILT_PERIOD, BUILT_VIEW, C_COMPILER, CannotRun, Check, end, status_of
 from common.program import text_of
 
 CHECK = Check(
     text=__doc__,
-    needs=(BUILT, BUILT_VIEW, C_COMPILER),
+    needs=(BUILT, BUILT_VIEW, BUILT_PERIOD, C_COMPILER),
     takes="20 s",
     quick=("--stride", "5"),
     quickly="5 s",
@@ -81,6 +81,8 @@ RUNS = [
     Run("a picture", "lifeview", ["-m", "4", "-o", "out.png", "in"], "out.png"),
     Run("a picture from standard input", "lifeview", ["-m", "4", "-o", "out.png", "/dev/stdin"], "out.png"),
     Run("a picture that is refused", "lifeview", ["-o", "out.png", "in"], "out.png", BAD_COUNT, 1),
+    Run("a period", "lifeperiod", ["--most", "10", "in"]),
+    Run("a period from standard input", "lifeperiod", ["-m", "4", "--multiple", "12", "/dev/stdin"]),
 ]
 
 
@@ -210,7 +212,7 @@ def main() -> int:
     parser.add_argument("--only", default="", help="only the runs with this text in their names")
     options = CHECK.options(parser)
     counts = Counter()
-    programs = {"lifebatch": str(options.program.resolve()), "lifeview": str(options.view.resolve())}
+    programs = {"lifebatch": str(options.program.resolve()), "lifeview": str(options.view.resolve()), "lifeperiod": str(options.period.resolve())}
     with tempfile.TemporaryDirectory() as name:
         machine = Machine(programs, pathlib.Path(name))
         for run in RUNS:

@@ -17,18 +17,18 @@ import sys
 import tempfile
 from dataclasses import dataclass
 
-from common.check import BGOLLY, BUILT, BUILT_VIEW, C_COMPILER, DIFFERS, FFMPEG, GOLLY, GOLLY_PATTERNS, HOLDS, NOT_RUN, PARALLEL, XVFB, Check, end, sum_up
+from common.check import BGOLLY, BUILT, BUILT_PERIOD, BUILT_VIEW, C_COMPILER, DIFFERS, FFMPEG, GOLLY, GOLLY_PATTERNS, HOLDS, NOT_RUN, PARALLEL, XVFB, Check, end, sum_up
 
 CHECK = Check(
     text=__doc__,
-    needs=(BUILT, BUILT_VIEW, BGOLLY, GOLLY, GOLLY_PATTERNS, XVFB, C_COMPILER, PARALLEL, FFMPEG),
+    needs=(BUILT, BUILT_VIEW, BUILT_PERIOD, BGOLLY, GOLLY, GOLLY_PATTERNS, XVFB, C_COMPILER, PARALLEL, FFMPEG),
     takes="a minute",
     replay="give the row, or a part of it, to --only.",
 )
 
 FOLDER = pathlib.Path(__file__).resolve().parent
 
-# The shell scripts that stand in for lifebatch. REAL is the path of lifebatch.
+# The shell scripts that stand in for lifebatch, some of them also for lifeperiod. REAL is the path of lifebatch.
 PROGRAMS = {
     "crashes": "kill -s SEGV $$",
     "hangs": "exec sleep 1000",
@@ -42,6 +42,10 @@ PROGRAMS = {
 }
 
 RIGHT = "is right"
+
+# The checks of lifeperiod, and those that use it beside lifebatch.
+OF_PERIODS = ("random_periods", "golly_periods")
+WITH_PERIODS = ("failing_reads", "golly_scripts", "refused_memory")
 
 PAGES = {
     "names no file": "[a page](nowhere.md)\n",
@@ -81,6 +85,14 @@ ROWS = [
     *(Row("random_patterns", "--count 6 --seconds 1", it, DIFFERS) for it in PROGRAMS if it != "refuses, and leaves a file"),
     Row("random_patterns", "--count 2", "is missing", NOT_RUN),
     Row("random_patterns", "--count 0", RIGHT, NOT_RUN),
+    Row("random_periods", "--count 6", RIGHT, HOLDS),
+    *(Row("random_periods", "--count 6 --seconds 1", it, DIFFERS) for it in ("crashes", "hangs", "prints nothing", "refuses all")),
+    Row("random_periods", "--count 2", "is missing", NOT_RUN),
+    Row("random_periods", "--count 0", RIGHT, NOT_RUN),
+    Row("golly_periods", "--only queen-bee", RIGHT, HOLDS),
+    *(Row("golly_periods", "--only queen-bee", it, DIFFERS) for it in ("crashes", "prints nothing", "refuses all")),
+    Row("golly_periods", "--only queen-bee", "is missing", NOT_RUN),
+    Row("golly_periods", "--only no-such-name", RIGHT, NOT_RUN),
     Row("small_tables", "--count 1", RIGHT, HOLDS),
     Row("small_tables", "--count 1", "crashes", DIFFERS),
     Row("small_tables", "--count 1", "errs in small tables", DIFFERS),
@@ -144,8 +156,8 @@ ROWS = [
 class Bench:
     """A folder with the faulty programs and pages."""
 
-    def __init__(self, real: pathlib.Path, view: pathlib.Path, folder: pathlib.Path):
-        self.folder, self.view = folder, view.resolve()
+    def __init__(self, real: pathlib.Path, view: pathlib.Path, period: pathlib.Path, folder: pathlib.Path):
+        self.folder, self.view, self.period = folder, view.resolve(), period.resolve()
         # The user `nobody` has to be able to go through it.
         folder.chmod(0o755)
         for name, text in PROGRAMS.items():
@@ -156,10 +168,16 @@ class Bench:
             (folder / name).mkdir()
             (folder / name / "README.md").write_text(text)
 
+    def program(self, row: Row) -> list[str]:
+        """The option for the page or the program of a row, and its path."""
+        if row.check in OF_PERIODS:
+            return ["--period", str(self.period if row.fault == RIGHT else self.folder / row.fault)]
+        return ["--root" if row.check == "page_links" else "--program", str(self.folder / (row.fault or RIGHT))]
+
     def run(self, row: Row) -> subprocess.CompletedProcess:
-        words = [sys.executable, str(FOLDER / f"{row.check}.py"), *row.options.split()]
-        words += ["--root" if row.check == "page_links" else "--program", str(self.folder / (row.fault or RIGHT))]
+        words = [sys.executable, str(FOLDER / f"{row.check}.py"), *row.options.split(), *self.program(row)]
         words += ["--view", str(self.view)] if row.check in ("failing_reads", "golly_scripts", "installations", "many_patterns", "page_commands") else []
+        words += ["--period", str(self.period)] if row.check in WITH_PERIODS else []
         settings = os.environ | {"TMPDIR": str(self.folder)} | ({} if row.fault else {"PATH": "/nowhere"})
         return subprocess.run(words, cwd=FOLDER, env=settings, stdin=subprocess.DEVNULL, capture_output=True, text=True)
 
@@ -178,7 +196,7 @@ def main() -> int:
     parser.add_argument("--only", default="", help="only the rows with this text in them")
     options = CHECK.options(parser)
     with tempfile.TemporaryDirectory() as name:
-        bench = Bench(options.program, options.view, pathlib.Path(name))
+        bench = Bench(options.program, options.view, options.period, pathlib.Path(name))
         held = [bench.holds(row) for row in ROWS if options.only in row.says()]
     return sum_up(held, "rows")
 

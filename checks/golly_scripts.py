@@ -6,7 +6,8 @@
 
 Golly runs under a virtual screen, with a home folder and a temporary folder of its own. A Lua script in it opens patterns and calls the functions of
 golly/shared.lua, without their questions. Cells, places, rule and generation have to be those of g.run, and the pattern before has to be as it
-was. What is not supported has to be refused in words. Pictures have to show the selected cells, else all. No temporary file may be left.
+was. What is not supported has to be refused in words. Pictures have to show the selected cells, else all. Periods have to be those of the patterns.
+No temporary file may be left.
 """
 import argparse
 import os
@@ -21,13 +22,13 @@ from collections.abc import Callable
 from dataclasses import dataclass
 
 from common import cells as plain
-from common.check import BUILT, BUILT_VIEW, GOLLY, XVFB, CannotRun, Check, end, sum_up
+from common.check import BUILT, BUILT_PERIOD, BUILT_VIEW, GOLLY, XVFB, CannotRun, Check, end, sum_up
 from common.program import ROOT, games_path
 from pictures import picture_in, calculated
 
 CHECK = Check(
     text=__doc__,
-    needs=(BUILT, BUILT_VIEW, GOLLY, XVFB),
+    needs=(BUILT, BUILT_VIEW, BUILT_PERIOD, GOLLY, XVFB),
     takes="5 s",
     replay="give the row, or a part of it, to --only.",
 )
@@ -35,6 +36,7 @@ CHECK = Check(
 # The most pixels on a side of lifeview's pictures.
 SIZE = 1024
 PENTOMINO = {(6, 7), (7, 7), (5, 8), (6, 8), (6, 9)}
+GLIDER = {(8, 7), (9, 8), (7, 9), (8, 9), (9, 9)}
 LATER = {(5, 7), (6, 7), (7, 7), (5, 8), (5, 9), (6, 9)}
 KILLED = "#!/bin/sh\nkill -s TERM $$\n"
 DRIVER = ROOT / "checks" / "common" / "golly_driver.lua"
@@ -157,6 +159,7 @@ class Screen:
             shutil.copytree(ROOT / "golly", folder / name / "golly")
         (folder / "beside" / "lifebatch").symlink_to(options.program.resolve())
         (folder / "beside" / "lifeview").symlink_to(options.view.resolve())
+        (folder / "beside" / "lifeperiod").symlink_to(options.period.resolve())
         (folder / "bin" / "lifebatch").symlink_to(options.program.resolve())
         (folder / "killed" / "lifebatch").write_text(KILLED)
         (folder / "killed" / "lifebatch").chmod(0o755)
@@ -164,6 +167,7 @@ class Screen:
         for case in cases:
             (folder / case.file()).write_text(case.text)
         (folder / "pictured.rle").write_text(R_PENTOMINO)
+        (folder / "glider.rle").write_text(plain.rle_text(GLIDER, "B3/S23", 7))
         (folder / "cases").write_text("".join(case.line() for case in cases))
         self.found = self.run(options.seconds)
 
@@ -227,22 +231,36 @@ class Screen:
             return f"it wrote {line[1]}"
         return "" if picture_in((self.folder / file).read_bytes()) == calculated(cells, shown, SIZE) else "other pixels"
 
-    def has_no_program(self) -> str:
-        it = self.found.get("drawn-without-program", Found(True, "it was not tried", True, True, ""))
-        return "" if not it.is_done and it.words.startswith("lifeview is neither") else it.words
+    def told(self, name: str, line: str) -> str:
+        """How the line of a period differs from what it has to be, or an empty text."""
+        it = self.found.get(name)
+        if it is None:
+            return "it was not tried"
+        if not it.is_kept:
+            return "the pattern is not as it was"
+        return "" if it.is_done and it.words == line else it.words
+
+    def has_no_program(self, name: str, program: str) -> str:
+        it = self.found.get(name, Found(True, "it was not tried", True, True, ""))
+        return "" if not it.is_done and it.words.startswith(f"{program} is neither") else it.words
 
     def leaves_files(self) -> str:
         return ", ".join(it.name for it in (self.folder / "temporary").iterdir())
 
 
 Row = tuple[str, Callable[[Screen], str]]
-PICTURES: list[Row] = [
+LINES: list[Row] = [
     ("a picture of all cells", lambda screen: screen.drawn("drawn", "pictured-0.png", PENTOMINO, (5, 7, 7, 9))),
     ("a second picture", lambda screen: screen.drawn("drawn-again", "pictured-0-2.png", PENTOMINO, (5, 7, 7, 9))),
     ("a picture of the selection", lambda screen: screen.drawn("drawn-selection", "pictured-0-3.png", PENTOMINO, (4, 6, 6, 9))),
     ("a picture of an unsaved pattern", lambda screen: screen.drawn("drawn-unsaved", "home/.golly/unsaved-0.png", PENTOMINO, (5, 7, 7, 9))),
     ("a picture of it later", lambda screen: screen.drawn("drawn-later", "home/.golly/unsaved-1.png", LATER, (5, 7, 7, 9))),
-    ("no program is there", Screen.has_no_program),
+    ("no program for pictures is there", lambda screen: screen.has_no_program("drawn-without-program", "lifeview")),
+    ("a period", lambda screen: screen.told("period", "period 4, moves 1, 1")),
+    ("fewer generations than the period", lambda screen: screen.told("too-few-generations", "no period up to 3")),
+    ("no period", lambda screen: screen.told("no-period", "no period up to 100")),
+    ("the period of an empty pattern", lambda screen: screen.told("period-of-nothing", "period 1, moves 0, 0")),
+    ("no program for periods is there", lambda screen: screen.has_no_program("period-without-program", "lifeperiod")),
     ("no temporary file is left", Screen.leaves_files),
 ]
 
@@ -261,7 +279,7 @@ def main() -> int:
     with tempfile.TemporaryDirectory(prefix="with a blank ") as name:
         screen = Screen(pathlib.Path(name), options, cases)
         held = [shows(case.name.replace("-", " "), screen.differs(case)) for case in cases]
-        held += [shows(says, differs(screen)) for says, differs in PICTURES if options.only in says]
+        held += [shows(says, differs(screen)) for says, differs in LINES if options.only in says]
     return sum_up(held, "rows")
 
 

@@ -1,5 +1,5 @@
 #!/usr/bin/env python3
-"""Tries the launchers ./lifebatch and ./lifeview with a kit that proves nothing and takes a moment.
+"""Tries the launchers ./lifebatch, ./lifeview and ./lifeperiod with a kit that proves nothing and takes a moment.
 
     checks/launcher_runs.py
     checks/launcher_runs.py --short     without the build of half a minute
@@ -26,7 +26,7 @@ from collections.abc import Callable
 
 from common.check import PGREP, Check, can_run, end, sum_up
 from common.fake_kit import Repository, printed
-from common.program import PROGRAM, ROOT, VIEW
+from common.program import PERIOD, PROGRAM, ROOT, VIEW
 from common.simulated_builds import MACHINES, look_after
 
 CHECK = Check(
@@ -63,7 +63,7 @@ def helps(it: Repository) -> bool:
     text_of_rt = rt.read_text()
     rt.write_text("#!/bin/sh\nexit 1\n")
     shown = []
-    for name in ("lifebatch", "lifeview"):
+    for name in ("lifebatch", "lifeview", "lifeperiod"):
         text = (it.folder / "launcher" / "help" / f"{name}.txt").read_text()
         for word in ("-h", "--help"):
             status, out, err = it.run(word, name=name)
@@ -77,7 +77,7 @@ def helps(it: Repository) -> bool:
 def own_help(_: Repository) -> bool:
     """Whether the texts are what the real programs show, if these are built."""
     equal = []
-    for name, program in (("lifebatch", PROGRAM), ("lifeview", VIEW)):
+    for name, program in (("lifebatch", PROGRAM), ("lifeview", VIEW), ("lifeperiod", PERIOD)):
         if not can_run(program):
             print(f"    {name} is not built here, so its help is not compared with launcher/help/{name}.txt")
             continue
@@ -147,7 +147,7 @@ def writable(it: Repository) -> bool:
 
 def unknown_program(it: Repository) -> bool:
     ran = subprocess.run(["python3", it.folder / "launcher" / "build.py", "plane"], env=it.environment(), capture_output=True, text=True)
-    return ran.returncode == 2 and "lifebatch, lifeview" in ran.stderr and it.logged() == []
+    return ran.returncode == 2 and "lifebatch, lifeview, lifeperiod" in ran.stderr and it.logged() == []
 
 
 def without_the_kit(it: Repository) -> bool:
@@ -314,20 +314,21 @@ def told(it: Repository) -> tuple[int, str]:
 
 
 def simulated_machines(_: Repository) -> bool:
-    errors = sorted(look_after(0.2, name, machine).error() for name in ("lifebatch", "lifeview") for machine in MACHINES)
+    errors = sorted(look_after(0.2, name, machine).error() for name in ("lifebatch", "lifeview", "lifeperiod") for machine in MACHINES)
     close = sum(it <= 0.25 for it in errors)
     print(f"    {close} of {len(errors)} are; the error is {errors[len(errors) // 2]:.0%} in the median, and {errors[-1]:.0%} in the worst")
     return close >= 0.95 * len(errors)
 
 
 def records(it: Repository) -> bool:
-    """The seconds of both programs' crates, once both are built."""
+    """The seconds of all programs' crates, once all are built."""
     it.run()
     file, script = it.folder / "launcher" / "seconds.json", it.folder / "launcher" / "record_seconds.py"
     before = file.read_text()
     early = subprocess.run([script], capture_output=True, text=True)
-    is_kept = file.read_text() == before and "no build has recorded png_writer, view_program, lifeview" in early.stderr
+    is_kept = file.read_text() == before and "no build has recorded png_writer, view_program, lifeview, periods, period_search, period_program, lifeperiod" in early.stderr
     it.run(name="lifeview")
+    it.run(name="lifeperiod")
     late = subprocess.run([script], capture_output=True, text=True)
     found = json.loads(file.read_text())
     return (early.returncode, late.returncode) == (2, 0) and is_kept and {*found["crates"]} == {*json.loads(before)["crates"]}
@@ -380,7 +381,7 @@ GROUPS: list[list[tuple[str, Callable[[Repository], bool]]]] = [
     [
         ("after a fifth of the work the time that is said to be left is within a quarter of the truth", time_left),
         ("after a fifth of the work it is so on 19 of 20 simulated machines too", simulated_machines),
-        ("each crate's seconds are recorded once both programs are built", records),
+        ("each crate's seconds are recorded once all programs are built", records),
     ],
 ]
 

@@ -1,5 +1,5 @@
 #!/usr/bin/env python3
-"""Runs lifebatch with each growth of its memory refused in turn, and checks the result of each run.
+"""Runs lifebatch and lifeperiod with each growth of their memory refused in turn, and checks the result of each run.
 
     checks/refused_memory.py
     checks/refused_memory.py --only help               the runs with "help" in their names
@@ -7,7 +7,7 @@
 
 The script compiles a small library (common/refuse.c), which is loaded before the C library and refuses the Nth growth: by itself, as if memory were
 short for a moment, and with all later ones, as if none were left. N goes from 1 up to the first run that asks for fewer. Each run has to end like
-the run in which nothing is refused, or with status 1, "lifebatch: refused 18: NoMemory", the first lines of the report and no output file. The
+the run in which nothing is refused, or with status 1, "PROGRAM: refused 18: NoMemory", the first lines of the report and no output file. The
 message of a usage error may also be shorter. Threads are refused in the same way, which must change nothing.
 """
 import argparse
@@ -22,12 +22,12 @@ from collections import Counter
 from collections.abc import Iterator
 from dataclasses import dataclass
 
-from common.check import BUILT, C_COMPILER, CannotRun, Check, end, status_of
+from common.check import BUILT, BUILT_PERIOD, C_COMPILER, CannotRun, Check, end, status_of
 from common.program import text_of
 
 CHECK = Check(
     text=__doc__,
-    needs=(BUILT, C_COMPILER),
+    needs=(BUILT, BUILT_PERIOD, C_COMPILER),
     takes="a minute",
     quick=("--stride", "40"),
     quickly="10 s",
@@ -47,17 +47,16 @@ R_PENTOMINO = "x = 3, y = 3, rule = B3/S23\nb2o$2o$bo!"
 REPLICATOR = "x = 1, y = 1, rule = B1357/S1357\no!"
 COMMENTED = "#N Glider\n#r 23/3\nx = 3, y = 3\nbob$2bo$3o!"
 
-NO_MEMORY = "lifebatch: refused 18: NoMemory\n"
-
 
 @dataclass(frozen=True)
 class Run:
-    """A file, the words of its run, and its status where nothing is refused."""
+    """A file, the words of its run, its status where nothing is refused, and its program."""
 
     name: str
     file: str
     words: list[str]
     status: int = 0
+    program: str = "lifebatch"
 
 
 @dataclass(frozen=True)
@@ -83,14 +82,17 @@ RUNS = [
     Run("the R-pentomino with two workers", R_PENTOMINO, ["-m", "1103", "--workers", "2", "-o", "out.rle", "in"]),
     Run("the help", BLINKER, ["--help"]),
     Run("words that are bad", BLINKER, ["-m", "x", "in"], status=2),
+    Run("the period of the glider", GLIDER, ["in"], program="lifeperiod"),
+    Run("the R-pentomino, which has no period up to 100", R_PENTOMINO, ["--most", "100", "in"], program="lifeperiod"),
+    Run("the period of the glider by a multiple, with two workers", GLIDER, ["-m", "64", "--multiple", "256", "--workers", "2", "in"], program="lifeperiod"),
 ]
 
 
 class Machine:
-    """A folder with the library and a program."""
+    """A folder with the library, and the programs."""
 
-    def __init__(self, program: str, folder: pathlib.Path):
-        self.program, self.folder, self.library = program, folder, folder / "refuse.so"
+    def __init__(self, programs: dict[str, str], folder: pathlib.Path):
+        self.programs, self.folder, self.library = programs, folder, folder / "refuse.so"
         source = pathlib.Path(__file__).resolve().parent / "common" / "refuse.c"
         words = ["cc", "-O2", "-shared", "-fPIC", "-o", self.library, source, "-ldl"]
         compiled = subprocess.run(words, capture_output=True)
@@ -105,7 +107,7 @@ class Machine:
         read, write = os.pipe()
         settings = {"LD_PRELOAD": str(self.library), "REFUSED": kind, "FIRST": str(first), "LAST": str(last), "TOLD": str(write)}
         how = {"stdout": subprocess.PIPE, "stderr": subprocess.PIPE, "pass_fds": [write]}
-        with subprocess.Popen([self.program, *run.words], cwd=self.folder, env=settings, **how) as process:
+        with subprocess.Popen([self.programs[run.program], *run.words], cwd=self.folder, env=settings, **how) as process:
             os.close(write)
             # A run that hangs is killed, and its status says so.
             late = threading.Timer(SECONDS, process.kill)
@@ -125,10 +127,10 @@ def is_plain(told: Told, run: Run) -> bool:
     return told.status == run.status and is_told and (told.file is not None) == ("-o" in run.words)
 
 
-def is_no_memory(told: Told, plain: Told) -> bool:
+def is_no_memory(told: Told, plain: Told, run: Run) -> bool:
     """Whether a run ends with NoMemory, and leaves only what it may."""
     is_beginning = plain.report.startswith(told.report) and (not told.report or told.report.endswith("\n"))
-    return (told.status, told.message, told.file) == (1, NO_MEMORY, None) and is_beginning
+    return (told.status, told.message, told.file) == (1, f"{run.program}: refused 18: NoMemory\n", None) and is_beginning
 
 
 def is_cut_message(told: Told, plain: Told) -> bool:
@@ -137,11 +139,11 @@ def is_cut_message(told: Told, plain: Told) -> bool:
     return plain.status == told.status == 2 and told.report == plain.report and is_one_line
 
 
-def answer(told: Told, plain: Told, kind: str, is_refused: bool) -> str | None:
+def answer(told: Told, plain: Told, run: Run, kind: str, is_refused: bool) -> str | None:
     """The result of a run, or None if it is none of the allowed ones."""
     if told == plain:
         return "as if nothing was refused"
-    if kind == "memory" and is_refused and is_no_memory(told, plain):
+    if kind == "memory" and is_refused and is_no_memory(told, plain, run):
         return "NoMemory"
     if kind == "memory" and is_refused and is_cut_message(told, plain):
         return "a shorter message"
@@ -161,7 +163,7 @@ def refused_in_turn(machine: Machine, run: Run, plain: Told, kind: str, is_all: 
     counts, missed = Counter(), 0
     for number in numbers(kind, options):
         told, is_refused = machine.ended(run, kind, number, sys.maxsize if is_all else number)
-        found = answer(told, plain, kind, is_refused)
+        found = answer(told, plain, run, kind, is_refused)
         if found is None:
             counts[WRONG] += 1
             print(f"differs: {run.name}, {kind} {number}{' and all behind' if is_all else ''}: {told}", flush=True)
@@ -197,7 +199,8 @@ def main() -> int:
     options = CHECK.options(parser)
     counts = Counter()
     with tempfile.TemporaryDirectory() as name:
-        machine = Machine(str(options.program.resolve()), pathlib.Path(name))
+        programs = {"lifebatch": str(options.program.resolve()), "lifeperiod": str(options.period.resolve())}
+        machine = Machine(programs, pathlib.Path(name))
         for run in RUNS:
             if options.only in run.name:
                 counts += tried(machine, run, options)

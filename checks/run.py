@@ -19,7 +19,7 @@ import time
 from collections.abc import Iterator
 from dataclasses import dataclass
 
-from common.check import BUILT, BUILT_VIEW, DIFFERS, HOLDS, NOT_RUN, STATUSES, Check, add_program, add_view, end
+from common.check import BUILT, BUILT_PERIOD, BUILT_VIEW, DIFFERS, HOLDS, NOT_RUN, STATUSES, Check, add_period, add_program, add_view, end
 
 FOLDER = pathlib.Path(__file__).resolve().parent
 NAMES = [
@@ -35,10 +35,13 @@ NAMES = [
     "from_bgolly_page",
     "random_patterns",
     "pictures",
+    "random_periods",
+    "golly_periods",
     "golly_scripts",
     "small_tables",
     "golly_patterns",
     "refused_memory",
+    "refused_session",
     "failing_reads",
     "hostile_files",
     "many_patterns",
@@ -80,6 +83,7 @@ def run(name: str, check: Check, options: argparse.Namespace) -> Outcome:
     words = [sys.executable, str(FOLDER / f"{name}.py"), *(check.quick if options.quick else [])]
     words += ["--program", str(options.program.resolve())] if BUILT in check.needs else []
     words += ["--view", str(options.view.resolve())] if BUILT_VIEW in check.needs else []
+    words += ["--period", str(options.period.resolve())] if BUILT_PERIOD in check.needs else []
     if sys.stdout.isatty():
         # The line with the result overwrites this one.
         print(f"runs     {name}", end="\r", flush=True)
@@ -113,6 +117,7 @@ def make_parser() -> argparse.ArgumentParser:
     parser.add_argument("--show", action="store_true", help="show all that the checks print")
     add_program(parser)
     add_view(parser)
+    add_period(parser)
     return parser
 
 

@@ -1,5 +1,6 @@
--- What lifebatch.lua and lifeview.lua share. Both save the pattern that is open, run a program of this repository on
--- the file, and say in words how that ended. This file returns a table of two functions, which other scripts may call.
+-- What lifebatch.lua, lifeview.lua and lifeperiod.lua share. Each saves the pattern that is open, runs a program of this
+-- repository on the file, and says in words how that ended. This file returns a table of three functions, which other
+-- scripts may call.
 -- Each returns words, or raises words and leaves the pattern as it was.
 
 local g = golly()
@@ -9,8 +10,8 @@ local FOLDER = debug.getinfo(1, "S").source:match("^@(.*/)") or "./"
 local MOST_WORKERS = 64
 -- Golly copies a pattern to another layer cell by cell: so many at most, all within 10^9 of (0,0).
 local MOST_COPIED = 4194304
--- The slots of the node tables for a picture. A small pattern does not take their memory.
-local SLOTS_TO_DRAW = 67108864
+-- The slots of the node tables for a picture or a period. A small pattern does not take their memory.
+local SLOTS = 67108864
 local POLL_MILLISECONDS = 20
 -- What Golly's functions raise after Escape.
 local ESCAPED = "GOLLY: ABORT SCRIPT"
@@ -256,9 +257,21 @@ function shared.draw()
     local picture, window = picture_path(), window_option()
     return with_saved_pattern(function(folder)
         local arguments = ("%s --nodes %d --workers %d -o %s %s"):format(
-            window, SLOTS_TO_DRAW, workers(), quoted(picture), quoted(folder .. "/in.mc"))
+            window, SLOTS, workers(), quoted(picture), quoted(folder .. "/in.mc"))
         local line = run("lifeview", arguments, folder):match("([^\n]+)\n$")
         if not line or not is_there(picture) then raise("lifeview has reported or written nothing.") end
+        return line
+    end)
+end
+
+-- Finds the period of the pattern, if it is at most so many generations, and returns the line of it. The number is a text
+-- of digits.
+function shared.find_period(most)
+    return with_saved_pattern(function(folder)
+        local arguments = ("--most %s --nodes %d --workers %d %s"):format(
+            most, SLOTS, workers(), quoted(folder .. "/in.mc"))
+        local line = run("lifeperiod", arguments, folder):match("([^\n]+)\n$")
+        if not line then raise("lifeperiod has reported nothing.") end
         return line
     end)
 end

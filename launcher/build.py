@@ -1,7 +1,7 @@
 #!/usr/bin/env python3
 """Proves and builds a program of this repository, for the launcher of its name.
 
-    launcher/build.py lifebatch             prove and build lifebatch, or lifeview
+    launcher/build.py lifebatch             prove and build lifebatch, lifeview or lifeperiod
     launcher/build.py lifebatch --about     say about how long that takes, and build nothing
     launcher/build.py --install PREFIX      build all programs, and put them with man pages, completions and Golly's scripts below PREFIX
     launcher/build.py --uninstall PREFIX    take away what was put there

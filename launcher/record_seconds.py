@@ -1,9 +1,9 @@
 #!/usr/bin/env python3
-"""Writes to seconds.json how long each crate's check took in the last builds of both programs on this machine.
+"""Writes to seconds.json how long each crate's check took in the last builds of all programs on this machine.
 
     launcher/record_seconds.py
 
-Build both programs first, from nothing and on a machine that does nothing else. Builds plan with these seconds, and calculate from them how long they take.
+Build all programs first, from nothing and on a machine that does nothing else. Builds plan with these seconds, and calculate from them how long they take.
 """
 import json
 import sys
@@ -16,7 +16,7 @@ def main() -> int:
     names = list(dict.fromkeys(name for program in PROGRAMS for name in crates_below(program)))
     missing = [it for it in names if not recorded(it)]
     if missing:
-        print(f"no build has recorded {', '.join(missing)}: build both programs first", file=sys.stderr)
+        print(f"no build has recorded {', '.join(missing)}: build all programs first", file=sys.stderr)
         return 2
     took = {it: max(round(recorded(it)["seconds"]), 1) for it in names}
     for name, seconds in took.items():

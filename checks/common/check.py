@@ -8,7 +8,7 @@ import traceback
 from collections.abc import Callable, Sequence
 from dataclasses import dataclass
 
-from common.program import PATTERNS, PROGRAM, VIEW, games_path
+from common.program import PATTERNS, PERIOD, PROGRAM, VIEW, games_path
 
 HOLDS, DIFFERS, NOT_RUN = 0, 1, 2
 
@@ -47,6 +47,7 @@ def has_patterns(options: argparse.Namespace) -> bool:
 
 BUILT = Need("the built program", "launcher/build.py lifebatch builds it", lambda options: can_run(options.program))
 BUILT_VIEW = Need("the built program lifeview", "launcher/build.py lifeview builds it", lambda options: can_run(options.view))
+BUILT_PERIOD = Need("the built program lifeperiod", "launcher/build.py lifeperiod builds it", lambda options: can_run(options.period))
 BGOLLY = tool("bgolly", "golly")
 GOLLY_PATTERNS = Need("the folder of Golly's patterns", "apt-get install golly brings it", has_patterns)
 GOLLY = Need("golly", "apt-get install golly brings it", lambda _: shutil.which("golly", path=games_path()) is not None)
@@ -65,6 +66,10 @@ def add_program(parser: argparse.ArgumentParser) -> None:
 
 def add_view(parser: argparse.ArgumentParser) -> None:
     parser.add_argument("--view", type=pathlib.Path, default=VIEW, help="another build of lifeview")
+
+
+def add_period(parser: argparse.ArgumentParser) -> None:
+    parser.add_argument("--period", type=pathlib.Path, default=PERIOD, help="another build of lifeperiod")
 
 
 @dataclass(frozen=True)
@@ -100,6 +105,8 @@ class Check:
             add_program(parser)
         if BUILT_VIEW in self.needs:
             add_view(parser)
+        if BUILT_PERIOD in self.needs:
+            add_period(parser)
         return parser
 
     def options(self, parser: argparse.ArgumentParser) -> argparse.Namespace:

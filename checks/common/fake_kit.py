@@ -40,7 +40,7 @@ class Repository:
 
     def __init__(self, folder: pathlib.Path):
         self.folder, self.log = folder, folder / "log"
-        for name in ("lifebatch", "lifeview", "crates.txt"):
+        for name in ("lifebatch", "lifeview", "lifeperiod", "crates.txt"):
             shutil.copy(ROOT / name, folder)
         for name in ("launcher", "crates", "golly", "docs"):
             shutil.copytree(ROOT / name, folder / name, ignore=shutil.ignore_patterns("out", "proofs"))

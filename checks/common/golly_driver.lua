@@ -85,6 +85,24 @@ local function try_pictures()
     draw("drawn-later", "beside")
 end
 
+local function find_period(name, most, checkout)
+    local before, path = state(), g.getpath()
+    local is_done, words = pcall(load_shared(checkout).find_period, most)
+    find(name, is_done, words, state() == before, g.getpath() == path, "")
+end
+
+local function try_periods()
+    g.open(FOLDER .. "glider.rle")
+    find_period("period", "10000", "beside")
+    find_period("too-few-generations", "3", "beside")
+    find_period("period-without-program", "10000", "on-path")
+    g.new("unsaved")
+    g.putcells(PENTOMINO)
+    find_period("no-period", "100", "beside")
+    g.new("empty")
+    find_period("period-of-nothing", "100", "beside")
+end
+
 local function try_full_layers()
     for _ = 2, g.maxlayers() do g.addlayer() end
     try("full-layers", "1", "-", "beside")
@@ -98,4 +116,5 @@ g.save(FOLDER .. "saved.rle", "rle")
 for line in io.lines(FOLDER .. "cases") do try_file(line) end
 try_full_layers()
 try_pictures()
+try_periods()
 g.doevent("key q cmd")

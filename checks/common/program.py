@@ -10,6 +10,7 @@ from dataclasses import dataclass
 ROOT = pathlib.Path(__file__).resolve().parent.parent.parent
 PROGRAM = ROOT / "crates" / "lifebatch" / "out" / "lifebatch"
 VIEW = ROOT / "crates" / "lifeview" / "out" / "lifeview"
+PERIOD = ROOT / "crates" / "lifeperiod" / "out" / "lifeperiod"
 
 # The folders in which packages of Golly put its patterns.
 PLACES = [pathlib.Path(it) / "Patterns" for it in ("/usr/share/golly", "/usr/local/share/golly", "/usr/lib/golly")]

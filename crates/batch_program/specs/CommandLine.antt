@@ -11,7 +11,7 @@ use Rattle.program_parts.specs.OptionRules.{file_argument, generation_option, no
 use Rattle.program_parts.specs.RunWords.{AskForRun}
 use Rattle.program_parts.specs.Texts.{text_in, value_in}
 use Rattle.program_parts.specs.Values.{IsNumber}
-use Rattle.program_parts.specs.WindowText.{IsAskedWindow}
+use Rattle.program_parts.specs.WindowText.{IsAskedWindow, IsFitWindow, IsRefusedWindow}
 use Rattle.engine.specs.RunOptions.{run_of}
 use Rattle.engine.specs.declared.options.Format.{Format}
 use Rattle.engine.specs.declared.options.Format.TheVariants.{Rle, Macrocell}
@@ -98,8 +98,8 @@ command_line = record {
   form = command_form;
   IsFitOutput = λ output. (format : Option Format) × IsFormat output format;
   AreFitOptions = λ words. (number : ℕ) × IsNumber (value_for (codes "stepsize") words) number;
-  bits = 32;
-  IsWindow = IsWindow;
+  IsFitWindow = IsFitWindow 32;
+  IsRefusedWindow = IsRefusedWindow 32 IsWindow;
 }
 
 -- no argument has a rule on another

@@ -47,9 +47,13 @@ pub record IsSameState (old new : State) : Type 0 where
   pub limit : state_limit new ≡ state_limit old
   pub there : is_there new ≡ is_there old
 
--- at rest it says all squares and results that its table knew at work, and has its other tables
+-- at rest it says all squares and results that its table knew at work, at work again its table knows
+-- all that it said at rest, and it has its other tables; else it is as it was
 abbrev pub KeepsResults : State → State → Type 0
 KeepsResults (AtWork universe) (AtRest pattern) =
     SaysAll (known_by universe) (shown_by pattern.resting)
     × (others_of pattern.resting ≡ universe.others)
+KeepsResults (AtRest pattern) (AtWork universe) =
+    SaysAll (shown_by pattern.resting) (known_by universe)
+    × (universe.others ≡ others_of pattern.resting)
 KeepsResults old new = new ≡ old

@@ -2,6 +2,7 @@
 
 ghost use Rattle.std.specs.Prelude.{◌≡◌, ◌<◌, ◌≤◌, None, IfOk, IfErr, OnErr, OnOk, IsOkUnless};
 ghost use Rattle.node_table.specs.Openings.{SaysAll};
+ghost use Rattle.plane.specs.Square.{IsSame};
 ghost use Rattle.node_table.specs.Stills.{book_in};
 ghost use Rattle.squares.specs.Book.{IsKnown};
 ghost use Rattle.universe.specs.Cells.{known_by, resting_limit, resting_rule, root_of, rooted_of, shown_by, still_of};
@@ -44,7 +45,7 @@ impl Pattern {
     ghost use Rattle.pattern_writers.specs.Output.{IfTaken};
     ghost use Rattle.pattern_writers.specs.Output.{IsWriterRefusal};
     ghost use Rattle.engine.specs.Formats.{Exceeds, HasText, format_of};
-    ghost use Rattle.engine.specs.Pattern.{plane_of};
+    ghost use Rattle.engine.specs.Pattern.{StandsAlone, plane_of};
     ghost use Rattle.engine.specs.Report.{window_text};
     ghost use Rattle.std.specs.Io.KnownBytes.{Appends};
 
@@ -60,7 +61,9 @@ impl Pattern {
 
     /// The universe, at work again.
     pub(crate) fn resume(self, alloc: Global) -> Result<Universe, AllocError>
-        ensures { IfOk result (λ universe. IsAtRest universe self.resting) }
+        ensures same { IfOk result (λ universe. IsAtRest universe self.resting) }
+        ensures knows { IfOk result
+            (λ universe. SaysAll (shown_by self.resting) (known_by universe)) }
     {
         self.resting.resume(alloc)
     }
@@ -70,10 +73,22 @@ impl Pattern {
         ensures cells { plane_of result ≡ plane_of self }
         ensures rule { resting_rule result.resting ≡ resting_rule self.resting }
         ensures limit { resting_limit result.resting ≡ resting_limit self.resting }
+        ensures alone { StandsAlone result }
     {
         Pattern {
             resting: self.resting.without_others(alloc),
         }
+    }
+
+    /// The same cells in words of their own, without other tables. `NoMemory` where there is no
+    /// room for them.
+    pub(crate) fn snapshot(&self, alloc: Global) -> Result<Pattern, Refusal>
+        ensures ok { IfOk result (λ pattern. IsSame (plane_of pattern) (plane_of self.now)) }
+        ensures alone { IfOk result StandsAlone }
+        ensures memory { IsOkUnless result Refusal.NoMemory }
+    {
+        let resting = self.resting.snapshot(alloc)?;
+        Ok(Pattern { resting })
     }
 
     /// How many cells are live. `NoMemory` where there is no room to count them.

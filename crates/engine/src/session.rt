@@ -15,7 +15,7 @@ ghost use Rattle.viewport.specs.RowRuns.{AreRowRuns};
 ghost use Rattle.viewport.specs.Rows.{IsFirstRow};
 ghost use Rattle.engine.specs.Accepted.{SumsUp};
 ghost use Rattle.engine.specs.Formats.{Exceeds, HasText, format_of};
-ghost use Rattle.engine.specs.Pattern.{plane_of};
+ghost use Rattle.engine.specs.Pattern.{StandsAlone, plane_of};
 ghost use Rattle.engine.specs.Report.{window_text};
 ghost use Rattle.engine.specs.States.{IsByRule, KeepsResults};
 
@@ -226,9 +226,26 @@ impl Session {
         pattern.write(rt, alloc, format, heading, file)
     }
 
+    /// A pattern of its cells as they are now, which stays as it is when the session goes on. It has
+    /// only what these cells need, in as few words as have room for it, or else a copy of all words.
+    /// `NoMemory` where there is no room for it.
+    pub fn snapshot(&mut self, alloc: Global) -> Result<Pattern, Refusal>
+        ensures ok { IfOk result (λ pattern. IsSame (plane_of pattern) (cells_of self.new)) }
+        ensures alone { IfOk result StandsAlone }
+        ensures same { IsSameSession self.old self.new }
+        ensures results { KeepsResults self.old.state self.new.state }
+        ensures closed { IfOk result (λ _. is_open self.old ≡ true) }
+        ensures memory { IsOkUnless result Refusal.NoMemory }
+    {
+        self.state.rest();
+        let pattern = self.state.pattern().ok_or(Refusal::NoMemory)?;
+        pattern.snapshot(alloc)
+    }
+
     /// Its cells at rest, without its other tables. `NoMemory` where it is closed.
     pub fn into_pattern(self, alloc: Global) -> Result<Pattern, Refusal>
         ensures ok { IfOk result (λ pattern. IsSame (plane_of pattern) (cells_of self)) }
+        ensures alone { IfOk result StandsAlone }
         ensures closed { IfErr result (λ refusal. (refusal ≡ Refusal.NoMemory)
             × (is_open self ≡ false)) }
     {

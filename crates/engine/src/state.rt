@@ -1,7 +1,7 @@
 //! The live cells of a session, at work or at rest.
 
 ghost use Rattle.std.specs.Prelude.{◌≡◌, IfErr, IfNone, IfOk, IfSome, false, true};
-ghost use Rattle.engine.specs.Pattern.{plane_of};
+ghost use Rattle.engine.specs.Pattern.{StandsAlone, plane_of};
 ghost use Rattle.engine.specs.States.{IsSameState, KeepsResults, is_at_rest, is_there, state_cells};
 
 use crate::pattern::Pattern;
@@ -25,6 +25,7 @@ impl State {
     /// The cells at an open table. They are lost here, until they are put back.
     pub(crate) fn take_universe(&mut self, alloc: Global) -> Result<Universe, Refusal>
         ensures same { IfOk result (λ universe. IsSameState self.old (State.AtWork universe)) }
+        ensures results { IfOk result (λ universe. KeepsResults self.old (State.AtWork universe)) }
         ensures lost { self.new ≡ State.Lost }
         ensures memory { IfErr result (λ refusal. refusal ≡ Refusal.NoMemory) }
     {
@@ -50,6 +51,7 @@ impl State {
     /// The cells, if they are at rest.
     pub(crate) fn pattern(&self) -> Option<&Pattern>
         ensures some { IfSome result (λ pattern. plane_of pattern.now ≡ state_cells self.now) }
+        ensures there { IfSome result (λ _. is_there self.now ≡ true) }
         ensures none { IfNone result (is_at_rest self.now ≡ false) }
     {
         match self {
@@ -61,6 +63,7 @@ impl State {
     /// The cells at rest, without other tables; `NoMemory` where they are lost.
     pub(crate) fn into_pattern(self, alloc: Global) -> Result<Pattern, Refusal>
         ensures ok { IfOk result (λ pattern. IsSameState self (State.AtRest pattern)) }
+        ensures alone { IfOk result StandsAlone }
         ensures lost { IfErr result (λ refusal. (refusal ≡ Refusal.NoMemory)
             × (is_there self ≡ false)) }
     {

@@ -11,7 +11,6 @@ use Rattle.program_parts.specs.CommandLine.{CommandLine, IsFit}
 use Rattle.program_parts.specs.RunWords.{AskForRun, GiveNumbers, IsUnfitNumber}
 use Rattle.program_parts.specs.Texts.{AreMatchesIn}
 use Rattle.program_parts.specs.Values.{IsAskedRule, IsRefusedRule}
-use Rattle.program_parts.specs.WindowText.{IsRefusedWindow}
 use Rattle.program_parts.specs.declared.reason.WordsReason.{WordsReason}
 use Rattle.program_parts.specs.declared.reason.WordsReason.TheVariants.{Refused}
 use Rattle.program_parts.proofs.AskedWords.{text_by}
@@ -34,12 +33,12 @@ module _ (line : CommandLine) (words : List Text) (matches : ArgMatches) (are : 
 
   -- the rule that is given is one, the window is refused, and the values are fit
   pub refused_by_window : (rule : Option CountRule) (window : Option Text) (refusal : Refusal) → IsAskedRule text rule → window ≡ first_value (found_of matches) (codes "window") →
-      IsRefusedWindow line.bits line.IsWindow window → refusal ≡ WindowTooLarge → IsFit line words → IsReasonOf line words (Refused refusal)
+      line.IsRefusedWindow window → refusal ≡ WindowTooLarge → IsFit line words → IsReasonOf line words (Refused refusal)
   refused_by_window rule window refusal asked window_given refused is fit = inr (inr (record {
     form = are.0;
     fit = fit;
     rule = (rule, subst (λ (found : Option Text). IsAskedRule found rule) (given ∙ text_by line.form words matches are (codes "rule")) asked);
-    window = subst (IsRefusedWindow line.bits line.IsWindow) (window_given ∙ text_by line.form words matches are (codes "window")) refused;
+    window = subst line.IsRefusedWindow (window_given ∙ text_by line.form words matches are (codes "window")) refused;
     is = is;
   }))
 

@@ -13,7 +13,7 @@ use Rattle.program_parts.specs.Behaviour.{Behaviour, IsDone, IsStop}
 use Rattle.program_parts.specs.CommandLine.{CommandLine, IsFit, IsMisfit}
 use Rattle.program_parts.specs.Faults.{IsBad, IsHelp, IsStopOf, fault_by}
 use Rattle.program_parts.specs.declared.reason.Misfit.{Misfit}
-use Rattle.program_parts.specs.declared.reason.Misfit.TheVariants.{Ending, Window, Nodes, Other, Workers}
+use Rattle.program_parts.specs.declared.reason.Misfit.TheVariants.{Ending, Window, Nodes, Other, Together, Workers}
 use Rattle.program_parts.specs.declared.stops.Stop.{Stop}
 use Rattle.program_parts.specs.declared.stops.Stop.TheVariants as stop
 use Rattle.program_parts.specs.declared.reason.WordsReason.{WordsReason}
@@ -25,6 +25,7 @@ unfit line words (Ending endings) is fit = is fit.output
 unfit line words Window is fit = is fit.window
 unfit line words Nodes is fit = is fit.run.0.pairs fit.run.1.pairs
 unfit line words Workers is fit = is fit.run.0.workers fit.run.1.workers
+unfit line words (Together options) is fit = is fit.options
 unfit line words Other is fit = is fit
 
 module _ (line : CommandLine) (words : List Text) where

@@ -9,7 +9,6 @@ use Rattle.plane.specs.declared.refusal.Refusal.TheVariants.{NoMemory, WindowToo
 use Rattle.program_parts.specs.CommandLine.{CommandLine, IsFit, IsMisfit}
 use Rattle.program_parts.specs.Texts.{text_in}
 use Rattle.program_parts.specs.Values.{IsAskedRule, IsRefusedRule}
-use Rattle.program_parts.specs.WindowText.{IsRefusedWindow}
 use Rattle.program_parts.specs.declared.reason.Misfit.{Misfit}
 use Rattle.program_parts.specs.declared.reason.WordsReason.{WordsReason}
 use Rattle.program_parts.specs.declared.reason.WordsReason.TheVariants.{Clap, Unfit, Refused}
@@ -41,8 +40,7 @@ pub record RefusesWindow (line : CommandLine) (words : List Text) (refusal : Ref
   pub form : fault_of line.form words ≡ []
   pub fit : IsFit line words
   pub rule : (rule : Option CountRule) × IsAskedRule (text_in line.form (codes "rule") words) rule
-  pub window :
-      IsRefusedWindow line.bits line.IsWindow (text_in line.form (codes "window") words)
+  pub window : line.IsRefusedWindow (text_in line.form (codes "window") words)
   pub is : refusal ≡ WindowTooLarge
 
 -- memory ran out while the words were read, or the rule or the window that they give is refused

@@ -1,12 +1,10 @@
 -- A command line: its form, and which values are fit.
-use Rattle.std.specs.Prelude.{ℕ, List, Option, codes}
+use Rattle.std.specs.Prelude.{List, Option, codes}
 use Rattle.clap.specs.Words.{App, Text}
-use Rattle.plane.specs.Window.{Rectangle}
 use Rattle.program_parts.specs.RunWords.{AreFitNumbers, AreUnfitNodes, AreUnfitWorkers}
 use Rattle.program_parts.specs.Texts.{HasText, text_in}
-use Rattle.program_parts.specs.WindowText.{IsFitWindow}
 use Rattle.program_parts.specs.declared.reason.Misfit.{Misfit}
-use Rattle.program_parts.specs.declared.reason.Misfit.TheVariants.{Ending, Window, Nodes, Other, Workers}
+use Rattle.program_parts.specs.declared.reason.Misfit.TheVariants.{Ending, Window, Nodes, Other, Together, Workers}
 
 -- what a program says of its command line
 pub record CommandLine : Type 1 where
@@ -16,18 +14,18 @@ pub record CommandLine : Type 1 where
   pub IsFitOutput : Option Text → Type 0
   -- the values of the options that no other program has are fit
   pub AreFitOptions : List Text → Type 0
-  -- the numbers of columns and of rows of a window are below 2^bits
-  pub bits : ℕ
-  -- there is a window of these numbers
-  pub IsWindow : Rectangle → Type 0
+  -- the text of the window that words give, or do not give, is fit
+  pub IsFitWindow : Option Text → Type 0
+  -- that text is fit, and there is no such window
+  pub IsRefusedWindow : Option Text → Type 0
 
 -- the words have values that are fit: numbers, of which those of nodes and workers are such, a
--- FILE, an output, a window of four numbers, if there is one, and those of other options
+-- FILE, an output and a window, if there is one, and those of other options
 pub record IsFit (line : CommandLine) (words : List Text) : Type 0 where
   pub run : AreFitNumbers line.form words
   pub file : HasText line.form (codes "file") words
   pub output : line.IsFitOutput (text_in line.form (codes "output") words)
-  pub window : IsFitWindow line.bits (text_in line.form (codes "window") words)
+  pub window : line.IsFitWindow (text_in line.form (codes "window") words)
   pub options : line.AreFitOptions words
 
 -- this value is not fit
@@ -35,7 +33,8 @@ abbrev pub IsMisfit : CommandLine → List Text → Misfit → Type 0
 IsMisfit line words (Ending endings) =
     line.IsFitOutput (text_in line.form (codes "output") words) → ⊥
 IsMisfit line words Window =
-    IsFitWindow line.bits (text_in line.form (codes "window") words) → ⊥
+    line.IsFitWindow (text_in line.form (codes "window") words) → ⊥
 IsMisfit line words Nodes = AreUnfitNodes line.form words
 IsMisfit line words Workers = AreUnfitWorkers line.form words
+IsMisfit line words (Together options) = line.AreFitOptions words → ⊥
 IsMisfit line words Other = IsFit line words → ⊥

@@ -23,6 +23,8 @@ pub enum Misfit {
     Nodes,
     /// The number of workers is not from 1 to 64.
     Workers,
+    /// These two options exclude each other, as `--most and --multiple`.
+    Together(&'static str),
     /// A value is missing, or out of its range.
     Other,
 }
@@ -41,6 +43,7 @@ impl fmt::Display for Misfit {
                 )
             }
             Misfit::Workers => write!(f, "--workers takes a number from 1 to {MOST_WORKERS}"),
+            Misfit::Together(options) => write!(f, "{options} exclude each other"),
             Misfit::Other => f.write_str("a value is missing, or out of its range"),
         }
     }

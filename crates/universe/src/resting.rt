@@ -48,7 +48,7 @@ impl Universe {
 impl Resting {
     ghost use Rattle.node_table.specs.Openings.{SaysAll};
     ghost use Rattle.universe.specs.Cells.{known_by, others_of, resting_cells, rooted_of, shown_by};
-    ghost use Rattle.universe.specs.Rests.{IsAtRest};
+    ghost use Rattle.universe.specs.Rests.{IsAtRest, IsSnapshot};
 
     /// The live cells.
     pub fn cells(&self) -> &RootedStill
@@ -65,6 +65,20 @@ impl Resting {
         let exponent = self.cells.still.key().exponent;
         self.cells
             .open_at(alloc, exponent, self.history, self.others)
+    }
+
+    /// The same cells at rest in words of their own: only what these cells need, in as few words as
+    /// have room for it, or else a copy of all words. There is no table but theirs.
+    pub fn snapshot(&self, alloc: Global) -> Result<Resting, AllocError>
+        ensures { IfOk result (IsSnapshot self.now) }
+    {
+        let cells = self.cells.compact_copy(alloc)?;
+        let history = self.history.for_new_table(cells.still.key().shape.bits);
+        Ok(Resting {
+            cells,
+            history,
+            others: OtherTables::new(alloc, self.others.limit),
+        })
     }
 
     /// How many cells are live. `NoMemory` where there is no room to count them.

@@ -12,7 +12,7 @@ use crate::refusals::unless_full;
 use crate::tables::OpenTable;
 use crate::universe::Universe;
 use node_sweep::{Copied, Keep, copy, copy_beside, has_come_far, sweep};
-use node_table::Still;
+use node_table::{Held, Still};
 use plane::{Bounds, Refusal};
 use squares::Sq;
 use std::alloc::{AllocError, Global};
@@ -163,18 +163,50 @@ impl RootedStill {
     pub(crate) fn compact(self, alloc: Global) -> Result<RootedStill, AllocError>
         ensures { IfOk result (IsCompacted self) }
     {
+        match self.in_fewer_words(alloc)? {
+            Some(fresh) => Ok(fresh),
+            None => Ok(self),
+        }
+    }
+
+    /// The same beside the old words, which stay: if all of them are needed, a copy of all.
+    pub(crate) fn compact_copy(&self, alloc: Global) -> Result<RootedStill, AllocError>
+        ensures { IfOk result (IsCompacted self.now) }
+    {
+        match self.in_fewer_words(alloc)? {
+            Some(fresh) => Ok(fresh),
+            None => self.whole_copy(alloc),
+        }
+    }
+
+    // Only the cells, in as few words as have room for them, if these are fewer than the old ones.
+    fn in_fewer_words(&self, alloc: Global) -> Result<Option<RootedStill>, AllocError>
+        ensures { IfMade result (IsCompacted self.now) }
+    {
         let own = self.still.key().shape;
         let mut shape = smallest(own);
         'sizes: while shape.bits < own.bits {
             if let Some(fresh) = self.sweep(alloc, shape)? {
-                return Ok(fresh);
+                return Ok(Some(fresh));
             }
             let Some(next) = larger(shape, own, GrowthFactor::Sixteen) else {
-                return Ok(self);
+                return Ok(None);
             };
             shape = next;
         }
-        Ok(self)
+        Ok(None)
+    }
+
+    // A copy of all words.
+    fn whole_copy(&self, alloc: Global) -> Result<RootedStill, AllocError>
+        ensures { IfOk result (IsCompacted self.now) }
+    {
+        let words = copied(alloc, self.still.words())?;
+        let still = Still::of_words(*self.still.key(), words);
+        Ok(RootedStill {
+            still,
+            root: self.root,
+        })
     }
 
     // Only the cells, in new words of this shape, if these have room for them.
@@ -188,4 +220,16 @@ impl RootedStill {
             None => Ok(None),
         }
     }
+}
+
+// The same words in a vector.
+fn copied(alloc: Global, words: &Held) -> Result<Vec<u64>, AllocError>
+    ensures { IfOk result (λ copied. copied.items ≡ words.now) }
+{
+    let count = words.len();
+    let mut copied = vec![in alloc; 0; count]?;
+    for index in 0..count {
+        copied[index] = words.word(index);
+    }
+    Ok(copied)
 }

@@ -10,7 +10,7 @@ use Rattle.program_parts.specs.OptionRules.{file_argument, generation_option, no
 use Rattle.program_parts.specs.RunWords.{AskForRun}
 use Rattle.program_parts.specs.Texts.{HasText, text_in, value_in}
 use Rattle.program_parts.specs.Values.{IsNumber}
-use Rattle.program_parts.specs.WindowText.{IsAskedWindow}
+use Rattle.program_parts.specs.WindowText.{IsAskedWindow, IsFitWindow, IsRefusedWindow}
 use Rattle.view_program.specs.Shown.{CanBeShown, sides_of}
 use Rattle.view_program.specs.declared.asking.Asked.{Asked}
 use Rattle.view_program.specs.declared.asking.View.{View}
@@ -89,8 +89,8 @@ command_line = record {
   form = command_form;
   IsFitOutput = IsFitOutput;
   AreFitOptions = λ words. (size : ℕ) × IsSizeNumber (value_for (codes "size") words) size;
-  bits = 64;
-  IsWindow = CanBeShown;
+  IsFitWindow = IsFitWindow 64;
+  IsRefusedWindow = IsRefusedWindow 64 CanBeShown;
 }
 
 -- no argument has a rule on another

@@ -15,6 +15,7 @@ mod plans;
 mod refused;
 mod rows;
 mod sessions;
+mod sessions_in_want_of_memory;
 mod short_writes;
 mod sources;
 mod want_of_memory;

@@ -7,6 +7,7 @@ mod macrocell_reader_calls;
 mod node_sweep_calls;
 mod node_table_calls;
 mod pattern_writers_calls;
+mod periods_calls;
 mod plane_calls;
 mod rle_reader_calls;
 mod rule_text_calls;

@@ -1,9 +1,10 @@
 //! Sessions: patterns that are looked at on their way, and how they are refused.
 
 use crate::tests::ended::Ended;
+use crate::tests::nodes::SETTLED;
 use crate::tests::rows::{FAR_GLIDER, PLAIN, R_PENTOMINO, RLE};
 use crate::tests::short_writes::ShortWrites;
-use engine::{Format, OpenGate, Options, Session, Team};
+use engine::{Format, Heading, OpenGate, Options, Pattern, Session, Team};
 use plane::{Bounds, Fault, Refusal};
 use rule_text::Rule;
 use std::process::Abort;
@@ -182,5 +183,70 @@ fn a_session_goes_by_the_rule_that_is_given(rt: HostRuntime) -> Result<(), Fail>
     assert_eq!(rt; session.population(rt.alloc())?, 8);
     let text = "#CXRLE Pos=-1,-1 Gen=1\n#C kept\nx = 3, y = 3, rule = B1/S\n3o$obo$3o!\n";
     assert_eq!(rt; written(&rt, &mut session)?.text(), text);
+    Ok(())
+}
+
+// Asserts what a snapshot of the glider shows, with its file by the session's rule.
+fn assert_is_glider<R: Abort + AllocGlobal + Threads + Sync>(
+    rt: &R,
+    snapshot: &Pattern,
+    session: &Session,
+    generation: u64,
+    look: &Look,
+) -> Result<(), Fail> {
+    let alloc = rt.alloc();
+    assert_eq!(rt; snapshot.population(alloc)?, 5);
+    assert_eq!(rt; snapshot.bounds(alloc)?, Some(look.bounds));
+    for (row, first, count) in look.runs {
+        let runs = snapshot.row_runs(alloc, row)?;
+        assert_eq!(rt; runs.as_slice(), &[(first, count)][..]);
+    }
+    let heading = Heading {
+        comments: session.comments(),
+        rule: session.rule(),
+        generation,
+    };
+    let mut file = ShortWrites::new(alloc, usize::MAX, 0)?;
+    snapshot.write(rt, alloc, Some(Format::Rle), heading, &mut file)?;
+    assert_eq!(rt; file.text(), look.text);
+    Ok(())
+}
+
+#[test]
+fn a_snapshot_stays_when_its_session_goes_on(rt: HostRuntime) -> Result<(), Fail> {
+    let mut session = opened(&rt, FAR_GLIDER.file, None, PLAIN.pairs)?;
+    session.advance(&one_worker(&rt), 4)?;
+    let snapshot = session.snapshot(rt.alloc())?;
+    assert_shows(&rt, &mut session, &LOOKS[1])?;
+    session.advance(&one_worker(&rt), 996)?;
+    assert_is_glider(&rt, &snapshot, &session, 4, &LOOKS[1])?;
+    assert_shows(&rt, &mut session, &LOOKS[2])?;
+    drop(snapshot);
+    session.advance(&one_worker(&rt), (1 << 40) - 1000)?;
+    assert_shows(&rt, &mut session, &LOOKS[3])
+}
+
+// Whether its table has grown or is the smallest, a snapshot has the cells.
+#[test]
+fn a_snapshot_of_any_table_has_the_cells(rt: HostRuntime) -> Result<(), Fail> {
+    for pairs in [1024, 4096, PLAIN.pairs] {
+        let mut session = opened(&rt, R_PENTOMINO.file, None, pairs)?;
+        session.advance(&one_worker(&rt), 100)?;
+        let earlier = session.snapshot(rt.alloc())?;
+        session.advance(&one_worker(&rt), SETTLED.generations - 100)?;
+        let settled = session.snapshot(rt.alloc())?;
+        assert_eq!(rt; earlier.population(rt.alloc())?, 121);
+        assert_eq!(rt; settled.population(rt.alloc())?, 116);
+        let heading = Heading {
+            comments: session.comments(),
+            rule: session.rule(),
+            generation: session.generation(),
+        };
+        let mut file = ShortWrites::new(rt.alloc(), usize::MAX, 0)?;
+        settled.write(&rt, rt.alloc(), RLE.format, heading, &mut file)?;
+        assert_eq!(rt; file.text(), SETTLED.text);
+        session.advance(&one_worker(&rt), 0)?;
+        assert_eq!(rt; written(&rt, &mut session)?.text(), SETTLED.text);
+    }
     Ok(())
 }

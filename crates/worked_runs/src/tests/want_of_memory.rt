@@ -11,8 +11,7 @@ use crate::tests::rows::{
     BLINKER, COMMENTED_GLIDER, COMMENTED_GLIDER_AS_MACROCELL, FAR_GLIDER, NEAR_REPLICATOR, PLAIN,
     R_PENTOMINO, Row, SHARED_LEAF, SHARED_LEAF_AGAIN, assert_whole_or_refused,
 };
-use crate::tests::sessions::{one_worker, opened};
-use engine::{Options, Session, load};
+use engine::{Options, load};
 use plane::{Memory, Refusal, Window};
 use std::process::Abort;
 use std::test::Fail;
@@ -112,39 +111,5 @@ fn refuses_to_load_for_want_of_memory(rt: HostRuntime) -> Result<(), Fail> {
         }
     };
     assert!(rt; is_right);
-    Ok(())
-}
-
-// The populations of the R-pentomino after each hundred generations.
-const POPULATIONS: [u128; 4] = [5, 121, 120, 168];
-
-// Whether a session that was refused is closed, or shows the generation that it says.
-fn is_closed_or_as_it_was<R: AllocGlobal>(rt: &R, session: &mut Session, hundreds: usize) -> bool {
-    match session.population(rt.alloc()) {
-        Ok(population) => POPULATIONS.get(hundreds) == Some(&population),
-        Err(refusal) => refusal == Refusal::NoMemory && session.first_row(0).is_err(),
-    }
-}
-
-#[test]
-fn refuses_a_session_for_want_of_memory(rt: HostRuntime) -> Result<(), Fail> {
-    let Ok(mut session) = opened(&rt, R_PENTOMINO.file, None, PLAIN.pairs) else {
-        return Ok(println!(rt; "no session")?);
-    };
-    for hundreds in 0..3 {
-        if let Err(refusal) = session.advance(&one_worker(&rt), 100) {
-            println!(rt; "refused to advance")?;
-            assert_eq!(rt; refusal, Refusal::NoMemory);
-            assert!(rt; is_closed_or_as_it_was(&rt, &mut session, hundreds));
-            return Ok(());
-        }
-        if session.population(rt.alloc()).is_err() {
-            println!(rt; "refused to count")?;
-        }
-        if session.row_runs(rt.alloc(), 0).is_err() {
-            println!(rt; "refused to look")?;
-        }
-        assert!(rt; is_closed_or_as_it_was(&rt, &mut session, hundreds + 1));
-    }
     Ok(())
 }

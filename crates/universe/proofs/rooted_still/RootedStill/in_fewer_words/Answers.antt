@@ -7,11 +7,11 @@ use Rattle.universe.specs.Cells.{still_of}
 use Rattle.universe.specs.declared.rooted_still.RootedStill.{RootedStill}
 use Rattle.universe.specs.Stills.{IsCopied, IsSweptFrom}
 use Rattle.universe.proofs.Copying.{swept_is}
-use Rattle.universe.proofs.rooted_still.RootedStill.compact.Goals as goal
+use Rattle.universe.proofs.rooted_still.RootedStill.in_fewer_words.Goals as goal
 
 pub returns-in-Some : goal.returns-in-Some
 returns-in-Some c =
-    let old = c.args.self in
+    let old = c.args.self.now in
     let pairs = 2 ^ c.sizes.shape.bits in
     let swept = subst (λ (o : Option RootedStill). IfSome o (IsSweptFrom old pairs)) c.in-Some.is c.in_ok-fresh.ensures.ok in
     let is : IsCopied old pairs c.in-Some.fresh = swept_is old c.in-Some.fresh pairs swept in

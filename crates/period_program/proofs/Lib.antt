@@ -1,0 +1,3 @@
+mod AskedCandidates
+mod Findings
+mod LastSessions

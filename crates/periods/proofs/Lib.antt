@@ -1,0 +1,6 @@
+pub mod Displacements
+pub mod Empty
+pub mod ManyTimes
+pub mod Moves
+pub mod Periods
+pub mod Returns

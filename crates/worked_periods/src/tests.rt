@@ -1,0 +1,5 @@
+//! Worked examples of periods.
+
+mod found;
+mod refused;
+mod searched;
