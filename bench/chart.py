@@ -5,7 +5,7 @@ from collections.abc import Sequence
 from dataclasses import dataclass
 
 # Sizes in pixels.
-LABELS, PLOT, MARGIN = 400, 480, 60
+LABELS, PLOT, MARGIN = 400, 480, 90
 BAR, GAP, HEAD, FOOT = 13, 9, 74, 48
 FILLS = ["#2b6cb0", "#dd8b2a", "#4a9a5b", "#8a5aa8", "#777777"]
 TICKS = (1, 2, 5)
@@ -52,12 +52,19 @@ def axis_for(groups: Sequence[Group]) -> Axis:
     return Axis(min(ratios) / room, max(ratios) * room)
 
 
-def scale(axis: Axis, bottom: float, title: str, reference: str) -> list[str]:
-    """The ticks and the title of the axis, and the name of the line at 1."""
+def scale(axis: Axis, bottom: float, reference: str) -> list[str]:
+    """The ticks of the axis, what lies on each side of 1, and the name of the line at 1."""
     lines = []
     for tick in axis.ticks():
         lines += [upright(axis.x(tick), bottom, "#dddddd"), text(axis.x(tick), bottom + 18, f"{tick:g}", "middle")]
-    return [*lines, text(axis.x(1), HEAD - 6, reference, "middle"), text(LABELS + PLOT / 2, bottom + 38, title, "middle")]
+    one, y = axis.x(1), bottom + 38
+    sides = [text(one - 8, y, "faster \u2190", "end"), text(one, y, "|", "middle"), text(one + 8, y, "\u2192 slower (log scale)")]
+    return [*lines, text(one, HEAD - 6, reference, "middle"), *sides]
+
+
+def digits(ratio: float) -> str:
+    """A ratio with two digits behind the point, and three below 0.1."""
+    return f"{ratio:.2f}" if ratio >= 0.1 else f"{ratio:.3f}"
 
 
 def bar(axis: Axis, ratio: float, upper: float, fill: str) -> list[str]:
@@ -65,7 +72,7 @@ def bar(axis: Axis, ratio: float, upper: float, fill: str) -> list[str]:
     one, end = axis.x(1), axis.x(ratio)
     box = f'<rect x="{min(one, end):.1f}" y="{upper:.1f}" width="{abs(end - one):.1f}" height="{BAR - 1}" fill="{fill}"/>'
     place = (end + 4, "start") if ratio >= 1 else (end - 4, "end")
-    return [box, text(place[0], upper + BAR - 3, f"{ratio:.2f}", place[1])]
+    return [box, text(place[0], upper + BAR - 3, digits(ratio), place[1])]
 
 
 def bars(groups: Sequence[Group], axis: Axis, height: float) -> list[str]:
@@ -83,13 +90,13 @@ def bars(groups: Sequence[Group], axis: Axis, height: float) -> list[str]:
 def legend(series: Sequence[str]) -> list[str]:
     lines = []
     for place, name in enumerate(series):
-        x = LABELS + 110 * place
+        x = LABELS + 150 * place
         lines.append(f'<rect x="{x}" y="32" width="{BAR - 1}" height="{BAR - 1}" fill="{FILLS[place % len(FILLS)]}"/>')
         lines.append(text(x + BAR + 4, 42, name))
     return lines
 
 
-def svg(heading: str, axis_title: str, reference: str, series: Sequence[str], groups: Sequence[Group]) -> str:
+def svg(heading: str, reference: str, series: Sequence[str], groups: Sequence[Group]) -> str:
     """The chart: a bar for each series of each group, sorted by the first ratio. The reference is what stands at 1."""
     groups = sorted(groups, key=lambda group: (group.known() or [math.inf])[0])
     height = BAR * len(series) + GAP
@@ -102,7 +109,7 @@ def svg(heading: str, axis_title: str, reference: str, series: Sequence[str], gr
             '<rect width="100%" height="100%" fill="white"/>',
             text(LABELS, 18, heading),
             *legend(series),
-            *scale(axis, bottom, axis_title, reference),
+            *scale(axis, bottom, reference),
             *bars(groups, axis, height),
             upright(axis.x(1), bottom, "#222222"),
             "</svg>\n",

@@ -10,6 +10,8 @@ from timing import Command
 
 # What ./lifebatch and ./lifeview ask of malloc.
 SETTINGS = {"GLIBC_TUNABLES": "glibc.malloc.hugetlb=1:glibc.malloc.mmap_threshold=1048576"}
+# QuickLife is ended after so many times the time of HashLife.
+PATIENCE = 8
 
 
 def pattern_file(row: Row, folder: pathlib.Path) -> pathlib.Path | None:
@@ -33,8 +35,13 @@ def lifebatch(row: Row, path: pathlib.Path, workers: int, options: argparse.Name
     return Command([*program, "--workers", str(workers), *row.words(path)], SETTINGS)
 
 
-def bgolly(row: Row, path: pathlib.Path, options: argparse.Namespace) -> Command:
+def hashlife(row: Row, path: pathlib.Path, options: argparse.Namespace) -> Command:
     return Command([shutil.which("bgolly"), "-a", "HashLife", *limit("-M", options.golly_memory), *row.words(path)])
+
+
+def quicklife(row: Row, path: pathlib.Path) -> Command:
+    """The same by QuickLife, for a list of commands in which HashLife is the one before."""
+    return Command([shutil.which("bgolly"), "-a", "QuickLife", *row.words(path)], patience=PATIENCE)
 
 
 def lifeview(path: pathlib.Path, options: argparse.Namespace) -> Command:

@@ -1,5 +1,5 @@
 #!/usr/bin/env python3
-"""Times lifebatch beside Golly's bgolly, compares their last populations, and prints a table.
+"""Times lifebatch beside Golly's bgolly, by HashLife and by QuickLife, compares their last populations, and prints a table.
 
     bench/compare.py                           the sets runs and steps, the best of three rounds, one worker
     bench/compare.py --workers 1 4             with one worker and with four
@@ -16,31 +16,32 @@
     bench/compare.py --aims                    with the aims in brackets
     bench/compare.py --json FILE --svg FILE    the table as JSON too, and the ratios as a bar chart
 
-In a round each program runs once, one after the other, so that load affects both equally. A ratio is the time of lifebatch divided by that of
-bgolly: below 1 lifebatch is faster. "Memory" is the same ratio of the peaks of memory, where bgolly takes 30 MiB or more. "Serial", with more than one
-worker, is the part of the time in which one of them ran, if all ran in the rest of it: (w * clock - processor) / ((w - 1) * clock) for w workers, where
-clock is the time of the best run and processor its user and system time. Waiting counts as serial too, so it exceeds 100 % if the run waits for a
-processor. lifebatch runs with the setting of malloc that ./lifebatch gives it. --aims shows an aim for the mean only if all rows have the same aims. A
-row differs if the programs report different populations, or if lifebatch or lifeview fails. The soups of the set files are the same in every run of this
-script; bgolly makes their macrocell files.
+In a round each program runs once, one after the other, so that load affects all equally. QuickLife runs where the file is RLE and no macrocell file is
+written, and is ended after eight times the time of HashLife. A ratio is the time of lifebatch divided by that of the faster of the two: below 1 lifebatch
+is faster. The chart divides all times by that of HashLife. "Memory" is the ratio of the peaks of memory of lifebatch and HashLife, where the latter takes
+30 MiB or more. "Serial", with more than one worker, is the part of the time in which one of them ran, if all ran in the rest of it:
+(w * clock - processor) / ((w - 1) * clock) for w workers, where clock is the time of the best run and processor its user and system time. Waiting counts
+as serial too, so it exceeds 100 % if the run waits for a processor. lifebatch runs with the setting of malloc that ./lifebatch gives it. --aims shows each
+ratio to HashLife with its aim, and an aim for the mean only if all rows have the same aims. A row differs if the programs report different populations, or
+if lifebatch or lifeview fails. The soups of the set files are the same in every run of this script; bgolly makes their macrocell files.
 """
 import argparse
 import json
-import math
 import os
 import pathlib
 import sys
 import tempfile
 from collections.abc import Sequence
-from dataclasses import asdict, dataclass
+from dataclasses import asdict
 
 sys.path.insert(0, str(pathlib.Path(__file__).resolve().parent.parent / "checks"))
 
 from chart import Group, svg
-from commands import bgolly, lifebatch, pattern_file
+from commands import hashlife, lifebatch, pattern_file, quicklife
 from common.check import BGOLLY, BUILT, BUILT_VIEW, DIFFERS, HOLDS, NOT_RUN, CannotRun, Check, Need, add_view, end
-from rows import AIMS, SETS, Aims, Row
-from timing import Found, Run, best_of_rounds
+from results import Result, average
+from rows import SETS, Row
+from timing import Found, best_of_rounds
 from views import View, print_views
 
 VIEW_IF_ASKED = Need(f"{BUILT_VIEW.name} (for --lifeview)", BUILT_VIEW.brings, lambda options: not options.lifeview or BUILT_VIEW.is_there(options))
@@ -52,72 +53,31 @@ CHECK = Check(
     replay="give the name of the row, or a part of it, to --rows.",
 )
 
-# Memory is compared if bgolly takes as many mebibytes or more.
-COUNTED_MEBIBYTES = 30
-
-
-@dataclass(frozen=True)
-class Result:
-    """The result of a row: a run, or why there is none, for each number of workers and for bgolly."""
-
-    set: str
-    row: Row
-    ours: dict[int, Found]
-    theirs: Found
-
-    @property
-    def aims(self) -> Aims:
-        return AIMS[self.set]
-
-    def runs(self) -> list[Run]:
-        return [it for it in (*self.ours.values(), self.theirs) if isinstance(it, Run)]
-
-    def ratio(self, workers: int) -> float | None:
-        """The ratio of the times, if both programs ended well."""
-        ours = self.ours.get(workers)
-        both = isinstance(ours, Run) and isinstance(self.theirs, Run)
-        return ours.seconds / self.theirs.seconds if both else None
-
-    def serial(self, workers: int) -> float | None:
-        """The serial part of the time of more than one worker, if lifebatch ended well."""
-        ours = self.ours.get(workers)
-        return ours.serial(workers) if workers > 1 and isinstance(ours, Run) else None
-
-    def memory(self) -> float | None:
-        """The largest ratio of the memories, if they count."""
-        if not self.is_compared() or self.theirs.mebibytes < COUNTED_MEBIBYTES:
-            return None
-        return max(it.mebibytes for it in self.ours.values()) / self.theirs.mebibytes
-
-    def lasts(self) -> list[str]:
-        return sorted({it.last for it in self.runs()})
-
-    def is_compared(self) -> bool:
-        return bool(self.ours) and len(self.runs()) == len(self.ours) + 1
-
-    def differs(self) -> bool:
-        return len(self.lasts()) > 1 or any(isinstance(it, str) for it in self.ours.values())
-
-    def population(self) -> str:
-        if len(self.lasts()) > 1:
-            return " and ".join(self.lasts())
-        return "same" if self.is_compared() else "not compared"
-
-
 def result(name: str, row: Row, options: argparse.Namespace, folder: pathlib.Path) -> Result:
     """Runs a row of a set."""
     path = pattern_file(row, folder)
     if path is None:
         return Result(name, row, {}, "Golly's patterns are not installed")
-    commands = [lifebatch(row, path, workers, options) for workers in options.workers]
-    *ours, theirs = best_of_rounds([*commands, bgolly(row, path, options)], options.rounds, folder)
-    return Result(name, row, dict(zip(options.workers, ours)), theirs)
+    commands = [*(lifebatch(row, path, workers, options) for workers in options.workers), hashlife(row, path, options)]
+    commands += [quicklife(row, path)] if row.suits_quicklife(path) else []
+    found = best_of_rounds(commands, options.rounds, folder)
+    ours, theirs = found[: len(options.workers)], found[len(options.workers) :]
+    return Result(name, row, dict(zip(options.workers, ours)), *theirs)
 
 
 def with_aim(ratio: float | None, aim: float | None) -> str:
     if ratio is None:
         return ""
     return f"{ratio:.2f}" if aim is None else f"{ratio:.2f} ({aim})"
+
+
+def ratios(found: Result, workers: int, options: argparse.Namespace) -> str:
+    """The ratio to the faster of the two, and with --aims that to HashLife."""
+    said = with_aim(found.ratio(workers), None)
+    if not options.aims or not said:
+        return said
+    aim = found.row.aim or found.aims.time if workers == 1 else None
+    return f"{said}; to HashLife {with_aim(found.to_hashlife(found.ours[workers]), aim)}"
 
 
 def percent(part: float | None) -> str:
@@ -128,10 +88,10 @@ def table_row(found: Result, options: argparse.Namespace) -> str:
     """A row of the table."""
     cells = [found.row.name, found.row.said()]
     for workers in options.workers:
-        aim = found.row.aim or found.aims.time
-        cells += [str(found.ours.get(workers, "")), with_aim(found.ratio(workers), aim if options.aims and workers == 1 else None)]
+        cells += [str(found.ours.get(workers, "")), ratios(found, workers, options)]
         cells += [percent(found.serial(workers))] if workers > 1 else []
-    cells += [str(found.theirs), with_aim(found.memory(), found.aims.memory if options.aims else None), found.population()]
+    memory = with_aim(found.memory(), found.aims.memory if options.aims else None)
+    cells += [str(found.hashlife), str(found.quicklife or ""), memory, found.population()]
     return f"| {' | '.join(cells)} |"
 
 
@@ -139,7 +99,7 @@ def table_head(options: argparse.Namespace) -> str:
     heads = ["Pattern", "Generations"]
     for workers in options.workers:
         heads += [said(workers), "Ratio", *(["Serial"] if workers > 1 else [])]
-    heads += ["bgolly, HashLife", "Memory", "Last population"]
+    heads += ["HashLife", "QuickLife", "Memory", "Last population"]
     return f"| {' | '.join(heads)} |\n{'|---' * len(heads)}|"
 
 
@@ -147,21 +107,14 @@ def said(workers: int) -> str:
     return f"{workers} worker{'s' if workers > 1 else ''}"
 
 
-def mean(results: Sequence[Result], workers: int) -> float | None:
-    """The geometric mean of the ratios of a number of workers, if there are any."""
-    ratios = [it.ratio(workers) for it in results]
-    logs = [math.log(it) for it in ratios if it is not None]
-    return math.exp(sum(logs) / len(logs)) if logs else None
-
-
 def print_means(results: Sequence[Result], options: argparse.Namespace) -> None:
     all_aims = [it.aims for it in results]
     aims = all_aims[0].means if options.aims and all(it == all_aims[0] for it in all_aims) else {}
     for workers in options.workers:
-        found = mean(results, workers)
-        if found is not None:
-            aim = f" (aim {aims[workers]})" if workers in aims else ""
-            print(f"\nGeometric mean of the ratios, --workers {workers}: {found:.2f}{aim}")
+        found = average(results, workers)
+        if found:
+            aim = f"; to HashLife {with_aim(found.hashlife, aims.get(workers))}" if options.aims else ""
+            print(f"\nThe ratios, --workers {workers}: geometric mean {found.mean:.2f}, median {found.median:.2f}{aim}")
 
 
 def run_data(found: Found) -> dict:
@@ -172,7 +125,7 @@ def row_data(found: Result, options: argparse.Namespace) -> dict:
     row = found.row
     data = {"set": found.set, "pattern": row.name, "generations": row.generations, "step": row.step, "output": row.output}
     data["lifebatch"] = {str(it): {**run_data(run), "ratio": found.ratio(it), "serial": found.serial(it)} for it, run in found.ours.items()}
-    data |= {"bgolly": run_data(found.theirs), "memory_ratio": found.memory(), "last_population": found.population()}
+    data |= {"hashlife": run_data(found.hashlife), "quicklife": found.quicklife and run_data(found.quicklife), "memory_ratio": found.memory(), "last_population": found.population()}
     if options.aims:
         data["aims"] = {"time": row.aim or found.aims.time, "memory": found.aims.memory}
     return data
@@ -192,15 +145,18 @@ def json_text(results: Sequence[Result], views: Sequence[View], options: argpars
         "processors": len(os.sched_getaffinity(0)),
         "rows": [row_data(it, options) for it in results],
         "lifeview": [view_data(it) for it in views],
-        "geometric_means": {str(it): mean(results, it) for it in options.workers},
+        "averages": {str(it): asdict(found) for it in options.workers if (found := average(results, it))},
     }
     return json.dumps(data, indent=2) + "\n"
 
 
 def svg_text(results: Sequence[Result], options: argparse.Namespace) -> str:
-    """The ratios as a bar chart."""
-    groups = [Group(it.row.label(), [it.ratio(workers) for workers in options.workers]) for it in results]
-    return svg("Shorter than bgolly to the left, longer to the right", "lifebatch time / bgolly time", "bgolly", [said(it) for it in options.workers], groups)
+    """All times beside that of HashLife, as a bar chart."""
+    runs = {f"lifebatch, {said(workers)}": [it.ours.get(workers) for it in results] for workers in options.workers}
+    runs["bgolly, QuickLife"] = [it.quicklife for it in results]
+    series = {name: found for name, found in runs.items() if any(found)}
+    groups = [Group(it.row.label(), [it.to_hashlife(found[place]) for found in series.values()]) for place, it in enumerate(results)]
+    return svg("Time divided by that of bgolly's HashLife", "HashLife", list(series), groups)
 
 
 def write_files(results: Sequence[Result], views: Sequence[View], options: argparse.Namespace) -> None:

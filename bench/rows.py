@@ -10,7 +10,7 @@ from soups import Soup
 
 @dataclass(frozen=True)
 class Aims:
-    """The aims beside bgolly: the most time of one worker, the mean of the times with a number of workers, and the most memory, if there is such an aim."""
+    """The aims beside HashLife: the most time of one worker, the mean of the times with a number of workers, and the most memory, if there is such an aim."""
 
     time: float
     means: dict[int, float]
@@ -19,7 +19,7 @@ class Aims:
 
 @dataclass(frozen=True)
 class Row:
-    """A run of both programs."""
+    """A run of lifebatch and of bgolly."""
 
     name: str
     # A file of Golly's, a text, a function that makes one, or a file of random cells.
@@ -27,7 +27,7 @@ class Row:
     generations: int
     step: int = 0
     output: str = ""
-    # The most time of one worker beside bgolly's, if it differs from that of the set.
+    # The most time of one worker beside HashLife's, if it differs from that of the set.
     aim: float | None = None
 
     def words(self, path: pathlib.Path) -> list[str]:
@@ -40,6 +40,10 @@ class Row:
     def only_reads(self) -> bool:
         """Whether it runs no generation and writes no file."""
         return self.generations == 0 and not self.output
+
+    def suits_quicklife(self, path: pathlib.Path) -> bool:
+        """Whether bgolly's QuickLife takes the row's file and writes what is asked for: it does so with RLE only."""
+        return path.suffix == ".rle" and not self.output.endswith(".mc")
 
     def said(self) -> str:
         """The generations, with the step if there is one."""
@@ -148,6 +152,7 @@ SETS = {
         Row("metapixel-parity64", "HashLife/metapixel-parity64.mc.gz", 2**24),
         Row("linear-propagator-p237228340", "HashLife/linear-propagator-p237228340.mc.gz", 2**23),
         Row("broken-lines", "HashLife/broken-lines.mc", 2**22),
+        Row("nick-gotts-1", "HashLife/nick-gotts-1.mc", 2**24),
     ],
     "large-tables": [
         Row("hexadecimal", "HashLife/hexadecimal.mc.gz", 2**20),

@@ -16,6 +16,14 @@ class Command:
 
     words: list[str]
     settings: dict[str, str] = field(default_factory=dict)
+    # It is ended after so many times the time of the command before it, if that is given.
+    patience: float | None = None
+
+    def seconds(self, before: "Found | None") -> float:
+        """How long a run may take, after one of the command before."""
+        if self.patience is None or not isinstance(before, Run):
+            return SECONDS
+        return min(self.patience * before.seconds, SECONDS)
 
 
 @dataclass(frozen=True)
@@ -46,7 +54,8 @@ def last_line(report: pathlib.Path) -> str:
     return lines[-1].replace(",", "") if lines else ""
 
 
-def run_once(command: Command, folder: pathlib.Path) -> Found:
+def run_once(command: Command, folder: pathlib.Path, most: float) -> Found:
+    """Runs a command for at most so many seconds."""
     report = folder / "report"
     begin = time.monotonic()
     with report.open("wb") as out:
@@ -56,11 +65,11 @@ def run_once(command: Command, folder: pathlib.Path) -> Found:
         done, status, usage = os.wait4(process.pid, os.WNOHANG)
         if done:
             break
-        if time.monotonic() - begin > SECONDS:
+        if time.monotonic() - begin > most:
             process.kill()
             os.wait4(process.pid, 0)
             process.returncode = 0
-            return f"over {SECONDS} s"
+            return f"over {most:.2g} s"
         time.sleep(0.0005)
     seconds = time.monotonic() - begin
     process.returncode = 0
@@ -73,9 +82,11 @@ def best_of_rounds(commands: Sequence[Command], rounds: int, folder: pathlib.Pat
     """The fastest run of each command, or why there is none. In a round each command runs once, unless it failed before."""
     found: list[list[Found]] = [[] for _ in commands]
     for _ in range(rounds):
+        before = None
         for runs, command in zip(found, commands):
             if not runs or isinstance(runs[-1], Run):
-                runs.append(run_once(command, folder))
+                runs.append(run_once(command, folder, command.seconds(before)))
+            before = runs[-1]
     return [best(runs) for runs in found]
 
 

@@ -133,6 +133,12 @@ ROWS = [
     Row("failing_reads", "--only help --number 1", "crashes", DIFFERS),
     Row("failing_reads", "--only help --number 100000", RIGHT, NOT_RUN),
     Row("failing_reads", "--only no-such-name", RIGHT, NOT_RUN),
+    Row("page_commands", "--only gun", RIGHT, HOLDS),
+    Row("page_commands", "--only gun", "crashes", DIFFERS),
+    Row("page_commands", "--only gun", "prints another population", DIFFERS),
+    Row("page_commands", "--only no-such-name", RIGHT, NOT_RUN),
+    Row("installations", "", RIGHT, HOLDS),
+    Row("installations", "", "is missing", NOT_RUN),
     *(Row("page_links", "", it, DIFFERS) for it in PAGES if it != "is only in code"),
     Row("page_links", "", "is only in code", NOT_RUN),
     Row("../bench/compare", "--rounds 1 --rows replicator", RIGHT, HOLDS),
@@ -170,7 +176,7 @@ class Bench:
 
     def run(self, row: Row) -> subprocess.CompletedProcess:
         words = [sys.executable, str(FOLDER / f"{row.check}.py"), *row.options.split(), *self.program(row)]
-        words += ["--view", str(self.view)] if row.check in ("failing_reads", "golly_scripts", "many_patterns") else []
+        words += ["--view", str(self.view)] if row.check in ("failing_reads", "golly_scripts", "installations", "many_patterns", "page_commands") else []
         words += ["--period", str(self.period)] if row.check in WITH_PERIODS else []
         settings = os.environ | {"TMPDIR": str(self.folder)} | ({} if row.fault else {"PATH": "/nowhere"})
         return subprocess.run(words, cwd=FOLDER, env=settings, stdin=subprocess.DEVNULL, capture_output=True, text=True)

@@ -111,6 +111,40 @@ def other_program(it: Repository) -> bool:
     )
 
 
+def tried_as_nobody(it: Repository, *words: str) -> tuple[int, str, str]:
+    """A call by a user who may not write to the repository's folder."""
+    it.folder.chmod(0o755)
+    how = {"stdin": subprocess.DEVNULL, "capture_output": True, "text": True, "env": it.environment()}
+    ran = subprocess.run([it.folder / "lifebatch", *words], **how, **({"user": "nobody"} if os.geteuid() == 0 else {}))
+    return ran.returncode, ran.stdout, ran.stderr
+
+
+def unwritable(it: Repository) -> bool:
+    """Output files that can't be written, before a program is built."""
+    (it.folder / "locked").mkdir()
+    (it.folder / "locked" / "there.rle").touch(0o444)
+    (it.folder / "locked").chmod(0o555)
+    folder = str(it.folder)
+    found = [
+        it.run(*words) == (3, "", "lifebatch: cannot write no/x.rle: there is no folder no/\n")
+        for words in (["-o", "no/x.rle"], ["-m", "1", "--output=no/x.rle", "x"], ["-qono/x.rle"], ["-o=no/x.rle"], ["x", "--output", "no/x.rle"])
+    ]
+    found.append(it.run("-o", "no/x.png", name="lifeview")[0] == 3)
+    for name in ("locked/new.mc", "locked/there.rle"):
+        status, out, err = tried_as_nobody(it, "-o", f"{folder}/{name}")
+        found.append((status, out, err) == (3, "", f"lifebatch: cannot write {folder}/{name}: permission denied\n"))
+    (it.folder / "folder.rle").mkdir()
+    found.append(it.run("-o", f"{folder}/folder.rle")[2].endswith(": it is a folder\n"))
+    return all(found) and it.logged() == []
+
+
+def writable(it: Repository) -> bool:
+    """What the launcher leaves to the program."""
+    (it.folder / "link.rle").symlink_to("nowhere/at all")
+    calls = [("-o", f"{it.folder}/new.rle"), ("-o", "no/x.txt"), ("-o", "no/x.rle", "-h"), ("-o", f"{it.folder}/link.rle"), ("--", "-ono/x.rle")]
+    return all(it.run(*words)[:2] == (0, f"ran: {' '.join(words)}\ninput") for words in calls) and it.logged() == []
+
+
 def unknown_program(it: Repository) -> bool:
     ran = subprocess.run(["python3", it.folder / "launcher" / "build.py", "plane"], env=it.environment(), capture_output=True, text=True)
     return ran.returncode == 2 and "lifebatch, lifeview, lifeperiod" in ran.stderr and it.logged() == []
@@ -248,7 +282,7 @@ def time_left(it: Repository) -> bool:
     ran, said = it.start(SLEEPS=str(sleeps)), []
     ran.stdin.close()
     for line in ran.stderr:
-        words = re.search(r": (\d+) % after \d+:\d\d, about (\d+) s left; \d+ of \d+ crates proved, proving \w", line)
+        words = re.search(r": (\d+) % after \d+:\d\d, (?:about|\d+ to) (\d+) s left; \d+ of \d+ crates proved, proving \w", line)
         if words:
             said.append((time.monotonic(), int(words[1]), int(words[2])))
         elif "proved and built" in line:
@@ -257,6 +291,26 @@ def time_left(it: Repository) -> bool:
     when, share, left = next(it for it in said if it[1] >= 20)
     print(f"    with {share} % done {left} s were said to be left, and {ended - when:.1f} s were; the first estimate was {said[0][2]} s for {ended - said[0][0]:.1f}")
     return ran.wait() == 0 and shares == sorted(shares) and abs(left - (ended - when)) <= (ended - when) / 4 + 2
+
+
+def says_a_range(it: Repository) -> bool:
+    """A range before anything was built, and one number once a crate was."""
+    _, before = told(it)
+    ran = it.start(SECONDS_EACH="0.5")
+    ran.stdin.close()
+    while "1 of " not in (line := ran.stderr.readline()) and line:
+        pass
+    os.killpg(ran.pid, signal.SIGTERM)
+    ran.stderr.read()
+    ran.wait()
+    _, after = told(it)
+    return bool(re.search(r" takes \d+ to \d+ minutes here", before) and re.search(r" takes about \d+ s here", after))
+
+
+def told(it: Repository) -> tuple[int, str]:
+    """What the launcher says of a build that it does not begin."""
+    ran = subprocess.run([it.folder / "launcher" / "build.py", "lifebatch", "--about"], env=it.environment(), capture_output=True, text=True)
+    return ran.returncode, ran.stderr
 
 
 def simulated_machines(_: Repository) -> bool:
@@ -298,9 +352,11 @@ GROUPS: list[list[tuple[str, Callable[[Repository], bool]]]] = [
     [
         ("before a program is built, --help and -h by themselves show its help and say that it is not built", helps),
         ("the help is that of the real programs, where these are built", own_help),
+        ("an output file that can't be written is named before anything runs, with status 3", unwritable),
         ("the first call proves each crate once, builds the program for this processor and runs it", whole),
         ("a second call builds nothing", second),
         ("a built program shows its help itself", help_of_built),
+        ("an output file that can be written, and words that the program does not take, go to the program", writable),
         ("the other program proves the crates that only it uses", other_program),
         ("the build takes only the name of a program", unknown_program),
         ("on a terminal there is one line that moves", terminal),
@@ -314,6 +370,9 @@ GROUPS: list[list[tuple[str, Callable[[Repository], bool]]]] = [
         ("a file, or a folder specs, that comes or goes has its crate proved anew", comes_and_goes),
         ("the program runs in the caller's folder, by whichever name and link the launcher is called", from_anywhere),
         ("a file that changes during the build has its crate proved anew by the next call", changed_meanwhile),
+    ],
+    [
+        ("before anything was built the launcher says a range of times, and afterwards one", says_a_range),
     ],
     [
         ("an interrupted build leaves no process, and keeps what is proved", interrupted),

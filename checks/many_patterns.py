@@ -118,7 +118,7 @@ class Folder:
         return file.read_bytes()
 
     def frame(self, number: int) -> bytes:
-        file = self.path / "frames" / f"{number:03}.png"
+        file = self.path / "frames" / f"{APART * number:03}.png"
         return file.read_bytes() if file.exists() else b""
 
     def unlike(self, plain: dict[str, tuple[bytes, bytes, bytes]]) -> list[str]:
@@ -168,9 +168,9 @@ def in_place_of(old: str, new: str, block: str) -> str:
 
 def try_film(folder: Folder, frames: str, film: str) -> None:
     drawn = re.search(r"--window=\S+ --size \d+", frames)
-    if f"-m {APART} " not in frames or not drawn:
+    if not drawn:
         raise CannotRun(f"{PAGE.name} has other frames")
-    folder.run(in_place_of("0 199", f"0 {FRAMES - 1}", frames))
+    folder.run(in_place_of(f"0 {APART} 995", f"0 {APART} {APART * (FRAMES - 1)}", frames))
     are_alike = [folder.frame(number) == folder.picture(APART * number, drawn[0].split()) for number in range(FRAMES)]
     folder.tell("each frame is the picture of its generation", all(are_alike))
     folder.run(film)

@@ -1,11 +1,12 @@
 #!/usr/bin/env python3
-"""Counts the lines of the crates, the tests and the must-fail edits, and compares the lines with docs/guarantees.md.
+"""Counts the lines of the crates, the tests, the must-fail edits and the words of the pages, and compares the lines with docs/guarantees.md.
 
     checks/page_counts.py
     checks/page_counts.py --root FOLDER    the page and the crates of another copy
 
 The page says how many lines of code, definitions, proofs and tests there are. Each number may differ from the count by one percent. The crates
-worked_* count as tests, with all their files. The script also prints how many tests and edits there are.
+worked_* count as tests, with all their files. The script also prints how many tests and edits there are. README.md and docs/*.md may have 15000 words
+together: what has a letter or a digit, outside of blocks of code.
 """
 import pathlib
 import re
@@ -23,6 +24,9 @@ CHECK = Check(
 PAGE = pathlib.Path("docs") / "guarantees.md"
 # How far a number of the page may be from the count.
 TOLERANCE = 0.01
+BLOCK = re.compile(r"^```.*?^```$", re.MULTILINE | re.DOTALL)
+# How many words all pages may have.
+MOST_WORDS = 15000
 # The folder of a crate, the suffix of its files, and the line of the page.
 KINDS = {
     "code": ("src", ".rt"),
@@ -67,6 +71,13 @@ def said(root: pathlib.Path, kind: str) -> int:
     return int(number[1].replace(",", ""))
 
 
+def words(root: pathlib.Path) -> int:
+    """The words of all pages."""
+    pages = [root / "README.md", *sorted((root / "docs").glob("*.md"))]
+    prose = (BLOCK.sub("", it.read_text(encoding="utf-8")) for it in pages if it.is_file())
+    return sum(len(re.findall(r"\S*\w\S*", it)) for it in prose)
+
+
 def main() -> int:
     parser = CHECK.parser()
     parser.add_argument("--root", type=pathlib.Path, default=ROOT, help="the folder of docs and crates (this repository)")
@@ -80,8 +91,13 @@ def main() -> int:
         if abs(number - found[kind]) > TOLERANCE * found[kind]:
             wrong += 1
             print(f"differs: {PAGE} says {number} lines of {kind}; there are {found[kind]}")
-    print(f"{len(compared) - wrong} counts of lines hold, {wrong} differ")
-    return status_of(len(compared), wrong)
+    count = words(root)
+    print(f"words of the pages: {count}")
+    if count > MOST_WORDS:
+        wrong += 1
+        print(f"differs: the pages have more than {MOST_WORDS} words")
+    print(f"{len(compared) + 1 - wrong} counts hold, {wrong} differ")
+    return status_of(len(compared) + 1, wrong)
 
 
 if __name__ == "__main__":

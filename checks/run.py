@@ -24,6 +24,7 @@ from common.check import BUILT, BUILT_PERIOD, BUILT_VIEW, DIFFERS, HOLDS, NOT_RU
 FOLDER = pathlib.Path(__file__).resolve().parent
 NAMES = [
     "page_links",
+    "page_commands",
     "page_counts",
     "no_axioms",
     "wrong_bodies",
@@ -45,6 +46,7 @@ NAMES = [
     "hostile_files",
     "many_patterns",
     "launcher_runs",
+    "installations",
 ]
 ANSWERS = {HOLDS: "holds", DIFFERS: "DIFFERS", NOT_RUN: "NOT RUN"}
 

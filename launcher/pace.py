@@ -46,6 +46,8 @@ class Pace:
     running: Running = field(default_factory=dict)
     # The work that each check has done in this build, those that ended too.
     work: dict[str, float] = field(default_factory=dict)
+    # While no check has ended, the rest takes from so many to so many times what is expected.
+    doubt: tuple[float, float] = (1, 1)
 
     def begin(self, name: str, share: Share) -> None:
         self.running[name] = share
@@ -81,6 +83,12 @@ class Pace:
         left = {name: it for name, it in self.plan.seconds.items() if name not in self.done}
         left.update({name: self.plan.seconds[name] * self.part_left(name) for name in self.running})
         return 1 - sum(left.values()) / sum(self.plan.seconds.values())
+
+    def range_left(self) -> tuple[float, float]:
+        """From how many to how many seconds the rest takes: one number once a check has ended."""
+        left, has_ended = self.seconds_left(), bool(self.work.keys() & self.done)
+        least, most = (1, 1) if has_ended else self.doubt
+        return least * left, most * left
 
     def seconds_left(self) -> float:
         """How many seconds the rest of the build takes, by the plan."""

@@ -25,6 +25,10 @@ LONG = 100
 SHARE = 0.6
 # How much lower the priority of a crate is for each crate with a longer chain that runs beside it.
 NICE = 5
+# How often numbers are sorted without a pause, and how many times that is done, each after a pause of so many seconds.
+SORTINGS, PAUSE = 6, 0.08
+# By so much a proof may be faster or slower than the sorting says.
+DOUBT = 0.25
 TABLE = ROOT / "launcher" / "seconds.json"
 GROUPS = pathlib.Path("/sys/fs/cgroup")
 # For each controller that /proc/self/cgroup may name, the second version having no name: the files of the limit and of what is used, and the line of
@@ -46,14 +50,16 @@ def seconds_of(name: str) -> float:
     return table()["crates"].get(name, 12 + lines // 8)
 
 
-def sorting_seconds() -> float:
-    """The processor seconds in which this machine sorts some numbers: the least of several times, since it may do other work too."""
+def sorting_seconds() -> list[float]:
+    """The processor seconds in which this machine sorts some numbers, the least first: many times within half a second, since it may do other work too."""
     numbers, taken = [it * 7919 % 100003 / 7 for it in range(20000)], []
-    for _ in range(20):
-        began = time.process_time()
-        sorted(numbers)
-        taken.append(time.process_time() - began)
-    return min(taken)
+    for _ in range(SORTINGS):
+        time.sleep(PAUSE)
+        for _ in range(SORTINGS):
+            began = time.process_time()
+            sorted(numbers)
+            taken.append(time.process_time() - began)
+    return sorted(taken)
 
 
 def record(name: str) -> pathlib.Path:
@@ -68,12 +74,23 @@ def recorded(name: str) -> dict[str, float]:
         return {}
 
 
-def machine_factor(names: Iterable[str]) -> float:
-    """How much longer than the table says checks take on this machine: by earlier builds, else by how fast it sorts."""
-    took = [(recorded(it)["work"], seconds_of(it)) for it in names if recorded(it)]
+@dataclass(frozen=True)
+class Factor:
+    """How much longer than the table says checks take on this machine. If no check has ended here, they may take from `least` to `most` times that."""
+
+    likely: float
+    least: float = 1
+    most: float = 1
+
+
+def machine_factor(names: Iterable[str]) -> Factor:
+    """By the processor seconds of earlier builds, else by how fast this machine sorts, at best and in the middle of many times."""
+    took = [(recorded(it)["seconds"], seconds_of(it)) for it in names if recorded(it)]
     if took:
-        return max(sum(work for work, _ in took) / sum(expected for _, expected in took), 1 / 100)
-    return min(max(sorting_seconds() / table()["sorting"], 1 / 4), 4)
+        return Factor(max(sum(seconds for seconds, _ in took) / sum(expected for _, expected in took), 1 / 100))
+    sorting = sorting_seconds()
+    likely = min(max(sorting[0] / table()["sorting"], 1 / 4), 4)
+    return Factor(likely, 1 - DOUBT, (1 + DOUBT) * sorting[len(sorting) // 2] / sorting[0])
 
 
 def free_in(group: pathlib.Path, limit: str, used: str, cache: str) -> Optional[int]:

@@ -10,11 +10,11 @@ BAR = 20
 CLEAR = "\r\x1b[K"
 
 
-def duration(seconds: float) -> str:
+def duration(least: float, most: float) -> str:
     """A time that is not known exactly."""
-    if seconds < 100:
-        return f"about {max(seconds, 1):.0f} s"
-    return f"about {seconds / 60:.0f} minutes"
+    unit, name = (1, "s") if most < 100 else (60, "minutes")
+    least, most = (max(round(it / unit), 1) for it in (least, most))
+    return f"about {most} {name}" if least == most else f"{least} to {most} {name}"
 
 
 class Progress:
@@ -40,7 +40,7 @@ class Progress:
         self.shown = state
         # What is known of the machine changes, but a share that was shown does not shrink.
         self.share = max(self.share, pace.share_done())
-        percent, left = f"{int(100 * self.share)} %", f"{duration(pace.seconds_left())} left"
+        percent, left = f"{int(100 * self.share)} %", f"{duration(*pace.range_left())} left"
         proved = f"{done} of {self.of} crates proved, proving {', '.join(running)}"
         if self.moves:
             bar = "#" * round(BAR * self.share)

@@ -11,7 +11,7 @@ import subprocess
 import sys
 import tempfile
 import time
-from collections.abc import Iterable
+from collections.abc import Iterable, Iterator
 from dataclasses import dataclass, field
 from typing import Optional
 
@@ -136,13 +136,18 @@ class Build:
             run.end()
 
 
-def locked(progress: Progress, folders: Iterable[pathlib.Path]) -> list[int]:
-    """Locks these folders, as `rt` does, so that other builds and `rt` wait until this program ends."""
+@contextlib.contextmanager
+def locked(progress: Progress, folders: Iterable[pathlib.Path]) -> Iterator[None]:
+    """Locks these folders, as `rt` does, so that other builds and `rt` wait until this one ends."""
     held = [os.open(it, os.O_RDONLY) for it in sorted(folders)]
-    for it in held:
-        try:
-            fcntl.flock(it, fcntl.LOCK_EX | fcntl.LOCK_NB)
-        except BlockingIOError:
-            progress.tell("waiting for another build to end")
-            fcntl.flock(it, fcntl.LOCK_EX)
-    return held
+    try:
+        for it in held:
+            try:
+                fcntl.flock(it, fcntl.LOCK_EX | fcntl.LOCK_NB)
+            except BlockingIOError:
+                progress.tell("waiting for another build to end")
+                fcntl.flock(it, fcntl.LOCK_EX)
+        yield
+    finally:
+        for it in held:
+            os.close(it)

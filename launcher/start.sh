@@ -5,6 +5,10 @@ set -u
 
 out=$root/crates/$name/out
 program=$out/$name
+# Where the program writes a file, its script has set those of the file.
+endings=${endings-}
+. "$root/launcher/call.sh"
+test_output "$@" || exit
 
 # NAME.built has the time at which the last build began. Read in its own folder, it returns 0 if code or contracts are newer.
 # It tests some 500 files, so no other process is started, and the paths are short.
@@ -43,7 +47,4 @@ if $is_due; then
     esac
     build || exit
 fi
-# Asks for large pages for the tables, and that vectors of a megabyte or more stand outside of the heap, so that the
-# system gets their memory back when they are freed. The caller's own setting wins.
-export GLIBC_TUNABLES="${GLIBC_TUNABLES-glibc.malloc.hugetlb=1:glibc.malloc.mmap_threshold=1048576}"
-exec "$program" "$@"
+call "$@"

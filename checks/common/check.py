@@ -57,6 +57,7 @@ PGREP = tool("pgrep", "procps")
 PARALLEL = tool("parallel", "parallel")
 FFMPEG = tool("ffmpeg", "ffmpeg")
 PNGCHECK = tool("pngcheck", "pngcheck")
+SHLIBDEPS = tool("dpkg-shlibdeps", "dpkg-dev")
 
 
 def add_program(parser: argparse.ArgumentParser) -> None:

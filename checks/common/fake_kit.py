@@ -42,8 +42,9 @@ class Repository:
         self.folder, self.log = folder, folder / "log"
         for name in ("lifebatch", "lifeview", "lifeperiod", "crates.txt"):
             shutil.copy(ROOT / name, folder)
-        for name in ("launcher", "crates"):
+        for name in ("launcher", "crates", "golly", "docs"):
             shutil.copytree(ROOT / name, folder / name, ignore=shutil.ignore_patterns("out", "proofs"))
+        shutil.copy(ROOT / "CHANGELOG.md", folder)
         (folder / "bin").mkdir()
         (folder / "KIT-ID").touch()
         for name, text in (("rt", f"#!/bin/sh\necho {folder}/START-HERE.md\n"), ("rattle", RATTLE), ("rattle-link", LINK)):
