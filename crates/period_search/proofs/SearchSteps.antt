@@ -104,26 +104,26 @@ not_advanced candidates start here new tried next refusal has is_next refused =
     inr (record { here = here; done = tried; next = next; later = has.later; none = has.none; is_next = is_next; refused = refused })
 
 -- the session went on to the next number and was compared there
-module _ (candidates : Candidates) (start here there session : Session) (first : Plane) (tried next : ℕ) (same : IsSame first (cells_of start)) (has : HasTried candidates start here tried) (is_next : IsNext candidates tried next) (on : IsLaterSession here (next - tried) there) (compared : IsSameSession there session) where
-  pub came : IsLaterSession start next there
-  came = let behind = is_next.behind in subst (λ (n : ℕ). IsLaterSession start n there) (omega (arith, behind)) (later_on {first = start} {second = here} {third = there} tried (next - tried) has.later on)
+module _ (candidates : Candidates) (start here there session : Session) (first : Plane) (tried number : ℕ) (same : IsSame first (cells_of start)) (has : HasTried candidates start here tried) (is_next : IsNext candidates tried number) (on : IsLaterSession here (number - tried) there) (compared : IsSameSession there session) where
+  pub came : IsLaterSession start number there
+  came = let behind = is_next.behind in subst (λ (n : ℕ). IsLaterSession start n there) (omega (arith, behind)) (later_on {first = start} {second = here} {third = there} tried (number - tried) has.later on)
 
-  pub came_on : IsLaterSession start next session
-  came_on = later_same {first = start} {second = there} {third = session} next came compared
+  pub came_on : IsLaterSession start number session
+  came_on = later_same {first = start} {second = there} {third = session} number came compared
 
-  none_before : (k : ℕ) → k < next → IsCandidate candidates k → HasPeriod start.rule (cells_of start) k → ⊥
+  none_before : (k : ℕ) → k < number → IsCandidate candidates k → HasPeriod start.rule (cells_of start) k → ⊥
   none_before k less one period = ⊎_elim (λ (behind : tried < k). is_next.least k behind less one) (λ (before : k ≤ tried). has.none k before one period) (cases_lt tried k)
 
-  found_least : (right down : ℤ) → IsSame (cells_of there) (moved right down first) → IsLeastPeriod start.rule (cells_of start) next right down
+  found_least : (right down : ℤ) → IsSame (cells_of there) (moved right down first) → IsLeastPeriod start.rule (cells_of start) number right down
   found_least right down is =
       let behind = is_next.behind in
-      is_least start.rule (cells_of start) next right down (record {
+      is_least start.rule (cells_of start) number right down (record {
         some = omega (arith, behind);
         same = same_trans (same_sym came.cells) (same_trans is (moved_same right down first (cells_of start) same));
-      }) (λ k times some less product. none_before k less (divisor_tried candidates next k times is_next.one some less product))
+      }) (λ k times some less product. none_before k less (divisor_tried candidates number k times is_next.one some less product))
 
   -- what is answered where the session's cells are the first ones, moved
-  pub answered : (right down : ℤ) (period : Period) → period.generations ≡ next → period.right ≡ right → period.down ≡ down → IsSame (cells_of there) (moved right down first) →
+  pub answered : (right down : ℤ) (period : Period) → period.generations ≡ number → period.right ≡ right → period.down ≡ down → IsSame (cells_of there) (moved right down first) →
       (IsSame first empty → (right ≡ pos 0) × (down ≡ pos 0)) → IsLeastAmong start.rule (cells_of start) candidates period
   answered right down period generations across below is still = record {
     least = subst (λ (d : ℤ). IsLeastPeriod start.rule (cells_of start) period.generations period.right d) (sym below)
@@ -133,12 +133,12 @@ module _ (candidates : Candidates) (start here there session : Session) (first :
     still = λ none. let zero = still (same_trans same none) in (across ∙ zero.0, below ∙ zero.1);
   }
 
-  pub tried_too : AreSome candidates → ((right down : ℤ) → IsSame (cells_of there) (moved right down first) → ⊥) → HasTried candidates start session next
+  pub tried_too : AreSome candidates → ((right down : ℤ) → IsSame (cells_of there) (moved right down first) → ⊥) → HasTried candidates start session number
   tried_too some unlike = record {
     later = came_on;
-    within = within_last candidates next some is_next.one;
-    none = λ n most one period. ⊎_elim (λ (less : n < next). none_before n less one period)
-        (λ (more : next ≤ n). no_period (subst (HasPeriod start.rule (cells_of start)) (omega (arith, most, more)) period)) (cases_lt n next);
+    within = within_last candidates number some is_next.one;
+    none = λ n most one period. ⊎_elim (λ (less : n < number). none_before n less one period)
+        (λ (more : number ≤ n). no_period (subst (HasPeriod start.rule (cells_of start)) (omega (arith, most, more)) period)) (cases_lt n number);
   } where
-    no_period : HasPeriod start.rule (cells_of start) next → ⊥
+    no_period : HasPeriod start.rule (cells_of start) number → ⊥
     no_period (right, down, is) = unlike right down (same_trans came.cells (same_trans is.same (moved_same right down (cells_of start) first (same_sym same))))
