@@ -10,13 +10,11 @@ use Rattle.table_core.specs.Good.{TellsFuture, IsFutureOf, IsGood}
 use Rattle.table_core.proofs.Comparisons.{same_or_other}
 use Rattle.table_core.proofs.Ways.{not_head}
 use Rattle.node_sweep.specs.Table.{IsBlockIn, Table, table_by}
-use Rattle.node_sweep.specs.Copies.{IsCopy, IsCopyOf, IsSomeBlock, IsWantedCopy}
-use Rattle.node_sweep.specs.RootSets.{AreRootPairsCopied, IsRootPairCopied}
+use Rattle.node_sweep.specs.Copies.{IsCopy, IsCopyOf, IsSomeBlock, IsWantedCopy, has_note}
 use Rattle.node_sweep.specs.Keeping.{IsCopiedResult, IsKeeping}
-use Rattle.node_sweep.specs.Reaching.{Reaches, IsCollected, IsInRootSet, the_root, low_pair, high_pair, high_result}
-use Rattle.node_sweep.specs.Copying.{IsCopying}
+use Rattle.node_sweep.specs.Reaching.{Reaches}
 use Rattle.node_sweep.specs.WantedCopies.{CopiesWanted, IsResultCopiedOrGone}
-use Rattle.node_sweep.proofs.Futures.{copy_at, keeping_start, no_copy_of_zero}
+use Rattle.node_sweep.proofs.Futures.{copy_at, no_copy_of_zero}
 use Rattle.node_sweep.proofs.SameBlocks.{HasTwin, block_some, copy_none, empty_copy, same_copy, same_original, twin_of}
 use Rattle.node_sweep.proofs.Swept.{kind_of_block}
 
@@ -118,29 +116,17 @@ module _ (from to : Key) (old : List ℕ) (wanted : ℕ → Type 0) (copies new 
       no_others = h.vacant;
     }
 
--- a number with a copy, or 0, that shows a block
-record IsCopiedBlock (old : Table) (copies : List ℕ) (n : ℕ) : Type 0 where
-  rank : ℕ
-  block : IsBlockIn old rank n
-  there : (n ≡ 0) ⊎ (slice_index copies n ≢ 0)
+-- the numbers that have copies, for what is wanted
+pub noted_keeping : (old : Table) (to : Key) (wanted : ℕ → Type 0) (copies new : List ℕ) (done : ℕ) → IsKeeping old to wanted copies new done → IsKeeping old to (has_note copies) copies new done
+noted_keeping old to wanted copies new done h = record {
+  good = h.good;
+  copied = λ n some. let c : IsWantedCopy old (table_by to new) wanted n (slice_index copies n) = h.copied n some in record { is_wanted = inr some; rank = c.rank; shown = c.shown };
+  each = h.each;
+  results = h.results;
+  rest = h.rest;
+  vacant = h.vacant;
+}
 
--- the small pairs have copies, and the large ones that have results, with these, and the root
-module _ (key : Key) (old : List ℕ) (root low high rank : ℕ) (copies : List ℕ) (good : IsGood key (slice_index old)) (block : IsBlockIn (table_by key old) rank root) (noted : (root ≡ 0) ⊎ (slice_index copies root ≢ 0))
-    (ends : AreRootPairsCopied (table_by key old) low high copies (2 ^ key.shape.bits)) where
-  end_at : (pair : ℕ) → IsSlot key.shape.bits Pair pair → IsRootPairCopied (table_by key old) low high copies pair
-  end_at pair slot = ends.copied pair slot (let below = slot.below in omega arith)
-
-  end_copied : (n : ℕ) → IsInRootSet (table_by key old) root low high n → IsCopiedBlock (table_by key old) copies n
-  end_copied n the_root = record { rank = rank; block = block; there = noted }
-  end_copied n (low_pair r pair slot b less) = record { rank = r; block = b; there = inr ((end_at pair slot).small.copied r b less) }
-  end_copied n (high_pair r pair future f above) = record { rank = r; block = f.block; there = inr ((end_at pair f.slot).finished.copied r future f above) }
-  end_copied n (high_result r pair future f above) =
-      let b = result_block key old pair future good f.slot f.told in
-      record { rank = b.0; block = b.1; there = (end_at pair f.slot).finished.result r future f above }
-
-  -- then all that a collection wants has a copy
-  pub collected : (to : Key) (wanted : ℕ → Type 0) (new : List ℕ) (same_rule : to.rule ≡ key.rule) (same_exponent : to.exponent ≡ key.exponent) →
-      IsCopying (table_by key old) to wanted new copies → (n : ℕ) → IsCollected (table_by key old) root low high n → n ≢ 0 → slice_index copies n ≢ 0
-  collected to wanted new same_rule same_exponent h n is some =
-      let e : IsCopiedBlock (table_by key old) copies is.end = end_copied is.end is.is_end in
-      reached_copied key to old wanted copies new good same_rule same_exponent 0 (keeping_start key to old wanted new copies good h) e.rank is.end n e.block e.there is.reached some
+-- a number other than 0 for which something is noted
+pub note_there : (notes : List ℕ) (n : ℕ) → has_note notes n → n ≢ 0 → slice_index notes n ≢ 0
+note_there notes n has some = ⊎_elim (λ z. absurd (some z)) (λ there. there) has

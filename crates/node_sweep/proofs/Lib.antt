@@ -12,13 +12,6 @@ pub mod Squares
 pub mod AllBlocks
 pub mod Carried
 pub mod Transferred
-pub mod Ranked
-pub mod RootSets
 pub mod Gathered
-pub mod Tallies
-pub mod Begins
-pub mod Ordering
 pub mod SideBySide
-pub mod Marking
-pub mod Ordered
 pub mod Telling

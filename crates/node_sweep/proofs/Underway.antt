@@ -10,7 +10,7 @@ use Rattle.table_core.proofs.Lists.{length_set}
 use Rattle.table_core.proofs.Ways.{not_head}
 use Rattle.node_sweep.specs.Table.{IsBlockIn}
 use Rattle.node_sweep.specs.Copies.{HasFullWay, IsCopy, IsLowBlock, IsWantedCopy}
-use Rattle.node_sweep.specs.Copying.{AreCopied, IsCopying}
+use Rattle.node_sweep.specs.Copying.{IsCopying}
 use Rattle.node_sweep.specs.Placing.{IsPlaced}
 use Rattle.node_sweep.specs.Transfers.{fresh_table, fresh_words, new_bits, old_table, wants, HasNoRoomLeft, IsCopyNoted, IsUnderway, IsWordNeeded}
 use Rattle.node_sweep.specs.declared.transfer.Fresh.{Fresh}
@@ -18,8 +18,8 @@ use Rattle.node_sweep.specs.declared.transfer.Transfer.{Transfer}
 use Rattle.node_sweep.proofs.Futures.{block_below}
 use Rattle.node_sweep.proofs.Notes.{copying_still, copy_made, number_inside, number_slot}
 use Rattle.node_sweep.proofs.Recursing.{copy_of_all, empty_copy_of}
-use Rattle.node_sweep.proofs.SameBlocks.{block_some, copy_later, copy_none, same_original}
-use Rattle.node_sweep.proofs.Swept.{kind_of_block, zero_noted}
+use Rattle.node_sweep.proofs.SameBlocks.{copy_none}
+use Rattle.node_sweep.proofs.Swept.{zero_noted}
 
 module _ (transfer : Transfer) (fresh : Fresh) (underway : IsUnderway transfer fresh) where
   -- the empty square is its own copy
@@ -113,34 +113,3 @@ module _ (transfer : Transfer) (fresh : Fresh) (underway : IsUnderway transfer f
           kind number word index now.words.items now.copies.items some inside wanted needed placed is);
       noted = ap (λ (cs : List ℕ). slice_index cs number) is ∙ get_or-set_same fresh.copies.items number index 0 inside;
     }
-
-module _ (transfer : Transfer) (fresh later : Fresh) (before : IsUnderway transfer fresh) (after : IsUnderway transfer later) (keeps : KeepsWords (fresh_words fresh) (fresh_words later)) where
-  -- what has a copy keeps one
-  pub noted_still : (n : ℕ) → slice_index fresh.copies.items n ≢ 0 → slice_index later.copies.items n ≢ 0
-  noted_still n some =
-      let from = transfer.old.key.now in
-      let to = transfer.to in
-      let copy = slice_index fresh.copies.items n in
-      let c : IsWantedCopy (old_table transfer) (fresh_table transfer fresh) (wants transfer) n copy = before.copying.copied n some in
-      let kind = kind_of_block (fresh_table transfer fresh) c.rank copy some c.shown.now in
-      let there = block_some (fresh_table transfer fresh) c.rank copy some c.shown.now in
-      let m = after.copying.each kind.0 copy kind.1 (λ z. there (sym (keeps.kept copy there) ∙ z)) in
-      let d : IsWantedCopy (old_table transfer) (fresh_table transfer later) (wants transfer) m.0 (slice_index later.copies.items m.0) = after.copying.copied m.0 (λ z. some (sym m.1 ∙ z)) in
-      let same : m.0 ≡ n = same_original from to transfer.old.words.now later.words.items transfer.old.good.good after.copying.good.good d.rank c.rank m.0 n copy
-      (subst (IsCopy (old_table transfer) (fresh_table transfer later) d.rank m.0) m.1 d.shown)
-      (copy_later (old_table transfer) (fresh_table transfer fresh) (fresh_words later) c.rank n copy keeps c.shown) some in
-      λ z. some (sym m.1 ∙ ap (slice_index later.copies.items) same ∙ z)
-
-  -- one more number has a copy
-  pub copied_on : (there : Words) (number index rank : ℕ) → AreCopied there fresh.copies.items number → number ≢ 0 → IsBlockIn (old_table transfer) rank number →
-      IsCopyNoted transfer later number index → AreCopied there later.copies.items (number + 1)
-  copied_on there number index rank all some block noted = record {
-    copied = λ n nonzero below has. ⊎_elim
-        (λ e z. copy_some transfer later after number index rank noted block some (ap (slice_index later.copies.items) (sym e) ∙ z))
-        (λ apart. noted_still n (all.copied n nonzero (omega arith) has))
-        (same_or_other n number);
-  }
-
-  -- what has copies keeps them
-  pub copied_later : (there : Words) (end : ℕ) → AreCopied there fresh.copies.items end → AreCopied there later.copies.items end
-  copied_later there end all = record { copied = λ n nonzero below has. noted_still n (all.copied n nonzero below has) }

@@ -1,5 +1,5 @@
 -- Copies of words in one owner's hands.
-use Rattle.std.specs.Prelude.{◌≡◌, ◌≢◌, ℕ, ◌+◌, ◌^◌, ◌⊎◌, ◌↔◌, IsTrue, Contains}
+use Rattle.std.specs.Prelude.{◌≡◌, ◌≢◌, ℕ, ◌+◌, ◌^◌, ◌⊎◌, ◌↔◌, List, IsTrue, Contains}
 use Rattle.squares.specs.declared.sq.Sq.{Sq}
 use Rattle.squares.specs.Book.{Book, Shows}
 use Rattle.table_core.specs.declared.key.Key.{Key}
@@ -10,10 +10,9 @@ use Rattle.table_core.specs.Blocks.{square_rank}
 use Rattle.node_table.specs.declared.still.Still.{Still}
 use Rattle.node_table.specs.Stills.{key_of, items_of, words_of, book_in}
 use Rattle.node_sweep.specs.Table.{Table, table_by, word_beside}
-use Rattle.node_sweep.specs.Copies.{HasNoRoomForWanted, IsCopy}
-use Rattle.node_sweep.specs.Reaching.{IsWanted, Reaches, ReachesFew}
+use Rattle.node_sweep.specs.Copies.{HasNoRoomForWanted, IsCopy, has_note}
+use Rattle.node_sweep.specs.Reaching.{IsAny, Reaches, ReachesFew}
 use Rattle.node_sweep.specs.WantedCopies.{CopiesWanted}
-use Rattle.node_sweep.specs.declared.keep.Keep.{Keep}
 
 -- the size and the words
 abbrev pub table_of : Still → Table
@@ -70,25 +69,17 @@ pub record HasNoRoomToCopy (still : Still) (wanted : ℕ → Type 0) (pairs : �
   pub resized : IsResized (key_of still) to pairs
   pub full : HasNoRoomForWanted (table_of still) to wanted
 
--- what is kept of the root and the words; in a collection, between these two ranks only what others
--- reach
-abbrev pub is_kept : Still → Sq → Keep → (low high : ℕ) → (ℕ → Type 0)
-is_kept still root keep low high = IsWanted (table_of still) keep root.num.0 low high
-
--- fresh words with what is kept and nothing else; for a collection, between some low and some high
--- rank
-pub record CopiesStill (still : Still) (root : Sq) (keep : Keep) (pairs : ℕ) (now : Still)
-    (copy : Sq) : Type 0 where
-  pub low : ℕ
-  pub high : ℕ
-  pub all : HoldsWanted still (is_kept still root keep low high) pairs now
+-- fresh words with the root and some other numbers, those for which something is noted, and nothing
+-- else
+pub record CopiesStill (still : Still) (root : Sq) (pairs : ℕ) (now : Still) (copy : Sq) : Type 0 where
+  pub notes : List ℕ
+  pub has_root : has_note notes root.num.0
+  pub all : HoldsWanted still (has_note notes) pairs now
   pub copied_root : IsRootCopy still root now copy
 
--- some table of this size has no room for that
-pub record HasNoRoomToKeep (still : Still) (root : Sq) (keep : Keep) (pairs : ℕ) : Type 0 where
-  pub low : ℕ
-  pub high : ℕ
-  pub full : HasNoRoomToCopy still (is_kept still root keep low high) pairs
+-- some table of this size has no room for all numbers
+abbrev pub HasNoRoomToKeep : Still → ℕ → Type 0
+HasNoRoomToKeep still pairs = HasNoRoomToCopy still IsAny pairs
 
 -- ---- a sweep
 

@@ -7,10 +7,10 @@ use Rattle.table_core.specs.Layout.{IsSlot, start}
 use Rattle.table_core.specs.Blocks.{Words}
 use Rattle.node_sweep.specs.Table.{IsBlockIn, Table, table_by}
 use Rattle.node_sweep.specs.Copies.{HasNoRoomForWanted, IsCopyOf, IsWordOf, SaysFull}
-use Rattle.node_sweep.specs.Copying.{AreCopied, IsCopying}
+use Rattle.node_sweep.specs.Copying.{IsCopying}
 use Rattle.node_sweep.specs.Keeping.{AreResultWords, IsKeeping}
 use Rattle.node_sweep.specs.OldWords.{bits_in, table_in, words_in}
-use Rattle.node_sweep.specs.Reaching.{IsWanted}
+use Rattle.node_sweep.specs.Reaching.{IsSomePlan, IsWanted}
 use Rattle.node_sweep.specs.declared.transfer.Fresh.{Fresh}
 use Rattle.node_sweep.specs.declared.transfer.Transfer.{Transfer}
 
@@ -40,9 +40,11 @@ number_count transfer = start (old_bits transfer) Pair + 2 ^ old_bits transfer
 
 -- the number is to be copied
 abbrev pub wants : Transfer → ℕ → Type 0
-wants transfer =
-    IsWanted (old_table transfer)
-    transfer.keep transfer.roots.root transfer.roots.low transfer.roots.high
+wants transfer = IsWanted transfer.plan (old_table transfer) transfer.root
+
+-- something is planned, so any number may be copied
+abbrev pub IsPlanned : Transfer → Type 0
+IsPlanned transfer = IsSomePlan transfer.plan
 
 -- the fresh words hold the copies that are noted, and nothing else; there is a note for each old
 -- leaf and pair
@@ -64,21 +66,6 @@ AreAllResultsKept transfer copies new = AreResultsKept transfer copies new (2 ^ 
 abbrev pub AreNextResultWords : Transfer → List ℕ → List ℕ → ℕ → Type 0
 AreNextResultWords transfer copies told from =
     AreResultWords (old_table transfer) copies told from 64
-
--- each leaf has a copy
-abbrev pub AreLeavesCopied : Transfer → Fresh → Type 0
-AreLeavesCopied transfer fresh =
-    AreCopied (old_words transfer) fresh.copies.items (start (old_bits transfer) Pair)
-
--- each leaf that has a mark has a copy
-abbrev pub AreMarkedLeavesCopied : Transfer → List ℕ → Fresh → Type 0
-AreMarkedLeavesCopied transfer marks fresh =
-    AreCopied (slice_index marks) fresh.copies.items (start (old_bits transfer) Pair)
-
--- the number shows a pair of this rank in the old words
-pub record IsOldPair (transfer : Transfer) (rank pair : ℕ) : Type 0 where
-  pub slot : IsSlot (old_bits transfer) Pair pair
-  pub block : IsBlockIn (old_table transfer) rank pair
 
 -- this is the word that the copy of the number has
 abbrev pub IsWordNeeded : Transfer → List ℕ → Kind → ℕ → ℕ → Type 0

@@ -1,11 +1,9 @@
 //! What a copy into fresh words keeps.
 
-/// What a copy into fresh words keeps, with all that it reaches.
+/// What a copy into fresh words keeps beside the root, with all that it reaches.
 #[derive(Clone, Copy)]
 pub enum Keep {
-    /// The square of the root.
-    CellsAlone,
-    /// That, small squares and halves, and large ones that have results, with these results.
+    /// Small squares and halves, and large ones that have results, with these results.
     Collected(Shares),
     /// All squares and results.
     Everything,

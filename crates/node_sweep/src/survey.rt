@@ -1,17 +1,25 @@
 //! How many pairs and results of each rank there are, which says what a collection keeps.
 
-ghost use Rattle.std.specs.Prelude.{◌≡◌, ◌^◌, IfOk, length};
+use crate::keep::Shares;
+use table_core::LARGEST_RANK;
 
-use crate::keep::{Keep, Shares};
-use crate::transfer::{OldWords, RootSet};
-use std::alloc::{AllocError, Global};
-use table_core::{Kind, LARGEST_RANK};
+/// No rank is as high.
+pub(crate) const RANK_COUNT: usize = 256;
 
-// How many pairs of each rank there are, and how many of them have results.
+/// Of which ranks a collection keeps pairs, beside those that the root reaches.
 #[derive(Clone, Copy)]
-struct RankCounts {
-    pairs: [u32; 256],
-    results: [u32; 256],
+pub(crate) struct KeptRanks {
+    /// Each pair of at most this rank.
+    pub(crate) low: u8,
+    /// Each pair of at least this rank that has a result, and that result.
+    pub(crate) high: u8,
+}
+
+/// How many pairs of each rank there are, and how many of them have results.
+#[derive(Clone, Copy)]
+pub(crate) struct RankCounts {
+    pub(crate) pairs: [u32; RANK_COUNT],
+    results: [u32; RANK_COUNT],
 }
 
 /// How many squares of each size had results when words were collected, and from which size on all
@@ -19,19 +27,8 @@ struct RankCounts {
 /// another collection is worth its time.
 #[derive(Clone, Copy)]
 pub struct Finished {
-    results: [u32; 256],
+    results: [u32; RANK_COUNT],
     high: u8,
-}
-
-/// What is to be known of old words before they are copied.
-#[derive(Drop)]
-pub(crate) struct Survey {
-    /// From where all that is reached is kept.
-    pub(crate) roots: RootSet,
-    /// The rank of each pair, unless only the cells are kept.
-    pub(crate) ranks: Vec<u8>,
-    /// What is finished, if that was counted.
-    pub(crate) finished: Option<Finished>,
 }
 
 // One in so many of them; all of them, for 0.
@@ -39,73 +36,41 @@ fn share(slots: u32, one_in: u32) -> u32 {
     slots / one_in.max(1)
 }
 
-impl OldWords<'_> {
-    ghost use Rattle.node_sweep.specs.OldWords.{IsSurveyed, bits_in};
-
-    /// What is to be known before this is kept of a root in so many pair slots.
-    pub(crate) fn survey(
-        &self,
-        alloc: Global,
-        keep: Keep,
-        root: u32,
-        slots: u32,
-    ) -> Result<Survey, AllocError>
-        ensures { IfOk result (IsSurveyed self.now keep root) }
-    {
-        let mut roots = RootSet {
-            root,
-            low: 0,
-            high: 0,
-        };
-        let mut ranks = Vec::new(alloc);
-        let mut finished = None;
-        match keep {
-            Keep::CellsAlone => {}
-            Keep::Collected(shares) => {
-                ranks = self.ranks(alloc)?;
-                let counts = self.rank_counts(ranks.as_slice());
-                roots = counts.roots(root, slots, shares);
-                finished = Some(counts.into_finished(roots));
-            }
-            Keep::Everything => ranks = self.ranks(alloc)?,
-        }
-        Ok(Survey {
-            roots,
-            ranks,
-            finished,
-        })
-    }
-
-    // Counts the pairs of which these are the ranks.
-    fn rank_counts(&self, ranks: &[u8]) -> RankCounts
-        requires { length ranks.now ≡ 2 ^ bits_in self.now }
-    {
-        let mut pairs = [0u32; 256];
-        let mut results = [0u32; 256];
-        for slot in 0..self.key.shape.slot_count(Kind::Pair) {
-            let rank = ranks[slot as usize] as usize;
-            pairs[rank] = pairs[rank].saturating_add(1);
-            let pair = self.key.shape.index(Kind::Pair, slot);
-            if self.result_beside(pair) != 0 {
-                results[rank] = results[rank].saturating_add(1);
-            }
-        }
-        RankCounts { pairs, results }
-    }
-}
-
 impl RankCounts {
-    // What a collection of so many pair slots keeps.
-    fn roots(&self, root: u32, slots: u32, shares: Shares) -> RootSet
-        ensures { result.root ≡ root }
-    {
+    /// Of no pair.
+    pub(crate) fn new() -> RankCounts {
+        RankCounts {
+            pairs: [0; RANK_COUNT],
+            results: [0; RANK_COUNT],
+        }
+    }
+
+    /// Counts a pair of this rank.
+    pub(crate) fn count(&mut self, rank: u8, has_result: bool) {
+        let rank = usize::from(rank);
+        self.pairs[rank] = self.pairs[rank].saturating_add(1);
+        if has_result {
+            self.results[rank] = self.results[rank].saturating_add(1);
+        }
+    }
+
+    /// Counts what was counted elsewhere too.
+    pub(crate) fn add(&mut self, others: &RankCounts) {
+        for rank in 0..RANK_COUNT {
+            self.pairs[rank] = self.pairs[rank].saturating_add(others.pairs[rank]);
+            self.results[rank] = self.results[rank].saturating_add(others.results[rank]);
+        }
+    }
+
+    /// What a collection into so many pair slots keeps.
+    pub(crate) fn kept_ranks(&self, slots: u32, shares: Shares) -> KeptRanks {
         let low = if self.pairs[1] > share(slots, shares.leaves) {
             0
         } else {
             self.low(u64::from(share(slots, shares.small)))
         };
         let high = self.high(u64::from(share(slots, shares.large)));
-        RootSet { root, low, high }
+        KeptRanks { low, high }
     }
 
     // The highest rank up to which there are at most so many pairs.
@@ -132,12 +97,12 @@ impl RankCounts {
         1
     }
 
-    // What was finished before a collection that keeps these.
-    fn into_finished(self, roots: RootSet) -> Finished {
+    /// What was finished before a collection that keeps these.
+    pub(crate) fn into_finished(self, kept: KeptRanks) -> Finished {
         let results = self.results;
         Finished {
             results,
-            high: roots.high,
+            high: kept.high,
         }
     }
 }

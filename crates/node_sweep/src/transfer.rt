@@ -4,20 +4,9 @@ ghost use Rattle.std.specs.Prelude.{◌≡◌};
 ghost use Rattle.table_core.specs.Good.{AreGoodWords};
 ghost use Rattle.table_core.proofs.GoodWords.{good_prop};
 
-use crate::keep::Keep;
+use crate::plan::CopyPlan;
 use node_table::Held;
 use table_core::Key;
-
-/// From where all that is reached is kept: the root, and in a collection pairs of these ranks too.
-#[derive(Clone, Copy)]
-pub(crate) struct RootSet {
-    /// The number of the root.
-    pub(crate) root: u32,
-    /// A collection keeps each pair of at most this rank.
-    pub(crate) low: u8,
-    /// It keeps each pair of at least this rank that has a result, and that result.
-    pub(crate) high: u8,
-}
 
 /// Words that are copied from.
 #[derive(Clone, Copy)]
@@ -34,10 +23,10 @@ pub(crate) struct OldWords<'a> {
 pub(crate) struct Transfer<'a> {
     /// The words that are copied from.
     pub(crate) old: OldWords<'a>,
-    /// What is copied.
-    pub(crate) keep: Keep,
-    /// Where the copy begins.
-    pub(crate) roots: RootSet,
+    /// The number of the root, which is copied with all that it reaches.
+    pub(crate) root: u32,
+    /// What is copied before it, if anything is.
+    pub(crate) plan: Option<&'a CopyPlan>,
     /// The head of the fresh words.
     pub(crate) to: Key,
     ghost same_rule: { to.rule ≡ old.key.now.rule },

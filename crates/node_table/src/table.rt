@@ -1,5 +1,5 @@
 //! A running table: opened over words, closed to words, and its desks, split and joined.
-ghost use Rattle.std.specs.Prelude.{◌≡◌, ◌+◌, min, IfOk, IfErr, IfSome};
+ghost use Rattle.std.specs.Prelude.{◌≡◌, ◌<◌, ◌+◌, min, IfOk, IfErr, IfSome};
 ghost use Rattle.table_core.specs.Layout.{size};
 
 use crate::at::At;
@@ -36,6 +36,13 @@ impl NodeTable {
         ensures { result.now ≡ self.now.key }
     {
         &self.key
+    }
+
+    /// A word as it stands now. No clause says which it is, since threads may change it meanwhile.
+    pub fn peek(&self, index: usize) -> u64
+        requires { index < size self.now.key.shape.bits }
+    {
+        self.table.shared.peek(index)
     }
 
     /// A running table of these words, and of no others, under a rule and an exponent, and its

@@ -2,6 +2,7 @@ pub mod Advances
 pub mod Cells
 pub mod Held
 pub mod Outcomes
+pub mod Planning
 pub mod Ranges
 pub mod Readers
 pub mod Rests

@@ -20,10 +20,9 @@ pub(crate) enum Attempt {
 }
 
 impl Universe {
-    ghost use Rattle.universe.specs.Cells.{limit_of};
+    ghost use Rattle.universe.specs.Cells.{exponent_of, limit_of};
     ghost use Rattle.table_growth.specs.Retries.{IsWithinLimit};
-    ghost use Rattle.universe.specs.Runs.{IsAttempt, IsFullAtLimit, IsFullInPlace, MayStep};
-    ghost use Rattle.node_sweep.specs.declared.keep.Keep.TheVariants.{CellsAlone};
+    ghost use Rattle.universe.specs.Runs.{IsAtExponent, IsAttempt, IsFullAtLimit, IsFullInPlace, MayStep};
 
     /// Takes one step of the cells at their table, or, where that is full, at new ones, as the plan
     /// says.
@@ -71,11 +70,13 @@ impl Universe {
         let limit = self.others.limit;
         let own = self.here.table.key().shape;
         match retry {
-            Retry::Swept => self.step_in(team, own, Keep::CellsAlone),
+            Retry::Swept => self.step_swept(team, own),
             Retry::Enlarged(shape) => self.step_enlarged(team, shape),
-            Retry::Restarted(shape) => self.step_in(team, shape, Keep::CellsAlone),
-            Retry::Collected(_) => self.step_in(team, limit, Keep::Collected(COLLECTION_SHARES)),
-            Retry::CellsAlone => self.step_in(team, limit, Keep::CellsAlone),
+            Retry::Restarted(shape) => self.step_swept(team, shape),
+            Retry::Collected(_) => {
+                self.step_copied(team, limit, Keep::Collected(COLLECTION_SHARES))
+            }
+            Retry::CellsAlone => self.step_swept(team, limit),
         }
     }
 
@@ -90,14 +91,14 @@ impl Universe {
         requires shape { 2 ^ shape.bits ≤ limit_of self }
         ensures { IfOk result (IsAttempt self) }
     {
-        let start = match self.step_in(team, shape, Keep::Everything)? {
+        let start = match self.step_copied(team, shape, Keep::Everything)? {
             Attempt::Full(start) => start,
             done => return Ok(done),
         };
         if start.here.pair_count() == pair_count(shape) {
             return Ok(Attempt::Full(start));
         }
-        start.step_in(team, shape, Keep::Everything)
+        start.step_copied(team, shape, Keep::Everything)
     }
 
     // Takes one step at the table of the cells.
@@ -121,29 +122,26 @@ impl Universe {
         }
     }
 
-    // Takes one step at a new table of this shape, or of a smaller one, if it has room for what is
-    // kept.
-    fn step_in<R: Threads + Sync, G: Gate>(
+    // Takes one step at a new table of this shape with only the cells, if it has room for them.
+    fn step_swept<R: Threads + Sync, G: Gate>(
         self,
         team: &Team<'_, R, G>,
         shape: Shape,
-        keep: Keep,
     ) -> Result<Attempt, AllocError>
         requires step { MayStep self }
         requires shape { 2 ^ shape.bits ≤ limit_of self }
         ensures ok { IfOk result (IsAttempt self) }
-        ensures full { keep ≡ CellsAlone → 2 ^ shape.bits ≡ limit_of self
-            → IfOk result IsFullAtLimit }
+        ensures full { 2 ^ shape.bits ≡ limit_of self → IfOk result IsFullAtLimit }
     {
         let mut others = self.others;
         let exponent = self.here.table.key().exponent;
         let history = self.here.history;
         let start = self.here.close(self.root);
-        let shape = start.shape_for(team.alloc, shape, keep)?;
         others.make_room(pair_count(shape));
-        match start.copy(team, shape, keep, history)? {
-            Some((fresh, history)) => {
+        match start.sweep(team.alloc, shape)? {
+            Some(fresh) => {
                 drop(start);
+                let history = history.for_new_table(shape.bits);
                 let universe = fresh.open_at(team.alloc, exponent, history, others)?;
                 universe.step_here(team)
             }
@@ -153,5 +151,48 @@ impl Universe {
                 Ok(Attempt::Full(universe))
             }
         }
+    }
+
+    // Takes one step at a new table of this shape, or of a smaller one, if it has room for what is
+    // kept.
+    fn step_copied<R: Threads + Sync, G: Gate>(
+        self,
+        team: &Team<'_, R, G>,
+        shape: Shape,
+        keep: Keep,
+    ) -> Result<Attempt, AllocError>
+        requires step { MayStep self }
+        requires shape { 2 ^ shape.bits ≤ limit_of self }
+        ensures { IfOk result (IsAttempt self) }
+    {
+        let Some(planned) = self.here.plan(team, self.root, shape, keep)? else {
+            return Ok(Attempt::Full(self.without_collections()));
+        };
+        let mut others = self.others;
+        let exponent = self.here.table.key().exponent;
+        let old = self.here.history;
+        let new = planned.history(old);
+        let start = self.here.close(self.root);
+        others.make_room(pair_count(planned.shape));
+        match start.copy(team.alloc, planned)? {
+            Some(fresh) => {
+                drop(start);
+                let universe = fresh.open_at(team.alloc, exponent, new, others)?;
+                universe.step_here(team)
+            }
+            None => {
+                let history = old.without_collections();
+                let universe = start.open_at(team.alloc, exponent, history, others)?;
+                Ok(Attempt::Full(universe))
+            }
+        }
+    }
+
+    // The universe, from whose table nothing more is collected before the next step.
+    fn without_collections(mut self) -> Universe
+        ensures { IsAtExponent (exponent_of self) self result }
+    {
+        self.here.history = self.here.history.without_collections();
+        self
     }
 }

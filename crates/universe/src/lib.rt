@@ -7,6 +7,7 @@ mod building;
 mod digits;
 mod exponents;
 mod other_tables;
+mod planned;
 mod ranges;
 mod refusals;
 mod resting;

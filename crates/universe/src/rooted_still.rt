@@ -1,29 +1,24 @@
 //! Live cells as a square in the words of a closed table.
 
-ghost use Rattle.std.specs.Prelude.{◌≡◌, ◌<◌, ◌≤◌, ◌+◌, ◌^◌, IfErr, IfOk, IsOkUnless};
+ghost use Rattle.std.specs.Prelude.{◌≡◌, ◌<◌, ◌≤◌, ◌+◌, ◌^◌, IfOk, IsOkUnless};
 ghost use Rattle.node_table.specs.Stills.{book_in, key_of};
-ghost use Rattle.node_sweep.specs.CopiedStills.{CopiesStill, HasNoRoomToKeep};
-ghost use Rattle.node_sweep.specs.Copies.{SaysFull};
-ghost use Rattle.squares.specs.Book.{IsKnown, LacksMemoryOr};
+ghost use Rattle.node_sweep.specs.Blank.{AreBlank};
+ghost use Rattle.squares.specs.Book.{IsKnown};
 ghost use Rattle.viewport.specs.BoundingBox.{HasBounds};
 
 use crate::other_tables::OtherTables;
+use crate::planned::Planned;
 use crate::refusals::unless_full;
 use crate::tables::OpenTable;
 use crate::universe::Universe;
-use node_sweep::{Copied, Keep, copy, copy_beside, has_come_far, sweep};
+use node_sweep::{copy, sweep};
 use node_table::{Held, Still};
 use plane::{Bounds, Refusal};
 use squares::Sq;
 use std::alloc::{AllocError, Global};
-use std::thread::Threads;
 use table_core::{Kind, Shape};
-use table_growth::{GrowthFactor, TableHistory, larger, shape_between, smallest};
+use table_growth::{GrowthFactor, TableHistory, larger, smallest};
 use viewport::bounds;
-use worker_split::Team;
-
-// From how many pair slots on two workers share the work of a copy: one makes the new words.
-const SHARED_COPY_PAIRS: u32 = 1 << 22;
 
 /// Live cells in the range, as a square in the words of a closed table. The square's centre is the
 /// corner (0,0).
@@ -40,7 +35,6 @@ impl RootedStill {
     ghost use Rattle.universe.specs.Outcomes.{IfMade, IfNoRoom};
     ghost use Rattle.universe.specs.Stills.{HasNoRoomToSweep, IsCompacted, IsCopied, IsOpenedAt, IsSweptFrom};
     ghost use Rattle.universe.specs.Sums.{pair_sum};
-    ghost use Rattle.node_sweep.specs.declared.keep.Keep.TheVariants.{CellsAlone};
 
     /// The words.
     pub fn still(&self) -> &Still
@@ -84,79 +78,21 @@ impl RootedStill {
         Ok(Universe { here, root, others })
     }
 
-    /// The cells in new words of this shape, and the history of a table of these. `None` where they
-    /// have no room for what is kept, or where nothing was finished since the last collection.
-    pub(crate) fn copy<R: Threads, G>(
-        &self,
-        team: &Team<'_, R, G>,
-        shape: Shape,
-        keep: Keep,
-        history: TableHistory,
-    ) -> Result<Option<(RootedStill, TableHistory)>, AllocError>
-        ensures ok { IfMade result (λ fresh. IsCopied self.now (2 ^ shape.bits) fresh.0) }
-        ensures alone { keep ≡ CellsAlone
-            → IfMade result (λ fresh. IsSweptFrom self.now (2 ^ shape.bits) fresh.0) }
-        ensures full { keep ≡ CellsAlone
-            → IfNoRoom result (HasNoRoomToSweep self.now (2 ^ shape.bits)) }
-    {
-        if let Keep::CellsAlone = keep {
-            let made = self.sweep(team.alloc, shape)?;
-            return Ok(made.map(|fresh| (fresh, history.for_new_table(shape.bits))));
-        }
-        let made = self.copy_by(team, shape, keep);
-        let Some(copied) = unless_full(made)? else {
-            return Ok(None);
-        };
-        let history = match copied.finished {
-            None => history.for_new_table(shape.bits),
-            Some(finished) => {
-                if !history.has_finished_more(&finished) {
-                    return Ok(None);
-                }
-                history.for_collected_table(shape.bits, finished)
-            }
-        };
-        let (still, root) = (copied.still, copied.root);
-        Ok(Some((RootedStill { still, root }, history)))
-    }
-
-    /// The shape of the new words that this is kept in, where they may have the given shape: a
-    /// smaller one, if all is kept in far more words of a step that has come far.
-    pub(crate) fn shape_for(
+    /// What was planned, in blank words. `None` where they have no room for it.
+    pub(crate) fn copy(
         &self,
         alloc: Global,
-        shape: Shape,
-        keep: Keep,
-    ) -> Result<Shape, AllocError>
-        ensures within { IfOk result (λ chosen. chosen.bits ≤ shape.bits) }
-        ensures same { keep ≡ CellsAlone → IfOk result (λ chosen. chosen ≡ shape) }
+        planned: Planned,
+    ) -> Result<Option<RootedStill>, AllocError>
+        requires { AreBlank (key_of (still_of self.now)) (2 ^ planned.shape.bits) planned.blank }
+        ensures { IfMade result (IsCopied self.now (2 ^ planned.shape.bits)) }
     {
-        let Keep::Everything = keep else {
-            return Ok(shape);
-        };
-        match shape_between(self.still.key().shape, shape) {
-            Some(between) if has_come_far(alloc, &self.still)? => Ok(between),
-            _ => Ok(shape),
+        let Planned { plan, blank, .. } = planned;
+        let made = copy(alloc, &self.still, self.root, &plan, blank);
+        match unless_full(made)? {
+            Some((still, root)) => Ok(Some(RootedStill { still, root })),
+            None => Ok(None),
         }
-    }
-
-    // What is kept, in new words of this shape. If they are many, a second worker makes them.
-    fn copy_by<R: Threads, G>(
-        &self,
-        team: &Team<'_, R, G>,
-        shape: Shape,
-        keep: Keep,
-    ) -> Result<Copied, Refusal>
-        ensures ok { IfOk result (λ made. CopiesStill (still_of self.now) (root_of self.now) keep
-            (2 ^ shape.bits) made.still made.root) }
-        ensures refusal { IfErr result (LacksMemoryOr (SaysFull
-            (HasNoRoomToKeep (still_of self.now) (root_of self.now) keep (2 ^ shape.bits)))) }
-    {
-        let (alloc, pairs) = (team.alloc, shape.slot_count(Kind::Pair));
-        if team.workers == 1 || pairs < SHARED_COPY_PAIRS {
-            return copy(alloc, &self.still, self.root, keep, pairs);
-        }
-        copy_beside(team.runtime, alloc, &self.still, self.root, keep, pairs)
     }
 
     /// Only the cells, in as few words as have room for them, or else all of the old words.
@@ -209,8 +145,12 @@ impl RootedStill {
         })
     }
 
-    // Only the cells, in new words of this shape, if these have room for them.
-    fn sweep(&self, alloc: Global, shape: Shape) -> Result<Option<RootedStill>, AllocError>
+    /// Only the cells, in new words of this shape, if these have room for them.
+    pub(crate) fn sweep(
+        &self,
+        alloc: Global,
+        shape: Shape,
+    ) -> Result<Option<RootedStill>, AllocError>
         ensures ok { IfMade result (IsSweptFrom self.now (2 ^ shape.bits)) }
         ensures full { IfNoRoom result (HasNoRoomToSweep self.now (2 ^ shape.bits)) }
     {

@@ -34,7 +34,7 @@ impl Universe {
         if exponent > table {
             return self.step_by_halves(team, exponent, table);
         }
-        let there = self.at_exponent(team.alloc, exponent)?;
+        let there = self.at_exponent(team, exponent)?;
         match there.step_with_growth(team)? {
             Attempt::Done(later) => Ok(Advance::Done(later)),
             Attempt::Full(there) if exponent == 0 => Ok(Advance::Stuck { there, done: 0 }),

@@ -11,6 +11,7 @@ ghost use Rattle.universe.specs.Outcomes.{IfMade, LacksMemoryOrRoom};
 ghost use Rattle.universe.specs.Readers.{IsReader};
 ghost use Rattle.worker_split.specs.Jobs.{Refuses};
 
+use crate::planned::Planned;
 use crate::refusals::unless_full;
 use crate::rooted_still::RootedStill;
 use node_sweep::{Keep, copy};
@@ -83,26 +84,27 @@ impl OpenTable {
         OpenTable::of_words(alloc, still, rule, exponent, history)
     }
 
-    /// A table of this shape with all squares and results of this one, if it has room for them.
-    pub(crate) fn enlarge(
+    /// A table of this shape with the squares and results of this one, if it has room for them.
+    pub(crate) fn enlarge<R: Threads + Sync, G>(
         self,
-        alloc: Global,
+        team: &Team<'_, R, G>,
         shape: Shape,
     ) -> Result<Option<OpenTable>, AllocError>
         ensures under { IfMade result (IsTableUnder (key_at self).rule (key_at self).exponent) }
         ensures pairs { IfMade result (HasPairs (2 ^ shape.bits)) }
     {
         let Key { rule, exponent, .. } = *self.table.key();
-        let still = self.table.close(self.desk);
-        let pairs = shape.slot_count(Kind::Pair);
         // All squares are copied, whichever is given as the root.
-        let made = copy(alloc, &still, Sq::empty(4), Keep::Everything, pairs);
-        let Some(larger) = unless_full(made)? else {
+        let root = Sq::empty(4);
+        let Planned { plan, blank, .. } = self.plan_in(team, root, shape, Keep::Everything)?;
+        let still = self.table.close(self.desk);
+        let made = copy(team.alloc, &still, root, &plan, blank);
+        let Some((larger, _)) = unless_full(made)? else {
             return Ok(None);
         };
         drop(still);
         let history = self.history.for_new_table(shape.bits);
-        let table = OpenTable::of_words(alloc, larger.still, &rule, exponent, history)?;
+        let table = OpenTable::of_words(team.alloc, larger, &rule, exponent, history)?;
         Ok(Some(table))
     }
 

@@ -2,6 +2,7 @@
 
 mod advances;
 mod collections;
+mod copies;
 mod few_words;
 mod glider;
 mod histories;

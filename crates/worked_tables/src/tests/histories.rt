@@ -1,7 +1,7 @@
 //! What a table remembers of its steps, and what it answers then. No clause says it, since no cell
 //! hangs on it.
 
-use crate::tests::sweeps::finished_after_step;
+use crate::tests::copies::finished_after_step;
 use std::test::Fail;
 use table_growth::TableHistory;
 

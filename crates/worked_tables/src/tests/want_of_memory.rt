@@ -10,15 +10,17 @@ ghost use Rattle.node_table.specs.Desks.{IsDeskOf};
 ghost use Rattle.node_table.specs.Stills.{book_in};
 ghost use Rattle.squares.specs.Book.{IsKnown};
 
-use crate::tests::glider::{glider_and_future, glider_and_result};
+use crate::tests::copies::{Copying, copied_from};
+use crate::tests::glider::{glider, glider_and_future, glider_and_result};
 use crate::tests::tables::{PAIRS, open_table};
-use node_sweep::{Keep, copy, sweep};
+use node_sweep::{Keep, sweep};
 use node_table::{Desk, NodeTable, Still};
 use plane::Refusal;
 use rule_text::Rule;
 use squares::Sq;
 use std::process::Abort;
 use std::test::Fail;
+use std::thread::Threads;
 use table_core::Shape;
 use table_growth::COLLECTION_SHARES;
 
@@ -86,15 +88,38 @@ fn words_come_back_for_want_of_memory(rt: HostRuntime) -> Result<(), Fail> {
 }
 
 // The fresh words, where there was memory for them.
-fn copied<R: Abort + Print>(rt: &R, first: Result<Still, Refusal>) -> Result<Option<Still>, Fail> {
+fn fresh<R: Abort + Print>(
+    rt: &R,
+    first: Result<(Still, Sq), Refusal>,
+) -> Result<Option<Still>, Fail> {
     match first {
-        Ok(copy) => Ok(Some(copy)),
+        Ok((copy, _)) => Ok(Some(copy)),
         Err(refusal) => {
             assert_eq!(rt; refusal, Refusal::NoMemory);
             println!(rt; "not copied")?;
             Ok(None)
         }
     }
+}
+
+// These words, and whether there was memory for a copy of a glider's square in them.
+fn copied_in_want<R: Abort + AllocGlobal + Print + Threads + Sync>(
+    rt: &R,
+    words: Still,
+    keep: Keep,
+) -> Result<(Still, bool), Fail> {
+    let (table, desk) = opened(rt, words, 2)?;
+    let mut at = table.at(desk);
+    let found = glider(&mut at);
+    let desk = at.leave();
+    let copying = Copying {
+        keep,
+        pairs: PAIRS,
+        workers: 1,
+    };
+    let copied = copied_from(rt, table, desk, found?, copying)?;
+    let is_made = fresh(rt, copied.made)?.is_some();
+    Ok((copied.words, is_made))
 }
 
 #[test]
@@ -104,15 +129,11 @@ fn words_stay_for_want_of_memory(rt: HostRuntime) -> Result<(), Fail> {
     };
     let (words, sq, later) = words_with_future(&rt, still)?;
     assert!(rt; Shape::is_pair_count(PAIRS));
-    let swept = sweep(rt.alloc(), &words, sq, PAIRS).map(|made| made.0);
-    let swept = copied(&rt, swept)?;
-    let keep = Keep::Everything;
-    let enlarged = copy(rt.alloc(), &words, sq, keep, PAIRS).map(|made| made.still);
-    let enlarged = copied(&rt, enlarged)?;
-    let keep = Keep::Collected(COLLECTION_SHARES);
-    let collected = copy(rt.alloc(), &words, sq, keep, PAIRS).map(|made| made.still);
-    let collected = copied(&rt, collected)?;
-    assert!(rt; swept.is_some() || enlarged.is_some() || collected.is_some());
+    let swept = fresh(&rt, sweep(rt.alloc(), &words, sq, PAIRS))?;
+    let (words, is_enlarged) = copied_in_want(&rt, words, Keep::Everything)?;
+    let collected = Keep::Collected(COLLECTION_SHARES);
+    let (words, is_collected) = copied_in_want(&rt, words, collected)?;
+    assert!(rt; swept.is_some() || is_enlarged || is_collected);
     let (table, desk) = opened(&rt, words, 2)?;
     assert_eq!(rt; glider_and_result(&mut table.at(desk))?, (sq, Some(later)));
     Ok(())

@@ -1,22 +1,17 @@
-use Rattle.std.proofs.Common.{subst, inl, refl}
-use Rattle.table_core.specs.declared.key.Key.{Key}
-use Rattle.node_sweep.specs.CopiedStills.{IsResized}
-use Rattle.node_sweep.proofs.Transferred.{all_copied, none_copied, root_there}
-use Rattle.plane.proofs.SentErrors.{sent_on}
-use Rattle.plane.specs.declared.refusal.Refusal.TheVariants.{NoMemory}
+use Rattle.std.proofs.Common.{refl}
+use Rattle.node_sweep.proofs.Transferred.{block_as, copied_or_full}
 use Rattle.node_sweep.proofs.stills.copy.Goals as goal
 
-pub fill-requires-clause-block : goal.fill-requires-clause-block
-fill-requires-clause-block c = root_there c.args.still.now c.args.root c.args.keep c.args.pairs c.resize-to.result c.in_ok-prepared.prepared.transfer c.requires.known (subst (λ (k : Key). IsResized k c.resize-to.result c.args.pairs) c.key.ensures c.resize-to.ensures) c.in_ok-prepared.ensures.transfer
+pub copied-requires-clause-block : goal.copied-requires-clause-block
+copied-requires-clause-block c =
+    block_as c.args.still.now c.args.root c.of_still.result.key.now c.of_still.result.words.now c.args.root.num.0 c.requires.known c.of_still.ensures.key c.of_still.ensures.words refl
 
 pub returns-clause-ok : goal.returns-clause-ok
-returns-clause-ok c = all_copied c.args.still.now c.args.root c.args.keep c.args.pairs c.resize-to.result c.in_ok-prepared.prepared.transfer c.requires.known (subst (λ (k : Key). IsResized k c.resize-to.result c.args.pairs) c.key.ensures c.resize-to.ensures) c.in_ok-prepared.ensures.transfer c.fill.result c.fill.ensures.ok
+returns-clause-ok c =
+    (copied_or_full c.args.still.now c.args.root _ c.copied.result c.copied.ensures.ok c.copied.ensures.refusal c.requires.known c.requires.blank.resized
+    (record { key = c.of_still.ensures.key; words = c.of_still.ensures.words; same_root = refl }) (tt {0})).0
 
 pub returns-clause-refusal : goal.returns-clause-refusal
-returns-clause-refusal c = none_copied c.args.still.now c.args.root c.args.keep c.args.pairs c.resize-to.result c.in_ok-prepared.prepared.transfer c.requires.known (subst (λ (k : Key). IsResized k c.resize-to.result c.args.pairs) c.key.ensures c.resize-to.ensures) c.in_ok-prepared.ensures.transfer c.fill.result c.fill.ensures.refusal
-
-pub returns-in_err-prepared-clause-refusal : goal.returns-in_err-prepared-clause-refusal
-returns-in_err-prepared-clause-refusal c = sent_on _ c.from_residual.result NoMemory c.from_residual.ensures.1 (inl refl)
-
-pub returns-in_err-words-clause-refusal : goal.returns-in_err-words-clause-refusal
-returns-in_err-words-clause-refusal c = sent_on _ c.from_residual-in_err-words.result NoMemory c.from_residual-in_err-words.ensures.1 (inl refl)
+returns-clause-refusal c =
+    (copied_or_full c.args.still.now c.args.root _ c.copied.result c.copied.ensures.ok c.copied.ensures.refusal c.requires.known c.requires.blank.resized
+    (record { key = c.of_still.ensures.key; words = c.of_still.ensures.words; same_root = refl }) (tt {0})).1

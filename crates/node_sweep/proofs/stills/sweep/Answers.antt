@@ -1,28 +1,27 @@
-use Rattle.std.proofs.Common.{◌≡◌, ◌⊎◌}
-use Rattle.plane.specs.declared.refusal.Refusal.TheVariants.{NodesFull, NoMemory}
-use Rattle.node_sweep.specs.CopiedStills.{HasNoRoomFor, HasNoRoomToKeep}
-use Rattle.node_sweep.specs.declared.keep.Keep.TheVariants.{CellsAlone}
-use Rattle.node_sweep.proofs.Carried.{is_swept}
-use Rattle.plane.proofs.SentErrors.{sent_on}
-use Rattle.node_sweep.proofs.Transferred.{only_memory, refused_as, room_to_sweep}
+use Rattle.std.proofs.Common.{refl, subst}
+use Rattle.table_core.specs.declared.key.Key.{Key}
+use Rattle.node_sweep.specs.CopiedStills.{HasNoRoomFor, IsResized}
+use Rattle.node_sweep.proofs.Transferred.{block_as, only_memory, room_to_sweep, swept_or_full}
 use Rattle.node_sweep.proofs.stills.sweep.Goals as goal
 
-pub returns-in_err-swept-clause-refusal : goal.returns-in_err-swept-clause-refusal
-returns-in_err-swept-clause-refusal c =
-    let none = HasNoRoomToKeep c.args.still.now c.args.root CellsAlone c.args.pairs in
-    let refused = sent_on (λ refusal. (refusal ≡ NoMemory) ⊎ ((refusal ≡ NodesFull) × none))
-    c.from_residual.result c.in_err-swept.field-0.0 c.from_residual.ensures.1 c.in_err-swept.ensures.refusal in
-    refused_as none (HasNoRoomFor c.args.still.now c.args.root c.args.pairs) c.from_residual.result (λ full. full.full) refused
-
-pub returns-in_err-swept-clause-few : goal.returns-in_err-swept-clause-few
-returns-in_err-swept-clause-few c = λ few.
-    let none = HasNoRoomToKeep c.args.still.now c.args.root CellsAlone c.args.pairs in
-    let refused = sent_on (λ refusal. (refusal ≡ NoMemory) ⊎ ((refusal ≡ NodesFull) × none))
-    c.from_residual.result c.in_err-swept.field-0.0 c.from_residual.ensures.1 c.in_err-swept.ensures.refusal in
-    only_memory none c.from_residual.result (λ full. room_to_sweep c.args.still.now c.args.root c.args.pairs few full.full) refused
+pub copied-requires-clause-block : goal.copied-requires-clause-block
+copied-requires-clause-block c =
+    block_as c.args.still.now c.args.root c.of_still.result.key.now c.of_still.result.words.now c.args.root.num.0 c.requires.known c.of_still.ensures.key c.of_still.ensures.words refl
 
 pub returns-clause-ok : goal.returns-clause-ok
 returns-clause-ok c =
-    let made = c.in_ok-swept.swept in
-    let is = c.in_ok-swept.ensures.ok in
-    is_swept c.args.still.now made.still c.args.root made.root c.args.pairs is.all is.copied_root
+    let resized = subst (λ (k : Key). IsResized k c.in_ok-blank.blank.key c.args.pairs) c.key.ensures c.in_ok-blank.ensures.resized in
+    (swept_or_full c.args.still.now c.args.root c.args.pairs c.copied.result c.copied.ensures.ok (c.copied.ensures.reached refl) c.copied.ensures.refusal c.requires.known resized
+    (record { key = c.of_still.ensures.key; words = c.of_still.ensures.words; same_root = refl }) refl).0
+
+pub returns-clause-refusal : goal.returns-clause-refusal
+returns-clause-refusal c =
+    let resized = subst (λ (k : Key). IsResized k c.in_ok-blank.blank.key c.args.pairs) c.key.ensures c.in_ok-blank.ensures.resized in
+    (swept_or_full c.args.still.now c.args.root c.args.pairs c.copied.result c.copied.ensures.ok (c.copied.ensures.reached refl) c.copied.ensures.refusal c.requires.known resized
+    (record { key = c.of_still.ensures.key; words = c.of_still.ensures.words; same_root = refl }) refl).1
+
+pub returns-clause-few : goal.returns-clause-few
+returns-clause-few c = λ few.
+    let still = c.args.still.now in
+    let root = c.args.root in
+    only_memory (HasNoRoomFor still root c.args.pairs) c.copied.result (room_to_sweep still root c.args.pairs few) (returns-clause-refusal c)

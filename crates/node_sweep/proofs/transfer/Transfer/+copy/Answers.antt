@@ -48,7 +48,7 @@ copy-requires t c =
         c.requires.underway,
         (
           first_low old c.args.height n some high c.requires.block c.parts-first.result.0 first,
-          first_wanted old c.args.height n some high c.requires.block c.args.self.now.keep c.args.self.now.roots c.parts-first.result.0 first c.requires.wanted,
+          first_wanted old c.args.height n some high c.requires.block c.args.self.now.plan c.args.self.now.root c.parts-first.result.0 first c.requires.wanted,
         ),
       ),
     )
@@ -68,7 +68,7 @@ copy-requires-2 t c =
         c.copy.ensures.underway,
         (
           second_low old c.args.height n some high c.requires.block c.parts-first.result.1 second,
-          second_wanted old c.args.height n some high c.requires.block c.args.self.now.keep c.args.self.now.roots c.parts-first.result.1 second c.requires.wanted,
+          second_wanted old c.args.height n some high c.requires.block c.args.self.now.plan c.args.self.now.root c.parts-first.result.1 second c.requires.wanted,
         ),
       ),
     )

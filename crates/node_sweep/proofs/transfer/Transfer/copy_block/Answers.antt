@@ -10,4 +10,4 @@ look_ahead-requires-clause-good c = subst (λ (ws : List ℕ). AreGoodWords c.ar
 pub place_words-requires-clause-needed : goal.place_words-requires-clause-needed
 place_words-requires-clause-needed c =
     let paired = subst (λ (cs : List ℕ). ArePairedCopies c.args.self.now cs c.args.slots.now c.paired_copies.new.words (length c.args.slots.now)) c.as_slice.ensures.value c.paired_copies.ensures in
-    words_needed c.args.self.now c.args.fresh.now c.requires.underway c.args.below c.args.slots.now c.paired_copies.new.words c.requires.ready paired
+    words_needed c.args.self.now c.args.fresh.now c.requires.underway c.args.slots.now c.paired_copies.new.words paired

@@ -1,41 +1,44 @@
-use Rattle.std.proofs.Common.{◌≡◌, ◌≢◌, ◌⊎◌, ◌<◌, ◌∙◌, length, sym, inl, inr, ⊎_elim, arith, refl}
-use Rattle.std.specs.Prelude.{slice_index}
-use Rattle.std.proofs.lemmas.List.{get_or_default}
-use Rattle.table_core.proofs.Comparisons.{same_or_other}
-use Rattle.node_sweep.specs.Transfers.{old_table, wants}
-use Rattle.node_sweep.proofs.RootSets.{root_wanted}
-use Rattle.node_sweep.proofs.Futures.{block_below}
-use Rattle.node_sweep.proofs.Gathered.{all_copied, copy_noted}
-use Rattle.plane.proofs.SentErrors.{sent_on}
-use Rattle.plane.specs.declared.refusal.Refusal.TheVariants.{NoMemory}
+use Rattle.std.specs.Prelude.{◌^◌}
+use Rattle.node_sweep.specs.Copies.{has_note}
+use Rattle.node_sweep.specs.Transfers.{old_bits, old_table, wants}
+use Rattle.node_sweep.proofs.Gathered.{all_copied, copy_noted, note_there, noted_keeping, reached_copied}
+use Rattle.node_sweep.proofs.Recursing.{only_reached, root_wanted}
+use Rattle.node_sweep.proofs.Underway.{copy_there}
 use Rattle.node_sweep.proofs.transfer.Transfer.fill.Goals as goal
 
-pub index-number-requires : goal.index-number-requires
-index-number-requires c =
-    let transfer = c.args.self.now in
-    let low = block_below (old_table transfer) c.args.rank transfer.roots.root c.requires.block in
-    let long = c.copy_wanted.ensures.underway.long in
-    omega arith
+pub copy-requires-clause-wanted : goal.copy-requires-clause-wanted
+copy-requires-clause-wanted c = root_wanted c.args.self.now.plan (old_table c.args.self.now) c.args.self.now.root
+
+-- the root has a copy
+root_there : (c : goal.After-drop-with_results) → has_note c.copy.new.fresh.copies.items c.args.self.now.root
+root_there c = copy_there c.args.self.now c.copy.new.fresh c.copy.ensures.underway c.args.self.now.root c.in_ok-number.number c.args.rank c.in_ok-number.ensures.ok c.requires.block
 
 pub returns-clause-ok : goal.returns-clause-ok
 returns-clause-ok c =
     let transfer = c.args.self.now in
-    all_copied transfer.old.key.now transfer.to transfer.old.words.now (wants transfer) c.copy_wanted.new.fresh.copies.items c.with_results-words.result.words.items transfer.old.good.good
-    transfer.same_rule transfer.same_exponent c.with_results-words.ensures.kept c.in_ok-copy_wanted.ensures.copied.copied
+    let copies = c.copy.new.fresh.copies.items in
+    let new = c.with_results-words.result.words.items in
+    let noted = noted_keeping (old_table transfer) transfer.to (wants transfer) copies new (2 ^ old_bits transfer) c.with_results-words.ensures.kept in
+    record {
+      notes = copies;
+      has_root = root_there c;
+      all = all_copied transfer.old.key.now transfer.to transfer.old.words.now (has_note copies) copies new transfer.old.good.good transfer.same_rule transfer.same_exponent noted
+          (λ rank n block is some. note_there copies n is some);
+    }
+
+pub returns-clause-reached : goal.returns-clause-reached
+returns-clause-reached c = λ unplanned.
+    let transfer = c.args.self.now in
+    let old = old_table transfer in
+    let copies = c.copy.new.fresh.copies.items in
+    let new = c.with_results-words.result.words.items in
+    let kept = c.with_results-words.ensures.kept in
+    all_copied transfer.old.key.now transfer.to transfer.old.words.now (wants transfer) copies new transfer.old.good.good transfer.same_rule transfer.same_exponent kept
+    (λ rank n block is some. reached_copied transfer.old.key.now transfer.to transfer.old.words.now (wants transfer) copies new transfer.old.good.good transfer.same_rule transfer.same_exponent
+    (2 ^ old_bits transfer) kept c.args.rank transfer.root n c.requires.block (root_there c) (only_reached transfer.plan old transfer.root n unplanned is) some)
 
 pub returns-clause-root : goal.returns-clause-root
 returns-clause-root c =
     let transfer = c.args.self.now in
-    let copies = c.copy_wanted.new.fresh.copies.items in
-    let root = transfer.roots.root in
-    let low = block_below (old_table transfer) c.args.rank root c.requires.block in
-    let long = c.copy_wanted.ensures.underway.long in
-    let inside : root < length copies = omega arith in
-    let there : (root ≡ 0) ⊎ (slice_index copies root ≢ 0) = ⊎_elim (λ z. inl z)
-    (λ some. inr (c.in_ok-copy_wanted.ensures.copied.copied c.args.rank root c.requires.block (root_wanted (old_table transfer) transfer.keep transfer.roots) some))
-    (same_or_other root 0) in
-    copy_noted transfer.old.key.now transfer.to transfer.old.words.now (wants transfer) copies c.with_results-words.result.words.items transfer.old.good.good transfer.same_rule transfer.same_exponent
-    c.with_results-words.ensures.kept root c.index-number.result.now there (sym (c.index-number.ensures ∙ get_or_default copies root c.index-number.result.now 0 inside))
-
-pub returns-in_err-fresh-clause-refusal : goal.returns-in_err-fresh-clause-refusal
-returns-in_err-fresh-clause-refusal c = sent_on _ c.from_residual.result NoMemory c.from_residual.ensures.1 (inl refl)
+    copy_noted transfer.old.key.now transfer.to transfer.old.words.now (wants transfer) c.copy.new.fresh.copies.items c.with_results-words.result.words.items transfer.old.good.good
+    transfer.same_rule transfer.same_exponent c.with_results-words.ensures.kept transfer.root c.in_ok-number.number (root_there c) c.in_ok-number.ensures.ok.noted

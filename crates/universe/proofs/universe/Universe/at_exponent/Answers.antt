@@ -9,14 +9,14 @@ use Rattle.universe.proofs.Halves.{ok_then}
 use Rattle.universe.proofs.universe.Universe.at_exponent.Goals as goal
 
 pub open_at-requires : goal.open_at-requires
-open_at-requires c =
+open_at-requires g c =
     let fewer = c.in_ok-compacted.ensures.pairs in
     let here = ap (λ (k : Key). 2 ^ k.shape.bits) c.close.ensures.key in
     let all = c.in-Full.start.within in
     omega (arith, fewer, here, all)
 
 pub returns : goal.returns
-returns c =
+returns g c =
     let same = subst (λ (a : Attempt). ReachesExponent c.args.exponent c.args.self a) c.in-Full.is c.in_ok-there.ensures in
     ok_then (IsOpenedAt c.in_ok-compacted.compacted c.args.exponent c.in-Full.start.others) (IsAtExponent c.args.exponent c.args.self) c.open_at.result
     (λ universe is. record {
