@@ -14,6 +14,7 @@ mod pictures;
 mod plans;
 mod refused;
 mod rows;
+mod searches;
 mod sessions;
 mod sessions_in_want_of_memory;
 mod short_writes;

@@ -1,6 +1,6 @@
 //! Searches that are refused.
 
-use crate::tests::searched::{PAIRS, opened, searched};
+use crate::tests::searches::searched::{PAIRS, opened, searched};
 use period_search::{Candidates, Period};
 use plane::Refusal;
 use rule_text::Rule;

@@ -1,6 +1,6 @@
 //! Periods that are found, and patterns that have none.
 
-use crate::tests::searched::{PAIRS, opened, searched};
+use crate::tests::searches::searched::{PAIRS, opened, searched};
 use period_search::{Candidates, Period};
 use sample_patterns::{BLINKER, R_PENTOMINO};
 use std::process::Abort;

@@ -1,5 +1,0 @@
-//! Worked examples of periods.
-
-mod found;
-mod refused;
-mod searched;

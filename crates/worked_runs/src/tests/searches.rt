@@ -1,0 +1,5 @@
+//! Worked examples of the search for periods.
+
+mod found;
+mod refused;
+mod searched;
