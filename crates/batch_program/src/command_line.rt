@@ -17,11 +17,12 @@ pub const NAME: &str = "lifebatch";
 /// What the help says first.
 pub(crate) const ABOUT: &str = "A command-line HashLife for Golly pattern files.
 
-It reads an RLE or macrocell file and runs it for N generations. It reports the population of the first and the \
-last generation, and of those between if asked. It can draw part of the last generation and write its pattern.";
+It reads an RLE or macrocell file and runs it for N generations. It reports
+the population of the first and the last generation, and of those between if
+asked. It can draw part of the last generation and write its pattern.";
 
-const WINDOW: &str =
-    "Draw W by H cells from (X,Y) after the report (* live, . dead), as --window=-20,-15,40,30";
+const WINDOW: &str = "Draw W by H cells from (X,Y) after the report (* live,
+. dead), as --window=-20,-15,40,30";
 
 /// What the help says last.
 pub(crate) const EXAMPLES: &str = "Examples:
@@ -66,7 +67,7 @@ fn step_option<'a>(alloc: Global) -> Arg<'a>
         alloc,
         "stepsize",
         'i',
-        "Report every N generations; 0 reports the first and the last",
+        "Report every N generations; 0 reports the first and\nthe last",
     )
 }
 

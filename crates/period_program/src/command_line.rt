@@ -18,8 +18,9 @@ pub const NAME: &str = "lifeperiod";
 /// What the help says first.
 pub(crate) const ABOUT: &str = "Finds the period of a Golly pattern file.
 
-It reads an RLE or macrocell file, and says after how many generations the pattern is for the first time what it was, \
-and how far it has moved by then, to the right and down. A pattern without live cells has period 1.";
+It reads an RLE or macrocell file, and says after how many generations the
+pattern is for the first time what it was, and how far it has moved by then,
+to the right and down. A pattern without live cells has period 1.";
 
 /// What the help says last.
 pub(crate) const EXAMPLES: &str = "Examples:
@@ -30,7 +31,7 @@ pub(crate) const EXAMPLES: &str = "Examples:
   lifeperiod -m 1103 r-pentomino.rle
       find the period of what the pattern is after 1103 generations
   lifeperiod --multiple 2097152 demonoid.mc
-      find it, if 2097152 is a multiple of it; only divisors of 2097152 are tried
+      find it, if 2097152 is a multiple of it; only its divisors are tried
   lifeperiod --multiple 103079214841 --nodes 67108864 --workers 4 oscillator.mc
       the same in larger node tables, with four workers";
 
@@ -56,7 +57,7 @@ fn most_option<'a>(alloc: Global) -> Arg<'a>
         alloc,
         "most",
         "N",
-        "Try each number of generations from 1 to N, at most 4294967296 [default: 1000]",
+        "Try each number of generations from 1 to N, at most\n4294967296 [default: 1000]",
     )
     .value_parser(ValueParser::Unsigned(1, LARGEST_MOST))
 }

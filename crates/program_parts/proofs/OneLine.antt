@@ -1,5 +1,5 @@
 -- Texts without a line feed.
-use Rattle.std.proofs.Common.{◌≡◌, ◌≢◌, ℕ, zero, suc, ◌<◌, List, [], ◌∷◌, ◌++◌, Bor, Option, Some, false, refl, sym, subst, arith, codes}
+use Rattle.std.proofs.Common.{◌≡◌, ◌≢◌, ℕ, zero, suc, ◌<◌, List, [], ◌∷◌, ◌++◌, Bor, Option, Some, false, refl, sym, subst, arith}
 use Rattle.std.specs.Option.{option_map}
 use Rattle.std.specs.List.{All, slice_get}
 use Rattle.std.specs.Prelude.{slice_index_or}
@@ -48,7 +48,7 @@ trimmed bytes rest trim one = subst IsOneLine (sym trim.2) (All-take (λ byte. b
 pub none_in : IsOneLine []
 none_in = All-nil (λ byte. byte ≢ 10)
 
--- a text, a space and a line of another
-pub one_more : (text line : List ℕ) → IsOneLine text → IsOneLine line → IsOneLine (text ++ (codes " " ++ line))
-one_more text line first second =
-    All-append (λ byte. byte ≢ 10) text (codes " " ++ line) first (All-append (λ byte. byte ≢ 10) (codes " ") line (All-cons (λ byte. byte ≢ 10) 32 [] (λ is. cc) none_in) second)
+-- a text, a mark and a line of another
+pub one_more : (text mark line : List ℕ) → IsOneLine text → IsOneLine mark → IsOneLine line → IsOneLine (text ++ (mark ++ line))
+one_more text mark line first between second =
+    All-append (λ byte. byte ≢ 10) text (mark ++ line) first (All-append (λ byte. byte ≢ 10) mark line between second)

@@ -6,7 +6,7 @@ use Rattle.std.proofs.KnownBytes.{Appends-trans}
 use Rattle.plane.specs.Device.{AppendsBeginning, HasFailed, TellsFailure}
 use Rattle.plane.specs.SinkChange.{SinkChange, Fails}
 use Rattle.plane.specs.declared.refusal.Refusal.{Refusal}
-use Rattle.plane.proofs.Beginnings.{text_and_beginning}
+use Rattle.plane.proofs.Beginnings.{beginning_of_more, text_and_beginning}
 use Rattle.program_parts.specs.Messages.{IsTold}
 use Rattle.program_parts.proofs.OneLine.{IsOneLine, none_in, one_more}
 
@@ -32,12 +32,13 @@ module _ {E : Type 0} (messages : SinkChange E) (mid : E) (first : List ℕ) (to
 abbrev pub TakesLineBeginning : Option (List ℕ) → Option (List ℕ) → Type 0
 TakesLineBeginning old new = (why : List ℕ) × IsOneLine why × AppendsBeginning old new why
 
--- behind one line it took the beginning of a space
-pub space_begun : {old mid new : Option (List ℕ)} (before : List ℕ) → IsOneLine before → Appends old mid before → AppendsBeginning mid new (codes " ") → TakesLineBeginning old new
-space_begun before one took begun = (before ++ codes " ", one_more before [] one none_in, text_and_beginning before took begun)
+-- behind one line it took the beginning of a mark
+pub mark_begun : {old mid new : Option (List ℕ)} (before mark : List ℕ) → IsOneLine before → IsOneLine mark → Appends old mid before →
+    AppendsBeginning mid new mark → TakesLineBeginning old new
+mark_begun before mark one between took begun = (before ++ (mark ++ []), one_more before mark [] one between none_in, text_and_beginning before took (beginning_of_more [] begun))
 
--- or a space and the beginning of another line
-pub line_begun : {old new : Option (List ℕ)} (mid last : Option (List ℕ)) (before line : List ℕ) → IsOneLine before → IsOneLine line → Appends old mid before →
-    Appends mid last (codes " ") → AppendsBeginning last new line → TakesLineBeginning old new
-line_begun mid last before line one whole took space begun =
-    (before ++ (codes " " ++ line), one_more before line one whole, text_and_beginning before took (text_and_beginning (codes " ") space begun))
+-- or a mark and the beginning of another line
+pub line_begun : {old new : Option (List ℕ)} (mid last : Option (List ℕ)) (before mark line : List ℕ) → IsOneLine before → IsOneLine mark → IsOneLine line →
+    Appends old mid before → Appends mid last mark → AppendsBeginning last new line → TakesLineBeginning old new
+line_begun mid last before mark line one between whole took marked begun =
+    (before ++ (mark ++ line), one_more before mark line one between whole, text_and_beginning before took (text_and_beginning mark marked begun))

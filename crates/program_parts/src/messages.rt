@@ -12,7 +12,7 @@ ghost use Rattle.program_parts.specs.Messages.{HasNoWords, HasToldBadWords, HasT
 
 use crate::reason::WordsReason;
 use plane::{Fault, Refusal, Sink, TextLine, write_all};
-use std::alloc::Global;
+use std::alloc::{AllocError, Global};
 use std::io::{self, ErrorKind};
 
 // Room for a program's name of up to 32 bytes, two numbers of up to 40 digits, a name and the words
@@ -65,7 +65,7 @@ pub(crate) fn refused_status(refusal: Refusal) -> u8
     }
 }
 
-/// Says on one line that the words are bad, and why: the first paragraph of the reason's text.
+/// Says on one line that the words are bad, and why: the lines of the reason's text.
 pub(crate) fn tell_bad_words<E: Sink>(
     alloc: Global,
     messages: &mut E,
@@ -77,14 +77,34 @@ pub(crate) fn tell_bad_words<E: Sink>(
     ensures failure { TellsFailure
         (E.failure_count messages.old) (E.failure_count messages.new) result }
 {
-    match reason.to_string(alloc) {
+    match text_of(alloc, reason) {
         Ok(text) => tell_reason(messages, program, Some(text.as_str())),
         Err(_) => tell_reason(messages, program, None),
     }
 }
 
-/// Says on one line that the words are bad, and why: the first paragraph of a text, if there is
-/// one.
+// The reason's text. Where a word is no argument that begins as a negative number, the text also says
+// how an option gets such a value.
+fn text_of(alloc: Global, reason: &WordsReason) -> Result<String, AllocError> {
+    let mut text = reason.to_string(alloc)?;
+    if is_of_number(text.as_str()) {
+        text.push_str("A value that begins with - follows =, as --window=-1,-1,10,5\n")?;
+    }
+    Ok(text)
+}
+
+// Whether a text of the command line's parser is of a word as -1.
+fn is_of_number(text: &str) -> bool {
+    match text.strip_prefix("error: unexpected argument '-") {
+        Some(rest) => rest
+            .as_bytes()
+            .first()
+            .is_some_and(|byte| byte.is_ascii_digit()),
+        None => false,
+    }
+}
+
+/// Says on one line that the words are bad, and why: the lines of a text, if there is one.
 pub(crate) fn tell_reason<E: Sink>(
     messages: &mut E,
     program: &str,
@@ -98,14 +118,14 @@ pub(crate) fn tell_reason<E: Sink>(
     write_all(messages, program.as_bytes())?;
     write_all(messages, b": bad words:")?;
     if let Some(text) = reason {
-        tell_first_paragraph(messages, text)?;
+        tell_lines(messages, text)?;
     }
     write_all(messages, b"\n")
 }
 
-// Writes the lines of a text up to the first empty one, each behind a space. What it writes has no
-// line feed.
-fn tell_first_paragraph<E: Sink>(messages: &mut E, text: &str) -> Result<(), Refusal>
+// Writes the lines of a text, each behind a space, or behind a semicolon and a space where it begins
+// a paragraph. What it writes has no line feed.
+fn tell_lines<E: Sink>(messages: &mut E, text: &str) -> Result<(), Refusal>
     ensures told { OnOk result
         ((why : List ℕ) × All (λ byte. byte ≢ 10) why
         × Appends (E.taken messages.old) (E.taken messages.new) why) }
@@ -117,13 +137,17 @@ fn tell_first_paragraph<E: Sink>(messages: &mut E, text: &str) -> Result<(), Ref
 {
     let text = text.strip_prefix("error: ").unwrap_or(text);
     for line in text.lines() {
-        if line.is_empty() {
-            break;
-        }
-        write_all(messages, b" ")?;
+        write_all(messages, mark_before(line).as_bytes())?;
         write_all(messages, line.trim().as_bytes())?;
     }
     Ok(())
+}
+
+// An empty line ends a paragraph.
+fn mark_before(line: &str) -> &'static str
+    ensures one_line { All (λ byte. byte ≢ 10) result.now }
+{
+    if line.is_empty() { ";" } else { " " }
 }
 
 /// Says on one line why a program has no words, and answers its exit status: 2 where a word is not

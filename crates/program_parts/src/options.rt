@@ -66,7 +66,7 @@ pub fn node_option<'a>(alloc: Global) -> Arg<'a>
         alloc,
         "nodes",
         "N",
-        "Limit the node tables to N slots in total (18 bytes each), a power of two from 1024 to 268435456",
+        "Limit the node tables to N slots in total (18\nbytes each), a power of two from 1024 to\n268435456",
     )
     .value_parser(value_parser!(u64))
     .default_value("4194304")

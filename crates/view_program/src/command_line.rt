@@ -19,12 +19,14 @@ pub const NAME: &str = "lifeview";
 /// What the help says first.
 pub(crate) const ABOUT: &str = "Draws a Golly pattern file after N generations, as a PNG picture.
 
-It reads an RLE or macrocell file, runs it for N generations by HashLife, and draws the last generation: all live cells, \
-or the window that is asked for. Where there is no pixel for each cell, the shade of a pixel says how many cells of a \
-block live.";
+It reads an RLE or macrocell file, runs it for N generations by HashLife, and
+draws the last generation: all live cells, or the window that is asked for.
+Where there is no pixel for each cell, the shade of a pixel says how many
+cells of a block live.";
 
-const WINDOW: &str =
-    "Show W by H cells from (X,Y), as --window=-20,-15,40,30, and not the bounding box of the live cells";
+const WINDOW: &str = "Show W by H cells from (X,Y), as
+--window=-20,-15,40,30, and not the bounding box of
+the live cells";
 
 /// What the help says last.
 pub(crate) const EXAMPLES: &str = "Examples:
@@ -35,7 +37,7 @@ pub(crate) const EXAMPLES: &str = "Examples:
   lifeview -m 1103 --window=-20,-15,40,30 -o middle.png r-pentomino.rle
       draw 40 x 30 cells from (-20,-15)
   lifeview -m 1073741824 --size 4096 --workers 4 -o large.png breeder.mc
-      draw 2^30 generations of a breeder with at most 4096 pixels on a side, with four workers";
+      draw a breeder after 2^30 generations, with at most 4096 pixels on a side";
 
 /// The options, and FILE.
 pub(crate) fn options<'a>(alloc: Global) -> Result<Vec<Arg<'a>>, AllocError>
@@ -73,7 +75,7 @@ fn size_option<'a>(alloc: Global) -> Arg<'a>
         alloc,
         "size",
         "N",
-        "Draw at most N pixels on a side, from 16 to 4096",
+        "Draw at most N pixels on a side, from 16 to\n4096",
     )
     .value_parser(ValueParser::Unsigned(u64::from(SMALLEST_SIZE), u64::from(LARGEST_SIZE)))
     .default_value("1024")
