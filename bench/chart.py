@@ -58,7 +58,11 @@ def scale(axis: Axis, bottom: float, reference: str) -> list[str]:
     for tick in axis.ticks():
         lines += [upright(axis.x(tick), bottom, "#dddddd"), text(axis.x(tick), bottom + 18, f"{tick:g}", "middle")]
     one, y = axis.x(1), bottom + 38
-    sides = [text(one - 8, y, "faster \u2190", "end"), text(one, y, "|", "middle"), text(one + 8, y, "\u2192 slower (log scale)")]
+    sides = [
+        text(one - 8, y, "faster \u2190", "end"),
+        text(one, y, "|", "middle"),
+        text(one + 8, y, "\u2192 slower (log scale)"),
+    ]
     return [*lines, text(one, HEAD - 6, reference, "middle"), *sides]
 
 
@@ -70,7 +74,9 @@ def digits(ratio: float) -> str:
 def bar(axis: Axis, ratio: float, upper: float, fill: str) -> list[str]:
     """A bar from 1 to a ratio, and the ratio at its end."""
     one, end = axis.x(1), axis.x(ratio)
-    box = f'<rect x="{min(one, end):.1f}" y="{upper:.1f}" width="{abs(end - one):.1f}" height="{BAR - 1}" fill="{fill}"/>'
+    box = (
+        f'<rect x="{min(one, end):.1f}" y="{upper:.1f}" width="{abs(end - one):.1f}" height="{BAR - 1}" fill="{fill}"/>'
+    )
     place = (end + 4, "start") if ratio >= 1 else (end - 4, "end")
     return [box, text(place[0], upper + BAR - 3, digits(ratio), place[1])]
 
@@ -105,7 +111,8 @@ def svg(heading: str, reference: str, series: Sequence[str], groups: Sequence[Gr
     width = LABELS + PLOT + MARGIN
     return "\n".join(
         [
-            f'<svg xmlns="http://www.w3.org/2000/svg" width="{width}" height="{bottom + FOOT}" font-family="sans-serif" font-size="12">',
+            f'<svg xmlns="http://www.w3.org/2000/svg" width="{width}" height="{bottom + FOOT}"'
+            ' font-family="sans-serif" font-size="12">',
             '<rect width="100%" height="100%" fill="white"/>',
             text(LABELS, 18, heading),
             *legend(series),

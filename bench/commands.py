@@ -3,13 +3,14 @@ import argparse
 import pathlib
 import shutil
 
+from common.launcher import malloc_settings
 from common.program import PATTERNS, unpacked
 from rows import Row
 from soups import Soup
 from timing import Command
 
 # What ./lifebatch and ./lifeview ask of malloc.
-SETTINGS = {"GLIBC_TUNABLES": "glibc.malloc.hugetlb=1:glibc.malloc.mmap_threshold=1048576"}
+SETTINGS = malloc_settings()
 # QuickLife is ended after so many times the time of HashLife.
 PATIENCE = 8
 

@@ -1,5 +1,5 @@
 #!/usr/bin/env python3
-"""Times lifebatch beside Golly's bgolly, by HashLife and by QuickLife, compares their last populations, and prints a table.
+"""Times lifebatch beside Golly's bgolly, by HashLife and QuickLife, compares their last populations, prints a table.
 
     bench/compare.py                           the sets runs and steps, the best of three rounds, one worker
     bench/compare.py --workers 1 4             with one worker and with four
@@ -9,21 +9,23 @@
     bench/compare.py --set files               large files: the rows that read one, some of which write it again
     bench/compare.py --set files --lifeview    and the times of lifeview on these files, beside lifebatch
     bench/compare.py --set long                long runs, most of which fill the tables
-    bench/compare.py --set large-tables        four long runs that need more slots than the default, for --nodes and --golly-memory
+    bench/compare.py --set large-tables        long runs that need more slots, for --nodes and --golly-memory
     bench/compare.py --nodes 16777216          with another limit of the node tables than the default of lifebatch
     bench/compare.py --golly-memory 1024       with another limit of memory than the default of bgolly, in megabytes
     bench/compare.py --processors 2            on two processors
     bench/compare.py --aims                    with the aims in brackets
     bench/compare.py --json FILE --svg FILE    the table as JSON too, and the ratios as a bar chart
 
-In a round each program runs once, one after the other, so that load affects all equally. QuickLife runs where the file is RLE and no macrocell file is
-written, and is ended after eight times the time of HashLife. A ratio is the time of lifebatch divided by that of the faster of the two: below 1 lifebatch
-is faster. The chart divides all times by that of HashLife. "Memory" is the ratio of the peaks of memory of lifebatch and HashLife, where the latter takes
-30 MiB or more. "Serial", with more than one worker, is the part of the time in which one of them ran, if all ran in the rest of it:
-(w * clock - processor) / ((w - 1) * clock) for w workers, where clock is the time of the best run and processor its user and system time. Waiting counts
-as serial too, so it exceeds 100 % if the run waits for a processor. lifebatch runs with the setting of malloc that ./lifebatch gives it. --aims shows each
-ratio to HashLife with its aim, and an aim for the mean only if all rows have the same aims. A row differs if the programs report different populations, or
-if lifebatch or lifeview fails. The soups of the set files are the same in every run of this script; bgolly makes their macrocell files.
+In a round each program runs once, one after the other, so that load affects all equally. QuickLife runs where the file
+is RLE and no macrocell file is written, and is ended after eight times the time of HashLife. A ratio is the time of
+lifebatch divided by that of the faster of the two: below 1 lifebatch is faster. The chart divides all times by that of
+HashLife. "Memory" is the ratio of the peaks of memory of lifebatch and HashLife, where the latter takes 30 MiB or more.
+"Serial", with more than one worker, is the part of the time in which one of them ran, if all ran in the rest of it: (w
+* clock - processor) / ((w - 1) * clock) for w workers, where clock is the time of the best run and processor its user
+and system time. Waiting counts as serial too, so it exceeds 100 % if the run waits for a processor. lifebatch runs with
+the setting of malloc that ./lifebatch gives it. --aims shows each ratio to HashLife with its aim, and an aim for the
+mean only if all rows have the same aims. A row differs if the programs report different populations, or if lifebatch or
+lifeview fails. The soups of the set files are the same in every run of this script; bgolly makes their macrocell files.
 """
 import argparse
 import json
@@ -44,14 +46,19 @@ from rows import SETS, Row
 from timing import Found, best_of_rounds
 from views import View, print_views
 
-VIEW_IF_ASKED = Need(f"{BUILT_VIEW.name} (for --lifeview)", BUILT_VIEW.brings, lambda options: not options.lifeview or BUILT_VIEW.is_there(options))
+VIEW_IF_ASKED = Need(
+    f"{BUILT_VIEW.name} (for --lifeview)",
+    BUILT_VIEW.brings,
+    lambda options: not options.lifeview or BUILT_VIEW.is_there(options),
+)
 
 CHECK = Check(
     text=__doc__,
     needs=(BUILT, VIEW_IF_ASKED, BGOLLY),
-    takes="a minute for the sets runs and steps with one worker, and four minutes for a round of the set long, on a machine that does nothing else",
+    takes="a minute for the sets runs and steps with one worker, and four minutes for a round of the set long",
     replay="give the name of the row, or a part of it, to --rows.",
 )
+
 
 def result(name: str, row: Row, options: argparse.Namespace, folder: pathlib.Path) -> Result:
     """Runs a row of a set."""
@@ -123,9 +130,23 @@ def run_data(found: Found) -> dict:
 
 def row_data(found: Result, options: argparse.Namespace) -> dict:
     row = found.row
-    data = {"set": found.set, "pattern": row.name, "generations": row.generations, "step": row.step, "output": row.output}
-    data["lifebatch"] = {str(it): {**run_data(run), "ratio": found.ratio(it), "serial": found.serial(it)} for it, run in found.ours.items()}
-    data |= {"hashlife": run_data(found.hashlife), "quicklife": found.quicklife and run_data(found.quicklife), "memory_ratio": found.memory(), "last_population": found.population()}
+    data = {
+        "set": found.set,
+        "pattern": row.name,
+        "generations": row.generations,
+        "step": row.step,
+        "output": row.output,
+    }
+    data["lifebatch"] = {
+        str(it): {**run_data(run), "ratio": found.ratio(it), "serial": found.serial(it)}
+        for it, run in found.ours.items()
+    }
+    data |= {
+        "hashlife": run_data(found.hashlife),
+        "quicklife": found.quicklife and run_data(found.quicklife),
+        "memory_ratio": found.memory(),
+        "last_population": found.population(),
+    }
     if options.aims:
         data["aims"] = {"time": row.aim or found.aims.time, "memory": found.aims.memory}
     return data
@@ -155,7 +176,10 @@ def svg_text(results: Sequence[Result], options: argparse.Namespace) -> str:
     runs = {f"lifebatch, {said(workers)}": [it.ours.get(workers) for it in results] for workers in options.workers}
     runs["bgolly, QuickLife"] = [it.quicklife for it in results]
     series = {name: found for name, found in runs.items() if any(found)}
-    groups = [Group(it.row.label(), [it.to_hashlife(found[place]) for found in series.values()]) for place, it in enumerate(results)]
+    groups = [
+        Group(it.row.label(), [it.to_hashlife(found[place]) for found in series.values()])
+        for place, it in enumerate(results)
+    ]
     return svg("Time divided by that of bgolly's HashLife", "HashLife", list(series), groups)
 
 
@@ -193,13 +217,21 @@ def parsed() -> argparse.Namespace:
     parser = CHECK.parser()
     add_view(parser)
     parser.add_argument("--rounds", type=int, default=3, help="how many runs of each; the best counts (3)")
-    parser.add_argument("--set", nargs="+", choices=sorted(SETS), default=["runs", "steps"], help="which rows (runs steps)")
+    parser.add_argument(
+        "--set", nargs="+", choices=sorted(SETS), default=["runs", "steps"], help="which rows (runs steps)"
+    )
     parser.add_argument("--rows", nargs="+", default=[], help="only the rows with one of these texts in their names")
     parser.add_argument("--workers", type=int, nargs="+", default=[1], help="the numbers of workers (1)")
-    parser.add_argument("--nodes", type=int, metavar="N", help="limit the node tables of lifebatch to N slots in total (its default)")
-    parser.add_argument("--golly-memory", type=int, metavar="M", help="limit the memory of bgolly to M megabytes (its default)")
+    parser.add_argument(
+        "--nodes", type=int, metavar="N", help="limit the node tables of lifebatch to N slots in total (its default)"
+    )
+    parser.add_argument(
+        "--golly-memory", type=int, metavar="M", help="limit the memory of bgolly to M megabytes (its default)"
+    )
     parser.add_argument("--words", default="", help="more options for lifebatch, as '--window=0,0,64,64'")
-    parser.add_argument("--lifeview", action="store_true", help="time lifeview on the files of the set files that are only read")
+    parser.add_argument(
+        "--lifeview", action="store_true", help="time lifeview on the files of the set files that are only read"
+    )
     parser.add_argument("--processors", type=int, help="how many processors both may use (all)")
     parser.add_argument("--aims", action="store_true", help="show the aims in brackets")
     parser.add_argument("--json", type=pathlib.Path, metavar="FILE", help="write the table as JSON")

@@ -4,8 +4,9 @@
     bench/periods.py               the best of three rounds
     bench/periods.py --rounds 5    the best of five
 
-With --most lifeperiod stops at each generation, and lifebatch reports each. With --multiple lifeperiod stops at each divisor, and lifebatch runs to the
-last. A ratio is the time of lifeperiod divided by that of lifebatch. A row differs if a program fails.
+With --most lifeperiod stops at each generation, and lifebatch reports each. With --multiple lifeperiod stops at each
+divisor, and lifebatch runs to the last. A ratio is the time of lifeperiod divided by that of lifebatch. A row differs
+if a program fails.
 """
 import argparse
 import pathlib

@@ -13,7 +13,8 @@ COUNTED_MEBIBYTES = 30
 
 @dataclass(frozen=True)
 class Result:
-    """The result of a row: a run, or why there is none, for each number of workers and for bgolly's HashLife and QuickLife."""
+    """The result of a row: a run, or why there is none, for each number of workers and for bgolly's HashLife and
+    QuickLife."""
 
     set: str
     row: Row
@@ -71,7 +72,8 @@ class Result:
 
 @dataclass(frozen=True)
 class Average:
-    """The geometric mean and the median of the ratios of a number of workers, and the mean of those to HashLife alone."""
+    """The geometric mean and the median of the ratios of a number of workers, and the mean of those to HashLife
+    alone."""
 
     mean: float
     median: float
@@ -88,4 +90,8 @@ def average(results: Sequence[Result], workers: int) -> Average | None:
     if not compared:
         return None
     ratios = [it.ratio(workers) for it in compared]
-    return Average(geometric_mean(ratios), statistics.median(ratios), geometric_mean([it.to_hashlife(it.ours[workers]) for it in compared]))
+    return Average(
+        geometric_mean(ratios),
+        statistics.median(ratios),
+        geometric_mean([it.to_hashlife(it.ours[workers]) for it in compared]),
+    )

@@ -10,7 +10,8 @@ from soups import Soup
 
 @dataclass(frozen=True)
 class Aims:
-    """The aims beside HashLife: the most time of one worker, the mean of the times with a number of workers, and the most memory, if there is such an aim."""
+    """The aims beside HashLife: the most time of one worker, the mean of the times with a number of workers, and the
+    most memory, if there is such an aim."""
 
     time: float
     means: dict[int, float]
@@ -93,7 +94,11 @@ SETS = {
         Row("loafer-gun-p8388608-linear", "HashLife/loafer-gun-p8388608-linear.mc.gz", 2**16, aim=1.8),
         Row("gotts-dots", "HashLife/gotts-dots.mc", 2**16),
         Row("LWSS-breeder", "Life/Breeders/LWSS-breeder.rle", 2**16),
-        Row("one-cell-thick-quadratic-growth-2596x1", "Life/Breeders/one-cell-thick-quadratic-growth-2596x1.rle", 2**16),
+        Row(
+            "one-cell-thick-quadratic-growth-2596x1",
+            "Life/Breeders/one-cell-thick-quadratic-growth-2596x1.rle",
+            2**16,
+        ),
         Row("pi-blink-breeder1", "Life/Breeders/pi-blink-breeder1.rle", 2**16),
         Row("replicator", REPLICATOR, 2**20),
         Row("R-pentomino", R_PENTOMINO, 1103),

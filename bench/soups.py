@@ -41,7 +41,8 @@ class Soup:
     ending: str = "rle"
 
     def lines(self) -> Iterator[str]:
-        """The lines of the RLE text, row by row: the most memory that the script itself took is the least that it can measure of a program."""
+        """The lines of the RLE text, row by row: the most memory that the script itself took is the least that it can
+        measure of a program."""
         yield f"x = {self.side}, y = {self.side}, rule = B3/S23\n"
         coin, items, rest = random.Random(self.side), Items(), ""
         for place in range(1, self.side + 1):
@@ -64,7 +65,9 @@ def macrocell(rle: pathlib.Path) -> pathlib.Path:
     """The path of the macrocell file that bgolly makes of an RLE file. The first call makes it."""
     path = rle.with_suffix(".mc")
     if not path.is_file():
-        ran = subprocess.run(["bgolly", "-a", "HashLife", "-m", "0", "-o", path, rle], stdin=subprocess.DEVNULL, capture_output=True)
+        ran = subprocess.run(
+            ["bgolly", "-a", "HashLife", "-m", "0", "-o", path, rle], stdin=subprocess.DEVNULL, capture_output=True
+        )
         if ran.returncode or not path.is_file():
             raise CannotRun(f"bgolly makes no macrocell file of {rle.name}")
     return path

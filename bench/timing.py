@@ -28,7 +28,8 @@ class Command:
 
 @dataclass(frozen=True)
 class Run:
-    """The time of a run, that of its processors, its peak memory, and the last generation that it reported with its population."""
+    """The time of a run, that of its processors, its peak memory, and the last generation that it reported with its
+    population."""
 
     seconds: float
     # User and system time, of all threads.
@@ -79,7 +80,8 @@ def run_once(command: Command, folder: pathlib.Path, most: float) -> Found:
 
 
 def best_of_rounds(commands: Sequence[Command], rounds: int, folder: pathlib.Path) -> list[Found]:
-    """The fastest run of each command, or why there is none. In a round each command runs once, unless it failed before."""
+    """The fastest run of each command, or why there is none. In a round each command runs once, unless it failed
+    before."""
     found: list[list[Found]] = [[] for _ in commands]
     for _ in range(rounds):
         before = None

@@ -30,7 +30,9 @@ class View:
         return not self.is_compared() or len(self.lasts()) > 1
 
     def __str__(self) -> str:
-        population = ("same" if len(self.lasts()) == 1 else " and ".join(self.lasts())) if self.is_compared() else "not compared"
+        population = (
+            ("same" if len(self.lasts()) == 1 else " and ".join(self.lasts())) if self.is_compared() else "not compared"
+        )
         return f"| {self.row.name} | {self.ours} | {self.view} | {population} |"
 
 
@@ -39,7 +41,10 @@ def views(rows: Sequence[Row], options: argparse.Namespace, folder: pathlib.Path
     for row in rows:
         path = pattern_file(row, folder)
         if path is not None:
-            yield View(row, *best_of_rounds([lifebatch(row, path, 1, options), lifeview(path, options)], options.rounds, folder))
+            yield View(
+                row,
+                *best_of_rounds([lifebatch(row, path, 1, options), lifeview(path, options)], options.rounds, folder),
+            )
 
 
 def print_views(rows: Sequence[Row], options: argparse.Namespace, folder: pathlib.Path) -> list[View]:

@@ -1,5 +1,5 @@
 #!/usr/bin/env python3
-"""Prints what a copy of some crates needs: their folders and those of the crates below them, each with its line of crates.txt.
+"""Prints what a copy of some crates needs: the folders of these and of all below them, with their lines of crates.txt.
 
     checks/crates_below.py engine
     checks/crates_below.py batch_program view_program --folders    the folders only, one on a line
@@ -7,11 +7,8 @@
 Crates of the kit (arrayvec, rayon and others) come with the kit and are left out.
 """
 import argparse
-import pathlib
-import sys
 
-sys.path.append(str(pathlib.Path(__file__).resolve().parent.parent / "launcher"))
-from crates import crates_below, lines_of_crates
+from common.launcher import crates_below, lines_of_crates
 
 
 def main() -> None:

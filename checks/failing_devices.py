@@ -4,8 +4,9 @@
     checks/failing_devices.py
     checks/failing_devices.py --only pipe    the rows with "pipe" in their names
 
-Output goes to a full device, a closed pipe or a closed descriptor; input can't be opened or read. docs/formats.md and README.md define the
-result. As root the script runs the program as the user `nobody`, since root may read and write everything.
+Output goes to a full device, a closed pipe or a closed descriptor; input can't be opened or read. docs/formats.md and
+README.md define the result. As root the script runs the program as the user `nobody`, since root may read and write
+everything.
 """
 import contextlib
 import os
@@ -119,7 +120,9 @@ ROWS = [
     Row("an output file that is a folder", WRITE, UNWRITTEN, folder_output),
     Row("an output file that may not be written", WRITE, UNWRITTEN, locked_output, output="as it was"),
     Row("an output file in a folder that may not be written", WRITE, UNWRITTEN, locked_folder),
-    Row("a macrocell file, and its output in no folder", ["-o", "nowhere/out.mc", "in.mc"], (3, "0: 4\n", UNWRITTEN[2])),
+    Row(
+        "a macrocell file, and its output in no folder", ["-o", "nowhere/out.mc", "in.mc"], (3, "0: 4\n", UNWRITTEN[2])
+    ),
     Row("a macrocell file, its report to a full device", ["-o", "out.mc", "in.mc"], UNSAID, out="/dev/full"),
     Row("standard error that is closed", WRITE, (0, REPORT, ""), output=UPRIGHT, is_error_closed=True),
     Row("standard error that is closed, and bad words", ["-m", "x"], (2, "", ""), is_error_closed=True),
@@ -183,7 +186,13 @@ def run_row(program: str, row: Row, folder: pathlib.Path) -> Ended:
     make_files(row, folder)
     user = "nobody" if os.geteuid() == 0 else None
     with streams(row, folder) as how:
-        how = {**how, "stderr": subprocess.PIPE, "timeout": SECONDS, "user": user, "preexec_fn": lambda: prepare_process(row)}
+        how = {
+            **how,
+            "stderr": subprocess.PIPE,
+            "timeout": SECONDS,
+            "user": user,
+            "preexec_fn": lambda: prepare_process(row),
+        }
         try:
             ran = subprocess.run([program, *row.words], cwd=folder, **how)
         except subprocess.TimeoutExpired as late:

@@ -5,11 +5,12 @@
     checks/failing_reads.py --only picture              the runs with "picture" in their names
     checks/failing_reads.py --only picture --number 3   only their 3rd call
 
-The script compiles a small library (common/fail.c), which is loaded before the C library. It makes the Nth read or write fail: by itself, or with all
-later ones. Or the Nth of several bytes, or all of them, move only one byte. N goes from 1 up to the first run that makes fewer calls. The pattern
-file takes several reads. A run in which calls are short has to end like the run in which none is. A run whose read fails has to end with status 3, the
-message ReadFailed, no report, and the output file as it was; one whose write fails with status 3, the message WriteFailed and the first bytes of the
-report or of the file, unless that was the message.
+The script compiles a small library (common/fail.c), which is loaded before the C library. It makes the Nth read or
+write fail: by itself, or with all later ones. Or the Nth of several bytes, or all of them, move only one byte. N goes
+from 1 up to the first run that makes fewer calls. The pattern file takes several reads. A run in which calls are short
+has to end like the run in which none is. A run whose read fails has to end with status 3, the message ReadFailed, no
+report, and the output file as it was; one whose write fails with status 3, the message WriteFailed and the first bytes
+of the report or of the file, unless that was the message.
 """
 import argparse
 import itertools
@@ -72,8 +73,18 @@ class Told:
 
 RUNS = [
     Run("a pattern and its report", "lifebatch", ["-m", "4", "-i", "1", "-o", "out.rle", "in"], "out.rle"),
-    Run("a pattern as macrocell, with two workers", "lifebatch", ["-m", "64", "--workers", "2", "-o", "out.mc", "in"], "out.mc"),
-    Run("a pattern from standard input, with its window", "lifebatch", ["-m", "4", "--window=-4,-4,9,9", "-o", "out.rle", "/dev/stdin"], "out.rle"),
+    Run(
+        "a pattern as macrocell, with two workers",
+        "lifebatch",
+        ["-m", "64", "--workers", "2", "-o", "out.mc", "in"],
+        "out.mc",
+    ),
+    Run(
+        "a pattern from standard input, with its window",
+        "lifebatch",
+        ["-m", "4", "--window=-4,-4,9,9", "-o", "out.rle", "/dev/stdin"],
+        "out.rle",
+    ),
     Run("a report", "lifebatch", ["-m", "4", "in"]),
     Run("a pattern that is refused", "lifebatch", ["-o", "out.rle", "in"], "out.rle", BAD_COUNT, 1),
     Run("words that are bad", "lifebatch", ["-m", "x", "-o", "out.rle", "in"], "out.rle", status=2),
@@ -104,7 +115,13 @@ class Machine:
         if output:
             output.write_bytes(OLD)
         read, write = os.pipe()
-        settings = {"LD_PRELOAD": str(self.library), "HOW": how, "FIRST": str(first), "LAST": str(last), "TOLD": str(write)}
+        settings = {
+            "LD_PRELOAD": str(self.library),
+            "HOW": how,
+            "FIRST": str(first),
+            "LAST": str(last),
+            "TOLD": str(write),
+        }
         with open(self.folder / "in", "rb") as given:
             words = [self.programs[run.program], *run.words]
             pipes = {"stdin": given, "stdout": subprocess.PIPE, "stderr": subprocess.PIPE, "pass_fds": [write]}
@@ -143,15 +160,24 @@ def refused(run: Run, number: int, name: str) -> Told:
 
 
 def failed_answer(told: Told, plain: Told, run: Run, letters: str) -> str | None:
-    """The result of a run in which calls failed, or None if it is none of the allowed ones. The first call decides; the message may fail too."""
+    """The result of a run in which calls failed, or None if it is none of the allowed ones. The first call decides; the
+    message may fail too."""
     unread, unwritten = refused(run, 19, "ReadFailed"), refused(run, 20, "WriteFailed")
     is_told_too = "e" in letters[1:]
     if letters[0] == "r":
         wanted, answer, holds = unread, "ReadFailed", True
     elif letters[0] == "o":
-        wanted, answer, holds = replace(unwritten, report=told.report), "WriteFailed, of the report", is_cut(told.report, plain.report)
+        wanted, answer, holds = (
+            replace(unwritten, report=told.report),
+            "WriteFailed, of the report",
+            is_cut(told.report, plain.report),
+        )
     elif letters[0] == "f":
-        wanted, answer, holds = replace(unwritten, report=plain.report, file=told.file), "WriteFailed, of the file", is_cut(told.file, plain.file)
+        wanted, answer, holds = (
+            replace(unwritten, report=plain.report, file=told.file),
+            "WriteFailed, of the file",
+            is_cut(told.file, plain.file),
+        )
     else:
         wanted, answer, holds, is_told_too = plain, "a shorter message", True, True
     if is_told_too and is_cut(told.message, wanted.message):
@@ -181,7 +207,10 @@ def in_turn(machine: Machine, run: Run, plain: Told, how: str, is_all: bool, opt
         found = answer_of(told, plain, run, how, letters)
         if found is None:
             counts[WRONG] += 1
-            print(f"differs: {run.name}, {how} {number}{' and all behind' if is_all else ''} ({letters}): {told}", flush=True)
+            print(
+                f"differs: {run.name}, {how} {number}{' and all behind' if is_all else ''} ({letters}): {told}",
+                flush=True,
+            )
             print(f"    to replay: checks/failing_reads.py --only '{run.name}' --number {number}", flush=True)
         if not letters:
             break
@@ -212,7 +241,11 @@ def main() -> int:
     parser.add_argument("--only", default="", help="only the runs with this text in their names")
     options = CHECK.options(parser)
     counts = Counter()
-    programs = {"lifebatch": str(options.program.resolve()), "lifeview": str(options.view.resolve()), "lifeperiod": str(options.period.resolve())}
+    programs = {
+        "lifebatch": str(options.program.resolve()),
+        "lifeview": str(options.view.resolve()),
+        "lifeperiod": str(options.period.resolve()),
+    }
     with tempfile.TemporaryDirectory() as name:
         machine = Machine(programs, pathlib.Path(name))
         for run in RUNS:

@@ -4,9 +4,10 @@
     checks/faulty_programs.py
     checks/faulty_programs.py --only golly_patterns    the rows with this text in them
 
-A check has to end with status 1 for a program that crashes, hangs, writes one cell less, prints another population, errs in small tables or refuses
-with another status, and for a page with a dead link. It has to end with status 2 if the program or a tool is missing, or if nothing is chosen or compared.
-With the right program and the same options the status has to be 0.
+A check has to end with status 1 for a program that crashes, hangs, writes one cell less, prints another population,
+errs in small tables or refuses with another status, and for a page with a dead link. It has to end with status 2 if the
+program or a tool is missing, or if nothing is chosen or compared. With the right program and the same options the
+status has to be 0.
 """
 import os
 import pathlib
@@ -17,7 +18,24 @@ import sys
 import tempfile
 from dataclasses import dataclass
 
-from common.check import BGOLLY, BUILT, BUILT_PERIOD, BUILT_VIEW, C_COMPILER, DIFFERS, FFMPEG, GOLLY, GOLLY_PATTERNS, HOLDS, NOT_RUN, PARALLEL, XVFB, Check, end, sum_up
+from common.check import (
+    BGOLLY,
+    BUILT,
+    BUILT_PERIOD,
+    BUILT_VIEW,
+    C_COMPILER,
+    DIFFERS,
+    FFMPEG,
+    GOLLY,
+    GOLLY_PATTERNS,
+    HOLDS,
+    NOT_RUN,
+    PARALLEL,
+    XVFB,
+    Check,
+    end,
+    sum_up,
+)
 
 CHECK = Check(
     text=__doc__,
@@ -33,7 +51,8 @@ PROGRAMS = {
     "crashes": "kill -s SEGV $$",
     "hangs": "exec sleep 1000",
     "prints nothing": "exit 0",
-    "writes one cell less": 'REAL "$@" || exit; for it in o*.*; do [ -f "$it" ] && sed -i "/^[^#x]/s/o/b/;/^[^#x]/s/[*]/./" "$it"; done; exit 0',
+    "writes one cell less": 'REAL "$@" || exit; for it in o*.*; do [ -f "$it" ] || continue; '
+    'sed -i "/^[^#x]/s/o/b/;/^[^#x]/s/[*]/./" "$it"; done; exit 0',
     "prints another population": 'REAL "$@" | sed "s/: [0-9]*$/: 1/"',
     "errs in small tables": 'REAL "$@" | case "$*" in *"--nodes 4194304"*) cat;; *) sed "s/: [0-9]*$/: 1/";; esac',
     "refuses all": 'echo "lifebatch: refused 3 at 0: BadRule" >&2; exit 1',
@@ -66,7 +85,11 @@ class Row:
     status: int
 
     def says(self) -> str:
-        where = f"the {'page' if self.check == 'page_links' else 'program'} {self.fault}" if self.fault else "there is no bgolly"
+        where = (
+            f"the {'page' if self.check == 'page_links' else 'program'} {self.fault}"
+            if self.fault
+            else "there is no bgolly"
+        )
         return f"{' '.join([self.check, *self.options.split()])}: status {self.status} where {where}"
 
 
@@ -82,11 +105,18 @@ ROWS = [
     Row("golly_patterns", "--folder common", RIGHT, NOT_RUN),
     Row("golly_patterns", "--folder nowhere", RIGHT, NOT_RUN),
     Row("random_patterns", "--count 6 --seconds 20", RIGHT, HOLDS),
-    *(Row("random_patterns", "--count 6 --seconds 1", it, DIFFERS) for it in PROGRAMS if it != "refuses, and leaves a file"),
+    *(
+        Row("random_patterns", "--count 6 --seconds 1", it, DIFFERS)
+        for it in PROGRAMS
+        if it != "refuses, and leaves a file"
+    ),
     Row("random_patterns", "--count 2", "is missing", NOT_RUN),
     Row("random_patterns", "--count 0", RIGHT, NOT_RUN),
     Row("random_periods", "--count 6", RIGHT, HOLDS),
-    *(Row("random_periods", "--count 6 --seconds 1", it, DIFFERS) for it in ("crashes", "hangs", "prints nothing", "refuses all")),
+    *(
+        Row("random_periods", "--count 6 --seconds 1", it, DIFFERS)
+        for it in ("crashes", "hangs", "prints nothing", "refuses all")
+    ),
     Row("random_periods", "--count 2", "is missing", NOT_RUN),
     Row("random_periods", "--count 0", RIGHT, NOT_RUN),
     Row("golly_periods", "--only queen-bee", RIGHT, HOLDS),
@@ -142,7 +172,10 @@ ROWS = [
     *(Row("page_links", "", it, DIFFERS) for it in PAGES if it != "is only in code"),
     Row("page_links", "", "is only in code", NOT_RUN),
     Row("../bench/compare", "--rounds 1 --rows replicator", RIGHT, HOLDS),
-    *(Row("../bench/compare", "--rounds 1 --rows replicator", it, DIFFERS) for it in ("crashes", "prints another population")),
+    *(
+        Row("../bench/compare", "--rounds 1 --rows replicator", it, DIFFERS)
+        for it in ("crashes", "prints another population")
+    ),
     Row("../bench/compare", "--rounds 1 --rows replicator", "is missing", NOT_RUN),
     Row("../bench/compare", "--rows no-such-name", RIGHT, NOT_RUN),
     Row("run", "page_links failing_devices", RIGHT, HOLDS),
@@ -176,7 +209,11 @@ class Bench:
 
     def run(self, row: Row) -> subprocess.CompletedProcess:
         words = [sys.executable, str(FOLDER / f"{row.check}.py"), *row.options.split(), *self.program(row)]
-        words += ["--view", str(self.view)] if row.check in ("failing_reads", "golly_scripts", "installations", "many_patterns", "page_commands") else []
+        words += (
+            ["--view", str(self.view)]
+            if row.check in ("failing_reads", "golly_scripts", "installations", "many_patterns", "page_commands")
+            else []
+        )
         words += ["--period", str(self.period)] if row.check in WITH_PERIODS else []
         settings = os.environ | {"TMPDIR": str(self.folder)} | ({} if row.fault else {"PATH": "/nowhere"})
         return subprocess.run(words, cwd=FOLDER, env=settings, stdin=subprocess.DEVNULL, capture_output=True, text=True)

@@ -4,8 +4,9 @@
     checks/from_bgolly_page.py
     checks/from_bgolly_page.py --only rule    the lines with "rule" in them
 
-The page says what is the same in both programs and what differs: options, reports, where cells lie, and what lifebatch refuses. The script
-prints the arguments and the first lines of both runs. It was written for bgolly 3.3; a line may fail with another version.
+The page says what is the same in both programs and what differs: options, reports, where cells lie, and what lifebatch
+refuses. The script prints the arguments and the first lines of both runs. It was written for bgolly 3.3; a line may
+fail with another version.
 """
 import gzip
 import pathlib

@@ -5,14 +5,16 @@
     checks/golly_patterns.py --only HashLife/ Life/Guns    the patterns with one of these texts in their paths
     checks/golly_patterns.py --words='--nodes 65536'       more options for lifebatch
 
-The script tries each RLE and macrocell file of the folder, including compressed ones. lifebatch runs a pattern with each number of workers, and
-has to print and write the same bytes each time. Then bgolly runs it. Both have to report the same last generation and population, and to write the
-same RLE text from the sides in the header on: bgolly leaves the position out. With --macrocell bgolly also reads the macrocell file that lifebatch
-writes, and has to find the same cells.
+The script tries each RLE and macrocell file of the folder, including compressed ones. lifebatch runs a pattern with
+each number of workers, and has to print and write the same bytes each time. Then bgolly runs it. Both have to report
+the same last generation and population, and to write the same RLE text from the sides in the header on: bgolly leaves
+the position out. With --macrocell bgolly also reads the macrocell file that lifebatch writes, and has to find the same
+cells.
 
-The script skips and counts patterns that lifebatch refuses by name (more states, bounded grids, other rules), that take bgolly too long, or that
-bgolly doesn't write. Any other end of lifebatch is a difference: a crash, a run of more than ten times the time that bgolly may take, another
-status, a file left by a refused run, or a refusal with some numbers of workers only.
+The script skips and counts patterns that lifebatch refuses by name (more states, bounded grids, other rules), that take
+bgolly too long, or that bgolly doesn't write. Any other end of lifebatch is a difference: a crash, a run of more than
+ten times the time that bgolly may take, another status, a file left by a refused run, or a refusal with some numbers of
+workers only.
 """
 import argparse
 import pathlib
@@ -28,7 +30,19 @@ CHECK = Check(
     text=__doc__,
     needs=(BUILT, BGOLLY, GOLLY_PATTERNS),
     takes="5 minutes",
-    quick=("--only", "Life-Like/", "Life/Oscillators/", "--generations", "64", "--workers", "1", "4", "--macrocell", "--seconds", "5"),
+    quick=(
+        "--only",
+        "Life-Like/",
+        "Life/Oscillators/",
+        "--generations",
+        "64",
+        "--workers",
+        "1",
+        "4",
+        "--macrocell",
+        "--seconds",
+        "5",
+    ),
     quickly="10 s",
     replay="give the same options, and --only with the path that is printed.",
 )
@@ -158,7 +172,9 @@ def tried(path: pathlib.Path, options: argparse.Namespace, folder: pathlib.Path)
 
 def chosen(options: argparse.Namespace) -> list[pathlib.Path]:
     """The pattern files of the folder to try."""
-    files = [it for it in options.folder.resolve().rglob("*") if re.search(r"\.(rle|mc)(\.gz)?$", it.name) and it.is_file()]
+    files = [
+        it for it in options.folder.resolve().rglob("*") if re.search(r"\.(rle|mc)(\.gz)?$", it.name) and it.is_file()
+    ]
     return sorted(it for it in files if not options.only or any(part in str(it) for part in options.only))
 
 
@@ -176,11 +192,22 @@ def sum_up(found: Counter) -> int:
 def parsed() -> argparse.Namespace:
     parser = CHECK.parser()
     parser.add_argument("--generations", type=int, default=300, help="how many generations lifebatch runs (300)")
-    parser.add_argument("--workers", type=int, nargs="+", default=[1, 2, 4], help="numbers of workers, each of which runs (1 2 4)")
+    parser.add_argument(
+        "--workers", type=int, nargs="+", default=[1, 2, 4], help="numbers of workers, each of which runs (1 2 4)"
+    )
     parser.add_argument("--macrocell", action="store_true", help="let bgolly read what lifebatch writes as macrocell")
-    parser.add_argument("--only", nargs="+", default=[], help="only the patterns with one of these texts in their paths")
-    parser.add_argument("--folder", type=pathlib.Path, default=PATTERNS, help=f"the folder of the patterns ({PATTERNS})")
-    parser.add_argument("--seconds", type=float, default=30, help=f"how long a run of bgolly may take (30), and lifebatch {PATIENCE} times as long")
+    parser.add_argument(
+        "--only", nargs="+", default=[], help="only the patterns with one of these texts in their paths"
+    )
+    parser.add_argument(
+        "--folder", type=pathlib.Path, default=PATTERNS, help=f"the folder of the patterns ({PATTERNS})"
+    )
+    parser.add_argument(
+        "--seconds",
+        type=float,
+        default=30,
+        help=f"how long a run of bgolly may take (30), and lifebatch {PATIENCE} times as long",
+    )
     parser.add_argument("--words", default="", help="more options for lifebatch, as '--nodes 65536'")
     return CHECK.options(parser)
 

@@ -4,11 +4,12 @@
     checks/golly_periods.py
     checks/golly_periods.py --engineered 600      also those that take up to ten minutes each
 
-A file is a still life, an oscillator or a spaceship, and its comments say the period; or it is a collection of such objects, which are cut out
-of it, and its comments list their periods. The script shows for each what it took. It looks for the words of the comments in the file.
+A file is a still life, an oscillator or a spaceship, and its comments say the period; or it is a collection of such
+objects, which are cut out of it, and its comments list their periods. The script shows for each what it took. It looks
+for the words of the comments in the file.
 
-With --engineered N the patterns whose periods are in the millions and more are tried too, each for at most N seconds. One that does not end by
-then is listed and not counted.
+With --engineered N the patterns whose periods are in the millions and more are tried too, each for at most N seconds.
+One that does not end by then is listed and not counted.
 """
 import argparse
 import pathlib
@@ -118,7 +119,12 @@ OBJECTS = [
 ENGINEERED = [
     Whole("HashLife/demonoid-c512-hashlife-friendly.mc.gz", "2097152 ticks", 2097152, ("--multiple", "2097152")),
     Whole("Life-Like/white-whale.rle", "160,000,346", 160000346, ("--multiple", "160000346")),
-    Whole("Life/Oscillators/p103079214841.rle", "p103079214841", 103079214841, ("--multiple", "103079214841", "--nodes", "67108864")),
+    Whole(
+        "Life/Oscillators/p103079214841.rle",
+        "p103079214841",
+        103079214841,
+        ("--multiple", "103079214841", "--nodes", "67108864"),
+    ),
 ]
 
 
@@ -155,8 +161,16 @@ def tried(row: Whole | Collection, options: argparse.Namespace, folder: pathlib.
 def parsed() -> argparse.Namespace:
     parser = CHECK.parser()
     parser.add_argument("--only", nargs="+", default=[], help="only the files with one of these texts in their paths")
-    parser.add_argument("--folder", type=pathlib.Path, default=PATTERNS, help=f"the folder of the patterns ({PATTERNS})")
-    parser.add_argument("--engineered", type=float, default=0, metavar="SECONDS", help="how long each engineered pattern may take; they are not tried without it")
+    parser.add_argument(
+        "--folder", type=pathlib.Path, default=PATTERNS, help=f"the folder of the patterns ({PATTERNS})"
+    )
+    parser.add_argument(
+        "--engineered",
+        type=float,
+        default=0,
+        metavar="SECONDS",
+        help="how long each engineered pattern may take; they are not tried without it",
+    )
     return CHECK.options(parser)
 
 

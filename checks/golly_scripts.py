@@ -4,10 +4,11 @@
     checks/golly_scripts.py
     checks/golly_scripts.py --only hexagonal    the rows with this text in them
 
-Golly runs under a virtual screen, with a home folder and a temporary folder of its own. A Lua script in it opens patterns and calls the functions of
-golly/shared.lua, without their questions. Cells, places, rule and generation have to be those of g.run, and the pattern before has to be as it
-was. What is not supported has to be refused in words. Pictures have to show the selected cells, else all. Periods have to be those of the patterns.
-No temporary file may be left.
+Golly runs under a virtual screen, with a home folder and a temporary folder of its own. A Lua script in it opens
+patterns and calls the functions of golly/shared.lua, without their questions. Cells, places, rule and generation have
+to be those of g.run, and the pattern before has to be as it was. What is not supported has to be refused in words.
+Pictures have to show the selected cells, else all. Periods have to be those of the patterns. No temporary file may be
+left.
 """
 import argparse
 import os
@@ -101,7 +102,12 @@ CASES = [
     Case("far-out", far_out(), generations=1000, is_copied=False),
     Case("three-states", "x = 3, y = 1, rule = 345/2/3\nA.B!\n", "The rule 345/2/3 has 3 states", algorithm="-"),
     Case("bounded-grid", "x = 3, y = 1, rule = B3/S23:T20,20\n3o!\n", "The rule B3/S23:T20,20 has a bounded grid"),
-    Case("larger-than-Life", f"x = 3, y = 1, rule = {LARGER_THAN_LIFE}\n3o!\n", f"The rule {LARGER_THAN_LIFE} is one of Golly's algorithm", algorithm="-"),
+    Case(
+        "larger-than-Life",
+        f"x = 3, y = 1, rule = {LARGER_THAN_LIFE}\n3o!\n",
+        f"The rule {LARGER_THAN_LIFE} is one of Golly's algorithm",
+        algorithm="-",
+    ),
     Case("Hensel-letters", "x = 3, y = 1, rule = B2-a/S12\n3o!\n", "BadRule: this rule is not supported."),
     Case("birth-on-0", "x = 3, y = 1, rule = B02/S23\n3o!\n", "BirthOnZero: ", algorithm="QuickLife"),
     Case("full-tables", soup("B3/S23", 256, 4), "NodesFull: the tables are too small;", slots="1024"),
@@ -176,7 +182,9 @@ class Screen:
         settings["PATH"] = f"{self.folder / 'bin'}:{games_path()}"
         # The screen's own files do not go to the folder that Golly's go to.
         words = ["xvfb-run", "-a", "env", f"TMPDIR={self.folder / 'temporary'}", "golly", str(DRIVER)]
-        ran = subprocess.Popen(words, env=settings, stdin=subprocess.DEVNULL, stdout=subprocess.DEVNULL, stderr=subprocess.DEVNULL)
+        ran = subprocess.Popen(
+            words, env=settings, stdin=subprocess.DEVNULL, stdout=subprocess.DEVNULL, stderr=subprocess.DEVNULL
+        )
         try:
             ran.wait(timeout=seconds)
         except subprocess.TimeoutExpired:
@@ -200,7 +208,10 @@ class Screen:
         if not file.exists():
             raise CannotRun("Golly has not run the script")
         rows = (line.split("\t") for line in file.read_text().splitlines())
-        return {name: Found(done == "true", words, kept == "true", path == "true", title) for name, done, words, kept, path, title in rows}
+        return {
+            name: Found(done == "true", words, kept == "true", path == "true", title)
+            for name, done, words, kept, path, title in rows
+        }
 
     def saved(self, case: Case, whose: str) -> tuple[set[plain.Cell], str, str]:
         return cells_of((self.folder / f"{case.name}.{whose}.mc").read_text())
@@ -217,7 +228,9 @@ class Screen:
         if not it.is_done:
             return it.words
         cells, _, generation = ours = self.saved(case, "ours")
-        if not it.words.startswith(f"Generation {generation}: {len(cells)} cells.") or it.title != (case.title or case.file()):
+        if not it.words.startswith(f"Generation {generation}: {len(cells)} cells.") or it.title != (
+            case.title or case.file()
+        ):
             return f"{it.words} The layer's name: {it.title}"
         return "" if ours == self.saved(case, "theirs") else "Golly has other cells, another rule or another generation"
 
@@ -252,9 +265,18 @@ Row = tuple[str, Callable[[Screen], str]]
 LINES: list[Row] = [
     ("a picture of all cells", lambda screen: screen.drawn("drawn", "pictured-0.png", PENTOMINO, (5, 7, 7, 9))),
     ("a second picture", lambda screen: screen.drawn("drawn-again", "pictured-0-2.png", PENTOMINO, (5, 7, 7, 9))),
-    ("a picture of the selection", lambda screen: screen.drawn("drawn-selection", "pictured-0-3.png", PENTOMINO, (4, 6, 6, 9))),
-    ("a picture of an unsaved pattern", lambda screen: screen.drawn("drawn-unsaved", "home/.golly/unsaved-0.png", PENTOMINO, (5, 7, 7, 9))),
-    ("a picture of it later", lambda screen: screen.drawn("drawn-later", "home/.golly/unsaved-1.png", LATER, (5, 7, 7, 9))),
+    (
+        "a picture of the selection",
+        lambda screen: screen.drawn("drawn-selection", "pictured-0-3.png", PENTOMINO, (4, 6, 6, 9)),
+    ),
+    (
+        "a picture of an unsaved pattern",
+        lambda screen: screen.drawn("drawn-unsaved", "home/.golly/unsaved-0.png", PENTOMINO, (5, 7, 7, 9)),
+    ),
+    (
+        "a picture of it later",
+        lambda screen: screen.drawn("drawn-later", "home/.golly/unsaved-1.png", LATER, (5, 7, 7, 9)),
+    ),
     ("no program for pictures is there", lambda screen: screen.has_no_program("drawn-without-program", "lifeview")),
     ("a period", lambda screen: screen.told("period", "period 4, moves 1, 1")),
     ("fewer generations than the period", lambda screen: screen.told("too-few-generations", "no period up to 3")),

@@ -4,10 +4,10 @@
     checks/hostile_files.py --megabytes 100
     checks/hostile_files.py --only "#C lines"    the files with "#C lines" in their names
 
-Each file repeats one piece of text: digits, blanks, comments, row ends, an endless line, NUL or high bytes; or it has nodes that are each used
-once. A row of the table shows the bytes of the larger file, its seconds and peak memory, how much both grow with each byte more (1.0 is linear),
-and the result. docs/formats.md defines the result. A run that takes more time or memory than the options allow differs too. The script needs
-disk for two files of --megabytes.
+Each file repeats one piece of text: digits, blanks, comments, row ends, an endless line, NUL or high bytes; or it has
+nodes that are each used once. A row of the table shows the bytes of the larger file, its seconds and peak memory, how
+much both grow with each byte more (1.0 is linear), and the result. docs/formats.md defines the result. A run that takes
+more time or memory than the options allow differs too. The script needs disk for two files of --megabytes.
 """
 import argparse
 import hashlib
@@ -104,17 +104,22 @@ def show(row: Row | Tree, small: Run, large: Run, holds: bool) -> None:
     """Prints a row of the table."""
     lengths = small.length, large.length
     answer = (large.told[2] or large.told[1]).strip().replace("lifebatch: ", "")
-    numbers = f"{large.length:>11} | {large.seconds:7.2f} | {growth(small.seconds, large.seconds, lengths, LITTLE_TIME):>4} | "
-    numbers += f"{large.megabytes:7.0f} | {growth(small.megabytes, large.megabytes, lengths, LITTLE_MEMORY):>4}"
+    times = growth(small.seconds, large.seconds, lengths, LITTLE_TIME)
+    memories = growth(small.megabytes, large.megabytes, lengths, LITTLE_MEMORY)
+    numbers = f"{large.length:>11} | {large.seconds:7.2f} | {times:>4} | {large.megabytes:7.0f} | {memories:>4}"
     wrong = "" if holds else f" DIFFERS, status {small.told[0]} and {large.told[0]}"
     print(f"| {row.name} | {numbers} | {answer[:100]}{wrong} |", flush=True)
 
 
 def parsed() -> argparse.Namespace:
     parser = CHECK.parser()
-    parser.add_argument("--megabytes", type=int, default=100, help="how many millions of bytes the larger files have (100)")
+    parser.add_argument(
+        "--megabytes", type=int, default=100, help="how many millions of bytes the larger files have (100)"
+    )
     parser.add_argument("--seconds", type=int, default=120, help="how long a run may take (120)")
-    parser.add_argument("--memory", type=int, default=6144, help="how many MB of addresses a run may have, 0 for any (6144)")
+    parser.add_argument(
+        "--memory", type=int, default=6144, help="how many MB of addresses a run may have, 0 for any (6144)"
+    )
     parser.add_argument("--only", default="", help="only the files with this text in their names")
     return CHECK.options(parser)
 

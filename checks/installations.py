@@ -1,11 +1,12 @@
 #!/usr/bin/env python3
-"""Installs the programs into an empty folder, packs and installs them by dpkg into an empty root, and takes them away again.
+"""Installs the programs into an empty folder, and by dpkg into an empty root, and takes them away again.
 
     checks/installations.py
 
-The folder gets programs of a kit that proves nothing, the package those that are built here. Every man page has to list the options of its program's help, and
-the exit statuses and refusals of docs/formats.md; bash, zsh and fish have to offer the same options. What groff, lintian, zsh and fish would say is left out where
-they are not there, and a line says so.
+The folder gets programs of a kit that proves nothing, the package those that are built here. Every man page has to list
+the options of its program's help, and the exit statuses and refusals of docs/formats.md; bash, zsh and fish have to
+offer the same options. What groff, lintian, zsh and fish would say is left out where they are not there, and a line
+says so.
 """
 import functools
 import gzip
@@ -60,7 +61,13 @@ class Places:
     def build(self, *words: str | pathlib.Path) -> tuple[int, str]:
         """A call of launcher/build.py: its status and its messages."""
         script = self.repository.folder / "launcher" / "build.py"
-        ran = subprocess.run([script, *words], env=self.repository.environment(), stdin=subprocess.DEVNULL, capture_output=True, text=True)
+        ran = subprocess.run(
+            [script, *words],
+            env=self.repository.environment(),
+            stdin=subprocess.DEVNULL,
+            capture_output=True,
+            text=True,
+        )
         return ran.returncode, ran.stderr
 
     def installed(self) -> set[str]:
@@ -68,7 +75,15 @@ class Places:
 
     @functools.cached_property
     def package(self) -> pathlib.Path:
-        words = [ROOT / "launcher" / "package.py", "--built", self.built, "--to", self.root.parent, "--maintainer", MAINTAINER]
+        words = [
+            ROOT / "launcher" / "package.py",
+            "--built",
+            self.built,
+            "--to",
+            self.root.parent,
+            "--maintainer",
+            MAINTAINER,
+        ]
         said = printed(*words).strip()
         if not said.endswith(".deb"):
             raise CannotRun(said)
@@ -77,7 +92,9 @@ class Places:
     def dpkg(self, *words: str | pathlib.Path) -> int:
         # The empty root has no C library.
         options = ["--force-depends", "--force-not-root", f"--log={self.root / 'log'}"]
-        return subprocess.run(["dpkg", f"--root={self.root}", *options, *words], stdin=subprocess.DEVNULL, capture_output=True).returncode
+        return subprocess.run(
+            ["dpkg", f"--root={self.root}", *options, *words], stdin=subprocess.DEVNULL, capture_output=True
+        ).returncode
 
     def man_page(self, name: str) -> str:
         return gzip.decompress((self.root / "usr" / "share" / "man" / "man1" / f"{name}.1.gz").read_bytes()).decode()
@@ -88,7 +105,12 @@ def installs(it: Places) -> bool:
     files = it.installed()
     wanted = {f"{SCRIPTS}/{path.name}" for path in (ROOT / "golly").glob("*.lua")}
     for name in it.programs:
-        wanted |= {f"bin/{name}", f"lib/lifebatch/{name}", f"share/man/man1/{name}.1", f"share/bash-completion/completions/{name}"}
+        wanted |= {
+            f"bin/{name}",
+            f"lib/lifebatch/{name}",
+            f"share/man/man1/{name}.1",
+            f"share/bash-completion/completions/{name}",
+        }
         wanted |= {f"share/zsh/site-functions/_{name}", f"share/fish/vendor_completions.d/{name}.fish"}
     return status == 0 and wanted <= files and VERSION in said
 
@@ -109,7 +131,11 @@ def replaces(it: Places) -> bool:
     text = command.read_text()
     command.write_text("an earlier one\n")
     (it.prefix / "bin" / "another").touch()
-    return it.build("--install", it.prefix)[0] == 0 and it.installed() == before | {"bin/another"} and command.read_text() == text
+    return (
+        it.build("--install", it.prefix)[0] == 0
+        and it.installed() == before | {"bin/another"}
+        and command.read_text() == text
+    )
 
 
 def uninstalls(it: Places) -> bool:
@@ -160,24 +186,40 @@ def has_good_pages(it: Places) -> bool:
     if not has("groff"):
         return True
     pages = it.root / "usr" / "share" / "man" / "man1"
-    warned = [subprocess.run(["groff", "-man", "-Tutf8", "-ww"], input=it.man_page(name), capture_output=True, text=True).stderr for name in it.programs]
+    warned = [
+        subprocess.run(
+            ["groff", "-man", "-Tutf8", "-ww"], input=it.man_page(name), capture_output=True, text=True
+        ).stderr
+        for name in it.programs
+    ]
     return len(list(pages.iterdir())) == len(it.programs) and not any(warned)
 
 
 def completes_in_bash(it: Places) -> bool:
     folder = it.root / "usr" / "share" / "bash-completion" / "completions"
     offered = {name: offered_by_bash(folder / name, name, f"{name} -") for name in it.programs}
-    are_all = all({form.rstrip("=") for form in found} == options_of(it.built / name) for name, found in offered.items())
+    are_all = all(
+        {form.rstrip("=") for form in found} == options_of(it.built / name) for name, found in offered.items()
+    )
     file = folder / "lifebatch"
-    return are_all and offered_by_bash(file, "lifebatch", "lifebatch --gen") == ["--generation"] and not offered_by_bash(file, "lifebatch", "lifebatch -m -")
+    return (
+        are_all
+        and offered_by_bash(file, "lifebatch", "lifebatch --gen") == ["--generation"]
+        and not offered_by_bash(file, "lifebatch", "lifebatch -m -")
+    )
 
 
 def completes_in_fish(it: Places) -> bool:
     if not has("fish"):
         return True
     folder = it.root / "usr" / "share" / "fish" / "vendor_completions.d"
-    offered = {name: {form.rstrip("=") for form in offered_by_fish(folder / f"{name}.fish", f"{name} --")} for name in it.programs}
-    return all(found == {form for form in options_of(it.built / name) if form[:2] == "--"} for name, found in offered.items())
+    offered = {
+        name: {form.rstrip("=") for form in offered_by_fish(folder / f"{name}.fish", f"{name} --")}
+        for name in it.programs
+    }
+    return all(
+        found == {form for form in options_of(it.built / name) if form[:2] == "--"} for name, found in offered.items()
+    )
 
 
 def completes_in_zsh(it: Places) -> bool:
@@ -194,7 +236,10 @@ def is_removed(it: Places) -> bool:
 # Each row builds on those before it.
 ROWS: list[tuple[str, Callable[[Places], bool]]] = [
     ("an installation has every program with its man page and completions, and Golly's scripts", installs),
-    ("an installed program runs by its path, by a link and on the PATH, and names an output file that can't be written", runs),
+    (
+        "an installed program runs by its path, by a link and on the PATH, and names a file that can't be written",
+        runs,
+    ),
     ("an installation takes the place of an earlier one", replaces),
     ("what was installed is taken away, and what others have put there stays", uninstalls),
     ("an installation writes over no file of others", keeps_other_files),

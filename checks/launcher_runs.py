@@ -4,11 +4,12 @@
     checks/launcher_runs.py
     checks/launcher_runs.py --short     without the build of half a minute
 
-The script copies the launcher and the code of the crates, and puts its own rt, rattle and rattle-link on the PATH. It tests the order in which
-crates are proved, the processor that the program is compiled for, the help before that, and what the launcher does if nothing is to be built, if a
-crate fails, if files are newer, come, go or change during the build, if a build is interrupted, if two calls run at once, and what one program leaves
-to prove for the other. It compares the time that the launcher expects with what a build takes; only a build with the real kit shows whether that is
-so there too. It does not touch the programs of this repository.
+The script copies the launcher and the code of the crates, and puts its own rt, rattle and rattle-link on the PATH. It
+tests the order in which crates are proved, the processor that the program is compiled for, the help before that, and
+what the launcher does if nothing is to be built, if a crate fails, if files are newer, come, go or change during the
+build, if a build is interrupted, if two calls run at once, and what one program leaves to prove for the other. It
+compares the time that the launcher expects with what a build takes; only a build with the real kit shows whether that
+is so there too. It does not touch the programs of this repository.
 """
 import json
 import os
@@ -67,9 +68,15 @@ def helps(it: Repository) -> bool:
         text = (it.folder / "launcher" / "help" / f"{name}.txt").read_text()
         for word in ("-h", "--help"):
             status, out, err = it.run(word, name=name)
-            shown.append((status, out) == (0, text) and err.count("\n") == 1 and err.startswith(f"{name}: the program is not built yet"))
+            shown.append(
+                (status, out) == (0, text)
+                and err.count("\n") == 1
+                and err.startswith(f"{name}: the program is not built yet")
+            )
     with open("/dev/full", "w") as device:
-        full = subprocess.run([it.folder / "lifebatch", "-h"], env=it.environment(), stdout=device, stderr=subprocess.DEVNULL)
+        full = subprocess.run(
+            [it.folder / "lifebatch", "-h"], env=it.environment(), stdout=device, stderr=subprocess.DEVNULL
+        )
     rt.write_text(text_of_rt)
     return all(shown) and full.returncode == 3 and it.logged() == []
 
@@ -88,7 +95,11 @@ def own_help(_: Repository) -> bool:
 
 
 def help_of_built(it: Repository) -> bool:
-    return it.run("--help") == (0, "ran: --help\ninput", "") and it.run("-h", "x")[1] == "ran: -h x\ninput" and it.logged() == []
+    return (
+        it.run("--help") == (0, "ran: --help\ninput", "")
+        and it.run("-h", "x")[1] == "ran: -h x\ninput"
+        and it.logged() == []
+    )
 
 
 def second(it: Repository) -> bool:
@@ -127,7 +138,13 @@ def unwritable(it: Repository) -> bool:
     folder = str(it.folder)
     found = [
         it.run(*words) == (3, "", "lifebatch: cannot write no/x.rle: there is no folder no/\n")
-        for words in (["-o", "no/x.rle"], ["-m", "1", "--output=no/x.rle", "x"], ["-qono/x.rle"], ["-o=no/x.rle"], ["x", "--output", "no/x.rle"])
+        for words in (
+            ["-o", "no/x.rle"],
+            ["-m", "1", "--output=no/x.rle", "x"],
+            ["-qono/x.rle"],
+            ["-o=no/x.rle"],
+            ["x", "--output", "no/x.rle"],
+        )
     ]
     found.append(it.run("-o", "no/x.png", name="lifeview")[0] == 3)
     for name in ("locked/new.mc", "locked/there.rle"):
@@ -141,12 +158,20 @@ def unwritable(it: Repository) -> bool:
 def writable(it: Repository) -> bool:
     """What the launcher leaves to the program."""
     (it.folder / "link.rle").symlink_to("nowhere/at all")
-    calls = [("-o", f"{it.folder}/new.rle"), ("-o", "no/x.txt"), ("-o", "no/x.rle", "-h"), ("-o", f"{it.folder}/link.rle"), ("--", "-ono/x.rle")]
+    calls = [
+        ("-o", f"{it.folder}/new.rle"),
+        ("-o", "no/x.txt"),
+        ("-o", "no/x.rle", "-h"),
+        ("-o", f"{it.folder}/link.rle"),
+        ("--", "-ono/x.rle"),
+    ]
     return all(it.run(*words)[:2] == (0, f"ran: {' '.join(words)}\ninput") for words in calls) and it.logged() == []
 
 
 def unknown_program(it: Repository) -> bool:
-    ran = subprocess.run(["python3", it.folder / "launcher" / "build.py", "plane"], env=it.environment(), capture_output=True, text=True)
+    ran = subprocess.run(
+        ["python3", it.folder / "launcher" / "build.py", "plane"], env=it.environment(), capture_output=True, text=True
+    )
     return ran.returncode == 2 and "lifebatch, lifeview, lifeperiod" in ran.stderr and it.logged() == []
 
 
@@ -155,7 +180,12 @@ def without_the_kit(it: Repository) -> bool:
     rt.write_text("#!/bin/sh\nexit 1\n")
     status, out, err = it.run()
     rt.write_text(f"#!/bin/sh\necho {it.folder}/START-HERE.md\n")
-    return (status, out) == (2, "") and err.count("the build failed: rt, ") == 1 and "Traceback" not in err and it.logged() == []
+    return (
+        (status, out) == (2, "")
+        and err.count("the build failed: rt, ") == 1
+        and "Traceback" not in err
+        and it.logged() == []
+    )
 
 
 def failed(it: Repository) -> bool:
@@ -225,7 +255,14 @@ def from_anywhere(it: Repository) -> bool:
     ]
     found = []
     for words, folder in calls:
-        ran = subprocess.run(["sh", "-c", words], cwd=folder, stdin=subprocess.DEVNULL, env=it.environment(PATH=path), capture_output=True, text=True)
+        ran = subprocess.run(
+            ["sh", "-c", words],
+            cwd=folder,
+            stdin=subprocess.DEVNULL,
+            env=it.environment(PATH=path),
+            capture_output=True,
+            text=True,
+        )
         where = it.folder / "launcher" if "cd " in words else folder
         found.append((ran.returncode, ran.stdout, ran.stderr) == (0, f"ran: where\n{where.resolve()}\n", ""))
     gone = "mkdir gone; cd gone; rmdir ../gone; lifebatch x </dev/null"
@@ -270,8 +307,8 @@ def two(it: Repository) -> bool:
 
 
 def time_left(it: Repository) -> bool:
-    """A build that takes 1.6 times the seconds that the launcher expects, here a sixtieth of those of a real one. So the start of the processes
-    counts sixty times as much, and two seconds more are allowed."""
+    """A build that takes 1.6 times the seconds that the launcher expects, here a sixtieth of those of a real one. So
+    the start of the processes counts sixty times as much, and two seconds more are allowed."""
     file, sleeps, chance = it.folder / "launcher" / "seconds.json", it.folder / "sleeps", random.Random(2)
     table = json.loads(file.read_text())
     table["crates"] = {name: seconds / 60 for name, seconds in table["crates"].items()}
@@ -282,15 +319,19 @@ def time_left(it: Repository) -> bool:
     ran, said = it.start(SLEEPS=str(sleeps)), []
     ran.stdin.close()
     for line in ran.stderr:
-        words = re.search(r": (\d+) % after \d+:\d\d, (?:about|\d+ to) (\d+) s left; \d+ of \d+ crates proved, proving \w", line)
+        words = re.search(
+            r": (\d+) % after \d+:\d\d, (?:about|\d+ to) (\d+) s left; \d+ of \d+ crates proved, proving \w", line
+        )
         if words:
             said.append((time.monotonic(), int(words[1]), int(words[2])))
         elif "proved and built" in line:
             ended = time.monotonic()
     shares = [share for _, share, _ in said]
     when, share, left = next(it for it in said if it[1] >= 20)
-    print(f"    with {share} % done {left} s were said to be left, and {ended - when:.1f} s were; the first estimate was {said[0][2]} s for {ended - said[0][0]:.1f}")
-    return ran.wait() == 0 and shares == sorted(shares) and abs(left - (ended - when)) <= (ended - when) / 4 + 2
+    truth, began = ended - when, said[0]
+    print(f"    with {share} % done {left} s were said to be left, and {truth:.1f} s were")
+    print(f"    the first estimate was {began[2]} s for {ended - began[0]:.1f}")
+    return ran.wait() == 0 and shares == sorted(shares) and abs(left - truth) <= truth / 4 + 2
 
 
 def says_a_range(it: Repository) -> bool:
@@ -309,14 +350,23 @@ def says_a_range(it: Repository) -> bool:
 
 def told(it: Repository) -> tuple[int, str]:
     """What the launcher says of a build that it does not begin."""
-    ran = subprocess.run([it.folder / "launcher" / "build.py", "lifebatch", "--about"], env=it.environment(), capture_output=True, text=True)
+    ran = subprocess.run(
+        [it.folder / "launcher" / "build.py", "lifebatch", "--about"],
+        env=it.environment(),
+        capture_output=True,
+        text=True,
+    )
     return ran.returncode, ran.stderr
 
 
 def simulated_machines(_: Repository) -> bool:
-    errors = sorted(look_after(0.2, name, machine).error() for name in ("lifebatch", "lifeview", "lifeperiod") for machine in MACHINES)
-    close = sum(it <= 0.25 for it in errors)
-    print(f"    {close} of {len(errors)} are; the error is {errors[len(errors) // 2]:.0%} in the median, and {errors[-1]:.0%} in the worst")
+    errors = sorted(
+        look_after(0.2, name, machine).error()
+        for name in ("lifebatch", "lifeview", "lifeperiod")
+        for machine in MACHINES
+    )
+    close, median = sum(it <= 0.25 for it in errors), errors[len(errors) // 2]
+    print(f"    {close} of {len(errors)} are; the error is {median:.0%} in the median, {errors[-1]:.0%} in the worst")
     return close >= 0.95 * len(errors)
 
 
@@ -326,12 +376,17 @@ def records(it: Repository) -> bool:
     file, script = it.folder / "launcher" / "seconds.json", it.folder / "launcher" / "record_seconds.py"
     before = file.read_text()
     early = subprocess.run([script], capture_output=True, text=True)
-    is_kept = file.read_text() == before and "no build has recorded png_writer, view_program, lifeview, periods, period_search, period_program, lifeperiod" in early.stderr
+    missing = "png_writer, view_program, lifeview, periods, period_search, period_program, lifeperiod"
+    is_kept = file.read_text() == before and f"no build has recorded {missing}" in early.stderr
     it.run(name="lifeview")
     it.run(name="lifeperiod")
     late = subprocess.run([script], capture_output=True, text=True)
     found = json.loads(file.read_text())
-    return (early.returncode, late.returncode) == (2, 0) and is_kept and {*found["crates"]} == {*json.loads(before)["crates"]}
+    return (
+        (early.returncode, late.returncode) == (2, 0)
+        and is_kept
+        and {*found["crates"]} == {*json.loads(before)["crates"]}
+    )
 
 
 def terminal(it: Repository) -> bool:

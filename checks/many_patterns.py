@@ -4,10 +4,11 @@
     checks/many_patterns.py
     checks/many_patterns.py --patterns 50    fewer patterns
 
-The script takes the commands from the page. It makes 200 patterns, of which one has a fault and one fills small tables, and runs each by itself.
-Then it runs the page's commands: it kills the first with all runs that it started, and repeats it. For several machines it adds the page's words
-to that command, and a script takes the place of ssh. The array job of Slurm runs as a script with a number. Each report and each pattern has to be the same as that of the plain run. The frames of a film have to
-be the pictures of their generations, and the film has to have them all.
+The script takes the commands from the page. It makes 200 patterns, of which one has a fault and one fills small tables,
+and runs each by itself. Then it runs the page's commands: it kills the first with all runs that it started, and repeats
+it. For several machines it adds the page's words to that command, and a script takes the place of ssh. The array job of
+Slurm runs as a script with a number. Each report and each pattern has to be the same as that of the plain run. The
+frames of a film have to be the pictures of their generations, and the film has to have them all.
 """
 import os
 import pathlib
@@ -19,6 +20,7 @@ import tempfile
 import time
 
 from common.check import BUILT, BUILT_VIEW, FFMPEG, PARALLEL, CannotRun, Check, end, status_of
+from common.launcher import malloc_settings
 from common.program import ROOT
 
 CHECK = Check(
@@ -71,9 +73,18 @@ class Folder:
             (path / "patterns" / f"{name}.rle").write_text(text)
 
     def start(self, block: str) -> subprocess.Popen:
-        settings = {**os.environ, "PATH": f"{self.path / 'bin'}:{os.environ['PATH']}", "PARALLEL_SSH": str(self.path / "bin" / "ssh")}
+        settings = {
+            **os.environ,
+            "PATH": f"{self.path / 'bin'}:{os.environ['PATH']}",
+            "PARALLEL_SSH": str(self.path / "bin" / "ssh"),
+        }
         settings |= {"GENERATIONS": str(GENERATIONS), "NODES": str(SMALL), "HOME": str(self.path)}
-        how = {"stdin": subprocess.DEVNULL, "stdout": subprocess.PIPE, "stderr": subprocess.STDOUT, "start_new_session": True}
+        how = {
+            "stdin": subprocess.DEVNULL,
+            "stdout": subprocess.PIPE,
+            "stderr": subprocess.STDOUT,
+            "start_new_session": True,
+        }
         return subprocess.Popen(["sh", "-c", block], cwd=self.path, env=settings, text=True, **how)
 
     def run(self, block: str) -> str:
@@ -102,7 +113,16 @@ class Folder:
     def plain_run(self, name: str, nodes: int) -> tuple[bytes, bytes, bytes]:
         file = self.path / "plain.rle"
         file.unlink(missing_ok=True)
-        words = [self.program, "-m", str(GENERATIONS), "--nodes", str(nodes), "-o", file, self.path / "patterns" / f"{name}.rle"]
+        words = [
+            self.program,
+            "-m",
+            str(GENERATIONS),
+            "--nodes",
+            str(nodes),
+            "-o",
+            file,
+            self.path / "patterns" / f"{name}.rle",
+        ]
         ran = subprocess.run(words, stdin=subprocess.DEVNULL, capture_output=True, timeout=SECONDS)
         return (file.read_bytes() if file.exists() else b"", ran.stdout, ran.stderr)
 
@@ -153,7 +173,8 @@ def killed_in_the_middle(folder: Folder, block: str) -> bool:
 
 
 def page_blocks() -> list[str]:
-    """The blocks of the page: for a folder, for failures, with larger tables, words for several machines, for Slurm, for frames, and for their film."""
+    """The blocks of the page: for a folder, for failures, with larger tables, words for several machines, for Slurm,
+    for frames, and for their film."""
     blocks = BLOCK.findall(PAGE.read_text())
     if len(blocks) != 7:
         raise CannotRun(f"{PAGE.name} has {len(blocks)} blocks of commands, not seven")
@@ -185,6 +206,8 @@ def try_page(folder: Folder) -> None:
     machines = in_place_of("parallel ", f"parallel {words.strip()} ", one_folder)
     plain, whole = folder.plain(SMALL), folder.plain(ENOUGH)
 
+    is_set = all(f"\nexport {name}={value}\n" in PAGE.read_text() for name, value in malloc_settings().items())
+    folder.tell("the page asks of malloc what the launcher does", is_set)
     folder.tell("the command for a folder is killed in the middle", killed_in_the_middle(folder, one_folder))
     ended = folder.logged()
     folder.run(one_folder)
@@ -192,10 +215,14 @@ def try_page(folder: Folder) -> None:
     folder.tell("repeated, it runs all that had not ended, and nothing twice", is_resumed)
     folder.tell("each file is that of a plain run", folder.unlike(plain) == [])
     failed = folder.run(failures).splitlines()
-    is_listed = len(failed) == 2 and all(any(f"patterns/{it}.rle" in line for line in failed) for it in ("faulty", "large"))
+    is_listed = len(failed) == 2 and all(
+        any(f"patterns/{it}.rle" in line for line in failed) for it in ("faulty", "large")
+    )
     folder.tell("the two runs that failed are listed", is_listed and b"NodesFull" in plain["large"][2])
     folder.run(larger)
-    folder.tell("larger tables are enough for the one that filled them", whole["large"][2] == b"" and folder.unlike(whole) == [])
+    folder.tell(
+        "larger tables are enough for the one that filled them", whole["large"][2] == b"" and folder.unlike(whole) == []
+    )
 
     folder.clear()
     folder.run(machines)
@@ -220,7 +247,7 @@ def main() -> int:
         folder = Folder(pathlib.Path(name), options.program.resolve(), options.view.resolve(), options.patterns)
         try_page(folder)
     print(f"{options.patterns} patterns; {folder.differences} rows differ")
-    return status_of(9, folder.differences)
+    return status_of(10, folder.differences)
 
 
 if __name__ == "__main__":

@@ -4,11 +4,12 @@
     checks/no_axioms.py
     checks/no_axioms.py --root FOLDER    the crates of another copy
 
-The script searches each .rt and .antt file of src/, specs/ and proofs/, including comments and texts, for the words that declare such a thing, and
-for holes, which are written ?, ?name or {! .. !}. It also looks for `also_owns`, by which a type says of itself what it owns, in all files but the
-one of History, for proofs by hand (Proof.antt) outside of the crate plane that name the notes of a device, Counted and History, which such a proof could
-set to anything, and for files of C. It reads no proof: `rt ci` shows that the rest is proved. The kit's
-own list of what the proofs of a crate take as written is `rt check --list-axioms`, in the crate's folder.
+The script searches each .rt and .antt file of src/, specs/ and proofs/, including comments and texts, for the words
+that declare such a thing, and for holes, which are written ?, ?name or {! .. !}. It also looks for `also_owns`, by
+which a type says of itself what it owns, in all files but the one of History, for proofs by hand (Proof.antt) outside
+of the crate plane that name the notes of a device, Counted and History, which such a proof could set to anything, and
+for files of C. It reads no proof: `rt ci` shows that the rest is proved. The kit's own list of what the proofs of a
+crate take as written is `rt check --list-axioms`, in the crate's folder.
 """
 import pathlib
 import re

@@ -1,12 +1,13 @@
 #!/usr/bin/env python3
-"""Runs the commands that README.md, questions, formats and from-bgolly show, and compares what they print with what the pages show.
+"""Runs the commands that README.md, questions, formats and from-bgolly show, and compares their output with the pages.
 
     checks/page_commands.py
     checks/page_commands.py --only grows    the commands under headings with this text in them
 
-A block of commands runs by bash, beside a copy of examples/ and the programs, and has to end with status 0. Where a block without a language follows it under the
-same heading, the commands have to print that at their end. The rule of a Makefile has to make its file, and to leave none if the run fails. Blocks that build, install
-or call the kit are left out, and a line says so.
+A block of commands runs by bash, beside a copy of examples/ and the programs, and has to end with status 0. Where a
+block without a language follows it under the same heading, the commands have to print that at their end. The rule of a
+Makefile has to make its file, and to leave none if the run fails. Blocks that build, install or call the kit are left
+out, and a line says so.
 """
 import os
 import pathlib
@@ -77,7 +78,13 @@ class Folder:
         self.settings = {**os.environ, "PATH": f"{path}:{os.environ['PATH']}", "URL": f"file://{path}/x.rle"}
 
     def run(self, words: list[str]) -> tuple[int, str]:
-        how = {"cwd": self.path, "env": self.settings, "stdin": subprocess.DEVNULL, "stdout": subprocess.PIPE, "stderr": subprocess.PIPE}
+        how = {
+            "cwd": self.path,
+            "env": self.settings,
+            "stdin": subprocess.DEVNULL,
+            "stdout": subprocess.PIPE,
+            "stderr": subprocess.PIPE,
+        }
         ran = subprocess.run(words, timeout=SECONDS, text=True, **how)
         return ran.returncode, ran.stdout
 
@@ -94,7 +101,16 @@ class Folder:
         (self.path / "bin").mkdir()
         (self.path / "bin" / "lifebatch").write_text('#!/bin/sh\necho "x = 1" >"$5"; exit 3\n')
         (self.path / "bin" / "lifebatch").chmod(0o755)
-        bad, _ = self.run(["env", f"PATH={self.path / 'bin'}:{os.environ['PATH']}", "make", "-f", "rules.mk", "examples/blinker-later.rle"])
+        bad, _ = self.run(
+            [
+                "env",
+                f"PATH={self.path / 'bin'}:{os.environ['PATH']}",
+                "make",
+                "-f",
+                "rules.mk",
+                "examples/blinker-later.rle",
+            ]
+        )
         written = [(self.path / "examples" / f"{it}-later.rle").exists() for it in ("glider", "blinker")]
         return (good, written) == (0, [True, False]) and bad != 0
 

@@ -1,12 +1,13 @@
 #!/usr/bin/env python3
-"""Counts the lines of the crates, the tests, the must-fail edits and the words of the pages, and compares the lines with docs/guarantees.md.
+"""Counts lines of crates, tests, edits and words of the pages, and compares the lines with docs/guarantees.md.
 
     checks/page_counts.py
     checks/page_counts.py --root FOLDER    the page and the crates of another copy
 
-The page says how many lines of code, definitions, proofs and tests there are. Each number may differ from the count by one percent. The crates
-worked_* count as tests, with all their files. The script also prints how many tests and edits there are. README.md and docs/*.md may have 15000 words
-together: what has a letter or a digit, outside of blocks of code.
+The page says how many lines of code, definitions, proofs and tests there are. Each number may differ from the count by
+one percent. The crates worked_* count as tests, with all their files. The script also prints how many tests and edits
+there are. README.md and docs/*.md may have 15000 words together: what has a letter or a digit, outside of blocks of
+code.
 """
 import pathlib
 import re
@@ -80,7 +81,9 @@ def words(root: pathlib.Path) -> int:
 
 def main() -> int:
     parser = CHECK.parser()
-    parser.add_argument("--root", type=pathlib.Path, default=ROOT, help="the folder of docs and crates (this repository)")
+    parser.add_argument(
+        "--root", type=pathlib.Path, default=ROOT, help="the folder of docs and crates (this repository)"
+    )
     root = CHECK.options(parser).root.resolve()
     found, wrong = counts(root), 0
     for kind, count in found.items():

@@ -4,8 +4,9 @@
     checks/page_links.py
     checks/page_links.py --root FOLDER    the pages of another copy
 
-A link or an image has to name a file or a folder of the repository, relative to its page. An anchor has to be that of a heading, as GitHub makes them. Links in
-code and links to other sites are skipped. A script of checks/, bench/ or launcher/ that a page names, also in code, has to exist and to be executable.
+A link or an image has to name a file or a folder of the repository, relative to its page. An anchor has to be that of a
+heading, as GitHub makes them. Links in code and links to other sites are skipped. A script of checks/, bench/ or
+launcher/ that a page names, also in code, has to exist and to be executable.
 """
 import os
 import pathlib
@@ -27,7 +28,8 @@ CHECK = Check(
 FENCE = re.compile(r" {0,3}(```|~~~)")
 CODE = re.compile(r"(`+)(?!`).*?(?<!`)\1(?!`)")
 HEADING = re.compile(r" {0,3}#{1,6}[ \t]+(.*?)(?:[ \t]+#+)?[ \t]*$")
-# A target stands in brackets behind a text, in "<>" or not, perhaps with a title; or behind a name at the start of a line.
+# A target stands in brackets behind a text, in "<>" or not, perhaps with a title; or behind a name at the start of a
+# line.
 LINK = re.compile(r"\]\(\s*(?:<([^>]*)>|([^\s()]*(?:\([^\s()]*\)[^\s()]*)*))(?:\s+[\"'(][^\"')]*[\"')])?\s*\)")
 DEFINITION = re.compile(r"^ {0,3}\[[^\]]+\]:\s*<?([^\s>]+)>?")
 IMAGE = re.compile(r'<img\b[^>]*\bsrc="([^"]*)"')
@@ -113,7 +115,9 @@ def looked_up(page: pathlib.Path, root: pathlib.Path) -> Iterator[tuple[int, str
 
 def main() -> int:
     parser = CHECK.parser()
-    parser.add_argument("--root", type=pathlib.Path, default=ROOT, help="the folder of README.md and docs (this repository)")
+    parser.add_argument(
+        "--root", type=pathlib.Path, default=ROOT, help="the folder of README.md and docs (this repository)"
+    )
     root = CHECK.options(parser).root.resolve()
     count, wrong = 0, 0
     for page in pages(root):

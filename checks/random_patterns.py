@@ -4,11 +4,11 @@
     checks/random_patterns.py --count 500 --seed 7
     checks/random_patterns.py --seed 7 --only 31    only pattern 31 of seed 7
 
-Each run has a random pattern, a rule in one of the three neighbourhoods, generations, a step, perhaps a window, a limit of
-slots, a number of workers, an output file in one of the two formats, and an input file in one of them, in odd spellings and
-sometimes with a fault. Report, picture, output file, message and status have to be the same to the byte. With a small limit lifebatch
-may refuse a run as NodesFull. Its report then has to be the first lines of the right one, and there may be no file. The script counts
-such a run as skipped.
+Each run has a random pattern, a rule in one of the three neighbourhoods, generations, a step, perhaps a window, a limit
+of slots, a number of workers, an output file in one of the two formats, and an input file in one of them, in odd
+spellings and sometimes with a fault. Report, picture, output file, message and status have to be the same to the byte.
+With a small limit lifebatch may refuse a run as NodesFull. Its report then has to be the first lines of the right one,
+and there may be no file. The script counts such a run as skipped.
 """
 import argparse
 import pathlib
@@ -20,6 +20,7 @@ from common import cells as plain
 from common import spellings
 from common.check import BUILT, Check, end, status_of
 from common.program import Ended, run
+from common.random_cases import add_cases, chances, kept, show_difference
 
 CHECK = Check(
     text=__doc__,
@@ -27,7 +28,7 @@ CHECK = Check(
     takes="15 s for 200 patterns",
     quick=("--count", "60"),
     quickly="5 s",
-    replay="give the --seed and the --only that are printed, and the same --workers. The input file stays at the path that is printed.",
+    replay="give the --seed, the --only and the --workers that are printed. The file stays where the message says.",
 )
 
 # A pattern stops at so many cells.
@@ -108,7 +109,9 @@ class Case:
         self.rule_fault = (4, "BirthOnZero") if text == "B03/S23" else (3, "BadRule")
         self.comments = [chance.choice(spellings.KEPT) for _ in range(chance.choice([0, 0, 1, 3]))]
         is_near = all(abs(part) < 2**32 for cell in self.cells for part in cell)
-        fault = chance.choice(["tag", "states", "zero", "range", "cells"]) if is_near and chance.random() < 0.12 else None
+        fault = (
+            chance.choice(["tag", "states", "zero", "range", "cells"]) if is_near and chance.random() < 0.12 else None
+        )
         spelled = chance.choice([spellings.rle_file, spellings.macrocell_file])
         self.file, self.rule_place, self.fault = spelled(self.cells, text, self.start, self.comments, chance, fault)
 
@@ -180,37 +183,28 @@ def compare(program: str, case: Case, folder: pathlib.Path, seconds: float) -> s
     return f"{' and '.join(differing)} {'differs' if len(differing) == 1 else 'differ'}" if differing else "same"
 
 
-def show_difference(answer: str, case: Case, number: int, options: argparse.Namespace) -> None:
-    """Keeps the input file of a case, and prints how to run it again."""
-    file = pathlib.Path(tempfile.gettempdir()) / f"differs-{options.seed}-{number}"
-    file.write_bytes(case.file)
-    workers = " ".join(map(str, options.workers))
-    print(f"differs: {answer}: lifebatch {' '.join(case.words())} {file}", flush=True)
-    print(f"    to replay: checks/random_patterns.py --seed {options.seed} --only {number} --workers {workers}", flush=True)
-
-
 def answers(options: argparse.Namespace) -> Counter:
     """How many patterns are the same, refused, full or different."""
     program, counts = str(options.program.resolve()), Counter()
-    numbers = range(options.count) if options.only is None else [options.only]
     with tempfile.TemporaryDirectory() as name:
-        for number in numbers:
-            case = Case(random.Random(f"{options.seed} {number}"), options.workers)
+        for number, chance in chances(options):
+            case = Case(chance, options.workers)
             answer = compare(program, case, pathlib.Path(name), options.seconds)
             if answer in ("same", "full"):
                 counts["refused" if answer == "same" and case.told[0] else answer] += 1
             else:
-                show_difference(answer, case, number, options)
+                words = ["lifebatch", *case.words(), kept(number, options, case.file)]
+                show_difference(number, options, answer, words)
                 counts["different"] += 1
     return counts
 
 
 def parsed() -> argparse.Namespace:
     parser = CHECK.parser()
-    parser.add_argument("--count", type=int, default=200, help="how many patterns (200)")
-    parser.add_argument("--seed", type=int, default=1, help="where the patterns come from (1)")
-    parser.add_argument("--only", type=int, metavar="NUMBER", help="only the pattern of this number, from 0 on")
-    parser.add_argument("--workers", type=int, nargs="+", default=[1, 2, 4, 64], help="numbers of workers to choose from (1 2 4 64)")
+    add_cases(parser, "pattern", 200)
+    parser.add_argument(
+        "--workers", type=int, nargs="+", default=[1, 2, 4, 64], help="numbers of workers to choose from (1 2 4 64)"
+    )
     parser.add_argument("--seconds", type=float, default=120, help="how long a run may take (120)")
     return CHECK.options(parser)
 

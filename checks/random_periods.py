@@ -4,8 +4,9 @@
     checks/random_periods.py --count 1000 --seed 7
     checks/random_periods.py --seed 7 --only 31    only pattern 31 of seed 7
 
-Each search has a random pattern, a rule in one of the three neighbourhoods, perhaps some generations before it, and either the most generations
-or a multiple, up to 60. The line and the status have to be the same to the byte. The script also says how many of the patterns have a period.
+Each search has a random pattern, a rule in one of the three neighbourhoods, perhaps some generations before it, and
+either the most generations or a multiple, up to 60. The line and the status have to be the same to the byte. The script
+also says how many of the patterns have a period.
 """
 import argparse
 import pathlib
@@ -16,6 +17,7 @@ from collections import Counter
 from common import cells as plain
 from common.check import BUILT_PERIOD, Check, end, status_of
 from common.program import Ended, run
+from common.random_cases import add_cases, chances, kept, show_difference
 
 CHECK = Check(
     text=__doc__,
@@ -23,7 +25,7 @@ CHECK = Check(
     takes="10 s for 300 patterns",
     quick=("--count", "100"),
     quickly="4 s",
-    replay="give the --seed and the --only that are printed. The input file stays at the path that is printed.",
+    replay="give the --seed and the --only that are printed. The file stays where the message says.",
 )
 
 MOST = 60
@@ -51,7 +53,9 @@ class Case:
         survival = {n for n in range(most + 1) if chance.random() < 0.4}
         rule = plain.Rule({3}, {2, 3}) if chance.random() < 0.4 else plain.Rule(birth, survival, letter)
         width, height, density = chance.randint(1, 7), chance.randint(1, 7), chance.choice([0.2, 0.4, 0.6, 1])
-        cells = {(corner[0] + x, corner[1] + y) for x in range(width) for y in range(height) if chance.random() < density}
+        cells = {
+            (corner[0] + x, corner[1] + y) for x in range(width) for y in range(height) if chance.random() < density
+        }
         return rule, cells
 
     def right_line(self) -> str | None:
@@ -72,6 +76,9 @@ class Case:
                 return f"period {tried}, moves {moves[0]}, {moves[1]}\n"
         return f"no period divides {self.number}\n" if self.is_multiple else f"no period up to {self.number}\n"
 
+    def text(self) -> str:
+        return plain.rle_text(self.cells, self.rule.text(), 0)
+
     def words(self) -> list[str]:
         words = ["--multiple" if self.is_multiple else "--most", str(self.number)]
         return [*words, "-m", str(self.before), "--workers", str(self.workers)]
@@ -91,18 +98,19 @@ def displacement(first: set[plain.Cell], cells: set[plain.Cell]) -> tuple[int, i
 
 def compare(program: str, case: Case, file: pathlib.Path, seconds: float) -> str:
     """What differs, or "same"."""
-    file.write_text(plain.rle_text(case.cells, case.rule.text(), 0))
+    file.write_text(case.text())
     ended = run([program, *case.words(), str(file)], file.parent, seconds)
-    return "same" if ended == Ended(0, case.line, "") else f"{ended.report.strip()} {ended}, and not {case.line.strip()}"
+    return (
+        "same" if ended == Ended(0, case.line, "") else f"{ended.report.strip()} {ended}, and not {case.line.strip()}"
+    )
 
 
 def answers(options: argparse.Namespace) -> Counter:
     """How many searches are the same, not followed or different, and how many found a period."""
     counts = Counter()
-    numbers = range(options.count) if options.only is None else [options.only]
     with tempfile.TemporaryDirectory() as name:
-        for number in numbers:
-            case = Case(random.Random(f"{options.seed} {number}"))
+        for number, chance in chances(options):
+            case = Case(chance)
             if case.line is None:
                 counts["large"] += 1
                 continue
@@ -110,25 +118,24 @@ def answers(options: argparse.Namespace) -> Counter:
             counts["same" if answer == "same" else "different"] += 1
             counts["found"] += case.line.startswith("period")
             if answer != "same":
-                file = pathlib.Path(tempfile.gettempdir()) / f"differs-{options.seed}-{number}.rle"
-                file.write_text(plain.rle_text(case.cells, case.rule.text(), 0))
-                print(f"differs: {answer}: lifeperiod {' '.join(case.words())} {file}", flush=True)
-                print(f"    to replay: checks/random_periods.py --seed {options.seed} --only {number}", flush=True)
+                words = ["lifeperiod", *case.words(), kept(number, options, case.text().encode(), ".rle")]
+                show_difference(number, options, answer, words)
     return counts
 
 
 def parsed() -> argparse.Namespace:
     parser = CHECK.parser()
-    parser.add_argument("--count", type=int, default=400, help="how many patterns (400)")
-    parser.add_argument("--seed", type=int, default=1, help="which patterns (1)")
-    parser.add_argument("--only", type=int, help="only this one of them")
+    add_cases(parser, "pattern", 400)
     parser.add_argument("--seconds", type=float, default=60, help="how long a search may take (60)")
     return CHECK.options(parser)
 
 
 def main() -> int:
     counts = answers(parsed())
-    print(f"{counts['same']} searches are the same, of which {counts['found']} found a period, {counts['large']} grow too large, {counts['different']} differ")
+    print(
+        f"{counts['same']} searches are the same, of which {counts['found']} found a period, "
+        f"{counts['large']} grow too large, {counts['different']} differ"
+    )
     return status_of(counts["same"], counts["different"])
 
 

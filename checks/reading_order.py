@@ -1,19 +1,20 @@
 #!/usr/bin/env python3
-"""Lists the definitions that one has to read to know what a contract's word means, and compares docs/ARCHITECTURE.md's counts with them.
+"""Lists the definitions behind a contract's word, and compares docs/ARCHITECTURE.md's counts with them.
 
     checks/reading_order.py                  compare the counts of the page
-    checks/reading_order.py engine::IsRun    the files for IsRun of the crate engine, lowest first, with their definitions and lines
+    checks/reading_order.py engine::IsRun    the files for IsRun of the crate engine, lowest first, with their counts
     checks/reading_order.py --root FOLDER    the page and the crates of another copy
 
-From the definition of that name the script follows each name in it to the definition in the same file, or to the one that a line
-`use Rattle.CRATE.specs..` brings, and to the types of src/ that contracts see. What the kit defines is left out. Lines are those of the
-definitions with their comments; lines of `use` don't count.
+From the definition of that name the script follows each name in it to the definition in the same file, or to the one
+that a line `use Rattle.CRATE.specs..` brings, and to the types of src/ that contracts see. What the kit defines is left
+out. Lines are those of the definitions with their comments; lines of `use` don't count.
 """
 import pathlib
 import re
 from collections.abc import Iterator
 
 from common.check import CannotRun, Check, end, status_of
+from common.launcher import lines_of_crates
 from common.program import ROOT
 
 CHECK = Check(
@@ -25,9 +26,12 @@ CHECK = Check(
 
 PAGE = pathlib.Path("docs") / "ARCHITECTURE.md"
 ROW = re.compile(r"\| `([\w:]+)` \| (\d+) \| (\d+) \| ([\d,]+) \|")
-USE = re.compile(r"^(?:unfoldable )?(?:pub )?use Rattle\.(\w+)\.specs\.([\w.]+?)(?:\.\{(.*)\}| as (\w+))$", re.MULTILINE)
+USE = re.compile(
+    r"^(?:unfoldable )?(?:pub )?use Rattle\.(\w+)\.specs\.([\w.]+?)(?:\.\{(.*)\}| as (\w+))$", re.MULTILINE
+)
 HEAD = re.compile(
-    r"^ *(?:(?:abbrev|unfoldable) (?:pub )?|(?:pub )?(?:record|data) |(?:pub(?:\(\w+\))? )?(?:struct|enum|type|const) )([^\s:({<;]+)|^(?:pub )?([^\s:|(]+) :",
+    r"^ *(?:(?:abbrev|unfoldable) (?:pub )?|(?:pub )?(?:record|data) |(?:pub(?:\(\w+\))? )?(?:struct|enum|type|const) )"
+    r"([^\s:({<;]+)|^(?:pub )?([^\s:|(]+) :",
     re.MULTILINE,
 )
 TOKEN = re.compile(r"[^\s(){}\[\],;.]+")
@@ -40,8 +44,7 @@ class Specs:
 
     def __init__(self, root: pathlib.Path):
         self.root, self.files = root, {}
-        rows = [it.split(":")[0].split() for it in (root / "crates.txt").read_text().splitlines() if it[:1] not in ("", "#")]
-        self.order = [it[0] for it in rows]
+        self.order = list(lines_of_crates(root))
 
     def blocks(self, file: pathlib.Path) -> tuple[list[str], dict[str, int]]:
         """The blocks of a file, which empty lines part, and in which of them each name is defined."""
@@ -63,7 +66,9 @@ class Specs:
         if parts[0] != "declared":
             return (folder / "specs").joinpath(*parts).with_suffix(".antt")
         tried = [(folder / "src").joinpath(*parts[1:-1], *rest) for rest in ([], ["mod"])]
-        return next((it.with_suffix(".rt") for it in tried if it.with_suffix(".rt").is_file()), folder / "src" / "lib.rt")
+        return next(
+            (it.with_suffix(".rt") for it in tried if it.with_suffix(".rt").is_file()), folder / "src" / "lib.rt"
+        )
 
     def imports(self, file: pathlib.Path) -> Iterator[tuple[str, pathlib.Path, str]]:
         """What a file brings in: the word that stands for it there, its file, and its name."""
@@ -96,7 +101,9 @@ class Specs:
         known = {it: (file, at) for it, at in names.items()}
         for it, source, name in self.imports(file) if file.suffix == ".antt" else []:
             known[it] = self.home(source, name)
-        yield from (known[it] for it in known if all(part in words for part in it.split("◌") if part) and known[it] != place)
+        yield from (
+            known[it] for it in known if all(part in words for part in it.split("◌") if part) and known[it] != place
+        )
 
     def read(self, name: str) -> list[Place]:
         """All definitions behind a name, each after those that it names."""
@@ -104,7 +111,9 @@ class Specs:
         files = sorted(self.root.glob(f"crates/{crate or '*'}/specs/**/*.antt"))
         homes = [(file, self.blocks(file)[1][word]) for file in files if word in self.blocks(file)[1]]
         if len(homes) != 1:
-            raise CannotRun(f"{len(homes)} files define {name}: " + ", ".join(str(it[0].relative_to(self.root)) for it in homes))
+            raise CannotRun(
+                f"{len(homes)} files define {name}: " + ", ".join(str(it[0].relative_to(self.root)) for it in homes)
+            )
         done, started = {}, set()
 
         def visit(place: Place) -> None:
@@ -121,6 +130,16 @@ class Specs:
         return sum(not USE.match(it) for it in self.blocks(place[0])[0][place[1]].splitlines())
 
 
+def summed(rows: list[tuple[str, int, int]]) -> list[int]:
+    """The files, the definitions and the lines of all rows."""
+    return [len(rows), sum(it[1] for it in rows), sum(it[2] for it in rows)]
+
+
+def told(counts: list[int]) -> str:
+    files, definitions, lines = counts
+    return f"{files} files, {definitions} definitions, {lines} lines"
+
+
 def by_file(specs: Specs, name: str) -> list[tuple[str, int, int]]:
     """The files for a name, lowest crate first, with how many definitions and lines of each."""
     found = {}
@@ -133,22 +152,23 @@ def by_file(specs: Specs, name: str) -> list[tuple[str, int, int]]:
 def main() -> int:
     parser = CHECK.parser()
     parser.add_argument("name", nargs="?", help="a definition in specs/, perhaps with its crate, as engine::IsRun")
-    parser.add_argument("--root", type=pathlib.Path, default=ROOT, help="the folder of docs and crates (this repository)")
+    parser.add_argument(
+        "--root", type=pathlib.Path, default=ROOT, help="the folder of docs and crates (this repository)"
+    )
     options = CHECK.options(parser)
     root = options.root.resolve()
     specs = Specs(root)
     if options.name:
         rows = by_file(specs, options.name)
         print("".join(f"{file}: {count} definitions, {lines} lines\n" for file, count, lines in rows), end="")
-        print(f"{options.name}: {len(rows)} files, {sum(it[1] for it in rows)} definitions, {sum(it[2] for it in rows)} lines")
+        print(f"{options.name}: {told(summed(rows))}")
         return 0
     counts, wrong = ROW.findall((root / PAGE).read_text(encoding="utf-8")), 0
     for name, *said in counts:
-        rows = by_file(specs, name)
-        found = [len(rows), sum(it[1] for it in rows), sum(it[2] for it in rows)]
+        found = summed(by_file(specs, name))
         if [int(it.replace(",", "")) for it in said] != found:
             wrong += 1
-            print(f"differs: {name}: the page says {', '.join(said)}; there are {found[0]} files, {found[1]} definitions, {found[2]} lines")
+            print(f"differs: {name}: the page says {', '.join(said)}; there are {told(found)}")
     print(f"{len(counts) - wrong} names have the counts of {PAGE}, {wrong} others")
     return status_of(len(counts), wrong)
 

@@ -7,13 +7,15 @@
     checks/refusals.py --write png_writer    rewrite the lines that differ
     checks/refusals.py --root FOLDER         the crates and the list of another copy
 
-A line of the list names the function that is not proved with an edit, and the clause of its contract that the edit breaks:
+A line of the list names the function that is not proved with an edit, and the clause of its contract that the edit
+breaks:
 
     CRATE/EDIT: FUNCTION, clause NAME
 
-or `its clause`, if that has no name. Where no clause refuses the edit, it says what else does, as `the invariant of its type`. Of all that the prover
-finds, rt prints the first. If that is not what the edit is about, it stands behind, as in `FUNCTION, clause full, clause ok`. An edit differs if rt
-prints something that its line does not name, or that the edit is bad, not tried or not refused.
+or `its clause`, if that has no name. Where no clause refuses the edit, it says what else does, as `the invariant of its
+type`. Of all that the prover finds, rt prints the first. If that is not what the edit is about, it stands behind, as in
+`FUNCTION, clause full, clause ok`. An edit differs if rt prints something that its line does not name, or that the edit
+is bad, not tried or not refused.
 """
 import argparse
 import pathlib
@@ -27,7 +29,13 @@ from common.program import ROOT
 
 CHECK = Check(
     text=__doc__,
-    needs=(Need("rt", "the kit brings it, and has to be on the PATH", lambda it: getattr(it, "log", None) is not None or shutil.which("rt") is not None),),
+    needs=(
+        Need(
+            "rt",
+            "the kit brings it, and has to be on the PATH",
+            lambda it: getattr(it, "log", None) is not None or shutil.which("rt") is not None,
+        ),
+    ),
     takes="a second with --log, and else up to two hours",
     replay="run it again with the crate. rt check in a copy of the crate with the edit prints all that is not proved.",
     quick=("job_queues",),
@@ -36,7 +44,7 @@ CHECK = Check(
 
 LIST = pathlib.Path("checks") / "refusals.txt"
 HEAD = """\
-# Which contract refuses each must-fail edit: CRATE/EDIT: FUNCTION, clause NAME. Where no clause does, the line says what else refuses it.
+# Which contract refuses each must-fail edit: CRATE/EDIT: FUNCTION, clause NAME. Where no clause does, what else does.
 # Behind what an edit is about stands what rt prints, if that is another place. checks/refusals.py compares both.
 """
 
@@ -58,7 +66,8 @@ def blocks(code: str) -> Iterator[tuple[int, str, str]]:
 
 
 def path_of(src: pathlib.Path, parts: list[str]) -> str:
-    """A function's path: behind its type, or else behind its modules. Proofs name a type with its trait: AtSquares for `impl Squares for At`."""
+    """A function's path: behind its type, or else behind its modules. Proofs name a type with its trait: AtSquares for
+    `impl Squares for At`."""
     *before, name = parts
     if not before or before[-1].islower():
         return "::".join([*(it for it in before if it not in ("lib", "main")), name])
@@ -141,7 +150,9 @@ def make_parser() -> argparse.ArgumentParser:
     parser.add_argument("crates", nargs="*", metavar="CRATE", help="the crates whose edits are compared (all)")
     parser.add_argument("--log", type=pathlib.Path, metavar="FILE", help="what rt ci or rt must-fail printed")
     parser.add_argument("--write", action="store_true", help="rewrite the lines that differ")
-    parser.add_argument("--root", type=pathlib.Path, default=ROOT, help="the folder of crates/ and checks/ (this repository)")
+    parser.add_argument(
+        "--root", type=pathlib.Path, default=ROOT, help="the folder of crates/ and checks/ (this repository)"
+    )
     return parser
 
 
@@ -155,22 +166,34 @@ def main() -> int:
     if options.log:
         printed = options.log.read_text(encoding="utf-8", errors="replace")
     else:
-        printed = subprocess.run(["rt", "must-fail", *chosen], cwd=root, stdout=subprocess.PIPE, errors="replace", check=False).stdout
+        printed = subprocess.run(
+            ["rt", "must-fail", *chosen], cwd=root, stdout=subprocess.PIPE, errors="replace", check=False
+        ).stdout
     said = {it[1]: it[2] for it in map(PRINTED.fullmatch, printed.splitlines()) if it}
     if not said:
         raise CannotRun("rt printed nothing of any edit")
     refused = {name: found for name in edits & said.keys() if (found := REFUSED.fullmatch(said[name]))}
-    places = {name: it[1] or place_of(it[2] or "", root / "crates" / name.partition("/")[0] / "src") for name, it in refused.items()}
+    places = {
+        name: it[1] or place_of(it[2] or "", root / "crates" / name.partition("/")[0] / "src")
+        for name, it in refused.items()
+    }
     listed = read_list(root / LIST)
     names = [it for it in sorted(edits | listed.keys()) if not chosen or it.partition("/")[0] in chosen]
-    differs = {it: difference(places.get(it, ""), said.get(it, ""), listed.get(it, "")) if it in edits else "there is no such edit" for it in names}
+    differs = {
+        it: difference(places.get(it, ""), said.get(it, ""), listed.get(it, ""))
+        if it in edits
+        else "there is no such edit"
+        for it in names
+    }
     for name, text in differs.items():
         if text:
             print(f"differs: {name}: {text}")
     if options.write:
         kept = {name: text for name, text in listed.items() if name in edits or name not in names}
         new = {name: places[name] for name in names if differs[name] and places.get(name)}
-        (root / LIST).write_text(HEAD + "".join(f"{name}: {text}\n" for name, text in sorted((kept | new).items())), encoding="utf-8")
+        (root / LIST).write_text(
+            HEAD + "".join(f"{name}: {text}\n" for name, text in sorted((kept | new).items())), encoding="utf-8"
+        )
     return sum_up([not it for it in differs.values()], "edits")
 
 

@@ -5,10 +5,11 @@
     checks/refused_memory.py --only help               the runs with "help" in their names
     checks/refused_memory.py --only help --number 17   only their 17th growth, or thread
 
-The script compiles a small library (common/refuse.c), which is loaded before the C library and refuses the Nth growth: by itself, as if memory were
-short for a moment, and with all later ones, as if none were left. N goes from 1 up to the first run that asks for fewer. Each run has to end like
-the run in which nothing is refused, or with status 1, "PROGRAM: refused 18: NoMemory", the first lines of the report and no output file. The
-message of a usage error may also be shorter. Threads are refused in the same way, which must change nothing.
+The script compiles a small library (common/refuse.c), which is loaded before the C library and refuses the Nth growth:
+by itself, as if memory were short for a moment, and with all later ones, as if none were left. N goes from 1 up to the
+first run that asks for fewer. Each run has to end like the run in which nothing is refused, or with status 1, "PROGRAM:
+refused 18: NoMemory", the first lines of the report and no output file. The message of a usage error may also be
+shorter. Threads are refused in the same way, which must change nothing.
 """
 import argparse
 import itertools
@@ -77,14 +78,23 @@ RUNS = [
     Run("a shared leaf, from macrocell to macrocell", SHARED_LEAF, ["-o", "out.mc", "in"]),
     Run("a glider with a comment, to macrocell", COMMENTED, ["-m", "4", "-o", "out.mc", "in"]),
     Run("the R-pentomino for 1103 generations", R_PENTOMINO, ["-m", "1103", "-o", "out.rle", "in"]),
-    Run("the R-pentomino in few slots", R_PENTOMINO, ["-m", "1103", "-i", "100", "--nodes", "4096", "-o", "out.mc", "in"]),
+    Run(
+        "the R-pentomino in few slots",
+        R_PENTOMINO,
+        ["-m", "1103", "-i", "100", "--nodes", "4096", "-o", "out.mc", "in"],
+    ),
     Run("the replicator with two workers", REPLICATOR, ["-m", "256", "--workers", "2", "-o", "out.rle", "in"]),
     Run("the R-pentomino with two workers", R_PENTOMINO, ["-m", "1103", "--workers", "2", "-o", "out.rle", "in"]),
     Run("the help", BLINKER, ["--help"]),
     Run("words that are bad", BLINKER, ["-m", "x", "in"], status=2),
     Run("the period of the glider", GLIDER, ["in"], program="lifeperiod"),
     Run("the R-pentomino, which has no period up to 100", R_PENTOMINO, ["--most", "100", "in"], program="lifeperiod"),
-    Run("the period of the glider by a multiple, with two workers", GLIDER, ["-m", "64", "--multiple", "256", "--workers", "2", "in"], program="lifeperiod"),
+    Run(
+        "the period of the glider by a multiple, with two workers",
+        GLIDER,
+        ["-m", "64", "--multiple", "256", "--workers", "2", "in"],
+        program="lifeperiod",
+    ),
 ]
 
 
@@ -105,9 +115,17 @@ class Machine:
         for old in self.folder.glob("out.*"):
             old.unlink()
         read, write = os.pipe()
-        settings = {"LD_PRELOAD": str(self.library), "REFUSED": kind, "FIRST": str(first), "LAST": str(last), "TOLD": str(write)}
+        settings = {
+            "LD_PRELOAD": str(self.library),
+            "REFUSED": kind,
+            "FIRST": str(first),
+            "LAST": str(last),
+            "TOLD": str(write),
+        }
         how = {"stdout": subprocess.PIPE, "stderr": subprocess.PIPE, "pass_fds": [write]}
-        with subprocess.Popen([self.programs[run.program], *run.words], cwd=self.folder, env=settings, **how) as process:
+        with subprocess.Popen(
+            [self.programs[run.program], *run.words], cwd=self.folder, env=settings, **how
+        ) as process:
             os.close(write)
             # A run that hangs is killed, and its status says so.
             late = threading.Timer(SECONDS, process.kill)
@@ -130,7 +148,11 @@ def is_plain(told: Told, run: Run) -> bool:
 def is_no_memory(told: Told, plain: Told, run: Run) -> bool:
     """Whether a run ends with NoMemory, and leaves only what it may."""
     is_beginning = plain.report.startswith(told.report) and (not told.report or told.report.endswith("\n"))
-    return (told.status, told.message, told.file) == (1, f"{run.program}: refused 18: NoMemory\n", None) and is_beginning
+    return (told.status, told.message, told.file) == (
+        1,
+        f"{run.program}: refused 18: NoMemory\n",
+        None,
+    ) and is_beginning
 
 
 def is_cut_message(told: Told, plain: Told) -> bool:
@@ -158,7 +180,9 @@ def numbers(kind: str, options: argparse.Namespace) -> Iterator[int]:
         yield from itertools.count(1, options.stride if kind == "memory" else 1)
 
 
-def refused_in_turn(machine: Machine, run: Run, plain: Told, kind: str, is_all: bool, options: argparse.Namespace) -> Counter:
+def refused_in_turn(
+    machine: Machine, run: Run, plain: Told, kind: str, is_all: bool, options: argparse.Namespace
+) -> Counter:
     """The results of refusing each one in turn, by itself or with all later ones, up to the runs that ask for fewer."""
     counts, missed = Counter(), 0
     for number in numbers(kind, options):

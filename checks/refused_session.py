@@ -4,9 +4,9 @@
     checks/refused_session.py
     checks/refused_session.py --number 17   only the 17th allocation
 
-It runs the test sessions_in_want_of_memory of the crate worked_runs by `rt try`, which compiles it without proof and makes its Nth allocation fail.
-N goes from 1 up to the first test in which nothing is refused. The test holds what a call may answer: the right cells, or NoMemory, and then the
-session is as it was, or closed.
+It runs the test sessions_in_want_of_memory of the crate worked_runs by `rt try`, which compiles it without proof and
+makes its Nth allocation fail. N goes from 1 up to the first test in which nothing is refused. The test holds what a
+call may answer: the right cells, or NoMemory, and then the session is as it was, or closed.
 """
 import argparse
 import itertools
@@ -44,14 +44,24 @@ def tried(number: int) -> tuple[int, str]:
     """What was refused where this allocation fails."""
     words = ["rt", "try", "--test", "--fail-alloc", str(number), "--", TEST]
     try:
-        ran = subprocess.run(words, cwd=CRATE, stdin=subprocess.DEVNULL, stdout=subprocess.PIPE, stderr=subprocess.STDOUT, timeout=SECONDS)
+        ran = subprocess.run(
+            words,
+            cwd=CRATE,
+            stdin=subprocess.DEVNULL,
+            stdout=subprocess.PIPE,
+            stderr=subprocess.STDOUT,
+            timeout=SECONDS,
+        )
     except subprocess.TimeoutExpired:
         raise CannotRun(f"{' '.join(words)} takes more than {SECONDS} s") from None
     printed = text_of(ran.stdout)
     if "test result:" not in printed:
         raise CannotRun(f"{' '.join(words)} runs no test: {printed.strip()}")
     if ran.returncode or not PASSED.search(printed):
-        print(f"differs: allocation {number}:\n{printed}    to replay: checks/refused_session.py --number {number}", flush=True)
+        print(
+            f"differs: allocation {number}:\n{printed}    to replay: checks/refused_session.py --number {number}",
+            flush=True,
+        )
         return number, WRONG
     said = REFUSED.findall(printed)
     return number, " and ".join(said) or NONE
@@ -75,7 +85,9 @@ def main() -> int:
     parser = CHECK.parser()
     parser.add_argument("--stride", type=int, default=1, help="refuse every Nth allocation, from the first on (1)")
     parser.add_argument("--number", type=int, help="refuse only the allocation of this number, from 1 on")
-    parser.add_argument("--jobs", type=int, default=os.cpu_count() or 1, help="how many tests run at a time (one for each processor)")
+    parser.add_argument(
+        "--jobs", type=int, default=os.cpu_count() or 1, help="how many tests run at a time (one for each processor)"
+    )
     options = CHECK.options(parser)
     counts = Counter(in_turn(options))
     for found, count in sorted(counts.items()):

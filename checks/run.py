@@ -7,8 +7,9 @@
     checks/run.py random_patterns page_links     run those that are named
     checks/run.py --quick hostile_files          run one of them with a small load
 
-Each check is a script of its own, with more options: checks/NAME.py --help shows them. A line shows whether a check holds, how long it took,
-and its last line. All that it printed follows if it does not hold, or with --show. bench/compare.py is not among them.
+Each check is a script of its own, with more options: checks/NAME.py --help shows them. A line shows whether a check
+holds, how long it took, and its last line. All that it printed follows if it does not hold, or with --show.
+bench/compare.py is not among them.
 """
 import argparse
 import importlib
@@ -19,7 +20,20 @@ import time
 from collections.abc import Iterator
 from dataclasses import dataclass
 
-from common.check import BUILT, BUILT_PERIOD, BUILT_VIEW, DIFFERS, HOLDS, NOT_RUN, STATUSES, Check, add_period, add_program, add_view, end
+from common.check import (
+    BUILT,
+    BUILT_PERIOD,
+    BUILT_VIEW,
+    DIFFERS,
+    HOLDS,
+    NOT_RUN,
+    STATUSES,
+    Check,
+    add_period,
+    add_program,
+    add_view,
+    end,
+)
 
 FOLDER = pathlib.Path(__file__).resolve().parent
 NAMES = [
@@ -30,6 +44,7 @@ NAMES = [
     "wrong_bodies",
     "refusals",
     "reading_order",
+    "python_style",
     "faulty_programs",
     "failing_devices",
     "from_bgolly_page",
@@ -113,7 +128,9 @@ def make_parser() -> argparse.ArgumentParser:
     parser.add_argument("names", nargs="*", metavar="NAME", help=f"the checks to run: {', '.join(NAMES)}")
     parser.add_argument("--list", action="store_true", help="list the checks, what each needs and how long it takes")
     parser.add_argument("--all", action="store_true", help="run all checks")
-    parser.add_argument("--quick", action="store_true", help="give each check a small load; without names run all checks")
+    parser.add_argument(
+        "--quick", action="store_true", help="give each check a small load; without names run all checks"
+    )
     parser.add_argument("--show", action="store_true", help="show all that the checks print")
     add_program(parser)
     add_view(parser)
@@ -138,7 +155,8 @@ def main() -> int:
         outcome = run(name, check, options)
         show(outcome, options.show)
         statuses.append(outcome.status)
-    print(f"{statuses.count(HOLDS)} checks hold, {statuses.count(DIFFERS)} differ, {statuses.count(NOT_RUN)} could not run")
+    hold, differ, not_run = (statuses.count(it) for it in (HOLDS, DIFFERS, NOT_RUN))
+    print(f"{hold} checks hold, {differ} differ, {not_run} could not run")
     return worst(statuses)
 
 

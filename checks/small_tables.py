@@ -4,11 +4,11 @@
     checks/small_tables.py --count 40 --seed 7
     checks/small_tables.py --seed 7 --only 31    only soup 31 of seed 7
 
-Each soup has a random rule in one of the three neighbourhoods, a size, a density, a number of generations, a step and an output
-format. It is run with the usual limit of slots and one worker, and then with each limit from 1024 slots up to the usual one, with
-one worker and with several. In small tables nearly all squares are collected or computed again. Report, message, status and
-output file have to be the same to the byte; or the small run is refused as NodesFull, its report is the first lines of the right
-one, and there is no file. The script counts such a run as full.
+Each soup has a random rule in one of the three neighbourhoods, a size, a density, a number of generations, a step and
+an output format. It is run with the usual limit of slots and one worker, and then with each limit from 1024 slots up to
+the usual one, with one worker and with several. In small tables nearly all squares are collected or computed again.
+Report, message, status and output file have to be the same to the byte; or the small run is refused as NodesFull, its
+report is the first lines of the right one, and there is no file. The script counts such a run as full.
 """
 import argparse
 import pathlib
@@ -19,6 +19,7 @@ from collections.abc import Iterator
 
 from common.check import BUILT, Check, end, status_of
 from common.program import run
+from common.random_cases import add_cases, chances, kept, show_difference
 
 CHECK = Check(
     text=__doc__,
@@ -26,10 +27,21 @@ CHECK = Check(
     takes="3 minutes for 100 soups, which are 2600 runs in small tables",
     quick=("--count", "10"),
     quickly="20 s",
-    replay="give the --seed and the --only that are printed, and the same --workers. The soup stays at the path that is printed.",
+    replay="give the --seed, the --only and the --workers that are printed. The soup stays where the message says.",
 )
 
-RULES = ["B3/S23", "B36/S23", "B3678/S34678", "B1357/S1357", "B2/S", "B36/S125", "B1/S1V", "B13/S012V", "B2/S34H", "B24/S135H"]
+RULES = [
+    "B3/S23",
+    "B36/S23",
+    "B3678/S34678",
+    "B1357/S1357",
+    "B2/S",
+    "B36/S125",
+    "B1/S1V",
+    "B13/S012V",
+    "B2/S34H",
+    "B24/S135H",
+]
 LIMITS = [2**power for power in range(10, 23)]
 FULL = (1, "lifebatch: refused 17: NodesFull\n")
 
@@ -86,32 +98,22 @@ def answers(program: str, soup: Soup, options: argparse.Namespace) -> Iterator[t
             yield compared(told(program, soup, words, options.seconds), usual), words
 
 
-def show_difference(soup: Soup, words: list[str], number: int, options: argparse.Namespace) -> None:
-    """Keeps a soup, and prints how to run it again."""
-    file = pathlib.Path(tempfile.gettempdir()) / f"differs-{options.seed}-{number}.rle"
-    file.write_text(soup.text)
-    workers = " ".join(map(str, options.workers))
-    print(f"differs: lifebatch {' '.join(words)} {file}", flush=True)
-    print(f"    to replay: checks/small_tables.py --seed {options.seed} --only {number} --workers {workers}", flush=True)
-
-
 def counted(options: argparse.Namespace) -> Counter:
     """How many runs are the same, full or different."""
     program, counts = str(options.program.resolve()), Counter()
-    for number in range(options.count) if options.only is None else [options.only]:
-        soup = Soup(random.Random(f"{options.seed} {number}"))
+    for number, chance in chances(options):
+        soup = Soup(chance)
         for answer, words in answers(program, soup, options):
             counts[answer] += 1
             if answer == "different":
-                show_difference(soup, words, number, options)
+                file = kept(number, options, soup.text.encode(), ".rle")
+                show_difference(number, options, "not the same", ["lifebatch", *words, file])
     return counts
 
 
 def parsed() -> argparse.Namespace:
     parser = CHECK.parser()
-    parser.add_argument("--count", type=int, default=100, help="how many soups (100)")
-    parser.add_argument("--seed", type=int, default=1, help="where the soups come from (1)")
-    parser.add_argument("--only", type=int, metavar="NUMBER", help="only the soup of this number, from 0 on")
+    add_cases(parser, "soup", 100)
     parser.add_argument("--workers", type=int, nargs="+", default=[1, 4], help="numbers of workers (1 4)")
     parser.add_argument("--seconds", type=float, default=120, help="how long a run may take (120)")
     return CHECK.options(parser)
@@ -119,7 +121,9 @@ def parsed() -> argparse.Namespace:
 
 def main() -> int:
     counts = counted(parsed())
-    print(f"{counts['same']} runs in small tables are the same, {counts['full']} were full, {counts['different']} differ")
+    print(
+        f"{counts['same']} runs in small tables are the same, {counts['full']} were full, {counts['different']} differ"
+    )
     return status_of(counts["same"] + counts["full"], counts["different"])
 
 

@@ -1,12 +1,13 @@
 #!/usr/bin/env python3
-"""Looks up each must-fail edit and each test that the list checks/wrong_bodies.txt names, and the rows of it that docs/testing.md shows.
+"""Looks up the edits and tests that checks/wrong_bodies.txt names, and the rows of it that docs/testing.md shows.
 
     checks/wrong_bodies.py
     checks/wrong_bodies.py --root FOLDER    the list, the page and the crates of another copy
 
-A line of the list says which body is wrong, and names what refuses it: an edit as crate/file.edit, or a test as crate::module::test. The edit has to
-stand in crates/CRATE/must-fail, and the test in the module's file in crates/CRATE/src/tests. Each row of the page's table has to be a line of the
-list. `rt ci` shows that the edits are refused and that the tests pass.
+A line of the list says which body is wrong, and names what refuses it: an edit as crate/file.edit, or a test as
+crate::module::test. The edit has to stand in crates/CRATE/must-fail, and the test in the module's file in
+crates/CRATE/src/tests. Each row of the page's table has to be a line of the list. `rt ci` shows that the edits are
+refused and that the tests pass.
 """
 import pathlib
 import re
@@ -67,7 +68,9 @@ def is_found(name: str, root: pathlib.Path) -> bool:
 
 def main() -> int:
     parser = CHECK.parser()
-    parser.add_argument("--root", type=pathlib.Path, default=ROOT, help="the folder of checks, docs and crates (this repository)")
+    parser.add_argument(
+        "--root", type=pathlib.Path, default=ROOT, help="the folder of checks, docs and crates (this repository)"
+    )
     root = CHECK.options(parser).root.resolve()
     bodies = listed(root / LIST)
     count, missing, others = 0, 0, 0
@@ -81,7 +84,10 @@ def main() -> int:
         if bodies.get(body) != names:
             others += 1
             print(f"differs: {PAGE}: the list has no line for: {body}")
-    print(f"{count - missing} edits and tests of wrong bodies found, {missing} not; {others} rows of {PAGE} that the list has not")
+    print(
+        f"{count - missing} edits and tests of wrong bodies found, {missing} not; "
+        f"{others} rows of {PAGE} that the list has not"
+    )
     return status_of(count, missing + others)
 
 

@@ -3,16 +3,18 @@
 
     launcher/build.py lifebatch             prove and build lifebatch, lifeview or lifeperiod
     launcher/build.py lifebatch --about     say about how long that takes, and build nothing
-    launcher/build.py --install PREFIX      build all programs, and put them with man pages, completions and Golly's scripts below PREFIX
+    launcher/build.py --install PREFIX      build all programs, put them with man pages, completions and scripts there
     launcher/build.py --uninstall PREFIX    take away what was put there
 
-Crates are proved side by side, as many as cores and memory allow, each after those below it. For each proved crate the build writes a library
-of its statements, which is all that the crates above it read, in either program. Their checks are shorter than over the libraries with proofs
-that `rt lib` keeps for editing, so the build calls the compiler of the kit, `rattle`, and not `rt`. An interrupted build keeps the libraries that
-it has made, and the next one resumes from them.
+Crates are proved side by side, as many as cores and memory allow, each after those below it. For each proved crate the
+build writes a library of its statements, which is all that the crates above it read, in either program. Their checks
+are shorter than over the libraries with proofs that `rt lib` keeps for editing, so the build calls the compiler of the
+kit, `rattle`, and not `rt`. An interrupted build keeps the libraries that it has made, and the next one resumes from
+them.
 
-Standard error shows what is being proved, how much of the work is done and how long the rest takes. The status is 0 if the program was built, 2 if
-not, 3 if files could not be installed or taken away, and 128 plus the signal's number if the build was interrupted.
+Standard error shows what is being proved, how much of the work is done and how long the rest takes. The status is 0 if
+the program was built, 2 if not, 3 if files could not be installed or taken away, and 128 plus the signal's number if
+the build was interrupted.
 """
 import argparse
 import contextlib
@@ -59,7 +61,9 @@ def tell_about(program: Program) -> int:
         return 0
     left = duration(*pace_of(program, proved).range_left())
     why = "older than its code or contracts" if program.built.exists() else "not built yet"
-    Progress(program.name, 0).tell(f"the program is {why}; the next run builds it, which takes {left} here; version {whole_version()}")
+    Progress(program.name, 0).tell(
+        f"the program is {why}; the next run builds it, which takes {left} here; version {whole_version()}"
+    )
     return 0
 
 
@@ -68,8 +72,8 @@ def tell_needs(progress: Progress, pace: Pace) -> None:
     memory, disk = pace.plan.memory // GIGABYTE, shutil.disk_usage(ROOT).free // GIGABYTE
     progress.tell(f"proving and building the program first; this takes {duration(*pace.range_left())} here")
     progress.tell(
-        f"it needs rt ({shutil.which('rt')}), {MEMORY // GIGABYTE} GB of memory for each crate at a time ({memory} GB free)"
-        f" and {DISK // GIGABYTE} GB of disk ({disk} GB free), and uses all cores ({pace.plan.cores})"
+        f"it needs rt ({shutil.which('rt')}), {MEMORY // GIGABYTE} GB of memory for each crate at a time ({memory} GB"
+        f" free) and {DISK // GIGABYTE} GB of disk ({disk} GB free), and uses all cores ({pace.plan.cores})"
     )
 
 
@@ -110,7 +114,9 @@ def install_programs(prefix: pathlib.Path) -> int:
 
 def uninstall_programs(prefix: pathlib.Path) -> int:
     count = uninstall(prefix)
-    print(f"took away {count} files below {prefix}" if count else f"nothing is installed below {prefix}", file=sys.stderr)
+    print(
+        f"took away {count} files below {prefix}" if count else f"nothing is installed below {prefix}", file=sys.stderr
+    )
     return 0 if count else 2
 
 
@@ -118,8 +124,12 @@ def parsed() -> argparse.Namespace:
     parser = argparse.ArgumentParser(description=__doc__.strip(), formatter_class=argparse.RawDescriptionHelpFormatter)
     parser.add_argument("name", nargs="?", metavar="NAME", help=f"the program, one of {', '.join(PROGRAMS)}")
     parser.add_argument("--about", action="store_true", help="say about how long the build takes, and build nothing")
-    parser.add_argument("--install", type=pathlib.Path, metavar="PREFIX", help="build all programs, and install them below this folder")
-    parser.add_argument("--uninstall", type=pathlib.Path, metavar="PREFIX", help="take away what was installed below this folder")
+    parser.add_argument(
+        "--install", type=pathlib.Path, metavar="PREFIX", help="build all programs, and install them below this folder"
+    )
+    parser.add_argument(
+        "--uninstall", type=pathlib.Path, metavar="PREFIX", help="take away what was installed below this folder"
+    )
     options = parser.parse_args()
     if sum(it is not None for it in (options.name, options.install, options.uninstall)) != 1:
         parser.error(f"give the name of a program, one of {', '.join(PROGRAMS)}, or --install or --uninstall")
@@ -129,7 +139,8 @@ def parsed() -> argparse.Namespace:
 
 
 def main() -> int:
-    # Until a check runs, Ctrl-C just ends this program. Where the caller ignores the end of processes, how checks end would be lost.
+    # Until a check runs, Ctrl-C just ends this program. Where the caller ignores the end of processes, how checks end
+    # would be lost.
     signal.signal(signal.SIGINT, signal.SIG_DFL)
     signal.signal(signal.SIGCHLD, signal.SIG_DFL)
     options = parsed()

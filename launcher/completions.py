@@ -27,7 +27,10 @@ complete -o default -F _{name} {name}
 def bash(name: str) -> str:
     options = help_of(name).options
     words = [form + "=" * it.is_joined() for it in options for form in it.forms()]
-    forms = {is_file: [form for it in options if it.value and it.is_file() == is_file for form in it.forms()] for is_file in (True, False)}
+    forms = {
+        is_file: [form for it in options if it.value and it.is_file() == is_file for form in it.forms()]
+        for is_file in (True, False)
+    }
     # Where there is no such option, a pattern that no word before another is.
     numbers, files = ("|".join(forms[is_file]) or "--" for is_file in (False, True))
     return BASH.format(name=name, numbers=numbers, files=files, words=shlex.quote(" ".join(words)))
@@ -57,4 +60,9 @@ def fish_option(name: str, it: Option) -> str:
 
 
 def fish(name: str) -> str:
-    return "\n".join([f"# Completes the words of {name} in fish.", *(fish_option(name, it) for it in help_of(name).options)]) + "\n"
+    return (
+        "\n".join(
+            [f"# Completes the words of {name} in fish.", *(fish_option(name, it) for it in help_of(name).options)]
+        )
+        + "\n"
+    )

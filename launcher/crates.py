@@ -16,9 +16,9 @@ PROGRAMS = ["lifebatch", "lifeview", "lifeperiod"]
 Crates = dict[str, list[str]]
 
 
-def lines_of_crates() -> dict[str, str]:
+def lines_of_crates(root: pathlib.Path = ROOT) -> dict[str, str]:
     """The lines of crates.txt by crate, without comments."""
-    lines = [it.partition("#")[0].strip() for it in (ROOT / "crates.txt").read_text().splitlines()]
+    lines = [it.partition("#")[0].strip() for it in (root / "crates.txt").read_text().splitlines()]
     return {re.match(r"\w+", it)[0]: it for it in lines if it}
 
 
@@ -61,7 +61,9 @@ def sum_file(name: str) -> pathlib.Path:
 @functools.cache
 def sum_of(name: str) -> str:
     """A checksum of all that a crate is proved from: its line, its files, the crates below it, and the kit."""
-    files = [it for part in ("src", "specs", "proofs") for it in sorted((folder(name) / part).glob("**/*")) if it.is_file()]
+    files = [
+        it for part in ("src", "specs", "proofs") for it in sorted((folder(name) / part).glob("**/*")) if it.is_file()
+    ]
     said = [lines_of_crates()[name], (kit() / "KIT-ID").read_text()]
     said += [f"{it.relative_to(ROOT)} {hashlib.sha256(it.read_bytes()).hexdigest()}" for it in files]
     said += [sum_of(it) for it in used_by()[name] if it in lines_of_crates()]
@@ -98,9 +100,12 @@ class Program:
         unfinished.rename(self.began)
 
     def tests(self, crates: Crates) -> str:
-        """A script that returns 0 if code or contracts are newer than itself. A file that comes or goes changes its folder."""
+        """A script that returns 0 if code or contracts are newer than itself. A file that comes or goes changes its
+        folder."""
         lines = [[ROOT / "crates.txt"]]
-        lines += [[it, *sorted(it.glob("**/*"))] for name in crates for it in (folder(name) / "src", folder(name) / "specs")]
+        lines += [
+            [it, *sorted(it.glob("**/*"))] for name in crates for it in (folder(name) / "src", folder(name) / "specs")
+        ]
         paths = [" ".join(shlex.quote(os.path.relpath(it, self.began.parent)) for it in line) for line in lines]
         words = " \\\n".join(["for file in", *paths])
         return f'{words}\ndo\n    test "$file" -nt {self.began.name} && return 0\ndone\nreturn 1\n'

@@ -1,4 +1,4 @@
-"""What launcher/help/NAME.txt says, which is the program's help to the byte: its parts, for man pages and completions."""
+"""The parts of launcher/help/NAME.txt, which is the program's help to the byte, for man pages and completions."""
 import re
 from dataclasses import dataclass
 

@@ -1,4 +1,4 @@
-"""The files that launcher/build.py installs and launcher/package.py packs: which there are, how they are written and taken away."""
+"""The files that launcher/build.py installs and launcher/package.py packs: which, and how they come and go."""
 import os
 import pathlib
 from dataclasses import dataclass
@@ -45,7 +45,7 @@ def command(name: str) -> str:
         raise Failed(f"./{name} does not end with {START.strip()}")
     lines = before.replace(", which is proved and built first where it is not.", ".")
     call = (ROOT / "launcher" / "call.sh").read_text(encoding="utf-8")
-    place = f'endings=${{endings-}}\nprogram=$root/../{LIBRARY}/{name}\n'
+    place = f"endings=${{endings-}}\nprogram=$root/../{LIBRARY}/{name}\n"
     return f'{lines}set -u\n{place}\n{call}\ntest_output "$@" || exit\ncall "$@"\n'
 
 
@@ -92,7 +92,8 @@ def listed(root: pathlib.Path) -> list[str]:
 
 
 def install(files: Files, root: pathlib.Path) -> None:
-    """Writes all files below a folder, in place of those of an earlier installation. Files of others stay as they are."""
+    """Writes all files below a folder, in place of those of an earlier installation. Files of others stay as they
+    are."""
     earlier = listed(root)
     strange = [it for it in [*files, LIST] if os.path.lexists(root / it) and it not in earlier]
     if strange:
@@ -109,7 +110,8 @@ def install(files: Files, root: pathlib.Path) -> None:
 
 
 def uninstall(root: pathlib.Path) -> int:
-    """Takes away what an installation has written, and its folders where they are empty. Returns how many files there were."""
+    """Takes away what an installation has written, and its folders where they are empty. Returns how many files there
+    were."""
     names = listed(root)
     files = [it for it in names if not it.endswith("/")]
     # The list goes last, so that a call that was interrupted can be repeated.

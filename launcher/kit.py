@@ -23,7 +23,9 @@ class Failed(Exception):
 def kit() -> pathlib.Path:
     """The folder of the kit."""
     try:
-        page = subprocess.run(["rt", "doc"], stdin=subprocess.DEVNULL, capture_output=True, text=True, check=True).stdout
+        page = subprocess.run(
+            ["rt", "doc"], stdin=subprocess.DEVNULL, capture_output=True, text=True, check=True
+        ).stdout
     except (OSError, subprocess.CalledProcessError) as error:
         raise Failed(f"rt, the command of the Rattle kit, does not run: {error}") from error
     return pathlib.Path(page.strip()).parent

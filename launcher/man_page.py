@@ -2,7 +2,7 @@
 import re
 
 from crates import PROGRAMS, ROOT
-from help_text import Help, Option, help_of
+from help_text import Option, help_of
 from version import releases, whole_version
 
 STATUS = re.compile(r"^- ([123]), (.*?)[:;]", re.MULTILINE)

@@ -1,6 +1,9 @@
-"""How much of a build is done, and how long the rest takes: the plan is played through, corrected by what this machine has needed so far.
+"""How much of a build is done, and how long the rest takes.
 
-Work is counted in seconds of one core: those that a check has of the cores, as far as the plan knows, and those that it was expected to take.
+The plan is played through, corrected by what this machine has needed so far.
+
+Work is counted in seconds of one core: those that a check has of the cores, as far as the plan knows, and those that it
+was expected to take.
 """
 from dataclasses import dataclass, field
 
@@ -28,7 +31,11 @@ def cores_of(running: Running, cores: int) -> dict[str, float]:
     free = float(cores)
     while weights:
         each = free / sum(weights.values())
-        sated = {name: busy_cores(running[name].jobs) for name, it in weights.items() if each * it >= busy_cores(running[name].jobs)}
+        sated = {
+            name: busy_cores(running[name].jobs)
+            for name, it in weights.items()
+            if each * it >= busy_cores(running[name].jobs)
+        }
         if not sated:
             return {**found, **{name: each * it for name, it in weights.items()}}
         found.update(sated)

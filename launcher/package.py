@@ -5,9 +5,10 @@
     launcher/package.py --to FOLDER         write it there
     launcher/package.py --built FOLDER      pack the programs of this folder, and not those of crates/NAME/out
 
-Build all programs first (launcher/build.py NAME). Another machine installs the package by `apt install ./lifebatch_*.deb`, without the kit. What it depends on is
-what the programs link, as dpkg-shlibdeps says (Debian: apt-get install dpkg-dev). The version is that of CHANGELOG.md; the package also says the commit and the
-kit's logic. The status is 0 if the package was written, else 2, or 3 if a file could not be read or written.
+Build all programs first (launcher/build.py NAME). Another machine installs the package by `apt install
+./lifebatch_*.deb`, without the kit. What it depends on is what the programs link, as dpkg-shlibdeps says (Debian:
+apt-get install dpkg-dev). The version is that of CHANGELOG.md; the package also says the commit and the kit's logic.
+The status is 0 if the package was written, else 2, or 3 if a file could not be read or written.
 """
 import argparse
 import gzip
@@ -52,13 +53,17 @@ or hand on what is in it is for its authors to say. The owner of the copy of the
 repository from which it was built is {maintainer}.
 """
 # lintian takes a name in an executable for a fault of its builder. These are as the kit's linker wrote them.
-OVERRIDES = f"# The programs are packed as they were built, with their symbols.\n{NAME}: unstripped-binary-or-object *\n"
+OVERRIDES = (
+    f"# The programs are packed as they were built, with their symbols.\n{NAME}: unstripped-binary-or-object *\n"
+)
 
 
 def run(words: list[str], **how) -> str:
     """What a command prints."""
     try:
-        return subprocess.run(words, stdin=subprocess.DEVNULL, capture_output=True, text=True, check=True, **how).stdout.strip()
+        return subprocess.run(
+            words, stdin=subprocess.DEVNULL, capture_output=True, text=True, check=True, **how
+        ).stdout.strip()
     except FileNotFoundError as error:
         raise Failed(f"{words[0]} is not there (Debian: apt-get install dpkg-dev)") from error
     except subprocess.CalledProcessError as error:
@@ -80,7 +85,10 @@ def described(built: dict[str, pathlib.Path], are_proved: bool) -> str:
     texts = [f"{name}: {help_of(name).summary}" for name in built]
     texts.append(f"This is version {whole_version()}.")
     if are_proved:
-        texts.append("The code was proved where the package was built: a run that ends with status 0 writes what the rule of the pattern gives.")
+        texts.append(
+            "The code was proved where the package was built: a run that ends with status 0 writes what the rule of the"
+            " pattern gives."
+        )
     if processor():
         texts.append(f"The programs need a processor with the features of {processor()[1]}.")
     return "\n .\n".join(textwrap.fill(it, WIDTH, initial_indent=" ", subsequent_indent=" ") for it in texts)
@@ -131,7 +139,10 @@ def make_package(built: dict[str, pathlib.Path], are_proved: bool, options: argp
     date = str(timegm(time.strptime(release.date, "%Y-%m-%d")))
     with tempfile.TemporaryDirectory() as name:
         write_all({**files, "DEBIAN/control": File(control), "DEBIAN/md5sums": File(sums)}, pathlib.Path(name))
-        run(["dpkg-deb", "--root-owner-group", "--build", name, str(path)], env={**os.environ, "SOURCE_DATE_EPOCH": date})
+        run(
+            ["dpkg-deb", "--root-owner-group", "--build", name, str(path)],
+            env={**os.environ, "SOURCE_DATE_EPOCH": date},
+        )
     return path
 
 
@@ -152,9 +163,17 @@ def maintainer() -> str:
 
 def parsed() -> argparse.Namespace:
     parser = argparse.ArgumentParser(description=__doc__.strip(), formatter_class=argparse.RawDescriptionHelpFormatter)
-    parser.add_argument("--to", type=pathlib.Path, default=pathlib.Path(), metavar="FOLDER", help="the folder for the package (this one)")
+    parser.add_argument(
+        "--to",
+        type=pathlib.Path,
+        default=pathlib.Path(),
+        metavar="FOLDER",
+        help="the folder for the package (this one)",
+    )
     parser.add_argument("--built", type=pathlib.Path, metavar="FOLDER", help="the folder of the programs")
-    parser.add_argument("--maintainer", default=maintainer(), help="the maintainer, as 'NAME <MAIL>' (who made the last commit)")
+    parser.add_argument(
+        "--maintainer", default=maintainer(), help="the maintainer, as 'NAME <MAIL>' (who made the last commit)"
+    )
     options = parser.parse_args()
     if not re.fullmatch(r"[^<>\n]+ <\S+@\S+>", options.maintainer):
         parser.error("give --maintainer 'NAME <MAIL>'")

@@ -1,6 +1,7 @@
 """In which order crates are proved, how many side by side, and how long each is expected to take.
 
-`seconds.json` has the processor seconds of each crate's check. `record_seconds.py` writes it, from the records that builds leave in `out/took.json`.
+`seconds.json` has the processor seconds of each crate's check. `record_seconds.py` writes it, from the records that
+builds leave in `out/took.json`.
 """
 import functools
 import json
@@ -18,7 +19,8 @@ GIGABYTE = 10**9
 MEMORY = 4 * GIGABYTE
 MEMORY_OF_JOB = 3 * GIGABYTE // 2
 MOST_JOBS = 4
-# A check of so many seconds is shorter with more jobs where cores are free, and a check of so many with a second job where none is.
+# A check of so many seconds is shorter with more jobs where cores are free, and a check of so many with a second job
+# where none is.
 WITH_JOBS = 30
 LONG = 100
 # A chain of at least this share of the longest one counts as long too.
@@ -31,8 +33,8 @@ SORTINGS, PAUSE = 6, 0.08
 DOUBT = 0.25
 TABLE = ROOT / "launcher" / "seconds.json"
 GROUPS = pathlib.Path("/sys/fs/cgroup")
-# For each controller that /proc/self/cgroup may name, the second version having no name: the files of the limit and of what is used, and the line of
-# memory.stat with the pages of files.
+# For each controller that /proc/self/cgroup may name, the second version having no name: the files of the limit and of
+# what is used, and the line of memory.stat with the pages of files.
 GROUP_FILES = {
     "": ("memory.max", "memory.current", "inactive_file"),
     "memory": ("memory.limit_in_bytes", "memory.usage_in_bytes", "total_inactive_file"),
@@ -45,13 +47,15 @@ def table() -> dict:
 
 
 def seconds_of(name: str) -> float:
-    """The processor seconds that the check of a crate is expected to take. One that is not listed counts by its lines."""
+    """The processor seconds that the check of a crate is expected to take. One that is not listed counts by its
+    lines."""
     lines = sum(len(it.read_bytes().splitlines()) for it in folder(name).glob("src/**/*.rt"))
     return table()["crates"].get(name, 12 + lines // 8)
 
 
 def sorting_seconds() -> list[float]:
-    """The processor seconds in which this machine sorts some numbers, the least first: many times within half a second, since it may do other work too."""
+    """The processor seconds in which this machine sorts some numbers, the least first: many times within half a second,
+    since it may do other work too."""
     numbers, taken = [it * 7919 % 100003 / 7 for it in range(20000)], []
     for _ in range(SORTINGS):
         time.sleep(PAUSE)
@@ -67,7 +71,8 @@ def record(name: str) -> pathlib.Path:
 
 
 def recorded(name: str) -> dict[str, float]:
-    """What the last check of a crate took on this machine: `seconds` of processors, `clock`, `jobs`, and `work`, which `Pace` counts."""
+    """What the last check of a crate took on this machine: `seconds` of processors, `clock`, `jobs`, and `work`, which
+    `Pace` counts."""
     try:
         return json.loads(record(name).read_text())
     except (OSError, ValueError):
@@ -76,7 +81,8 @@ def recorded(name: str) -> dict[str, float]:
 
 @dataclass(frozen=True)
 class Factor:
-    """How much longer than the table says checks take on this machine. If no check has ended here, they may take from `least` to `most` times that."""
+    """How much longer than the table says checks take on this machine. If no check has ended here, they may take from
+    `least` to `most` times that."""
 
     likely: float
     least: float = 1
@@ -84,7 +90,8 @@ class Factor:
 
 
 def machine_factor(names: Iterable[str]) -> Factor:
-    """By the processor seconds of earlier builds, else by how fast this machine sorts, at best and in the middle of many times."""
+    """By the processor seconds of earlier builds, else by how fast this machine sorts, at best and in the middle of
+    many times."""
     took = [(recorded(it)["seconds"], seconds_of(it)) for it in names if recorded(it)]
     if took:
         return Factor(max(sum(seconds for seconds, _ in took) / sum(expected for _, expected in took), 1 / 100))
@@ -103,7 +110,8 @@ def free_in(group: pathlib.Path, limit: str, used: str, cache: str) -> Optional[
 
 
 def free_in_groups() -> list[int]:
-    """What the control groups that this process is in leave free, by the files of both versions of Linux's control groups."""
+    """What the control groups that this process is in leave free, by the files of both versions of Linux's control
+    groups."""
     found: list[Optional[int]] = []
     try:
         lines = pathlib.Path("/proc/self/cgroup").read_text().splitlines()
@@ -119,7 +127,12 @@ def free_in_groups() -> list[int]:
 
 def free_memory() -> int:
     """The free memory in bytes, within the limits of control groups."""
-    return min([1024 * int(re.search(r"MemAvailable:\s+(\d+)", pathlib.Path("/proc/meminfo").read_text())[1]), *free_in_groups()])
+    return min(
+        [
+            1024 * int(re.search(r"MemAvailable:\s+(\d+)", pathlib.Path("/proc/meminfo").read_text())[1]),
+            *free_in_groups(),
+        ]
+    )
 
 
 @dataclass(frozen=True)
@@ -149,11 +162,16 @@ class Plan:
 
     def ready(self, done: set[str], running: Running) -> list[str]:
         """The crates that can be proved now, the one with the longest chain of crates above it first."""
-        left = [name for name in self.crates if name not in done and name not in running and done.issuperset(self.crates[name])]
+        left = [
+            name
+            for name in self.crates
+            if name not in done and name not in running and done.issuperset(self.crates[name])
+        ]
         return sorted(left, key=lambda name: -self.chain[name])
 
     def jobs_for(self, name: str, ready: list[str], running: Running) -> int:
-        """How many jobs a crate that is ready gets: the cores that no other crate can use, and two for a long check on a long chain."""
+        """How many jobs a crate that is ready gets: the cores that no other crate can use, and two for a long check on
+        a long chain."""
         seconds, others = self.seconds[name], running.keys() | set(ready) - {name}
         is_on_long_chain = self.chain[name] >= SHARE * max(self.chain[it] for it in [name, *others])
         free = self.cores - len(others) if seconds >= WITH_JOBS else 1

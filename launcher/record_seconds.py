@@ -3,7 +3,8 @@
 
     launcher/record_seconds.py
 
-Build all programs first, from nothing and on a machine that does nothing else. Builds plan with these seconds, and calculate from them how long they take.
+Build all programs first, from nothing and on a machine that does nothing else. Builds plan with these seconds, and
+calculate from them how long they take.
 """
 import json
 import sys

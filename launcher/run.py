@@ -36,12 +36,13 @@ class Run:
 
     def call(self) -> None:
         how = {"cwd": folder(self.name), "stdin": subprocess.DEVNULL, "stdout": self.said, "stderr": subprocess.STDOUT}
-        # A group of its own, so that it can be ended, in the session of the build: Linux may share the cores out by session, and then
-        # `nice` says nothing between two of them.
+        # A group of its own, so that it can be ended, in the session of the build: Linux may share the cores out by
+        # session, and then `nice` says nothing between two of them.
         self.process = subprocess.Popen(self.commands.pop(0), preexec_fn=os.setpgrp, **how)
 
     def poll(self) -> Optional[int]:
-        """Starts the next command if one has ended. Returns the status once the last one, or a failed one, has ended."""
+        """Starts the next command if one has ended. Returns the status once the last one, or a failed one, has
+        ended."""
         ended, status, used = os.wait4(self.process.pid, os.WNOHANG)
         if not ended:
             return None
@@ -86,7 +87,9 @@ class Build:
     def commands(self, name: str, jobs: int) -> list[Words]:
         libraries = {it: library(it) for it in all_below(self.pace.plan.crates)[name]}
         if name == self.program.name:
-            return commands_for_program(words_of_check(name, "main", used_by()[name], libraries, jobs), self.program.new)
+            return commands_for_program(
+                words_of_check(name, "main", used_by()[name], libraries, jobs), self.program.new
+            )
         return commands_for_library(words_of_check(name, "lib", used_by()[name], libraries, jobs), library(name))
 
     def start(self, name: str, share: Share) -> None:

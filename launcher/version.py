@@ -25,14 +25,18 @@ def releases() -> list[Release]:
     for part in re.split(r"^(?=## )", text, flags=re.MULTILINE)[1:]:
         head, _, body = part.partition("\n")
         number, date = VERSION.fullmatch(head).groups()
-        found.append(Release(number, date, [" ".join(it.split()) for it in re.split(r"^- ", body, flags=re.MULTILINE)[1:]]))
+        found.append(
+            Release(number, date, [" ".join(it.split()) for it in re.split(r"^- ", body, flags=re.MULTILINE)[1:]])
+        )
     return found
 
 
 def printed(*words: str) -> str:
     """What a command prints, or nothing if it fails."""
     try:
-        return subprocess.run(words, cwd=ROOT, stdin=subprocess.DEVNULL, capture_output=True, text=True, check=True).stdout.strip()
+        return subprocess.run(
+            words, cwd=ROOT, stdin=subprocess.DEVNULL, capture_output=True, text=True, check=True
+        ).stdout.strip()
     except (OSError, subprocess.CalledProcessError):
         return ""
 

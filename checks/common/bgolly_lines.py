@@ -23,7 +23,8 @@ FILES = {
     "states.mc": "[M2]\n#R 345/2/4\n1 0 1 2 0\n2 0 1 0 0\n3 0 2 0 0\n",
     "script.txt": "show\n",
     # A rule in a file, by which a cell is born beside one live cell, and none lives on.
-    "Lonely.rule": "@RULE Lonely\n@TABLE\nn_states:2\nneighborhood:Moore\nsymmetries:permute\n0,1,0,0,0,0,0,0,0,1\n1,0,0,0,0,0,0,0,0,0\n",
+    "Lonely.rule": "@RULE Lonely\n@TABLE\nn_states:2\nneighborhood:Moore\nsymmetries:permute\n"
+    "0,1,0,0,0,0,0,0,0,1\n1,0,0,0,0,0,0,0,0,0\n",
 }
 
 
@@ -138,13 +139,16 @@ LINES = [
         "-i never overshoots; there a run ends at the first multiple from -m on",
         "-m 25 -i 10 pentomino.rle",
         "-h -m 25 -i 10 pentomino.rle",
-        lambda ours, theirs: ours.generations() == ["0", "10", "20", "25"] and theirs.generations() == ["0", "10", "20", "30"],
+        lambda ours, theirs: ours.generations() == ["0", "10", "20", "25"]
+        and theirs.generations() == ["0", "10", "20", "30"],
     ),
     Line(
         "without -i the first and the last are reported; there some between them too",
         "-m 100 pentomino.rle",
         "-m 100 pentomino.rle",
-        lambda ours, theirs: ours.report() == [("0", "5"), ("100", "121")] and len(theirs.report()) > 2 and theirs.last() == ours.last(),
+        lambda ours, theirs: ours.report() == [("0", "5"), ("100", "121")]
+        and len(theirs.report()) > 2
+        and theirs.last() == ours.last(),
     ),
     Line(
         "-q reports nothing; there it leaves the generations, and twice nothing",
@@ -174,7 +178,9 @@ LINES = [
         "-h shows the help; there it asks for HashLife, which is always on here",
         "-h",
         "-h -m 0 pentomino.rle",
-        lambda ours, theirs: "--generation" in ours.out and ours.status == theirs.status == 0 and theirs.last() == ("0", "5"),
+        lambda ours, theirs: "--generation" in ours.out
+        and ours.status == theirs.status == 0
+        and theirs.last() == ("0", "5"),
     ),
     Line(
         "numbers have no commas",
@@ -189,7 +195,8 @@ LINES = [
         lambda ours, theirs: ours.out == "0: 5\n" and theirs.out.startswith("This is bgolly"),
     ),
     Line(
-        "options stand anywhere, and values also behind = or at once; there only before the file and in a word of their own",
+        "options stand anywhere, and values also behind = or at once; there only before the file and in a word of their"
+        " own",
         "pentomino.rle -m=4 -i4",
         "pentomino.rle -m=4 -i4",
         lambda ours, theirs: ours.last() == ("4", "8") and theirs.status == 10,
@@ -243,7 +250,8 @@ LINES = [
         "a macrocell file's rows lie one apart: there the file of the same cells has them a row higher",
         "-m 0 -o out.mc later.rle",
         "-h -m 100 -o out.mc later.rle",
-        lambda ours, theirs: nodes(ours.file)[:1] == ["$$$$$$$......**$"] and nodes(theirs.file)[:1] == ["$$$$$$......**$.....**$"],
+        lambda ours, theirs: nodes(ours.file)[:1] == ["$$$$$$$......**$"]
+        and nodes(theirs.file)[:1] == ["$$$$$$......**$.....**$"],
     ),
     Line(
         "so a macrocell file of bgolly's is a row higher here than the cells were there",
@@ -287,7 +295,10 @@ LINES = [
         "a macrocell file is written with the generation in both, with comments only here",
         "-m 0 -o out.mc pentomino.mc",
         "-h -m 100 -o out.mc pentomino.mc",
-        lambda ours, theirs: "#G 100" in ours.file and "#G 100" in theirs.file and "#C Five" in ours.file and "#C" not in theirs.file,
+        lambda ours, theirs: "#G 100" in ours.file
+        and "#G 100" in theirs.file
+        and "#C Five" in ours.file
+        and "#C" not in theirs.file,
     ),
     Line(
         "there only HashLife (-h) writes a macrocell file",

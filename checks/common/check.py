@@ -46,8 +46,12 @@ def has_patterns(options: argparse.Namespace) -> bool:
 
 
 BUILT = Need("the built program", "launcher/build.py lifebatch builds it", lambda options: can_run(options.program))
-BUILT_VIEW = Need("the built program lifeview", "launcher/build.py lifeview builds it", lambda options: can_run(options.view))
-BUILT_PERIOD = Need("the built program lifeperiod", "launcher/build.py lifeperiod builds it", lambda options: can_run(options.period))
+BUILT_VIEW = Need(
+    "the built program lifeview", "launcher/build.py lifeview builds it", lambda options: can_run(options.view)
+)
+BUILT_PERIOD = Need(
+    "the built program lifeperiod", "launcher/build.py lifeperiod builds it", lambda options: can_run(options.period)
+)
 BGOLLY = tool("bgolly", "golly")
 GOLLY_PATTERNS = Need("the folder of Golly's patterns", "apt-get install golly brings it", has_patterns)
 GOLLY = Need("golly", "apt-get install golly brings it", lambda _: shutil.which("golly", path=games_path()) is not None)
@@ -97,10 +101,13 @@ class Check:
 
     def help_text(self) -> str:
         needs = "".join(f"\n  {it.name}: {it.brings}" for it in self.needs) or " nothing."
-        return f"{self.text.strip()}\n\nIt needs{needs}\n\n{self.time()}\n\n{STATUSES}\n\nTo replay a failure, {self.replay}"
+        parts = self.text.strip(), f"It needs{needs}", self.time(), STATUSES, f"To replay a failure, {self.replay}"
+        return "\n\n".join(parts)
 
     def parser(self) -> argparse.ArgumentParser:
-        parser = argparse.ArgumentParser(description=self.help_text(), formatter_class=argparse.RawDescriptionHelpFormatter)
+        parser = argparse.ArgumentParser(
+            description=self.help_text(), formatter_class=argparse.RawDescriptionHelpFormatter
+        )
         if BUILT in self.needs:
             add_program(parser)
         if BUILT_VIEW in self.needs:
@@ -135,7 +142,8 @@ def sum_up(held: Sequence[bool], what: str) -> int:
 
 
 def end(main: Callable[[], int]) -> None:
-    """Calls a script's main function, and ends with its status. If the script itself fails, the status is that of a check that could not run."""
+    """Calls a script's main function, and ends with its status. If the script itself fails, the status is that of a
+    check that could not run."""
     try:
         sys.exit(main())
     except CannotRun as reason:

@@ -47,7 +47,11 @@ class Repository:
         shutil.copy(ROOT / "CHANGELOG.md", folder)
         (folder / "bin").mkdir()
         (folder / "KIT-ID").touch()
-        for name, text in (("rt", f"#!/bin/sh\necho {folder}/START-HERE.md\n"), ("rattle", RATTLE), ("rattle-link", LINK)):
+        for name, text in (
+            ("rt", f"#!/bin/sh\necho {folder}/START-HERE.md\n"),
+            ("rattle", RATTLE),
+            ("rattle-link", LINK),
+        ):
             (folder / "bin" / name).write_text(text)
             (folder / "bin" / name).chmod(0o755)
 
@@ -55,7 +59,13 @@ class Repository:
         return {**os.environ, "PATH": f"{self.folder / 'bin'}:{os.environ['PATH']}", "LOG": str(self.log), **settings}
 
     def start(self, *words: str, name: str = "lifebatch", **settings: str) -> subprocess.Popen:
-        how = {"stdin": subprocess.PIPE, "stdout": subprocess.PIPE, "stderr": subprocess.PIPE, "text": True, "start_new_session": True}
+        how = {
+            "stdin": subprocess.PIPE,
+            "stdout": subprocess.PIPE,
+            "stderr": subprocess.PIPE,
+            "text": True,
+            "start_new_session": True,
+        }
         return subprocess.Popen([self.folder / name, *words], env=self.environment(**settings), **how)
 
     def run(self, *words: str, name: str = "lifebatch", **settings: str) -> tuple[int, str, str]:

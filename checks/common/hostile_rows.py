@@ -87,13 +87,21 @@ class Tree:
 
 HEAD, THREE, OUTPUT = b"x = 1, y = 1\n", "0: 3\n", ("-o", "out.rle")
 NO_PATTERN, NO_HEADER, NO_TAG, NO_COUNT = (1, "NotAPattern"), (2, "BadHeader"), (5, "BadTag"), (7, "BadCount")
-MORE_STATES, OUT_OF_RANGE, NO_NODE, NO_CHILD = (6, "MoreStates"), (8, "OutOfRange"), (10, "BadNodeLine"), (11, "BadChild")
+MORE_STATES, OUT_OF_RANGE, NO_NODE, NO_CHILD = (
+    (6, "MoreStates"),
+    (8, "OutOfRange"),
+    (10, "BadNodeLine"),
+    (11, "BadChild"),
+)
 NO_GENERATION = (13, "BadGen")
 THREE_WRITTEN = b"x = 3, y = 1, rule = B3/S23\n3o!\n"
 
 # A square of side 2^63 whose cells are all live.
-FULL_SQUARE = b"[M2]\n" + b"********$" * 8 + b"\n" + b"".join(
-    b"%d %d %d %d %d\n" % (level, *[level - 3] * 4) for level in range(4, 64)
+FULL_SQUARE = (
+    b"[M2]\n"
+    + b"********$" * 8
+    + b"\n"
+    + b"".join(b"%d %d %d %d %d\n" % (level, *[level - 3] * 4) for level in range(4, 64))
 )
 # Of a file that is small at each size.
 ALONE = 10**12
@@ -113,10 +121,24 @@ RLE_ROWS = [
     Row("blanks in a body", HEAD, b" \t\r\n", b"3o!", THREE),
     Row("blanks in a count", HEAD + b"0", b"\n", b"3o!", THREE),
     Row("#C lines, read", b"", b"#C\n", HEAD + b"3o!", THREE),
-    Row("#C lines, written again", b"", b"#C\n", HEAD + b"3o!", THREE, words=OUTPUT,
-        written=(b"#CXRLE Pos=0,0 Gen=0\n", THREE_WRITTEN)),
-    Row("one #C line, written again", b"#C", b"y", b"\n" + HEAD + b"3o!", THREE, words=OUTPUT,
-        written=(b"#CXRLE Pos=0,0 Gen=0\n#C", b"\n" + THREE_WRITTEN)),
+    Row(
+        "#C lines, written again",
+        b"",
+        b"#C\n",
+        HEAD + b"3o!",
+        THREE,
+        words=OUTPUT,
+        written=(b"#CXRLE Pos=0,0 Gen=0\n", THREE_WRITTEN),
+    ),
+    Row(
+        "one #C line, written again",
+        b"#C",
+        b"y",
+        b"\n" + HEAD + b"3o!",
+        THREE,
+        words=OUTPUT,
+        written=(b"#CXRLE Pos=0,0 Gen=0\n#C", b"\n" + THREE_WRITTEN),
+    ),
     Row("#C lines in a count", HEAD + b"0\n", b"#C\n", b"3o!", THREE),
     Row("a line that is not a header", b"x", b"x", refusal=NO_HEADER, place=0),
     Row("row ends", HEAD, b"$", b"3o!", THREE),
@@ -128,8 +150,15 @@ RLE_ROWS = [
     Row("NUL bytes in a body", HEAD, b"\0", refusal=NO_TAG, place=13),
     Row("high bytes behind digits", HEAD + b"3", b"\xff", refusal=NO_TAG, place=13),
     Row("NUL and high bytes in #C lines", b"", b"#C\0\xff\x80\r\r\n", HEAD + b"3o!", THREE),
-    Row("NUL and high bytes on one #C line", b"#C", b"\0\xff\x80", b"\n" + HEAD + b"3o!", THREE, words=OUTPUT,
-        written=(b"#CXRLE Pos=0,0 Gen=0\n#C", b"\n" + THREE_WRITTEN)),
+    Row(
+        "NUL and high bytes on one #C line",
+        b"#C",
+        b"\0\xff\x80",
+        b"\n" + HEAD + b"3o!",
+        THREE,
+        words=OUTPUT,
+        written=(b"#CXRLE Pos=0,0 Gen=0\n#C", b"\n" + THREE_WRITTEN),
+    ),
 ]
 
 MACROCELL_ROWS = [
@@ -141,15 +170,33 @@ MACROCELL_ROWS = [
     Row("macrocell: blanks", b"[M2]\n", b" ", report="0: 0\n"),
     Row("macrocell: blanks between numbers", b"[M2]\n4 ", b" \t", b"0 0 0 0\n", "0: 0\n"),
     Row("macrocell: empty lines", b"[M2]\n", b"\n", report="0: 0\n"),
-    Row("macrocell: #C lines, written again", b"[M2]\n", b"#C\n", report="0: 0\n", words=("-o", "out.mc"),
-        written=(b"[M2] (lifebatch 1)\n#R B3/S23\n#G 0\n", b"")),
+    Row(
+        "macrocell: #C lines, written again",
+        b"[M2]\n",
+        b"#C\n",
+        report="0: 0\n",
+        words=("-o", "out.mc"),
+        written=(b"[M2] (lifebatch 1)\n#R B3/S23\n#G 0\n", b""),
+    ),
     Row("macrocell: row ends on one line", b"[M2]\n", b"$", refusal=NO_NODE, place=5),
     Row("macrocell: empty leaves", b"[M2]\n", b"$\n", report="0: 0\n", share=4),
     Row("macrocell: NUL bytes", b"[M2]\n", b"\0", refusal=NO_NODE, place=5),
     Row("macrocell: high bytes in a leaf", b"[M2]\n*", b"\xff", refusal=NO_NODE, place=5),
     Row("macrocell: all 2^126 cells", FULL_SQUARE, b"\n", report=f"0: {2**126}\n", share=ALONE),
-    Row("macrocell: all 2^126 cells, one generation on", FULL_SQUARE, b"\n", refusal=(14, "TooFar"), words=("-m", "1"), share=ALONE),
+    Row(
+        "macrocell: all 2^126 cells, one generation on",
+        FULL_SQUARE,
+        b"\n",
+        refusal=(14, "TooFar"),
+        words=("-m", "1"),
+        share=ALONE,
+    ),
     Tree("macrocell: a tree, its leaves equal", lambda number: 1),
-    Tree("macrocell: a tree, its leaves different", lambda number: number, refusal=(17, "NodesFull"), words=("--nodes", "4096")),
+    Tree(
+        "macrocell: a tree, its leaves different",
+        lambda number: number,
+        refusal=(17, "NodesFull"),
+        words=("--nodes", "4096"),
+    ),
     Tree("macrocell: the same with room", lambda number: number, words=("--nodes", "33554432")),
 ]

@@ -51,7 +51,8 @@ def faults_of_page(page: str, program: pathlib.Path, version: str) -> list[str]:
 
 def offered_by_bash(file: pathlib.Path, name: str, words: str) -> list[str]:
     """What bash offers for the last of these words."""
-    script = f'. "$0"; COMP_WORDS=({words}); COMP_CWORD=$((${{#COMP_WORDS[@]}} - 1)); _{name} 2>/dev/null; printf "%s\\n" "${{COMPREPLY[@]}}"'
+    script = f'. "$0"; COMP_WORDS=({words}); COMP_CWORD=$((${{#COMP_WORDS[@]}} - 1)); _{name} 2>/dev/null; '
+    script += 'printf "%s\\n" "${COMPREPLY[@]}"'
     return printed("bash", "--norc", "-c", script, file).split()
 
 

@@ -1,14 +1,9 @@
 """Builds on machines that exist only as numbers: whether the time that the launcher expects comes true."""
 import random
-import sys
 from collections.abc import Iterator
 from dataclasses import dataclass
-from typing import TYPE_CHECKING
 
-from common.program import ROOT
-
-if TYPE_CHECKING:
-    from pace import Pace
+from common.launcher import Pace, Plan, cores_of, crates_below
 
 GIGABYTE = 10**9
 # The seconds between two looks at a simulated build.
@@ -27,7 +22,11 @@ class Machine:
         return f"{self.cores} cores, {self.memory} GB, {self.factor} times the seconds"
 
 
-MACHINES = [Machine(*size, factor) for size in ((1, 8), (2, 8), (4, 4), (4, 8), (4, 24), (8, 16), (8, 64)) for factor in (0.5, 1, 2)]
+MACHINES = [
+    Machine(*size, factor)
+    for size in ((1, 8), (2, 8), (4, 4), (4, 8), (4, 24), (8, 16), (8, 64))
+    for factor in (0.5, 1, 2)
+]
 
 
 @dataclass(frozen=True)
@@ -41,14 +40,9 @@ class Look:
         return abs(self.seconds_left - self.truth) / self.truth
 
 
-def looks(program: str, machine: Machine, chance: random.Random) -> Iterator[tuple[float, "Pace"]]:
-    """A build, with the time at each look. Each crate takes up to a sixth more or less than the factor says, more jobs help more or
-    less than the launcher believes, and checks slow one another down."""
-    sys.path.append(str(ROOT / "launcher"))
-    from crates import crates_below
-    from pace import Pace, cores_of
-    from plan import Plan
-
+def looks(program: str, machine: Machine, chance: random.Random) -> Iterator[tuple[float, Pace]]:
+    """A build, with the time at each look. Each crate takes up to a sixth more or less than the factor says, more jobs
+    help more or less than the launcher believes, and checks slow one another down."""
     plan = Plan(crates_below(program), machine.cores, machine.memory * GIGABYTE)
     pace, passed = Pace(plan, 1), 0.0
     left = {name: it * machine.factor * chance.uniform(0.85, 1.18) for name, it in plan.seconds.items()}
