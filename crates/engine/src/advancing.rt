@@ -1,6 +1,6 @@
 //! Sessions that advance.
 
-ghost use Rattle.std.specs.Prelude.{◌≡◌, ◌⊎◌, ◌+◌, ◌≤◌, ◌<◌, ◌^◌, false, IfErr, OnOk};
+ghost use Rattle.std.specs.Prelude.{◌≡◌, ◌⊎◌, ◌+◌, ◌≤◌, ◌<◌, ◌^◌, false, true, IfErr, OnOk};
 ghost use Rattle.plane.specs.Square.{IsSame, empty};
 ghost use Rattle.plane.specs.declared.range.TheConstants.{GENERATION_LIMIT};
 ghost use Rattle.universe.specs.Held.{StaysHeld};
@@ -28,6 +28,7 @@ impl Session {
         ensures ok { OnOk result (IsLaterSession self.old generations self.new) }
         ensures in_range { OnOk result
             (KeepsToRange (cells_of self.old) self.old.generation generations) }
+        ensures closed { OnOk result (is_open self.old ≡ true) }
         ensures refused { IfErr result (IsNotAdvanced self.old generations self.new) }
     {
         let mut universe = self.state.take_universe(team.alloc)?;

@@ -146,6 +146,7 @@ impl Session {
         ensures ok { IfOk result (λ runs. AreRowRuns (cells_of self.new) y runs.items) }
         ensures same { IsSameSession self.old self.new }
         ensures results { KeepsResults self.old.state self.new.state }
+        ensures closed { OnOk result (is_open self.old ≡ true) }
         ensures memory { IsOkUnless result Refusal.NoMemory }
     {
         self.state.rest();
@@ -160,6 +161,7 @@ impl Session {
         ensures drawn { IfOk result (IsDrawingOf (cells_of self.new) shown size) }
         ensures same { IsSameSession self.old self.new }
         ensures results { KeepsResults self.old.state self.new.state }
+        ensures closed { OnOk result (is_open self.old ≡ true) }
         ensures memory { IsOkUnless result Refusal.NoMemory }
     {
         self.state.rest();
@@ -178,6 +180,7 @@ impl Session {
         ensures results { KeepsResults self.old.state self.new.state }
         ensures written { OnOk result (Appends (W.taken report.old) (W.taken report.new)
             (window_text window (cells_of self.new))) }
+        ensures closed { OnOk result (is_open self.old ≡ true) }
         ensures unfailed { OnOk result (W.failure_count report.new ≡ W.failure_count report.old) }
         ensures refused { IfErr result (λ refusal.
             (IsWriteRefusal (W.failure_count report.old) (W.failure_count report.new) refusal
@@ -209,6 +212,7 @@ impl Session {
             ((format_of format).IsReadBack (cells_of self.new)
             (comments_of self.new) self.new.rule self.new.generation)) }
         ensures no_format { format ≡ None → file.new ≡ file.old }
+        ensures closed { OnOk result (is_open self.old ≡ true) }
         ensures unfailed { OnOk result (V.failure_count file.new ≡ V.failure_count file.old) }
         ensures refused { IfErr result (IsWriterRefusal V.failure_count file.old file.new
             (Exceeds (format_of format) (cells_of self.new))

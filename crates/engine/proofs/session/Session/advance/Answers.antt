@@ -1,4 +1,4 @@
-use Rattle.std.proofs.Common.{◌≡◌, Err, ap, inr, refl, rules}
+use Rattle.std.proofs.Common.{◌≡◌, Err, ap, inr, refl, rules, sym}
 use Rattle.std.proofs.result.Match.{err_is}
 use Rattle.plane.specs.declared.refusal.Refusal.TheVariants.{NoMemory}
 use Rattle.engine.specs.States.{is_there}
@@ -47,3 +47,6 @@ returns-in_err-judged-clause-refused g c =
     let is : c.from_residual-in_err-judged.result ≡ Err c.in_err-judged.field-0.0 = err_is _ _ c.from_residual-in_err-judged.ensures.1 in
     rw is (not_judged c.args.self.now _ c.in_ok-universe.universe c.args.generations c.in_err-judged.field-0.0 c.in_ok-universe.ensures.same.cells
     (judged c.args.self.now c.in_ok-universe.universe c.judge_range-judged.new.self _ c.in_ok-universe.ensures.same c.judge_range-judged.ensures.same refl refl refl c.put_universe.ensures) c.in_err-judged.ensures.refused)
+
+pub returns-clause-closed : goal.returns-clause-closed
+returns-clause-closed g c = whenever c.advance_within.result (sym c.in_ok-universe.ensures.same.there)

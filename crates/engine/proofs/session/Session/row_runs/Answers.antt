@@ -1,5 +1,6 @@
-use Rattle.std.proofs.Common.{refl}
-use Rattle.engine.proofs.Sessions.{same_by_state}
+use Rattle.std.proofs.Common.{◌≡◌, ◌∙◌, refl, rules, sym, true}
+use Rattle.engine.specs.States.{is_there}
+use Rattle.engine.proofs.Sessions.{same_by_state, whenever}
 use Rattle.engine.proofs.session.Session.row_runs.Goals as goal
 
 pub returns-in_err-pattern-clause-same : goal.returns-in_err-pattern-clause-same
@@ -13,3 +14,8 @@ returns-clause-same c = same_by_state c.args.self.now _ refl refl refl c.rest.en
 
 pub returns-clause-results : goal.returns-clause-results
 returns-clause-results c = c.rest.ensures.results
+
+pub returns-clause-closed : goal.returns-clause-closed
+returns-clause-closed c =
+    let there : is_there c.rest.new.self ≡ true = search rules in
+    whenever c.row_runs.result (sym c.rest.ensures.same.there ∙ there)

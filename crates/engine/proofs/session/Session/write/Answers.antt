@@ -1,12 +1,12 @@
-use Rattle.std.proofs.Common.{◌≡◌, List, ℕ, refl, rules, subst}
+use Rattle.std.proofs.Common.{◌≡◌, ◌∙◌, List, ℕ, refl, rules, subst, sym, true}
 use Rattle.std.specs.Prelude.{OnOk}
 use Rattle.plane.specs.Plane.{Plane}
 use Rattle.pattern_writers.specs.Output.{IfTaken}
 use Rattle.engine.specs.Formats.{format_of}
 use Rattle.engine.specs.Pattern.{plane_of}
 use Rattle.engine.specs.Sessions.{comments_of}
-use Rattle.engine.specs.States.{state_cells}
-use Rattle.engine.proofs.Sessions.{same_by_state}
+use Rattle.engine.specs.States.{is_there, state_cells}
+use Rattle.engine.proofs.Sessions.{same_by_state, whenever}
 use Rattle.engine.proofs.session.Session.write.Goals as goal
 
 pub returns-clause-read_back : goal.returns-clause-read_back
@@ -26,3 +26,8 @@ returns-clause-same g c = same_by_state c.args.self.now _ refl refl refl c.rest.
 
 pub returns-clause-results : goal.returns-clause-results
 returns-clause-results g c = c.rest.ensures.results
+
+pub returns-clause-closed : goal.returns-clause-closed
+returns-clause-closed g c =
+    let there : is_there c.rest.new.self ≡ true = search rules in
+    whenever c.write.result (sym c.rest.ensures.same.there ∙ there)

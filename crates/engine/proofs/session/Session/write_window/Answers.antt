@@ -1,11 +1,11 @@
-use Rattle.std.proofs.Common.{◌≡◌, refl, rules, subst}
+use Rattle.std.proofs.Common.{◌≡◌, ◌∙◌, refl, rules, subst, sym, true}
 use Rattle.std.specs.Prelude.{OnErr}
 use Rattle.plane.specs.Device.{AppendsBeginning}
 use Rattle.plane.specs.Plane.{Plane}
 use Rattle.engine.specs.Pattern.{plane_of}
 use Rattle.engine.specs.Report.{window_text}
-use Rattle.engine.specs.States.{state_cells}
-use Rattle.engine.proofs.Sessions.{refused_window, same_by_state}
+use Rattle.engine.specs.States.{is_there, state_cells}
+use Rattle.engine.proofs.Sessions.{refused_window, same_by_state, whenever}
 use Rattle.engine.proofs.session.Session.write_window.Goals as goal
 
 pub returns-clause-refused : goal.returns-clause-refused
@@ -25,3 +25,8 @@ returns-clause-same g c = same_by_state c.args.self.now _ refl refl refl c.rest.
 
 pub returns-clause-results : goal.returns-clause-results
 returns-clause-results g c = c.rest.ensures.results
+
+pub returns-clause-closed : goal.returns-clause-closed
+returns-clause-closed g c =
+    let there : is_there c.rest.new.self ≡ true = search rules in
+    whenever c.write_window.result (sym c.rest.ensures.same.there ∙ there)
