@@ -16,7 +16,7 @@ use Rattle.universe.specs.Tables.{HasFullTable}
 use Rattle.run_options.specs.declared.options.RunOptions.{RunOptions}
 use Rattle.engine.specs.Accepted.{HasCellsInRange, IsAccepted}
 use Rattle.engine.specs.Judgement.{ReadsRule}
-use Rattle.patterns.specs.Meaning.{Meaning, is_macrocell, judged}
+use Rattle.pattern_files.specs.Meaning.{Meaning, is_macrocell, judged}
 use Rattle.engine.specs.Refused.{HasRule, IsRefused}
 use Rattle.engine.specs.Run.{IsRun}
 use Rattle.engine.specs.RunOptions.{run_of}

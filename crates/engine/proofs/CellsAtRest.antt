@@ -7,7 +7,7 @@ use Rattle.node_table.specs.declared.shared.SharedStill.{SharedStill}
 use Rattle.node_table.specs.declared.still.Still.{Still}
 use Rattle.squares.specs.Book.{Book, IsKnown}
 use Rattle.squares.specs.declared.sq.Sq.{Sq}
-use Rattle.squares.specs.Rounds.{square_plane}
+use Rattle.squares.specs.Roots.{square_plane}
 use Rattle.universe.specs.Cells.{still_cells, root_of, still_of}
 use Rattle.universe.specs.declared.rooted_still.RootedStill.{RootedStill}
 use Rattle.pattern_writers.proofs.RowsDown.{square_in_range}

@@ -15,10 +15,10 @@ use Rattle.plane.specs.Square.{IsSame}
 use Rattle.plane.specs.declared.cell.Cell.{Cell}
 use Rattle.plane.proofs.Parts.{after_sum}
 use Rattle.plane.proofs.Same.{plane_equal, same_refl, same_sym, same_trans}
-use Rattle.universe.proofs.Held.{held}
+use Rattle.universe.proofs.StaysWithinRoot.{held}
 use Rattle.universe.proofs.Spread.{stays_on}
-use Rattle.patterns.specs.Meaning.{Meaning, judged}
-use Rattle.patterns.proofs.Judged.{judged_macrocell, judged_rle}
+use Rattle.pattern_files.specs.Meaning.{Meaning, judged}
+use Rattle.pattern_files.proofs.Judged.{judged_macrocell, judged_rle}
 use Rattle.pattern_writers.specs.McText.{from_corner, mc_text}
 use Rattle.pattern_writers.specs.Reading.{HasNoReturn, IsReadAs, IsReadableHeading}
 use Rattle.pattern_writers.specs.RleText.{rle_text}

@@ -17,7 +17,7 @@ use Rattle.plane.specs.declared.cell.Cell.{Cell}
 use Rattle.plane.specs.declared.fault.Fault.{Fault}
 use Rattle.plane.specs.declared.refusal.Refusal.{Refusal}
 use Rattle.plane.specs.declared.refusal.Refusal.TheVariants.{NodesFull, NoMemory, WriteFailed}
-use Rattle.patterns.specs.Meaning.{Meaning}
+use Rattle.pattern_files.specs.Meaning.{Meaning}
 use Rattle.viewport.specs.Population.{HasPopulation}
 use Rattle.plane.specs.Device.{AppendsBeginning, IsWriteRefusal}
 use Rattle.plane.proofs.Uniqueness.{one_listing_lem}

@@ -15,13 +15,13 @@ use Rattle.rle_reader.specs.Body.{stripped}
 use Rattle.rle_reader.specs.Header.{header_rule}
 use Rattle.rle_reader.specs.Items.{items_of}
 use Rattle.rle_reader.specs.Meaning as rle
-use Rattle.rle_reader.specs.Opening.{Opening, after_lines, before_header, from_header, may_stand, opening_of, with_header}
+use Rattle.rle_reader.specs.Preamble.{PreambleMeaning, after_lines, before_header, from_header, may_stand, preamble_of, with_header}
 use Rattle.rle_reader.specs.Settings.{nothing_said}
 use Rattle.rle_reader.specs.declared.settings.Settings.{Settings}
 use Rattle.macrocell_reader.specs.Meaning as macrocell
 use Rattle.macrocell_reader.specs.Planes as planes
 use Rattle.macrocell_reader.proofs.MeaningLemmas.{judged-read}
-use Rattle.patterns.specs.Meaning.{Meaning, is_macrocell, judged}
+use Rattle.pattern_files.specs.Meaning.{Meaning, is_macrocell, judged}
 use Rattle.pattern_writers.specs.Reading.{IsComment}
 use Rattle.pattern_writers.proofs.TextLines.{comments_placed, ended_parts-all}
 
@@ -112,27 +112,27 @@ module _ {A B : Type 0} (P : B → Type 0) where
   if_seen seen (Ok a) holds = holds
   if_seen seen (Err fault) holds = tt
 
-header_comments : (end : ℕ) (comments : List (List ℕ)) (settings : Settings) (all : List Line) → HasComments comments → IfOk (with_header end comments settings all) (λ opening. HasComments opening.comments)
+header_comments : (end : ℕ) (comments : List (List ℕ)) (settings : Settings) (all : List Line) → HasComments comments → IfOk (with_header end comments settings all) (λ told. HasComments told.comments)
 unfolding with_header
 header_comments end comments settings [] are = tt
 header_comments end comments settings (header ∷ body) are =
-    after_any (λ (opening : Opening). HasComments opening.comments) (at_place header.place (header_rule header.text))
+    after_any (λ (told : PreambleMeaning). HasComments told.comments) (at_place header.place (header_rule header.text))
     (λ rule. Ok (record { settings = settings; comments = comments; header = header.place; rule = rule; body = body })) (λ rule. are)
 
-opening_comments : (end : ℕ) (all : List Line) → AllByRecursion HasOneLine all → IfOk (opening_of end all) (λ opening. HasComments opening.comments)
-unfolding opening_of
-opening_comments end all one =
-    after_any (λ (opening : Opening). HasComments opening.comments) (after_lines nothing_said (before_header all))
+preamble_comments : (end : ℕ) (all : List Line) → AllByRecursion HasOneLine all → IfOk (preamble_of end all) (λ told. HasComments told.comments)
+unfolding preamble_of
+preamble_comments end all one =
+    after_any (λ (told : PreambleMeaning). HasComments told.comments) (after_lines nothing_said (before_header all))
     (λ settings. with_header end (comments_of (before_header all)) settings (from_header all))
     (λ settings. header_comments end (comments_of (before_header all)) settings (from_header all) (comments_are (before_header all) (AllByRecursion-take HasOneLine (prefix_len may_stand all) all one)))
 
 rle_comments : (text : List ℕ) → IfOk (rle.judged text) (λ meaning. HasComments meaning.comments)
 unfolding rle.judged rle.meaning_of
 rle_comments text =
-    after_such (λ (meaning : rle.Meaning). HasComments meaning.comments) (λ (opening : Opening). HasComments opening.comments) (opening_of (length text) (lines 0 text))
-    (λ opening. unless (rle.body_fault opening.settings.pos (items_of (stripped opening.body))) (rle.meaning_of text opening))
-    (opening_comments (length text) (lines 0 text) (lines_all 0 text))
-    (λ opening are. if_not_refused (λ (meaning : rle.Meaning). HasComments meaning.comments) (rle.body_fault opening.settings.pos (items_of (stripped opening.body))) (rle.meaning_of text opening) are)
+    after_such (λ (meaning : rle.Meaning). HasComments meaning.comments) (λ (told : PreambleMeaning). HasComments told.comments) (preamble_of (length text) (lines 0 text))
+    (λ told. unless (rle.body_fault told.settings.pos (items_of (stripped told.body))) (rle.meaning_of text told))
+    (preamble_comments (length text) (lines 0 text) (lines_all 0 text))
+    (λ told are. if_not_refused (λ (meaning : rle.Meaning). HasComments meaning.comments) (rle.body_fault told.settings.pos (items_of (stripped told.body))) (rle.meaning_of text told) are)
 
 mc_comments : (text : List ℕ) → IfOk (macrocell.judged text) (λ meaning. HasComments meaning.comments)
 mc_comments text = if_ok_from (λ (meaning : macrocell.Meaning). HasComments meaning.comments) (macrocell.judged text)

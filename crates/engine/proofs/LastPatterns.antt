@@ -6,7 +6,7 @@ use Rattle.plane.specs.Plane.{Plane, after}
 use Rattle.plane.specs.Square.{IsSame}
 use Rattle.plane.specs.declared.refusal.Refusal.{Refusal}
 use Rattle.plane.specs.declared.refusal.Refusal.TheVariants.{NodesFull}
-use Rattle.patterns.specs.Meaning.{Meaning}
+use Rattle.pattern_files.specs.Meaning.{Meaning}
 use Rattle.run_options.specs.declared.options.RunOptions.{RunOptions}
 use Rattle.engine.specs.Accepted.{IsAccepted, SumsUp}
 use Rattle.engine.specs.Judgement.{Start}

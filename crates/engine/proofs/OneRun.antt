@@ -9,7 +9,7 @@ use Rattle.plane.specs.Plane.{Plane, after}
 use Rattle.plane.specs.declared.cell.Cell.{Cell}
 use Rattle.plane.specs.declared.fault.Fault.{Fault}
 use Rattle.plane.proofs.Uniqueness.{one_listing_lem}
-use Rattle.patterns.specs.Meaning.{Meaning, judged}
+use Rattle.pattern_files.specs.Meaning.{Meaning, judged}
 use Rattle.run_options.specs.declared.options.RunOptions.{RunOptions}
 use Rattle.engine.specs.Formats.{format_of}
 use Rattle.engine.specs.declared.options.Format.{Format}

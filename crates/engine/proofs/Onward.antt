@@ -5,7 +5,7 @@ use Rattle.plane.specs.Plane.{Plane}
 use Rattle.plane.specs.Square.{IsSame}
 use Rattle.table_core.specs.declared.shape.Shape.{Shape}
 use Rattle.universe.specs.Cells.{limit_of, live_cells, rule_of}
-use Rattle.universe.specs.Runs.{IsStuck}
+use Rattle.universe.specs.Later.{IsStuck}
 use Rattle.universe.specs.declared.universe.Universe.{Universe}
 use Rattle.engine.specs.Room.{IsStuckWithin}
 use Rattle.engine.proofs.Reports.{same_generation}

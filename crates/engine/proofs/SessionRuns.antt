@@ -9,7 +9,7 @@ use Rattle.plane.specs.declared.cell.Cell.{Cell}
 use Rattle.plane.specs.declared.fault.Fault.{Fault}
 use Rattle.plane.specs.declared.refusal.Refusal.{Refusal}
 use Rattle.plane.specs.declared.refusal.Refusal.TheVariants.{NodesFull, NoMemory, TooFar}
-use Rattle.patterns.specs.Meaning.{Meaning}
+use Rattle.pattern_files.specs.Meaning.{Meaning}
 use Rattle.run_options.specs.declared.options.RunOptions.{RunOptions}
 use Rattle.universe.specs.Ranges.{KeepsToRange, LeavesRange}
 use Rattle.universe.specs.Tables.{HasFullTable}

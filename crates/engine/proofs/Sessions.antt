@@ -13,10 +13,10 @@ use Rattle.plane.proofs.Same.{plane_equal, same_refl, same_trans}
 use Rattle.plane.specs.Window.{Rectangle}
 use Rattle.table_core.specs.declared.shape.Shape.{Shape}
 use Rattle.universe.specs.Cells.{live_cells, resting_limit, resting_rule, rule_of}
-use Rattle.universe.specs.Held.{StaysHeld}
+use Rattle.universe.specs.StaysWithinRoot.{StaysWithinRoot}
 use Rattle.universe.specs.Outcomes.{LacksMemoryOrRoom}
 use Rattle.universe.specs.Ranges.{LeavesRange}
-use Rattle.universe.specs.Runs.{IsLater, IsSameUniverse, IsStuckAt}
+use Rattle.universe.specs.Later.{IsLater, IsSameUniverse, IsStuckAt}
 use Rattle.universe.specs.declared.universe.Universe.{Universe}
 use Rattle.universe.proofs.Later.{after_step, empty_later, held_later}
 use Rattle.universe.proofs.Onward.{held_again}
@@ -165,9 +165,9 @@ stuck_from_later {first} {second} {third} generations done more before within st
 }
 
 -- so many generations more stay in the range
-pub held_from : {first second : Session} (generations done more : ℕ) → StaysHeld first.rule (cells_of first) generations → IsLaterSession first done second → done + more ≤ generations →
-    StaysHeld second.rule (cells_of second) more
-held_from {first} {second} generations done more held before within = subst (λ (r : CountRule). StaysHeld r (cells_of second) more) (sym before.pattern.rule)
+pub held_from : {first second : Session} (generations done more : ℕ) → StaysWithinRoot first.rule (cells_of first) generations → IsLaterSession first done second → done + more ≤ generations →
+    StaysWithinRoot second.rule (cells_of second) more
+held_from {first} {second} generations done more held before within = subst (λ (r : CountRule). StaysWithinRoot r (cells_of second) more) (sym before.pattern.rule)
     (λ n less. held_later first.rule (cells_of first) (cells_of second) generations done n held before.cells (omega (arith, within, less)))
 
 -- where nothing was live, nothing is live later
@@ -200,7 +200,7 @@ same_then_stuck {first} {second} {third} generations same stuck = record {
 pub cells_at_work : (state : State) (universe : Universe) → state ≡ AtWork universe → IsSame (state_cells state) (live_cells universe)
 cells_at_work state universe is = subst (λ (s : State). IsSame (state_cells s) (live_cells universe)) (sym is) (same_refl (live_cells universe))
 
-pub held_at_work : (session : Session) (universe : Universe) (generations : ℕ) → IsSameState session.state (AtWork universe) → StaysHeld session.rule (cells_of session) generations → StaysHeld (rule_of universe) (live_cells universe) generations
+pub held_at_work : (session : Session) (universe : Universe) (generations : ℕ) → IsSameState session.state (AtWork universe) → StaysWithinRoot session.rule (cells_of session) generations → StaysWithinRoot (rule_of universe) (live_cells universe) generations
 held_at_work session universe generations same held =
     let by_rule : rule_of universe ≡ session.rule = same.rule session.rule session.by_rule in
     λ n less. subst (λ (r : CountRule). Holds 63 (after r (live_cells universe) n)) (sym by_rule) (held_again session.rule (cells_of session) (live_cells universe) n same.cells (held n less))

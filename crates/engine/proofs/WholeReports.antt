@@ -7,8 +7,8 @@ use Rattle.rule_text.specs.CountRule.{CountRule}
 use Rattle.plane.specs.Listing.{IsListing}
 use Rattle.plane.specs.Plane.{Plane, after}
 use Rattle.plane.specs.declared.cell.Cell.{Cell}
-use Rattle.universe.proofs.Held.{held}
-use Rattle.patterns.specs.Meaning.{Meaning}
+use Rattle.universe.proofs.StaysWithinRoot.{held}
+use Rattle.pattern_files.specs.Meaning.{Meaning}
 use Rattle.engine.specs.Accepted.{IsAccepted}
 use Rattle.engine.specs.Report.{report_line, is_shown, shown, AreLinesAfter}
 use Rattle.engine.specs.RunOptions.{run_of}

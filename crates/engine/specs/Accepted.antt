@@ -9,7 +9,7 @@ use Rattle.universe.specs.Ranges.{KeepsToRange}
 use Rattle.viewport.specs.BoundingBox.{HasBounds}
 use Rattle.viewport.specs.Population.{HasPopulation}
 use Rattle.engine.specs.Judgement.{Judges}
-use Rattle.patterns.specs.Meaning.{Meaning}
+use Rattle.pattern_files.specs.Meaning.{Meaning}
 use Rattle.run_options.specs.declared.options.RunOptions.{RunOptions}
 use Rattle.engine.specs.declared.running.Summary.{Summary}
 

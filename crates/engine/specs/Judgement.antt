@@ -12,7 +12,7 @@ use Rattle.plane.specs.Refusal.{rule_refusal}
 use Rattle.plane.specs.declared.cell.Cell.{Cell}
 use Rattle.plane.specs.declared.fault.Fault.{Fault}
 use Rattle.plane.specs.declared.refusal.Refusal.TheVariants.{TooFar}
-use Rattle.patterns.specs.Meaning.{Meaning, judged}
+use Rattle.pattern_files.specs.Meaning.{Meaning, judged}
 use Rattle.run_options.specs.declared.options.RunOptions.{RunOptions}
 
 -- the text of the file's rule: that of Life where it names none

@@ -4,7 +4,7 @@ use Rattle.rule_text.specs.CountRule.{CountRule}
 use Rattle.plane.specs.Fault.{placeless}
 use Rattle.plane.specs.declared.fault.Fault.{Fault}
 use Rattle.plane.specs.declared.refusal.Refusal.TheVariants.{NodesFull, NoMemory}
-use Rattle.patterns.specs.Meaning.{Meaning, is_macrocell, judged}
+use Rattle.pattern_files.specs.Meaning.{Meaning, is_macrocell, judged}
 use Rattle.run_options.specs.declared.options.RunOptions.{RunOptions}
 use Rattle.universe.specs.Tables.{HasFullTable}
 use Rattle.engine.specs.Judgement.{Start, Judges, ReadsRule}

@@ -4,7 +4,7 @@ use Rattle.rule_text.specs.CountRule.{CountRule}
 use Rattle.plane.specs.Plane.{Plane, after}
 use Rattle.plane.specs.Square.{IsSame}
 use Rattle.universe.specs.Cells.{exponent_of, limit_of, live_cells, rule_of}
-use Rattle.universe.specs.Runs.{IsExhausted}
+use Rattle.universe.specs.Later.{IsExhausted}
 use Rattle.universe.specs.declared.universe.Universe.{Universe}
 
 -- the cells before one of so many generations stand at a table for single generations; it has so

@@ -9,7 +9,7 @@ use Rattle.plane.specs.SinkChange.{SinkChange, Fails, IsUnfailed, Takes, TakesBe
 use Rattle.plane.specs.declared.cell.Cell.{Cell}
 use Rattle.plane.specs.declared.fault.Fault.{Fault}
 use Rattle.plane.specs.declared.refusal.Refusal.TheVariants.{BoxTooLarge, NodesFull, NoMemory, WriteFailed}
-use Rattle.patterns.specs.Meaning.{Meaning}
+use Rattle.pattern_files.specs.Meaning.{Meaning}
 use Rattle.engine.specs.Formats.{format_of}
 use Rattle.engine.specs.Judgement.{Start, Judges, last_generation}
 use Rattle.engine.specs.Refused.{IsFullOnTheWay, IsRefused}

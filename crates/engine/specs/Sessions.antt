@@ -5,11 +5,11 @@ use Rattle.plane.specs.Plane.{Plane, after}
 use Rattle.plane.specs.Square.{IsSame}
 use Rattle.plane.specs.declared.refusal.Refusal.{Refusal}
 use Rattle.plane.specs.declared.refusal.Refusal.TheVariants.{NodesFull, NoMemory, TooFar}
-use Rattle.patterns.specs.Meaning.{Meaning}
+use Rattle.pattern_files.specs.Meaning.{Meaning}
 use Rattle.run_options.specs.declared.options.RunOptions.{RunOptions}
 use Rattle.universe.specs.Cells.{exponent_of}
 use Rattle.universe.specs.Ranges.{LeavesRange}
-use Rattle.universe.specs.Runs.{IsExhausted}
+use Rattle.universe.specs.Later.{IsExhausted}
 use Rattle.universe.specs.declared.universe.Universe.{Universe}
 use Rattle.engine.specs.Accepted.{IsAccepted}
 use Rattle.engine.specs.KeptComments.{comments_in}

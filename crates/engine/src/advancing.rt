@@ -3,7 +3,7 @@
 ghost use Rattle.std.specs.Prelude.{◌≡◌, ◌⊎◌, ◌+◌, ◌≤◌, ◌<◌, ◌^◌, false, true, IfErr, OnOk};
 ghost use Rattle.plane.specs.Square.{IsSame, empty};
 ghost use Rattle.plane.specs.declared.range.TheConstants.{GENERATION_LIMIT};
-ghost use Rattle.universe.specs.Held.{StaysHeld};
+ghost use Rattle.universe.specs.StaysWithinRoot.{StaysWithinRoot};
 ghost use Rattle.universe.specs.Ranges.{KeepsToRange};
 ghost use Rattle.engine.specs.Sessions.{IsLaterSession, IsNotAdvanced, IsStuckOnTheWay, cells_of, is_open};
 
@@ -44,7 +44,7 @@ impl Session {
         team: &Team<'_, R, G>,
         generations: u64,
     ) -> Result<(), Refusal>
-        requires held { StaysHeld self.old.rule (cells_of self.old) generations }
+        requires held { StaysWithinRoot self.old.rule (cells_of self.old) generations }
         requires short { (IsSame (cells_of self.old) empty → ⊥) → generations < 2 ^ 63 }
         requires last { self.old.generation + generations ≤ GENERATION_LIMIT }
         ensures ok { OnOk result (IsLaterSession self.old generations self.new) }

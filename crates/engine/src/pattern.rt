@@ -134,7 +134,7 @@ impl Pattern {
         ensures memory { IsOkUnless result Refusal.NoMemory }
     {
         let (still, root) = (self.still(), self.root());
-        pattern_picture::picture(alloc, still, root, shown, size)
+        Drawing::of(alloc, still, root, shown, size)
     }
 
     /// Writes the text of a window of the pattern, if one is asked for. `WriteFailed` where the

@@ -6,7 +6,7 @@ ghost use Rattle.plane.specs.Plane.{after};
 ghost use Rattle.plane.specs.Square.{IsSame, empty};
 ghost use Rattle.plane.specs.declared.range.TheConstants.{GENERATION_LIMIT};
 ghost use Rattle.plane.specs.Device.{AppendsBeginning, IsWriteRefusal};
-ghost use Rattle.universe.specs.Held.{StaysHeld};
+ghost use Rattle.universe.specs.StaysWithinRoot.{StaysWithinRoot};
 ghost use Rattle.universe.specs.Outcomes.{LacksMemoryOrRoom};
 ghost use Rattle.viewport.specs.Population.{HasPopulation};
 ghost use Rattle.engine.specs.Report.{AreFirstLines, AreLinesAfter, is_shown, shown};
@@ -29,7 +29,7 @@ pub(crate) fn run_reported<R: Threads + Sync, G: Gate, W: Sink>(
     options: &Options,
     report: &mut W,
 ) -> Result<Option<u128>, Refusal>
-    requires held { StaysHeld session.old.rule (cells_of session.old) options.now.gens }
+    requires held { StaysWithinRoot session.old.rule (cells_of session.old) options.now.gens }
     requires short { (IsSame (cells_of session.old) empty → ⊥) → options.now.gens < 2 ^ 63 }
     requires last { session.old.generation + options.now.gens ≤ GENERATION_LIMIT }
     ensures later { OnOk result (IsLaterSession session.old options.now.gens session.new) }

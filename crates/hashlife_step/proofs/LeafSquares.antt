@@ -3,7 +3,7 @@ use Rattle.std.proofs.Common.{◌≡◌, ℕ, ◌+◌, ◌-◌, ◌^◌, min, Li
 use Rattle.rule_text.specs.CountRule.{CountRule}
 use Rattle.plane.specs.Plane.{Plane, after}
 use Rattle.plane.specs.Square.{IsSame, IsSquare, joined, centre_of, future}
-use Rattle.plane.proofs.Rounds.{whole_joined}
+use Rattle.plane.proofs.Middles.{whole_joined}
 use Rattle.plane.proofs.Same.{same_trans, same_sym, plane_equal}
 use Rattle.squares.specs.Book.{Book, IsKnown, IsFuture, Shows, Keeps, AreQuarters, nth}
 use Rattle.squares.specs.declared.sq.Sq.{Sq}

@@ -6,7 +6,7 @@ pub mod FourCentres
 pub mod NineFutures
 pub mod Planned
 pub mod Replaced
-pub mod RoundSquares
+pub mod CentredSquares
 pub mod RowsRead
 pub mod Stepped
 pub mod Surrounded

@@ -9,18 +9,18 @@ use Rattle.std.proofs.lemmas.List.Sums.{sum_by_push}
 use Rattle.std.proofs.lemmas.Nat.{mod-pow-add}
 use Rattle.std.proofs.lemmas.Nat.Bits.{bit_at-lt, shr_and_one}
 
--- these are the powers below 2^place that stand in the number
-pub record IsPlanned (number place : ℕ) (exponents : List ℕ) : Type 0 where
-  pub short : length exponents ≤ place
+-- these are the powers below 2^index that stand in the number
+pub record IsPlanned (number index : ℕ) (exponents : List ℕ) : Type 0 where
+  pub short : length exponents ≤ index
   pub rising : IsStrictlyIncreasing exponents
-  pub below : All (λ exponent. exponent < place) exponents
-  pub sum : sum_by (λ exponent. 2 ^ exponent) exponents ≡ number % 2 ^ place
+  pub below : All (λ exponent. exponent < index) exponents
+  pub sum : sum_by (λ exponent. 2 ^ exponent) exponents ≡ number % 2 ^ index
 
--- one more place, with its digit
-next_digit : (number place : ℕ) → number % 2 ^ (place + 1) ≡ bit_at number place * 2 ^ place + number % 2 ^ place
-next_digit number place =
-    let e : place + 1 ≡ 1 + place = omega arith in
-    ap (λ n. number % 2 ^ n) e ∙ mod-pow-add number 1 place
+-- one more digit
+next_digit : (number index : ℕ) → number % 2 ^ (index + 1) ≡ bit_at number index * 2 ^ index + number % 2 ^ index
+next_digit number index =
+    let e : index + 1 ≡ 1 + index = omega arith in
+    ap (λ n. number % 2 ^ n) e ∙ mod-pow-add number 1 index
 
 no_digit : (b : ℕ) → b < 2 → b ≢ 1 → b ≡ 0
 no_digit b low other = omega arith
@@ -34,25 +34,25 @@ rising_push xs y rising below k less =
     let old = rising k in let low = below k 0 in
     grind arith
 
-pub planned_more : (number place : ℕ) (exponents : List ℕ) → bit_and (number / 2 ^ place) 1 ≡ 1 → IsPlanned number place exponents → IsPlanned number (place + 1) (exponents ++ place ∷ [])
-planned_more number place exponents one is = record {
-  short = omega (arith, length_push exponents place, is.short);
-  rising = rising_push exponents place is.rising is.below;
-  below = All-push (λ exponent. exponent < place + 1) exponents place (λ k d less. let e = is.below k d less in omega arith) (omega arith);
-  sum = let digit = sym (shr_and_one number place) ∙ one in
-      let whole = next_digit number place ∙ ap (λ b. b * 2 ^ place + number % 2 ^ place) digit in
-      let pushed = sum_by_push (λ exponent. 2 ^ exponent) exponents place in
+pub planned_more : (number index : ℕ) (exponents : List ℕ) → bit_and (number / 2 ^ index) 1 ≡ 1 → IsPlanned number index exponents → IsPlanned number (index + 1) (exponents ++ index ∷ [])
+planned_more number index exponents one is = record {
+  short = omega (arith, length_push exponents index, is.short);
+  rising = rising_push exponents index is.rising is.below;
+  below = All-push (λ exponent. exponent < index + 1) exponents index (λ k d less. let e = is.below k d less in omega arith) (omega arith);
+  sum = let digit = sym (shr_and_one number index) ∙ one in
+      let whole = next_digit number index ∙ ap (λ b. b * 2 ^ index + number % 2 ^ index) digit in
+      let pushed = sum_by_push (λ exponent. 2 ^ exponent) exponents index in
       let so_far = is.sum in omega arith;
 }
 
-pub planned_same : (number place : ℕ) (exponents : List ℕ) → bit_and (number / 2 ^ place) 1 ≢ 1 → IsPlanned number place exponents → IsPlanned number (place + 1) exponents
-planned_same number place exponents other is = record {
+pub planned_same : (number index : ℕ) (exponents : List ℕ) → bit_and (number / 2 ^ index) 1 ≢ 1 → IsPlanned number index exponents → IsPlanned number (index + 1) exponents
+planned_same number index exponents other is = record {
   short = let s = is.short in omega arith;
   rising = is.rising;
   below = λ k d less. let e = is.below k d less in omega arith;
-  sum = let same = shr_and_one number place in let low = bit_at-lt number place in
-      let digit : bit_at number place ≡ 0 = no_digit (bit_at number place) low (λ e. other (same ∙ e)) in
-      let whole = next_digit number place ∙ ap (λ b. b * 2 ^ place + number % 2 ^ place) digit in
+  sum = let same = shr_and_one number index in let low = bit_at-lt number index in
+      let digit : bit_at number index ≡ 0 = no_digit (bit_at number index) low (λ e. other (same ∙ e)) in
+      let whole = next_digit number index ∙ ap (λ b. b * 2 ^ index + number % 2 ^ index) digit in
       let so_far = is.sum in omega arith;
 }
 

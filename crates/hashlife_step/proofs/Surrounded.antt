@@ -7,14 +7,14 @@ use Rattle.plane.specs.Centred.{centred}
 use Rattle.plane.specs.Plane.{Plane}
 use Rattle.plane.specs.Square.{IsSame, IsSquare, bit, bits_plane, centre_of, cut, empty, joined, spans}
 use Rattle.plane.proofs.Cuts.{centre_joined, cut_empty, cut_same, joined_nw, joined_ne, joined_sw, joined_se}
-use Rattle.plane.proofs.Rounds.{surrounded_round}
+use Rattle.plane.proofs.Middles.{surrounded_centred}
 use Rattle.plane.proofs.Same.{same_trans, same_sym, same_refl}
 use Rattle.squares.specs.Book.{Book, Keeps, Shows, joined_squares}
 use Rattle.squares.specs.declared.sq.Sq.{Sq}
 use Rattle.squares.proofs.Kept.{keeps_trans, same_later}
-use Rattle.hashlife_step.specs.Round.{ShowsRound}
+use Rattle.hashlife_step.specs.ShowsCentred.{ShowsCentred}
 use Rattle.squares.proofs.FourKnown.{joined_as}
-use Rattle.hashlife_step.proofs.Grown.{centred_same, shows_round}
+use Rattle.hashlife_step.proofs.Grown.{centred_same, shows_centred}
 
 leaf_square : (word : ℕ) → IsSquare 8 (bits_plane word)
 leaf_square word = record { dead = λ x y e. ap (λ b. b && bit word (8 * unsigned_abs y + unsigned_abs x)) e }
@@ -48,7 +48,7 @@ pub leaf_surrounded : (level word a b c d : ℕ) (plane : Plane) (b1 b2 b3 b4 b5
     Keeps b1 b2 → Keeps b2 b3 → Keeps b3 b4 →
     Shows b1 3 (bits_plane a) nw → Shows b2 3 (bits_plane b) ne → Shows b3 3 (bits_plane c) sw → Shows b4 3 (bits_plane d) se →
     Shows b5 (nw.level + 1) (joined_squares b4 nw.level (nw ∷ ne ∷ sw ∷ se ∷ [])) whole →
-    ShowsRound b5 (centred level plane) whole
+    ShowsCentred b5 (centred level plane) whole
 leaf_surrounded level word a b c d plane b1 b2 b3 b4 b5 nw ne sw se whole e same is_a is_b is_c is_d k2 k3 k4 s1 s2 s3 s4 s =
     let leaf_plane : Plane = bits_plane word in
     let in_nw = middle_of 0 0 0 word empty empty empty (cut 4 0 0 leaf_plane) (none_cut 4 4) (none_cut 0 4) (none_cut 4 0) (same_refl _) in
@@ -60,6 +60,6 @@ leaf_surrounded level word a b c d plane b1 b2 b3 b4 b5 nw ne sw se whole e same
     (same_trans (same_later (keeps_trans k3 k4) s2) (same_trans is_b in_ne))
     (same_trans (same_later k4 s3) (same_trans is_c in_sw))
     (same_trans s4.cells (same_trans is_d in_se)) s in
-    let round = surrounded_round 3 leaf_plane _ _ _ _ (omega arith) (leaf_square word) (same_refl _) (same_refl _) (same_refl _) (same_refl _) in
-    let at_level : ShowsRound b5 (centred 3 plane) whole = shows_round b5 (3 + 1) _ (centred 3 plane) whole shown (same_trans round (centred_same 3 _ _ (same_sym same))) in
-    subst (λ n. ShowsRound b5 (centred n plane) whole) (sym e) at_level
+    let at_centre = surrounded_centred 3 leaf_plane _ _ _ _ (omega arith) (leaf_square word) (same_refl _) (same_refl _) (same_refl _) (same_refl _) in
+    let at_level : ShowsCentred b5 (centred 3 plane) whole = shows_centred b5 (3 + 1) _ (centred 3 plane) whole shown (same_trans at_centre (centred_same 3 _ _ (same_sym same))) in
+    subst (λ n. ShowsCentred b5 (centred n plane) whole) (sym e) at_level

@@ -1,5 +1,5 @@
 pub mod FoundFutures
 pub mod Futures
 pub mod Quarters
-pub mod Round
+pub mod ShowsCentred
 pub mod Tallies

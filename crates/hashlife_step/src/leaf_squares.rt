@@ -4,8 +4,8 @@ ghost use Rattle.std.specs.Prelude.{◌≡◌, IfOk, IfErr};
 ghost use Rattle.leaf_kernels.specs.Rows.{four_fours_plane, four_sixteens_plane, sixteen_plane};
 ghost use Rattle.plane.specs.Square.{IsSame};
 ghost use Rattle.squares.specs.Book.{AddsSquares, IsFuture, IsKnown, MayRefuse, Shows};
-ghost use Rattle.squares.specs.Rounds.{square_plane};
-ghost use Rattle.hashlife_step.specs.Round.{ShowsRound};
+ghost use Rattle.squares.specs.Roots.{square_plane};
+ghost use Rattle.hashlife_step.specs.ShowsCentred.{ShowsCentred};
 
 use leaf_kernels::{centre16, result16, result64};
 use plane::Refusal;
@@ -98,7 +98,7 @@ pub(crate) fn surround_leaf<S: Squares>(book: &mut S, sq: Sq) -> Result<Sq, Refu
     requires known { IsKnown (S.book book.old) sq.level sq }
     requires level { sq.level ≡ 3 }
     ensures level { IfOk result (λ whole. whole.level ≡ 4) }
-    ensures cells { IfOk result (ShowsRound (S.book book.new) (square_plane (S.book book.old) sq)) }
+    ensures cells { IfOk result (ShowsCentred (S.book book.new) (square_plane (S.book book.old) sq)) }
     ensures refusal { IfErr result (MayRefuse (S.book book.new)) }
     ensures adds { AddsSquares (S.book book.old) (S.book book.new) }
 {

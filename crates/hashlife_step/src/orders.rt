@@ -26,7 +26,7 @@ const ORDERS_OF_FOUR: [[u8; 4]; 8] = [
 ];
 
 /// An order in which the futures of several squares are asked for. No result hangs on an order, so
-/// nothing says that each square comes at some place.
+/// nothing says that each square comes at some index.
 #[derive(Clone, Copy, Debug, PartialEq, Eq)]
 pub struct EvaluationOrder {
     // Which of the eight lists of places it goes by.
@@ -49,17 +49,17 @@ impl EvaluationOrder {
         })
     }
 
-    /// Which of `count` squares comes at place k.
-    pub(crate) fn place(self, k: usize, count: usize) -> usize
+    /// Which of `count` squares comes at index k.
+    pub(crate) fn index(self, k: usize, count: usize) -> usize
         requires { 0 < count }
         ensures { result < count }
     {
         let list = self.list as usize;
-        let place = if count == 4 {
+        let index = if count == 4 {
             ORDERS_OF_FOUR[list][k % 4]
         } else {
             ORDERS_OF_NINE[list][k % 9]
         };
-        (place as usize + self.turn as usize) % count
+        (index as usize + self.turn as usize) % count
     }
 }

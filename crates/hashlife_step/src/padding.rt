@@ -4,8 +4,8 @@ ghost use Rattle.plane.specs.declared.cell.TheConstants.{HIGHEST_LEVEL};
 ghost use Rattle.plane.specs.Centred.{Holds};
 ghost use Rattle.plane.specs.Plane.{after};
 ghost use Rattle.squares.specs.Book.{AddsSquares, IsKnown, MayRefuse};
-ghost use Rattle.squares.specs.Rounds.{square_plane};
-ghost use Rattle.hashlife_step.specs.Round.{ShowsRound};
+ghost use Rattle.squares.specs.Roots.{square_plane};
+ghost use Rattle.hashlife_step.specs.ShowsCentred.{ShowsCentred};
 
 use crate::leaf_squares::surround_leaf;
 use plane::Refusal;
@@ -17,7 +17,7 @@ fn grow<S: Squares>(book: &mut S, sq: Sq) -> Result<Sq, Refusal>
     requires low { 3 < sq.level }
     requires high { sq.level < HIGHEST_LEVEL }
     ensures level { IfOk result (λ grown. grown.level ≡ sq.level + 1) }
-    ensures cells { IfOk result (ShowsRound (S.book book.new) (square_plane (S.book book.old) sq)) }
+    ensures cells { IfOk result (ShowsCentred (S.book book.new) (square_plane (S.book book.old) sq)) }
     ensures refusal { IfErr result (MayRefuse (S.book book.new)) }
     ensures adds { AddsSquares (S.book book.old) (S.book book.new) }
 {
@@ -37,7 +37,7 @@ pub fn pad<S: Squares>(book: &mut S, sq: Sq, exponent: u8) -> Result<Sq, Refusal
     requires known { IsKnown (S.book book.old) sq.level sq }
     requires high { max (sq.level + 2) (exponent + 3) ≤ HIGHEST_LEVEL }
     ensures level { IfOk result (λ padded. padded.level ≡ max (sq.level + 2) (exponent + 3)) }
-    ensures cells { IfOk result (ShowsRound (S.book book.new) (square_plane (S.book book.old) sq)) }
+    ensures cells { IfOk result (ShowsCentred (S.book book.new) (square_plane (S.book book.old) sq)) }
     // What the cells become in that time lies in the square of the level below, round the same
     // centre.
     ensures room { IfOk result (λ padded. Holds (padded.level - 1)

@@ -148,7 +148,7 @@ fn ask_ahead<S: Squares>(
         return Ok(());
     };
     for k in 0..squares.len() {
-        let next = squares[order.place(k, squares.len())];
+        let next = squares[order.index(k, squares.len())];
         future_in_order(book, next, Some(order), tally)?;
     }
     Ok(())

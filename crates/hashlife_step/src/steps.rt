@@ -4,7 +4,7 @@ ghost use Rattle.std.specs.Prelude.{◌≡◌, ◌+◌, ◌^◌, ◌<◌, ◌≤
 ghost use Rattle.std.specs.List.Sorted.{IsStrictlyIncreasing};
 ghost use Rattle.plane.specs.declared.cell.TheConstants.{HIGHEST_LEVEL};
 ghost use Rattle.squares.specs.Book.{IsKnown, MayRefuse};
-ghost use Rattle.hashlife_step.specs.Round.{IsStepOf};
+ghost use Rattle.hashlife_step.specs.ShowsCentred.{IsStepOf};
 ghost use Rattle.hashlife_step.specs.Tallies.{MakesResults};
 
 use crate::padding::pad;

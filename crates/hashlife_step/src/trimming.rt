@@ -2,8 +2,8 @@
 ghost use Rattle.std.specs.Prelude.{◌↔◌, ◌-◌, ◌<◌, ◌≤◌, max, IfOk, IfErr, IsTrue};
 ghost use Rattle.plane.specs.Centred.{Holds, IsSmallestLevel};
 ghost use Rattle.squares.specs.Book.{AddsSquares, IsKnown, MayRefuse};
-ghost use Rattle.squares.specs.Rounds.{square_plane};
-ghost use Rattle.hashlife_step.specs.Round.{ShowsRound};
+ghost use Rattle.squares.specs.Roots.{square_plane};
+ghost use Rattle.hashlife_step.specs.ShowsCentred.{ShowsCentred};
 
 use crate::leaf_squares::surround_leaf;
 use plane::Refusal;
@@ -28,7 +28,7 @@ fn is_held_by_centre<S: Squares>(book: &mut S, sq: Sq) -> bool
 /// square of level 3 comes into the middle of one of level 4, and no other rises.
 pub fn trim<S: Squares>(book: &mut S, sq: Sq) -> Result<Sq, Refusal>
     requires known { IsKnown (S.book book.old) sq.level sq }
-    ensures cells { IfOk result (ShowsRound (S.book book.new) (square_plane (S.book book.old) sq)) }
+    ensures cells { IfOk result (ShowsCentred (S.book book.new) (square_plane (S.book book.old) sq)) }
     ensures level { IfOk result (λ trimmed.
         IsSmallestLevel trimmed.level (square_plane (S.book book.old) sq)) }
     ensures no_rise { IfOk result (λ trimmed. trimmed.level ≤ max 4 sq.level) }

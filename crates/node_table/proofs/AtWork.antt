@@ -62,8 +62,8 @@ pub centred_same : (level : ℕ) (plane other : Plane) → IsSame plane other �
 centred_same level plane other is = record { same = λ x y. is.same _ _ }
 
 -- the cells that the work found around (0,0), the desk that is back knows
-pub back_round : {table : NodeTable} {desk back : Desk} {book : Book} (plane : Plane) (sq : Sq) → IsBack table desk back book → IsKnown book sq.level sq →
+pub back_in_root : {table : NodeTable} {desk back : Desk} {book : Book} (plane : Plane) (sq : Sq) → IsBack table desk back book → IsKnown book sq.level sq →
     IsSame (centred sq.level (book.cells sq)) plane → IsSame (centred sq.level ((book_at table back).cells sq)) plane
-back_round {table} {desk} {back} {book} plane sq is known cells =
+back_in_root {table} {desk} {back} {book} plane sq is known cells =
     let own : Shows book sq.level (book.cells sq) sq = record { known = known; cells = same_refl (book.cells sq) } in
     same_trans (centred_same sq.level ((book_at table back).cells sq) (book.cells sq) (is.shows sq.level (book.cells sq) sq own).cells) cells

@@ -14,7 +14,7 @@ use Rattle.table_core.proofs.Knowing.{seen_true}
 use Rattle.table_core.proofs.Learned.{known_word}
 use Rattle.table_core.specs.Laws.{KnowsAll}
 use Rattle.node_table.specs.declared.still.Still.{Still}
-use Rattle.node_table.specs.declared.view.View.{View}
+use Rattle.node_table.specs.declared.desk_view.DeskView.{DeskView}
 use Rattle.node_table.specs.Books.{IsSound, IsTrueOfGoodWords}
 use Rattle.node_table.specs.Rule.{IsSoundState, IsTrueView, opened}
 use Rattle.node_table.specs.Stills.{words_of}
@@ -43,7 +43,7 @@ get_is (x ∷ xs) zero n e = let same : x ≡ n = cc in same
 get_is (x ∷ xs) (suc i) n e = get_is xs i n e
 
 -- the words at the end are good, and what the closing desk knew is true of them
-module _ {S : Type 0} (still : Still) (id : ℕ) (view : View) (words : List ℕ) (slots : List S) (final : Final (Seen (IsSoundState {S = S} still) id view) words slots) where
+module _ {S : Type 0} (still : Still) (id : ℕ) (view : DeskView) (words : List ℕ) (slots : List S) (final : Final (Seen (IsSoundState {S = S} still) id view) words slots) where
   pub closed_good : AreGoodWords still.key words
   closed_good = subst (AreGoodWords still.key) final.2 final.1.0.words
 

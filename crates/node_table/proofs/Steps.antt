@@ -30,7 +30,7 @@ use Rattle.table_core.proofs.Stepping.{DeskStep, desk_steps, word_there}
 use Rattle.node_table.specs.declared.desk.Desk.{Desk}
 use Rattle.node_table.specs.declared.still.Still.{Still}
 use Rattle.node_table.specs.declared.table.NodeTable.{NodeTable}
-use Rattle.node_table.specs.declared.view.View.{View}
+use Rattle.node_table.specs.declared.desk_view.DeskView.{DeskView}
 use Rattle.node_table.specs.Books.{IsCoherent, IsSound, IsSoundFor, IsTrueOfGoodWords}
 use Rattle.node_table.specs.Desks.{IsDeskOf}
 use Rattle.node_table.specs.Rule.{IsTrueView, IsKnownToSome, IsSoundState, with_known, Met, HasMet, merged, spent}
@@ -41,7 +41,7 @@ all_at P [] i a all e = let no : ⊥ = cc in absurd no
 all_at P (x ∷ xs) zero a all e = let same : x ≡ a = cc in subst P same all.0
 all_at P (x ∷ xs) (suc i) a all e = all_at P xs i a all.1 e
 
-view_later : (key : Key) (old new : List ℕ) (view : View) → KeepsWords (slice_index old) (slice_index new) → IsTrueView key old view → IsTrueView key new view
+view_later : (key : Key) (old new : List ℕ) (view : DeskView) → KeepsWords (slice_index old) (slice_index new) → IsTrueView key old view → IsTrueView key new view
 view_later key old new view keeps_all h = record { tied = h.tied; known = true_later key.shape.bits (slice_index old) (slice_index new) view.known keeps_all h.known }
 
 -- what is true of good words is coherent
@@ -73,18 +73,18 @@ place_of [] i a e = let no : ⊥ = cc in absurd no
 place_of (x ∷ xs) zero a e = let same : x ≡ a = cc in ap (λ y. Some y) same
 place_of (x ∷ xs) (suc i) a e = place_of xs i a e
 
-same_view : (a b : View) → Some a ≡ Some b → a ≡ b
+same_view : (a b : DeskView) → Some a ≡ Some b → a ≡ b
 same_view a b e = cc
 
 -- which words desks know, while one of them learns more
-module _ (key : Key) (index word : ℕ) (views : List View) (id : ℕ) (v : View) (at : slice_get views id ≡ Some v) where
-  abbrev knows : View → Type 0
+module _ (key : Key) (index word : ℕ) (views : List DeskView) (id : ℕ) (v : DeskView) (at : slice_get views id ≡ Some v) where
+  abbrev knows : DeskView → Type 0
   knows view = KnowsWord key.shape.bits view.known index word
 
-  set_known : (w : View) → knows w → IsKnownToSome key (slice_set views id w) index word
+  set_known : (w : DeskView) → knows w → IsKnownToSome key (slice_set views id w) index word
   set_known w k = any_of_get knows (slice_set views id w) id w (get_set_same views id v w at) k
 
-  pub still_known : (w : View) → Grows v.known w.known → IsKnownToSome key views index word → IsKnownToSome key (slice_set views id w) index word
+  pub still_known : (w : DeskView) → Grows v.known w.known → IsKnownToSome key views index word → IsKnownToSome key (slice_set views id w) index word
   still_known w grows any =
       let t = get_of_any knows views any in
       ⊎_elim
@@ -93,7 +93,7 @@ module _ (key : Key) (index word : ℕ) (views : List View) (id : ℕ) (v : View
       (same_or_other t.0 id)
 
   -- and while what another one knew becomes its own
-  pub joined_known : (other : ℕ) (u : View) → other ≢ id → slice_get views other ≡ Some u → IsKnownToSome key views index word →
+  pub joined_known : (other : ℕ) (u : DeskView) → other ≢ id → slice_get views other ≡ Some u → IsKnownToSome key views index word →
       IsKnownToSome key (slice_set (slice_set views id (merged v u)) other spent) index word
   joined_known other u apart there any =
       let t = get_of_any knows views any in
@@ -112,7 +112,7 @@ module _ (key : Key) (index word : ℕ) (views : List View) (id : ℕ) (v : View
 
 -- each word is known to some desk after a step, where the one that made it has learned what stands
 -- there
-known_after : (key : Key) (words : List ℕ) (views : List View) (id index word : ℕ) (v w : View) → slice_get views id ≡ Some v → Grows v.known w.known →
+known_after : (key : Key) (words : List ℕ) (views : List DeskView) (id index word : ℕ) (v w : DeskView) → slice_get views id ≡ Some v → Grows v.known w.known →
     (slice_index (slice_set words index word) index ≢ 0 → KnowsWord key.shape.bits w.known index (slice_index (slice_set words index word) index)) →
     ((i : ℕ) → slice_index words i ≢ 0 → IsKnownToSome key views i (slice_index words i)) →
     (i : ℕ) → slice_index (slice_set words index word) i ≢ 0 → IsKnownToSome key (slice_set views id w) i (slice_index (slice_set words index word) i)
@@ -125,7 +125,7 @@ known_after key words views id index word v w at grows here known i some = ⊎_e
     (same_or_other i index)
 
 -- each lawful event of a seat keeps the rule, and the seat has met it
-pub meets : {S : Type 0} (still : Still) (slots id : ℕ) (me : Me S View) (event : Event) → me.0.key ≡ Some still.key → IsLawful still.key me.0.known event →
+pub meets : {S : Type 0} (still : Still) (slots id : ℕ) (me : Me S DeskView) (event : Event) → me.0.key ≡ Some still.key → IsLawful still.key me.0.known event →
     Allows (IsSoundState {S = S} still) slots id me (index_of event) (word_after event) (HasMet event me)
 meets {S} still slots id me event present lawful s h n at fits =
     let key = still.key in
@@ -172,12 +172,12 @@ same_key : (a b : Key) → Some a ≡ Some b → a ≡ b
 same_key a b e = cc
 
 -- what a desk knows after an event is sound again
-pub sound_after : {S : Type 0} (key : Key) (event : Event) (before after : Me S View) (word : ℕ) → before.0.key ≡ Some key → IsSound before.0 →
+pub sound_after : {S : Type 0} (key : Key) (event : Event) (before after : Me S DeskView) (word : ℕ) → before.0.key ≡ Some key → IsSound before.0 →
     Met key event before word after → IsSound after.0
 sound_after {S} key event before after word present sound met k e =
     subst (λ (a : Key). IsSoundFor a after.0.known) (same_key key k (sym present ∙ sym met.same_key ∙ e)) (sound_for key after.0.known ((sound key present).book own_store).rule met.words)
 
-pub splits : {S : Type 0} (still : Still) (id : ℕ) (v : View) → Splits (IsSoundState {S = S} still) id v v v
+pub splits : {S : Type 0} (still : Still) (id : ℕ) (v : DeskView) → Splits (IsSoundState {S = S} still) id v v v
 splits still id v s h at =
     let one = all_at _ s.views id v h.views at in
     record {
@@ -186,7 +186,7 @@ splits still id v s h at =
       known = λ i some. any_before _ (slice_set s.views id v) (v ∷ []) (still_known still.key i (slice_index s.words i) s.views id v (place_of s.views id v at) v (grows_refl v.known) (h.known i some));
     }
 
-pub joins : {S : Type 0} (still : Still) (id other : ℕ) (v w : View) → Joins (IsSoundState {S = S} still) id v other w (merged v w) spent
+pub joins : {S : Type 0} (still : Still) (id other : ℕ) (v w : DeskView) → Joins (IsSoundState {S = S} still) id v other w (merged v w) spent
 joins still id other v w s h at apart at_other =
     let first : IsTrueView still.key s.words v = all_at _ s.views id v h.views at in
     let whose = ⊎_elim {C = get_elem? s.views other ≡ core.some w} (λ t. absurd (apart t.0)) (λ t. t.1) (at_set s.views id other (merged v w) w at_other) in
@@ -199,7 +199,7 @@ joins still id other v w s h at apart at_other =
       known = λ i some. joined_known still.key i (slice_index s.words i) s.views id v (place_of s.views id v at) other w apart (place_of s.views other w whose) (h.known i some);
     }
 
-pub sound_by : (key : Key) (view : View) → IsRule key.rule → IsTrueOfGoodWords key view.known → view.key ≡ Some key → IsSound view
+pub sound_by : (key : Key) (view : DeskView) → IsRule key.rule → IsTrueOfGoodWords key view.known → view.key ≡ Some key → IsSound view
 sound_by key view rule words present k e =
     subst (λ (a : Key). IsSoundFor a view.known) (same_key key k (sym present ∙ e)) (sound_for key view.known rule words)
 

@@ -15,7 +15,7 @@ use Rattle.table_core.specs.Blocks.{square_rank}
 use Rattle.table_core.specs.FullShards.{knows_full_shard}
 use Rattle.table_core.specs.Good.{AreGoodWords}
 use Rattle.table_core.specs.Knowledge.{IsConsistent, IsTrueOf, KnowsBlock}
-use Rattle.node_table.specs.declared.view.View.{View}
+use Rattle.node_table.specs.declared.desk_view.DeskView.{DeskView}
 
 -- the first entry of a number as a block of this rank
 abbrev pub entry_at : List KnownBlock → ℕ → ℕ → Option KnownBlock
@@ -92,5 +92,5 @@ pub record IsSoundFor (key : Key) (known : Knowledge) : Type 0 where
   pub coherent : ∥ IsCoherent key.shape.bits known ∥₁
   pub words : ∥ IsTrueOfGoodWords key known ∥₁
 
-abbrev pub IsSound : View → Type 0
+abbrev pub IsSound : DeskView → Type 0
 IsSound view = (key : Key) → view.key ≡ Some key → IsSoundFor key view.known

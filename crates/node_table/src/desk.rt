@@ -2,14 +2,14 @@
 ghost use Rattle.std.specs.Prelude.{◌≡◌, ◌+◌, [], min};
 ghost use Rattle.node_table.specs.Books.{IsSound};
 
-use crate::view::View;
+use crate::desk_view::DeskView;
 use atomic_table::Seat;
 use squares::Tally;
 
 /// What a thread has seen of a table.
 #[derive(Drop)]
 pub struct Desk {
-    pub(crate) seat: Seat<(), View>,
+    pub(crate) seat: Seat<(), DeskView>,
     pub(crate) expansions: u64,
     ghost free: { seat.me.1 ≡ [] },
     ghost sound: { IsSound seat.me.0 },

@@ -12,6 +12,7 @@
 
 mod at;
 mod desk;
+mod desk_view;
 mod halves;
 mod held;
 mod laws;
@@ -26,7 +27,6 @@ mod still;
 mod subsquares;
 mod table;
 mod teams;
-mod view;
 mod word_steps;
 
 pub use at::At;

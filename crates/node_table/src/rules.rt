@@ -2,15 +2,15 @@
 //! invariant of the words, the loads and compare-exchanges, and how views split and join.
 ghost use Rattle.node_table.specs.Rule.{IsSoundState, opened, LoadsNode, PlacesNode, LoadsResult, PlacesResult, merged, spent};
 
+use crate::desk_view::DeskView;
 use crate::still::Still;
-use crate::view::View;
 use atomic_table::{Join, Play, Split, TableRule};
 
 /// The rule of the words, between any two steps: they are good, what each desk knows is true, and
 /// some desk knows each word that is not 0.
 pub(crate) struct TableInvariant;
 
-impl TableRule<(), View, Still> for TableInvariant {
+impl TableRule<(), DeskView, Still> for TableInvariant {
     ghost holds = { IsSoundState };
 
     ghost first = { opened };
@@ -19,35 +19,35 @@ impl TableRule<(), View, Still> for TableInvariant {
 /// A load of the word of a leaf or a pair.
 pub(crate) struct LoadNode;
 
-impl Play<(), View> for LoadNode {
+impl Play<(), DeskView> for LoadNode {
     ghost then = { LoadsNode };
 }
 
 /// A compare-exchange of the word of a leaf or a pair from 0.
 pub(crate) struct PlaceNode;
 
-impl Play<(), View> for PlaceNode {
+impl Play<(), DeskView> for PlaceNode {
     ghost then = { PlacesNode };
 }
 
 /// A load of the word of a result.
 pub(crate) struct LoadResult;
 
-impl Play<(), View> for LoadResult {
+impl Play<(), DeskView> for LoadResult {
     ghost then = { LoadsResult };
 }
 
 /// A compare-exchange of the word of a result from 0.
 pub(crate) struct PlaceResult;
 
-impl Play<(), View> for PlaceResult {
+impl Play<(), DeskView> for PlaceResult {
     ghost then = { PlacesResult };
 }
 
 /// Both desks know what the one knew.
 pub(crate) struct SplitView;
 
-impl Split<View> for SplitView {
+impl Split<DeskView> for SplitView {
     ghost left = { λ view. view };
 
     ghost right = { λ view. view };
@@ -56,7 +56,7 @@ impl Split<View> for SplitView {
 /// The one desk knows what either knew.
 pub(crate) struct JoinedView;
 
-impl Join<View> for JoinedView {
+impl Join<DeskView> for JoinedView {
     ghost both = { merged };
 
     ghost spent = { spent };

@@ -4,10 +4,10 @@ ghost use Rattle.table_core.specs.Layout.{size};
 
 use crate::at::At;
 use crate::desk::Desk;
+use crate::desk_view::DeskView;
 use crate::held::Held;
 use crate::rules::TableInvariant;
 use crate::still::Still;
-use crate::view::View;
 use atomic_table::Table;
 use plane::Refusal;
 use rule_text::Rule;
@@ -18,7 +18,7 @@ use table_core::Key;
 /// An open table: words that threads share, each through a desk of its own.
 #[derive(Drop)]
 pub struct NodeTable {
-    pub(crate) table: Table<(), View, Still, TableInvariant, Global>,
+    pub(crate) table: Table<(), DeskView, Still, TableInvariant, Global>,
     pub(crate) key: Key,
     ghost same_key: { table.shared.key.key ≡ key },
     ghost long: { table.shared.table_id.words ≡ size key.shape.bits },

@@ -8,6 +8,6 @@ mod scale;
 mod shades;
 
 pub use laws::one_scale;
-pub use pictures::{Drawing, picture};
+pub use pictures::Drawing;
 pub use scale::Scale;
 pub use shades::block_shades;

@@ -23,34 +23,36 @@ pub struct Drawing {
     pub shades: Vec<u8>,
 }
 
-/// Draws a rectangle of the cells of a square of a level from 3 to 63, as large as can be with at
-/// most `size` pixels on each side, 16 to 4096. The rectangle's sides lie from -2^62 to 2^62.
-///
-/// Where there is a pixel for each cell, a cell is a square of up to 16 by 16 pixels, black for a
-/// live one. Else a pixel is a block of 2^k by 2^k cells with the smallest k that will do, and its
-/// shade tells how many of them live; cells of these blocks beyond the rectangle count too.
-/// `NoMemory` if there is no room for the shades or for a count.
-pub fn picture<L: Look>(
-    alloc: Global,
-    look: &L,
-    sq: Sq,
-    shown: Bounds,
-    size: u32,
-) -> Result<Drawing, Refusal>
-    requires known { IsKnown (L.book look.now) sq.level sq }
-    requires level { sq.level ≤ HIGHEST_ROOT_LEVEL }
-    requires shown { IsShown shown }
-    requires size { IsSize size }
-    ensures drawn { IfOk result (IsDrawingOf
-        (centred sq.level ((L.book look.now).cells sq)) shown size) }
-    ensures memory { IsOkUnless result Refusal.NoMemory }
-{
-    let scale = Scale::of(shown, size);
-    let blocks = scale.blocks(shown);
-    let shades = block_shades(alloc, look, sq, blocks)?;
-    Ok(Drawing {
-        scale,
-        blocks,
-        shades,
-    })
+impl Drawing {
+    /// Draws a rectangle of the cells of a square of a level from 3 to 63, as large as can be with at
+    /// most `size` pixels on each side, 16 to 4096. The rectangle's sides lie from -2^62 to 2^62.
+    ///
+    /// Where there is a pixel for each cell, a cell is a square of up to 16 by 16 pixels, black for a
+    /// live one. Else a pixel is a block of 2^k by 2^k cells with the smallest k that will do, and its
+    /// shade tells how many of them live; cells of these blocks beyond the rectangle count too.
+    /// `NoMemory` if there is no room for the shades or for a count.
+    pub fn of<L: Look>(
+        alloc: Global,
+        look: &L,
+        sq: Sq,
+        shown: Bounds,
+        size: u32,
+    ) -> Result<Drawing, Refusal>
+        requires known { IsKnown (L.book look.now) sq.level sq }
+        requires level { sq.level ≤ HIGHEST_ROOT_LEVEL }
+        requires shown { IsShown shown }
+        requires size { IsSize size }
+        ensures drawn { IfOk result (IsDrawingOf
+            (centred sq.level ((L.book look.now).cells sq)) shown size) }
+        ensures memory { IsOkUnless result Refusal.NoMemory }
+    {
+        let scale = Scale::of(shown, size);
+        let blocks = scale.blocks(shown);
+        let shades = block_shades(alloc, look, sq, blocks)?;
+        Ok(Drawing {
+            scale,
+            blocks,
+            shades,
+        })
+    }
 }

@@ -11,7 +11,7 @@ use Rattle.text_lines.specs.Bytes.{begins_with, ends_with}
 use Rattle.text_lines.specs.Comments.{is_blank_line, is_kept, is_comment, is_settings_line}
 use Rattle.text_lines.specs.Lines.{without_return, is_line_feed}
 use Rattle.rle_reader.specs.Words.{word_of, words}
-use Rattle.rle_reader.specs.Opening.{stands_before_header}
+use Rattle.rle_reader.specs.Preamble.{stands_before_header}
 use Rattle.rle_reader.specs.Settings.{after_line, after_readings}
 use Rattle.rle_reader.specs.declared.settings.Settings.{Settings}
 use Rattle.pattern_writers.specs.Reading.{IsComment, HasNoReturn}

@@ -8,8 +8,8 @@ use Rattle.plane.proofs.Elements.{AllByRecursion-append}
 use Rattle.text_lines.specs.Bytes.{is_byte, trimmed, trimmed_end, trimmed_start}
 use Rattle.text_lines.specs.Numbers.{number_of}
 use Rattle.rle_reader.specs.Header.{begins_as_header, header_rule, is_side, rule_behind, value_behind}
-use Rattle.rle_reader.specs.Opening.{stands_before_header}
-use Rattle.pattern_writers.specs.Opening.{header_text}
+use Rattle.rle_reader.specs.Preamble.{stands_before_header}
+use Rattle.pattern_writers.specs.Preamble.{header_text}
 use Rattle.pattern_writers.proofs.TextLines.{plain_from_test, plain_marks, IsMark, IsPlain, blank_cut}
 use Rattle.pattern_writers.proofs.Decimals.{IsDecimal, decimal_is, number_from}
 use Rattle.pattern_writers.proofs.WrittenNumbers.{before_end, after_end, decimal_bytes, no_commas, six_parts}

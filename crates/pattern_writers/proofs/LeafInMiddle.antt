@@ -5,7 +5,7 @@ use Rattle.plane.specs.Plane.{Plane}
 use Rattle.plane.proofs.Same.{plane_equal}
 use Rattle.squares.specs.Book.{Book, IsKnown, Shows}
 use Rattle.squares.specs.declared.sq.Sq.{Sq}
-use Rattle.hashlife_step.specs.Round.{ShowsRound}
+use Rattle.hashlife_step.specs.ShowsCentred.{ShowsCentred}
 use Rattle.pattern_writers.specs.ListedNodes.{AreNodes}
 use Rattle.pattern_writers.specs.declared.mc_text.node.ListedNode.{ListedNode}
 
@@ -17,7 +17,7 @@ pub leaf_known : (book : Book) (leaf : Sq) (plane : Plane) → Shows book 3 plan
 leaf_known book leaf plane shows = subst (λ n. IsKnown book n leaf) (sym shows.known.at_level) shows.known
 
 -- the nodes of the square that has the leaf in its middle are those of the leaf
-pub leaf_nodes_are : (old new : Book) (leaf root : Sq) (plane : Plane) (nodes : List ListedNode) → Shows old 3 plane leaf → ShowsRound new (centred leaf.level (old.cells leaf)) root →
+pub leaf_nodes_are : (old new : Book) (leaf root : Sq) (plane : Plane) (nodes : List ListedNode) → Shows old 3 plane leaf → ShowsCentred new (centred leaf.level (old.cells leaf)) root →
     AreNodes (centred root.level (new.cells root)) nodes → AreNodes (centred 3 plane) nodes
-leaf_nodes_are old new leaf root plane nodes shows round are =
-    subst (λ (p : Plane). AreNodes p nodes) (plane_equal _ _ round.cells ∙ leaf_plane old leaf plane shows) are
+leaf_nodes_are old new leaf root plane nodes shows at_centre are =
+    subst (λ (p : Plane). AreNodes p nodes) (plane_equal _ _ at_centre.cells ∙ leaf_plane old leaf plane shows) are

@@ -4,7 +4,7 @@ pub mod BodyText
 pub mod Decimals
 pub mod ItemReading
 pub mod MaximalRuns
-pub mod OpeningReading
+pub mod PreambleReading
 pub mod RowsDown
 pub mod RunReading
 pub mod ShortCounts

@@ -9,7 +9,7 @@ use Rattle.plane.specs.Plane.{Plane}
 use Rattle.plane.specs.Square.{IsSame, IsSquare, empty, joined}
 use Rattle.plane.proofs.Borders.{cut_within}
 use Rattle.plane.proofs.Paddings.{twice_half}
-use Rattle.plane.proofs.Rounds.{whole_joined}
+use Rattle.plane.proofs.Middles.{whole_joined}
 use Rattle.plane.proofs.Same.{plane_equal, same_refl, same_sym}
 use Rattle.squares.proofs.NumberMaps.{by_cases}
 use Rattle.macrocell_reader.specs.Leaf.{leaf_bits}

@@ -46,17 +46,17 @@ texts_in listed = map (square_text listed) listed
 abbrev body_lines : List (List ℕ) → CountRule → ℕ → List Square → List (List ℕ)
 body_lines comments rule generation listed = rule_line rule ∷ generation_line generation ∷ (comments ++ texts_in listed)
 
-opening_parts : (first rule second generation end rest : List ℕ) → (first ++ rule ++ second ++ generation ++ end) ++ rest ≡ first ++ (rule ++ (second ++ (generation ++ (end ++ rest))))
-opening_parts first rule second generation end rest = simp append_assoc
+preamble_parts : (first rule second generation end rest : List ℕ) → (first ++ rule ++ second ++ generation ++ end) ++ rest ≡ first ++ (rule ++ (second ++ (generation ++ (end ++ rest))))
+preamble_parts first rule second generation end rest = simp append_assoc
 
 line_parts : (first end before rule also generation rest : List ℕ) →
     (first ++ end) ++ (((before ++ rule) ++ end) ++ (((also ++ generation) ++ end) ++ rest)) ≡ first ++ (end ++ (before ++ (rule ++ (end ++ (also ++ (generation ++ (end ++ rest)))))))
 line_parts first end before rule also generation rest = simp append_assoc
 
-opening_flat : (rule generation rest : List ℕ) → (codes "[M2] (lifebatch 1)\n#R " ++ rule ++ codes "\n#G " ++ generation ++ codes "\n") ++ rest
+preamble_flat : (rule generation rest : List ℕ) → (codes "[M2] (lifebatch 1)\n#R " ++ rule ++ codes "\n#G " ++ generation ++ codes "\n") ++ rest
     ≡ (codes "[M2] (lifebatch 1)" ++ codes "\n") ++ (((codes "#R " ++ rule) ++ codes "\n") ++ (((codes "#G " ++ generation) ++ codes "\n") ++ rest))
-opening_flat rule generation rest =
-    opening_parts (codes "[M2] (lifebatch 1)\n#R ") rule (codes "\n#G ") generation (codes "\n") rest
+preamble_flat rule generation rest =
+    preamble_parts (codes "[M2] (lifebatch 1)\n#R ") rule (codes "\n#G ") generation (codes "\n") rest
     ∙ sym (line_parts (codes "[M2] (lifebatch 1)") (codes "\n") (codes "#R ") rule (codes "#G ") generation rest)
 
 text_lines_are : (comments : List (List ℕ)) (rule : CountRule) (generation level : ℕ) (plane : Plane) →
@@ -65,7 +65,7 @@ text_lines_are comments rule generation level plane =
     let listed : List Square = listed_in level (from_corner level plane) in
     let nodes : List ℕ = flat_map (λ square. ended (square_text listed square)) listed in
     append_assoc (codes "[M2] (lifebatch 1)\n#R " ++ canonical_text rule ++ codes "\n#G " ++ decimal generation ++ codes "\n") (flat_map ended comments) nodes
-    ∙ opening_flat (canonical_text rule) (decimal generation) (flat_map ended comments ++ nodes)
+    ∙ preamble_flat (canonical_text rule) (decimal generation) (flat_map ended comments ++ nodes)
     ∙ ap (λ rest. (codes "[M2] (lifebatch 1)" ++ codes "\n") ++ (((codes "#R " ++ canonical_text rule) ++ codes "\n") ++ (((codes "#G " ++ decimal generation) ++ codes "\n") ++ rest)))
     (ap (λ l. flat_map ended comments ++ l) (sym (flat_map-map ended (square_text listed) listed)) ∙ sym (flat_map-append ended comments (texts_in listed)))
 

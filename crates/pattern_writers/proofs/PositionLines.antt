@@ -15,9 +15,9 @@ use Rattle.text_lines.specs.Comments.{is_kept}
 use Rattle.text_lines.specs.Numbers.{number_of}
 use Rattle.rle_reader.specs.Words.{cell_at, generation_at, is_coordinate, position_of, word_of, words}
 use Rattle.rle_reader.specs.Numbers.{integer_of}
-use Rattle.rle_reader.specs.Opening.{stands_before_header}
+use Rattle.rle_reader.specs.Preamble.{stands_before_header}
 use Rattle.rle_reader.specs.Settings.{after_line, after_readings, nothing_said}
-use Rattle.pattern_writers.specs.Opening.{position_text}
+use Rattle.pattern_writers.specs.Preamble.{position_text}
 use Rattle.pattern_writers.proofs.TextLines.{plain_from_test, plain_marks, IsMark, IsPlain, split_first, split_last}
 use Rattle.pattern_writers.proofs.Decimals.{decimal_is, decimal_read}
 use Rattle.pattern_writers.proofs.ShortCounts.{coordinate_short, mag_short}

@@ -19,13 +19,13 @@ use Rattle.text_lines.specs.Meaning.{seen_as}
 use Rattle.rle_reader.specs.Body.{stripped}
 use Rattle.rle_reader.specs.Header.{header_rule}
 use Rattle.rle_reader.specs.Meaning.{as_pattern, body_fault, first_fault_from, judged, live_plane, meaning_of}
-use Rattle.rle_reader.specs.Opening.{Opening, after_lines, before_header, from_header, may_stand, opening_of, stands_before_header, with_header}
+use Rattle.rle_reader.specs.Preamble.{PreambleMeaning, after_lines, before_header, from_header, may_stand, preamble_of, stands_before_header, with_header}
 use Rattle.rle_reader.specs.Settings.{after_line, nothing_said}
 use Rattle.rle_reader.specs.State.{start_at}
 use Rattle.rle_reader.specs.declared.settings.Settings.{Settings}
 use Rattle.pattern_writers.specs.Frame.{frame_of}
 use Rattle.pattern_writers.specs.Layout.{body_text}
-use Rattle.pattern_writers.specs.Opening.{header_text, position_text}
+use Rattle.pattern_writers.specs.Preamble.{header_text, position_text}
 use Rattle.pattern_writers.specs.Reading.{IsComment, IsReadable, IsReadFromRle}
 use Rattle.pattern_writers.specs.RleText.{comment_lines, rle_text}
 use Rattle.pattern_writers.specs.declared.rle_text.frame.Frame.{Frame}
@@ -84,7 +84,7 @@ comments_said settings place (comment ∷ comments) are =
     ap (λ found. at_place place found >>= λ next. after_lines next (placed_lines (place + length comment + 1) comments)) (comment_said settings comment are.0)
     ∙ comments_said settings (place + length comment + 1) comments are.1
 
--- ---- the opening
+-- ---- the preamble
 
 header_found : (end : ℕ) (comments : List (List ℕ)) (settings : Settings) (place : ℕ) (header rule : List ℕ) (more : List (List ℕ)) → without_return header ≡ header → header_rule header ≡ Ok (Some rule) →
     with_header end comments settings (placed_lines place (header ∷ more))
@@ -95,7 +95,7 @@ header_found end comments settings place header rule more kept is =
     (ap header_rule kept ∙ is)
 
 -- a line that says the settings, comments, and a header that names a rule
-record IsOpening (first header rule : List ℕ) (settings : Settings) (comments : List (List ℕ)) : Type 0 where
+record IsPreamble (first header rule : List ℕ) (settings : Settings) (comments : List (List ℕ)) : Type 0 where
   first_kept : without_return first ≡ first
   header_kept : without_return header ≡ header
   stands : stands_before_header first ≡ true
@@ -105,7 +105,7 @@ record IsOpening (first header rule : List ℕ) (settings : Settings) (comments 
   names : header_rule header ≡ Ok (Some rule)
   are_comments : AllByRecursion IsComment comments
 
-module _ (end : ℕ) (first header rule : List ℕ) (settings : Settings) (comments more : List (List ℕ)) (is : IsOpening first header rule settings comments) where
+module _ (end : ℕ) (first header rule : List ℕ) (settings : Settings) (comments more : List (List ℕ)) (is : IsPreamble first header rule settings comments) where
   abbrev second : ℕ
   second = 0 + length first + 1
 
@@ -115,8 +115,8 @@ module _ (end : ℕ) (first header rule : List ℕ) (settings : Settings) (comme
   abbrev all_lines : List Line
   all_lines = placed_lines 0 (first ∷ (comments ++ header ∷ more))
 
-  abbrev opening_with : List (List ℕ) → Opening
-  opening_with kept = record { settings = settings; comments = kept; header = header_place; rule = Some rule; body = placed_lines (header_place + length header + 1) more }
+  abbrev preamble_with : List (List ℕ) → PreambleMeaning
+  preamble_with kept = record { settings = settings; comments = kept; header = header_place; rule = Some rule; body = placed_lines (header_place + length header + 1) more }
 
   abbrev first_line : Line
   first_line = record { place = 0; text = first }
@@ -145,9 +145,9 @@ module _ (end : ℕ) (first header rule : List ℕ) (settings : Settings) (comme
       ap comments_of lines_before ∙ ap (λ b. cond b (first ∷ comments_of (placed_lines second comments)) (comments_of (placed_lines second comments))) is.other
       ∙ comments_placed second comments
 
-  opening_found : opening_of end all_lines ≡ Ok (opening_with (filter is_kept (map without_return comments)))
-  unfolding opening_of
-  opening_found =
+  preamble_found : preamble_of end all_lines ≡ Ok (preamble_with (filter is_kept (map without_return comments)))
+  unfolding preamble_of
+  preamble_found =
       ap (λ before. after_lines nothing_said before >>= λ next. with_header end (comments_of (before_header all_lines)) next (from_header all_lines)) lines_before
       ∙ ap (λ found. found >>= λ next. with_header end (comments_of (before_header all_lines)) next (from_header all_lines)) settings_said
       ∙ ap (λ from. with_header end (comments_of (before_header all_lines)) settings from) lines_from_header
@@ -172,12 +172,12 @@ text_cut first header body comments plain also are =
 
 -- ---- the whole
 
-judged_by : (text : List ℕ) (all : List Line) (opening : Opening) → lines 0 text ≡ all → opening_of (length text) all ≡ Ok opening → body_fault opening.settings.pos (reader.items_of (stripped opening.body)) ≡ None →
-    judged text ≡ Ok (meaning_of text opening)
+judged_by : (text : List ℕ) (all : List Line) (preamble : PreambleMeaning) → lines 0 text ≡ all → preamble_of (length text) all ≡ Ok preamble → body_fault preamble.settings.pos (reader.items_of (stripped preamble.body)) ≡ None →
+    judged text ≡ Ok (meaning_of text preamble)
 unfolding judged
-judged_by text all opening lines_is found none =
-    ap (λ (o : Result Opening Fault). o >>= λ opening. unless (body_fault opening.settings.pos (reader.items_of (stripped opening.body))) (meaning_of text opening)) (ap (opening_of (length text)) lines_is ∙ found)
-    ∙ ap (λ fault. unless fault (meaning_of text opening)) none
+judged_by text all preamble lines_is found none =
+    ap (λ (o : Result PreambleMeaning Fault). o >>= λ preamble. unless (body_fault preamble.settings.pos (reader.items_of (stripped preamble.body))) (meaning_of text preamble)) (ap (preamble_of (length text)) lines_is ∙ found)
+    ∙ ap (λ fault. unless fault (meaning_of text preamble)) none
 
 module _ (comments : List (List ℕ)) (rule : CountRule) (generation : ℕ) (plane : Plane) (cells : List Cell) (readable : IsReadable comments generation plane cells) where
   abbrev frame : Frame
@@ -216,8 +216,8 @@ module _ (comments : List (List ℕ)) (rule : CountRule) (generation : ℕ) (pla
   header_is_plain : AllByRecursion IsPlain header
   header_is_plain = header_plain frame.width frame.height (canonical_text rule) in_frame.width in_frame.height (rule_marks rule)
 
-  opening_is : IsOpening first header (canonical_text rule) settings comments
-  opening_is = record {
+  preamble_is : IsPreamble first header (canonical_text rule) settings comments
+  preamble_is = record {
     first_kept = plain_kept first first_is_plain;
     header_kept = plain_kept header header_is_plain;
     stands = position_stands corner.x corner.y generation position;
@@ -228,20 +228,20 @@ module _ (comments : List (List ℕ)) (rule : CountRule) (generation : ℕ) (pla
     are_comments = readable.heading.are_comments;
   }
 
-  abbrev opening : Opening
-  opening = opening_with (length text) first header (canonical_text rule) settings comments body opening_is (filter is_kept (map without_return comments))
+  abbrev preamble : PreambleMeaning
+  preamble = preamble_with (length text) first header (canonical_text rule) settings comments body preamble_is (filter is_kept (map without_return comments))
 
   text_lines : lines 0 text ≡ placed_lines 0 (first ∷ (comments ++ header ∷ body))
   text_lines = ap (placed_lines 0) (text_cut first header (body_text items) comments first_is_plain header_is_plain readable.heading.are_comments)
 
   abbrev found : reader.Items
-  found = reader.items_of (stripped opening.body)
+  found = reader.items_of (stripped preamble.body)
 
   read_back : ReadsBack found items
   read_back =
       let short = corner_short frame cells in_frame in
       let counts = counts_short corner cells short.0 short.1 readable.cells_in_range in
-      items_back (stripped opening.body) items counts (body_bytes (header_place (length text) first header (canonical_text rule) settings comments body opening_is + length header + 1) items counts)
+      items_back (stripped preamble.body) items counts (body_bytes (header_place (length text) first header (canonical_text rule) settings comments body preamble_is + length header + 1) items counts)
 
   faultless : AreFaultless corner.x (start_at corner) items
   faultless =
@@ -253,7 +253,7 @@ module _ (comments : List (List ℕ)) (rule : CountRule) (generation : ℕ) (pla
   unfolding body_fault
   no_body_fault = ap (first_fault_from corner.x (start_at corner) found.items) read_back.none ∙ no_fault corner.x (start_at corner) found.items items read_back.each faultless
 
-  cells_are : IsSame (live_plane (meaning_of text opening)) plane
+  cells_are : IsSame (live_plane (meaning_of text preamble)) plane
   unfolding meaning_of plane_of
   cells_are = record {
     same = λ x y.
@@ -264,9 +264,9 @@ module _ (comments : List (List ℕ)) (rule : CountRule) (generation : ℕ) (pla
   pub rle_read : IsReadFromRle comments rule generation plane text
   unfolding meaning_of
   rle_read = record {
-    meaning = as_pattern (meaning_of text opening);
-    accepted = ap (seen_as as_pattern) (judged_by text (placed_lines 0 (first ∷ (comments ++ header ∷ body))) opening text_lines
-        (opening_found (length text) first header (canonical_text rule) settings comments body opening_is) no_body_fault);
+    meaning = as_pattern (meaning_of text preamble);
+    accepted = ap (seen_as as_pattern) (judged_by text (placed_lines 0 (first ∷ (comments ++ header ∷ body))) preamble text_lines
+        (preamble_found (length text) first header (canonical_text rule) settings comments body preamble_is) no_body_fault);
     same_generation = refl;
     same_rule = refl;
     same_comments = λ none. ap (filter is_kept) (sym (append-nil (map without_return comments))) ∙ comments_kept comments [] readable.heading.are_comments none ∙ append-nil comments;

@@ -10,7 +10,7 @@ use Rattle.plane.specs.Square.{IsSame, IsSquare, cut, empty, joined}
 use Rattle.plane.proofs.Borders.{cut_within}
 use Rattle.plane.proofs.Cuts.{cut_empty, if_case}
 use Rattle.plane.proofs.Paddings.{twice_half}
-use Rattle.plane.proofs.Rounds.{whole_joined}
+use Rattle.plane.proofs.Middles.{whole_joined}
 use Rattle.plane.proofs.Same.{plane_equal, same_of, same_refl, same_sym, same_trans}
 use Rattle.squares.specs.Book.{Book, IsBook, nth}
 use Rattle.squares.specs.declared.sq.Sq.{Sq}

@@ -24,7 +24,7 @@ use Rattle.pattern_writers.specs.declared.rle_text.frame.Frame.{Frame}
 use Rattle.pattern_writers.specs.declared.rle_text.items.Item.{Item}
 use Rattle.pattern_writers.proofs.BodyReading.{body_text-injective}
 use Rattle.pattern_writers.proofs.ItemReading.{cells_of, items_read}
-use Rattle.pattern_writers.proofs.OpeningReading.{IsShortFrame, opening_read}
+use Rattle.pattern_writers.proofs.PreambleReading.{IsShortFrame, preamble_read}
 use Rattle.pattern_writers.proofs.RunReading.{IsFrom, runs_ahead, runs_cells}
 use Rattle.pattern_writers.proofs.ShortCounts.{IsShort, coordinate_short, counts_short, mag_short}
 
@@ -119,7 +119,7 @@ framed_text-injective frame other comments rule generation cells others set also
     let small = corner_short other others in_other in
     let items = frame_items frame cells in
     let other_items = frame_items other others in
-    let read = opening_read frame other generation (comment_lines comments) (canonical_text rule) (body_text items) (body_text other_items)
+    let read = preamble_read frame other generation (comment_lines comments) (canonical_text rule) (body_text items) (body_text other_items)
     (short_frame frame cells in_frame) (short_frame other others in_other) is in
     let same : items ≡ other_items = body_text-injective items other_items
     (counts_short frame.corner cells short.0 short.1 set.in_range) (counts_short other.corner others small.0 small.1 also.in_range) read.1 in

@@ -5,7 +5,7 @@ pub mod LeafText
 pub mod ListedNodes
 pub mod McText
 pub mod NodeLines
-pub mod Opening
+pub mod Preamble
 pub mod RleText
 pub mod Roots
 pub mod RowRuns

@@ -13,8 +13,8 @@ use Rattle.pattern_writers.specs.RleText.{comment_lines}
 use Rattle.pattern_writers.specs.Subsquares.{Square, listed_in, number_in, nw_of, ne_of, sw_of, se_of}
 
 -- the first line, the rule and the generation
-abbrev pub mc_opening : List ℕ → ℕ → List ℕ
-mc_opening rule generation =
+abbrev pub mc_preamble : List ℕ → ℕ → List ℕ
+mc_preamble rule generation =
     codes "[M2] (lifebatch 1)\n#R " ++ rule ++ codes "\n#G " ++ decimal generation ++ codes "\n"
 
 -- the level and the numbers of the quarters
@@ -47,7 +47,7 @@ from_corner level plane = moved (pos (2 ^ (level - 1))) (pos (2 ^ (level - 1))) 
 -- rule and the generation
 abbrev pub mc_text : List (List ℕ) → CountRule → ℕ → ℕ → Plane → List ℕ
 mc_text comments rule generation level plane =
-    mc_opening (canonical_text rule) generation ++ comment_lines comments
+    mc_preamble (canonical_text rule) generation ++ comment_lines comments
     ++ node_lines (listed_in level (from_corner level plane))
 
 -- the text of the plane's cells is written between the two, in the smallest square that holds them

@@ -14,7 +14,7 @@ use Rattle.plane.specs.declared.refusal.Refusal.TheVariants.{BoxTooLarge, NoMemo
 use Rattle.pattern_writers.specs.Frame.{FitsRle, frame_of}
 use Rattle.pattern_writers.specs.Items.{items_of}
 use Rattle.pattern_writers.specs.Layout.{body_text}
-use Rattle.pattern_writers.specs.Opening.{header_line, position_line}
+use Rattle.pattern_writers.specs.Preamble.{header_line, position_line}
 use Rattle.pattern_writers.specs.RowRuns.{runs_of}
 use Rattle.pattern_writers.specs.declared.rle_text.frame.Frame.{Frame}
 use Rattle.pattern_writers.specs.declared.rle_text.items.Item.{Item}

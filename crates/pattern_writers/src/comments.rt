@@ -13,16 +13,16 @@ use rle_reader::Comments;
 pub(crate) fn begin<V: Sink>(
     file: &mut V,
     block: &mut OutputBlock,
-    opening: &[u8],
+    preamble: &[u8],
     comments: Comments<'_>,
 ) -> Result<(), Refusal>
     ensures written { OnOk result (AppendsBuffered (V.taken file.old) block.old.items
-        (V.taken file.new) block.new.items (opening.now ++ comment_lines comments.entry)) }
+        (V.taken file.new) block.new.items (preamble.now ++ comment_lines comments.entry)) }
     ensures beginning { OnErr result (AppendsBeginning (V.taken file.old) (V.taken file.new)
-        (block.old.items ++ (opening.now ++ comment_lines comments.entry))) }
+        (block.old.items ++ (preamble.now ++ comment_lines comments.entry))) }
     ensures failure { TellsFailure (V.failure_count file.old) (V.failure_count file.new) result }
 {
-    put(file, block, opening)?;
+    put(file, block, preamble)?;
     write_comments(file, block, comments)
 }
 

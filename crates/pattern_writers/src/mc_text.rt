@@ -5,8 +5,8 @@ ghost use Rattle.rule_text.specs.RuleText.{canonical_text};
 ghost use Rattle.plane.specs.Device.{IsWriteRefusal};
 ghost use Rattle.squares.specs.Book.{IsKnown};
 ghost use Rattle.pattern_writers.specs.Reading.{IsReadBackFromMc};
-ghost use Rattle.pattern_writers.specs.McText.{BeginsMc, WritesMc, mc_opening};
-ghost use Rattle.squares.specs.Rounds.{square_plane};
+ghost use Rattle.pattern_writers.specs.McText.{BeginsMc, WritesMc, mc_preamble};
+ghost use Rattle.squares.specs.Roots.{square_plane};
 ghost use Rattle.squares.specs.declared.sq.TheConstants.{HIGHEST_ROOT_LEVEL};
 ghost use Rattle.pattern_writers.specs.Output.{IfTaken};
 
@@ -63,16 +63,16 @@ pub fn write_mc<R: Threads + Sync, B: Look, V: Sink>(
         comments.entry rule.now generation (V.taken file.old) (V.taken file.new))) }
 {
     let nodes = pattern_nodes(alloc, book, sq, rule)?;
-    let opening = opening_lines(rule, generation);
+    let preamble = preamble_lines(rule, generation);
     let mut block = ArrayVec::new();
-    begin(file, &mut block, opening.as_bytes(), comments)?;
+    begin(file, &mut block, preamble.as_bytes(), comments)?;
     write_nodes(file, &mut block, nodes.as_slice())?;
     write_all(file, block.as_slice())
 }
 
 // The first line, the rule and the generation.
-fn opening_lines(rule: &Rule, generation: u64) -> TextLine<OPENING_ROOM>
-    ensures { result ≡ mc_opening (canonical_text rule.now) generation }
+fn preamble_lines(rule: &Rule, generation: u64) -> TextLine<OPENING_ROOM>
+    ensures { result ≡ mc_preamble (canonical_text rule.now) generation }
 {
     let mut lines = TextLine::new();
     lines.push("[M2] (lifebatch 1)\n#R ");

@@ -6,7 +6,7 @@ ghost use Rattle.squares.specs.Book.{IsKnown};
 ghost use Rattle.std.specs.Io.KnownBytes.{Appends};
 ghost use Rattle.pattern_writers.specs.Reading.{IsReadBackFromRle};
 ghost use Rattle.pattern_writers.specs.RleText.{BeginsRle, IsTooLarge, WritesRle, items_text};
-ghost use Rattle.squares.specs.Rounds.{square_plane};
+ghost use Rattle.squares.specs.Roots.{square_plane};
 ghost use Rattle.squares.specs.declared.sq.TheConstants.{HIGHEST_ROOT_LEVEL};
 ghost use Rattle.pattern_writers.specs.Output.{IfTaken, IsWriterRefusal};
 
@@ -15,7 +15,7 @@ mod frame;
 mod framing;
 mod items;
 mod layout;
-mod opening;
+mod preamble;
 mod row_run;
 
 use crate::comments::begin;
@@ -25,8 +25,8 @@ use frame::Frame;
 use framing::framed_items;
 use items::Item;
 use layout::write_body;
-use opening::{header_line, position_line};
 use plane::{Refusal, Sink, write_all};
+use preamble::{header_line, position_line};
 use rle_reader::Comments;
 use rule_text::Rule;
 use squares::{Look, Sq};

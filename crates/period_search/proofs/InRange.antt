@@ -13,7 +13,7 @@ use Rattle.engine.specs.declared.state.State.TheVariants.{AtRest, AtWork, Lost}
 use Rattle.node_table.specs.Stills.{book_in}
 use Rattle.pattern_writers.proofs.RowsDown.{square_in_range}
 use Rattle.plane.specs.Bounds.{IsWithin, bounds_of}
-use Rattle.plane.specs.Centred.{Holds, is_round}
+use Rattle.plane.specs.Centred.{Holds, is_in_root}
 use Rattle.plane.specs.Laws.{IsSmallest}
 use Rattle.plane.specs.Listing.{IsListing, is_at}
 use Rattle.plane.specs.Listing as listing
@@ -27,7 +27,7 @@ use Rattle.plane.proofs.Paddings.{holds_more}
 use Rattle.universe.specs.Cells.{live_cells, root_of, still_of}
 use Rattle.universe.proofs.InRange.{held_by_root}
 use Rattle.viewport.specs.BoundingBox.{HasBounds}
-use Rattle.viewport.proofs.BoxesRound.{or_left, or_right, within_span}
+use Rattle.viewport.proofs.BoxesOfPlanes.{or_left, or_right, within_span}
 use Rattle.period_search.specs.Boxes.{IsInRange}
 use Rattle.period_search.proofs.MovedRows.{by_cases}
 
@@ -47,7 +47,7 @@ in_span z is = let both = within_span (2 ^ 63) (z +ℤ pos (2 ^ 62)) is in let l
 
 live_within : (plane : Plane) → Holds 63 plane → (cell : Cell) → plane cell.x cell.y ≡ true → IsWithin range_box cell
 live_within plane holds cell live =
-    by_cases (is_round 63 cell.x cell.y)
+    by_cases (is_in_root 63 cell.x cell.y)
     (λ round. let parts = and_parts (spans (2 ^ 63) (cell.x +ℤ pos (2 ^ 62))) (spans (2 ^ 63) (cell.y +ℤ pos (2 ^ 62))) round in
     let across = in_span cell.x parts.0 in
     let down = in_span cell.y parts.1 in

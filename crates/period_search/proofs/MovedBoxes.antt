@@ -21,7 +21,7 @@ use Rattle.plane.proofs.Uniqueness.{one_listing_lem}
 use Rattle.periods.proofs.Displacements.{listed_live}
 use Rattle.viewport.specs.BoundingBox.{HasBounds, moved_bounds, moved_box}
 use Rattle.viewport.specs.Population.{HasPopulation}
-use Rattle.viewport.proofs.BoxesRound.{same_bounds}
+use Rattle.viewport.proofs.BoxesOfPlanes.{same_bounds}
 use Rattle.engine.proofs.Endings.{listing_as}
 use Rattle.period_search.proofs.MovedRows.{AreMovedAbove, by_cases}
 

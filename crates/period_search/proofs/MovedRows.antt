@@ -12,7 +12,7 @@ use Rattle.plane.specs.Square.{IsSame}
 use Rattle.viewport.specs.RowRuns.{AreRowRuns}
 use Rattle.viewport.specs.Rows.{AreDeadRows, IsDeadFrom, IsFirstRow}
 use Rattle.period_search.specs.Rows.{IsNextRow}
-use Rattle.period_search.specs.Runs.{moved_runs}
+use Rattle.period_search.specs.MovedRuns.{moved_runs}
 use Rattle.period_search.proofs.MovedRuns.{row_moved, runs_of_moved}
 
 pub by_cases : {A : Type 0} (b : Bool) → (b ≡ true → A) → (b ≡ false → A) → A

@@ -9,7 +9,7 @@ use Rattle.plane.specs.Plane.{Plane}
 use Rattle.plane.specs.Square.{IsSame, spans}
 use Rattle.viewport.specs.RowRuns.{AreApart, AreRowRuns, end_of, is_in_row_run, is_in_some}
 use Rattle.viewport.proofs.OneList.{one_list_of_runs_lem}
-use Rattle.period_search.specs.Runs.{moved_run, moved_runs}
+use Rattle.period_search.specs.MovedRuns.{moved_run, moved_runs}
 
 -- ---- compared run by run
 

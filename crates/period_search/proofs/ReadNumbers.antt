@@ -11,7 +11,7 @@ use Rattle.viewport.specs.RowRuns.{AreRowRuns}
 use Rattle.viewport.specs.Rows.{IsFirstRow}
 use Rattle.period_search.specs.Boxes.{IsSideInRange}
 use Rattle.period_search.specs.Rows.{IsNextRow}
-use Rattle.period_search.specs.Runs.{moved_runs}
+use Rattle.period_search.specs.MovedRuns.{moved_runs}
 
 -- a number as it is read
 abbrev pub read : ℤ → ℤ

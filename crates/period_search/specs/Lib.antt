@@ -2,5 +2,5 @@ pub mod Boxes
 pub mod Candidates
 pub mod Divisors
 pub mod Rows
-pub mod Runs
+pub mod MovedRuns
 pub mod Searches

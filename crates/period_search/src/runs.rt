@@ -1,7 +1,7 @@
 //! The runs of two rows, compared.
 
 ghost use Rattle.std.specs.Prelude.{◌≡◌, ◌↔◌, IsTrue};
-ghost use Rattle.period_search.specs.Runs.{moved_run, moved_runs};
+ghost use Rattle.period_search.specs.MovedRuns.{moved_run, moved_runs};
 
 /// Whether the second runs are the first ones, moved so far to the right.
 pub(crate) fn are_moved(runs: &[(i64, u64)], others: &[(i64, u64)], right: i64) -> bool

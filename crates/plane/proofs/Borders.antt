@@ -7,8 +7,8 @@ use Rattle.plane.specs.Square.{IsSame, IsSquare, empty, spans, cut, joined}
 use Rattle.plane.proofs.Cuts.{joined_same, joined_within}
 use Rattle.plane.proofs.Subsquares.{half_of}
 use Rattle.plane.proofs.Paddings.{square_held, holds_same}
-use Rattle.plane.proofs.Rounds.{Border, border_piece, inner_round, whole_joined}
-use Rattle.plane.proofs.Rounds.Border.{at_left, at_right, at_top, at_bottom}
+use Rattle.plane.proofs.Middles.{Border, border_piece, inner_centred, whole_joined}
+use Rattle.plane.proofs.Middles.Border.{at_left, at_right, at_top, at_bottom}
 use Rattle.plane.proofs.Same.{same_trans, same_sym, same_refl}
 
 -- of each quarter, all but the piece at the centre is empty
@@ -84,7 +84,7 @@ module _ (level q : ℕ) (plane : Plane) (least : 2 ≤ level) (is_q : q ≡ 2 ^
       IsSame (cut half 0 half plane) (joined n empty c empty empty) → IsSame (cut half half half plane) (joined n d empty empty empty) →
       IsSame (centred (level - 1) (joined n a b c d)) (centred level plane) in
       let from_inner : Inner (2 ^ (level - 2)) = λ sa sb sc sd ia ib ic id.
-      inner_round level plane (cut half 0 0 plane) (cut half half 0 plane) (cut half 0 half plane) (cut half half half plane) a b c d least is sa sb sc sd (same_refl _) (same_refl _) (same_refl _) (same_refl _) ia ib ic id in
+      inner_centred level plane (cut half 0 0 plane) (cut half half 0 plane) (cut half 0 half plane) (cut half half half plane) a b c d least is sa sb sc sd (same_refl _) (same_refl _) (same_refl _) (same_refl _) ia ib ic id in
       let inner : Inner q = subst Inner (sym is_q) from_inner in
       let whole : IsSquare half (joined q a b c d) = subst (λ n. IsSquare n (joined q a b c d)) (sym half_is) (joined_within q a b c d sq_a sq_b sq_c sq_d) in
       holds_same (level - 1) (centred (level - 1) (joined q a b c d)) (centred level plane) (inner sq_a sq_b sq_c sq_d in_nw in_ne in_sw in_se) (square_held (level - 1) (joined q a b c d) whole)

@@ -19,7 +19,7 @@ pub mod Paddings
 pub mod Parts
 pub mod Populations
 pub mod Reading
-pub mod Rounds
+pub mod Middles
 pub mod Same
 pub mod SentErrors
 pub mod SquareCells

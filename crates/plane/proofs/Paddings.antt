@@ -6,7 +6,7 @@ use Rattle.std.proofs.lemmas.Int.{ints}
 use Rattle.rule_text.specs.declared.neighbourhood.Offset.{Offset}
 use Rattle.rule_text.specs.Neighbourhood.{offsets}
 use Rattle.rule_text.specs.CountRule.{CountRule, has}
-use Rattle.plane.specs.Centred.{centred, is_round, Holds}
+use Rattle.plane.specs.Centred.{centred, is_in_root, Holds}
 use Rattle.plane.specs.Laws.{IsNear, moved}
 use Rattle.plane.specs.Plane.{Plane, after}
 use Rattle.plane.specs.Square.{IsSame, IsSquare, empty, spans, centre_of, future}
@@ -37,8 +37,8 @@ both_outside a b true true h k e = let f = ap (λ t. t && b) (h refl) ∙ k refl
 both_outside a b true false h k e = refl
 both_outside a b false d h k e = refl
 
-near_round : (side half other outer n : ℕ) (x u : ℤ) → side ≡ half + half → other ≡ outer + outer → half + n ≤ outer → IsNear n x u → spans side (u +ℤ pos half) ≡ true → spans other (x +ℤ pos outer) ≡ true
-near_round side half other outer n x u e f less near here = grind (arith, ints)
+near_in_root : (side half other outer n : ℕ) (x u : ℤ) → side ≡ half + half → other ≡ outer + outer → half + n ≤ outer → IsNear n x u → spans side (u +ℤ pos half) ≡ true → spans other (x +ℤ pos outer) ≡ true
+near_in_root side half other outer n x u e f less near here = grind (arith, ints)
 
 pub twice_half : (level : ℕ) → 1 ≤ level → 2 ^ level ≡ 2 ^ (level - 1) + 2 ^ (level - 1)
 twice_half level least =
@@ -51,7 +51,7 @@ pub holds_after : (rule : CountRule) → has rule.birth 0 ≡ false → (level o
 holds_after rule none level other n plane least least_other fits is = record {
   dead = λ x y e. quiet rule none plane n x y (λ u v near_u near_v. is.dead u v (both_outside
       (spans (2 ^ other) (x +ℤ pos (2 ^ (other - 1)))) (spans (2 ^ other) (y +ℤ pos (2 ^ (other - 1)))) (spans (2 ^ level) (u +ℤ pos (2 ^ (level - 1)))) (spans (2 ^ level) (v +ℤ pos (2 ^ (level - 1))))
-      (near_round _ _ _ _ n x u (twice_half level least) (twice_half other least_other) fits near_u) (near_round _ _ _ _ n y v (twice_half level least) (twice_half other least_other) fits near_v) e));
+      (near_in_root _ _ _ _ n x u (twice_half level least) (twice_half other least_other) fits near_u) (near_in_root _ _ _ _ n y v (twice_half level least) (twice_half other least_other) fits near_v) e));
 }
 
 fits_padded : (level exponent padded : ℕ) → 1 ≤ level → level + 2 ≤ padded → exponent + 3 ≤ padded → 2 ^ (level - 1) + 2 ^ exponent ≤ 2 ^ ((padded - 1) - 1)
@@ -80,8 +80,8 @@ holds_more level other plane least more is =
     record {
       dead = λ x y e. is.dead x y (both_outside
           (spans (2 ^ other) (x +ℤ pos (2 ^ (other - 1)))) (spans (2 ^ other) (y +ℤ pos (2 ^ (other - 1)))) (spans (2 ^ level) (x +ℤ pos (2 ^ (level - 1)))) (spans (2 ^ level) (y +ℤ pos (2 ^ (level - 1))))
-          (near_round _ _ _ _ 0 x x (twice_half level least) (twice_half other (omega arith)) (omega (arith, grows)) (at_itself x))
-          (near_round _ _ _ _ 0 y y (twice_half level least) (twice_half other (omega arith)) (omega (arith, grows)) (at_itself y)) e);
+          (near_in_root _ _ _ _ 0 x x (twice_half level least) (twice_half other (omega arith)) (omega (arith, grows)) (at_itself x))
+          (near_in_root _ _ _ _ 0 y y (twice_half level least) (twice_half other (omega arith)) (omega (arith, grows)) (at_itself y)) e);
     }
 
 here_and_there : (half : ℕ) (z : ℤ) → z +ℤ pos half ≡ z -ℤ (pos 0 -ℤ pos half)
@@ -111,7 +111,7 @@ centred_centre level plane least is =
     let same_quarter : (level - 1) - 1 ≡ level - 2 = omega arith in
     let sum : 2 ^ (level - 1) ≡ 2 ^ ((level - 1) - 1) + 2 ^ (level - 2) = half_of level least ∙ ap (λ n. 2 ^ n + 2 ^ (level - 2)) (sym same_quarter) in
     record {
-      same = λ x y. sym (cut_case (is_round (level - 1) x y) (centred level plane x y)
+      same = λ x y. sym (cut_case (is_in_root (level - 1) x y) (centred level plane x y)
           (plane ((x +ℤ pos (2 ^ ((level - 1) - 1))) +ℤ pos (2 ^ (level - 2))) ((y +ℤ pos (2 ^ ((level - 1) - 1))) +ℤ pos (2 ^ (level - 2))))
           (is.dead x y)
           (λ _. sym (ap (λ u. plane u ((y +ℤ pos (2 ^ ((level - 1) - 1))) +ℤ pos (2 ^ (level - 2)))) (twice_moved _ _ (2 ^ (level - 1)) x sum)

@@ -8,8 +8,8 @@ use Rattle.plane.specs.declared.refusal.Refusal.TheVariants.{BadCount, OutOfRang
 use Rattle.rle_reader.specs.Body.{stripped, stripped_from}
 use Rattle.rle_reader.specs.declared.body.LocatedByte.{LocatedByte}
 use Rattle.text_lines.specs.Lines.{lines_from}
-use Rattle.rle_reader.specs.Opening.{Opening}
-use Rattle.rle_reader.specs.Seen.{opening_seen}
+use Rattle.rle_reader.specs.Preamble.{PreambleMeaning}
+use Rattle.rle_reader.specs.Seen.{preamble_meaning}
 use Rattle.rle_reader.specs.declared.preamble.Preamble.{Preamble}
 use Rattle.rle_reader.specs.Items.{Item, ItemSlice, place_of, count_of, tag_of, item_slice_from, run_of, kept, items_of}
 use Rattle.rle_reader.specs.Meaning.{item_fault, state_after, first_fault_from, body_fault, meaning_of, runs_kept, StayInRange}
@@ -103,7 +103,7 @@ within number is = record { low = is.low; high = omega (arith, ints, is.high) }
 
 -- the runs of an accepted body are those of its meaning
 pub runs_kept-accepted : (source : List ℕ) (preamble : Preamble) → IsInRange preamble.settings.pos → body_fault preamble.settings.pos (items_of (stripped_from source preamble.body true)) ≡ None →
-    runs_kept source (stripped_from source preamble.body true) ≡ (meaning_of source (opening_seen source preamble)).runs
+    runs_kept source (stripped_from source preamble.body true) ≡ (meaning_of source (preamble_meaning source preamble)).runs
 unfolding runs_kept body_fault meaning_of stripped_from
 runs_kept-accepted source preamble range none =
     let corner = preamble.settings.pos in
@@ -137,16 +137,16 @@ stay-without_fault source left state (item ∷ items) over none =
     (ap (λ s. first_fault_from left s items over) (sym (good_state left state item good)) ∙ h.1))
 
 -- the runs of an accepted text stay in the range
-pub stay-opening : (text : List ℕ) (opening : Opening) → body_fault opening.settings.pos (items_of (stripped opening.body)) ≡ None →
-    let meaning = meaning_of text opening in StayInRange meaning.pos.x (start_at meaning.pos) meaning.runs
+pub stay-preamble : (text : List ℕ) (told : PreambleMeaning) → body_fault told.settings.pos (items_of (stripped told.body)) ≡ None →
+    let meaning = meaning_of text told in StayInRange meaning.pos.x (start_at meaning.pos) meaning.runs
 unfolding body_fault meaning_of
-stay-opening text opening none =
-    let corner = opening.settings.pos in
-    let found = items_of (stripped opening.body) in
+stay-preamble text told none =
+    let corner = told.settings.pos in
+    let found = items_of (stripped told.body) in
     stay-without_fault text corner.x (start_at corner) found.items found.left_over none
 
--- the same, where the opening is what was read
+-- the same, where the preamble is what was read
 pub stay-accepted : (source : List ℕ) (preamble : Preamble) → body_fault preamble.settings.pos (items_of (stripped_from source preamble.body true)) ≡ None →
-    let meaning = meaning_of source (opening_seen source preamble) in StayInRange meaning.pos.x (start_at meaning.pos) meaning.runs
+    let meaning = meaning_of source (preamble_meaning source preamble) in StayInRange meaning.pos.x (start_at meaning.pos) meaning.runs
 unfolding stripped_from
-stay-accepted source preamble none = stay-opening source (opening_seen source preamble) none
+stay-accepted source preamble none = stay-preamble source (preamble_meaning source preamble) none

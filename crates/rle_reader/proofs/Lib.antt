@@ -2,7 +2,7 @@ mod SplitLemmas
 mod NumberLemmas
 mod HeaderLemmas
 mod SettingsLemmas
-mod OpeningLemmas
+mod PreambleLemmas
 mod HeaderPlace
 mod BodyLemmas
 mod ItemLemmas

@@ -24,7 +24,7 @@ use Rattle.rle_reader.specs.Body.{is_skipped, stripped, stripped_from}
 use Rattle.rle_reader.proofs.BodyLemmas.{first_left, stripped_from-end}
 use Rattle.plane.specs.Range.{IsInRange}
 use Rattle.text_lines.specs.Lines.{lines_from}
-use Rattle.rle_reader.specs.Seen.{opening_seen}
+use Rattle.rle_reader.specs.Seen.{preamble_meaning}
 use Rattle.rle_reader.specs.declared.preamble.Preamble.{Preamble}
 use Rattle.rle_reader.proofs.FaultLemmas.{InReach, fits-capped, either_false, no_fault}
 use Rattle.rle_reader.proofs.FitLemmas.{or_none, within, good_item, good_state, good_run, reach_after}
@@ -247,7 +247,7 @@ item_runs-are source left state (item ∷ items) over left_reach reach none =
 
 -- the runs of an accepted body are those of its meaning
 pub live_left-accepted : (source : List ℕ) (preamble : Preamble) → IsInRange preamble.settings.pos → body_fault preamble.settings.pos (items_of (stripped_from source preamble.body true)) ≡ None →
-    live_left preamble.settings.pos.x preamble.settings.pos.x preamble.settings.pos.y 0 (stripped_from source preamble.body true) ≡ live_runs_of (meaning_of source (opening_seen source preamble))
+    live_left preamble.settings.pos.x preamble.settings.pos.x preamble.settings.pos.y 0 (stripped_from source preamble.body true) ≡ live_runs_of (meaning_of source (preamble_meaning source preamble))
 unfolding body_fault meaning_of stripped_from
 live_left-accepted source preamble range none =
     let corner = preamble.settings.pos in

@@ -16,11 +16,11 @@ use Rattle.rle_reader.specs.Header.{header_rule}
 use Rattle.text_lines.specs.Lines.{Line, lines_from}
 use Rattle.rle_reader.specs.Numbers.{integer_of}
 use Rattle.text_lines.specs.Numbers.{number_of}
-use Rattle.rle_reader.specs.Opening.{Opening, opening_of, after_lines, with_header, before_header, from_header}
+use Rattle.rle_reader.specs.Preamble.{PreambleMeaning, preamble_of, after_lines, with_header, before_header, from_header}
 use Rattle.text_lines.specs.Comments.{comments_of}
 use Rattle.rle_reader.specs.Settings.{nothing_said, after_word, after_readings, after_line, unless_refused, lowest}
 use Rattle.text_lines.specs.Comments.{is_settings_line}
-use Rattle.rle_reader.specs.Seen.{opening_seen}
+use Rattle.rle_reader.specs.Seen.{preamble_meaning}
 use Rattle.rle_reader.specs.declared.preamble.Preamble.{Preamble}
 use Rattle.rle_reader.specs.declared.settings.Settings.{Settings}
 use Rattle.rle_reader.specs.declared.settings.Word.{Word}
@@ -119,34 +119,34 @@ after_lines-in_range settings (line ∷ rest) range =
     next_step line.place (after_line settings line.text) (λ next. after_lines next rest) (λ (next : Settings). IsInRange next.pos)
     (after_line-in_range settings line.text range) (λ next next_range. after_lines-in_range next rest next_range)
 
-with_rule : (place : ℕ) (found : Result (Option (List ℕ)) Refusal) (opening : Option (List ℕ) → Opening) → ((rule : Option (List ℕ)) → IsInRange (opening rule).settings.pos) →
-    IfOk (at_place place found >>= λ rule. Ok (opening rule)) (λ (o : Opening). IsInRange o.settings.pos)
-with_rule place (Ok rule) opening range = range rule
-with_rule place (Err refusal) opening range = tt
+with_rule : (place : ℕ) (found : Result (Option (List ℕ)) Refusal) (told : Option (List ℕ) → PreambleMeaning) → ((rule : Option (List ℕ)) → IsInRange (told rule).settings.pos) →
+    IfOk (at_place place found >>= λ rule. Ok (told rule)) (λ (o : PreambleMeaning). IsInRange o.settings.pos)
+with_rule place (Ok rule) told range = range rule
+with_rule place (Err refusal) told range = tt
 
-with_header-in_range : (end : ℕ) (comments : List (List ℕ)) (settings : Settings) (all : List Line) → IsInRange settings.pos → IfOk (with_header end comments settings all) (λ (o : Opening). IsInRange o.settings.pos)
+with_header-in_range : (end : ℕ) (comments : List (List ℕ)) (settings : Settings) (all : List Line) → IsInRange settings.pos → IfOk (with_header end comments settings all) (λ (o : PreambleMeaning). IsInRange o.settings.pos)
 unfolding with_header
 with_header-in_range end comments settings [] range = tt
 with_header-in_range end comments settings (header ∷ body) range =
     with_rule header.place (header_rule header.text) (λ rule. record { settings = settings; comments = comments; header = header.place; rule = rule; body = body }) (λ rule. range)
 
-then_header : (found : Result Settings Fault) (next : Settings → Result Opening Fault) → IfOk found (λ (settings : Settings). IsInRange settings.pos) →
-    ((settings : Settings) → IsInRange settings.pos → IfOk (next settings) (λ (o : Opening). IsInRange o.settings.pos)) → IfOk (found >>= next) (λ (o : Opening). IsInRange o.settings.pos)
+then_header : (found : Result Settings Fault) (next : Settings → Result PreambleMeaning Fault) → IfOk found (λ (settings : Settings). IsInRange settings.pos) →
+    ((settings : Settings) → IsInRange settings.pos → IfOk (next settings) (λ (o : PreambleMeaning). IsInRange o.settings.pos)) → IfOk (found >>= next) (λ (o : PreambleMeaning). IsInRange o.settings.pos)
 then_header (Ok settings) next range more = more settings range
 then_header (Err fault) next range more = tt
 
 start-in_range : IsInRange nothing_said.pos
 start-in_range = record { x = coordinate (pos 0) refl; y = coordinate (pos 0) refl }
 
--- the position of an opening lies in the range
-pub opening_of-in_range : (end : ℕ) (all : List Line) → IfOk (opening_of end all) (λ (o : Opening). IsInRange o.settings.pos)
-unfolding opening_of
-opening_of-in_range end all =
+-- the position of an preamble lies in the range
+pub preamble_of-in_range : (end : ℕ) (all : List Line) → IfOk (preamble_of end all) (λ (o : PreambleMeaning). IsInRange o.settings.pos)
+unfolding preamble_of
+preamble_of-in_range end all =
     then_header (after_lines nothing_said (before_header all)) (λ settings. with_header end (comments_of (before_header all)) settings (from_header all))
     (after_lines-in_range nothing_said (before_header all) start-in_range)
     (λ settings range. with_header-in_range end (comments_of (before_header all)) settings (from_header all) range)
 
 -- so does the position that was read
-pub read-in_range : (source : List ℕ) (preamble : Preamble) → Ok (opening_seen source preamble) ≡ opening_of (length source) (lines_from source 0) → IsInRange preamble.settings.pos
+pub read-in_range : (source : List ℕ) (preamble : Preamble) → Ok (preamble_meaning source preamble) ≡ preamble_of (length source) (lines_from source 0) → IsInRange preamble.settings.pos
 read-in_range source preamble is =
-    subst (λ found. IfOk found (λ (o : Opening). IsInRange o.settings.pos)) (sym is) (opening_of-in_range (length source) (lines_from source 0))
+    subst (λ found. IfOk found (λ (o : PreambleMeaning). IsInRange o.settings.pos)) (sym is) (preamble_of-in_range (length source) (lines_from source 0))

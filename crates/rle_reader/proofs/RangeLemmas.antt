@@ -12,15 +12,15 @@ use Rattle.rle_reader.specs.Items.{ItemSlice, items_of}
 use Rattle.text_lines.specs.Faults.{unless}
 use Rattle.text_lines.specs.Lines.{lines_from}
 use Rattle.rle_reader.specs.Meaning.{Meaning, StayInRange, body_fault, covers, is_covered, is_live, judged, live_cells, live_plane, meaning_of}
-use Rattle.rle_reader.specs.Opening.{Opening, opening_of}
+use Rattle.rle_reader.specs.Preamble.{PreambleMeaning, preamble_of}
 use Rattle.rle_reader.specs.Range.{IsWithinReach}
 use Rattle.rle_reader.specs.State.{State, start_at, after_item, leaves_range, passes_cells, passes_limit}
 use Rattle.rle_reader.specs.declared.item.Tag.{Tag}
 use Rattle.rle_reader.specs.declared.item.Tag.TheVariants.{Dead, Live, Row}
 use Rattle.rle_reader.proofs.FaultLemmas.{InReach}
-use Rattle.rle_reader.proofs.FitLemmas.{reach_after, stay-opening, within}
+use Rattle.rle_reader.proofs.FitLemmas.{reach_after, stay-preamble, within}
 use Rattle.rle_reader.proofs.MeaningLemmas.{judged_with, judged-is}
-use Rattle.rle_reader.proofs.PositionLemmas.{opening_of-in_range}
+use Rattle.rle_reader.proofs.PositionLemmas.{preamble_of-in_range}
 
 -- ---- the live cells
 
@@ -97,36 +97,36 @@ live_cells-few left state (run ∷ runs) few stay =
 
 -- ---- an accepted text
 
--- the meaning is that of an opening without a fault
+-- the meaning is that of an preamble without a fault
 record IsAccepted (text : List ℕ) (meaning : Meaning) : Type 0 where
-  opening : Opening
-  is : meaning_of text opening ≡ meaning
-  in_range : IsInRange opening.settings.pos
-  none : body_fault opening.settings.pos (items_of (stripped opening.body)) ≡ None
+  told : PreambleMeaning
+  is : meaning_of text told ≡ meaning
+  in_range : IsInRange told.settings.pos
+  none : body_fault told.settings.pos (items_of (stripped told.body)) ≡ None
 
-accepted_unless : (text : List ℕ) (opening : Opening) (meaning : Meaning) (fault : Option Fault) → body_fault opening.settings.pos (items_of (stripped opening.body)) ≡ fault → IsInRange opening.settings.pos →
-    unless fault (meaning_of text opening) ≡ Ok meaning → IsAccepted text meaning
-accepted_unless text opening meaning None none range is = record { opening = opening; is = cc; in_range = range; none = none }
-accepted_unless text opening meaning (Some fault) found range is = cc
+accepted_unless : (text : List ℕ) (told : PreambleMeaning) (meaning : Meaning) (fault : Option Fault) → body_fault told.settings.pos (items_of (stripped told.body)) ≡ fault → IsInRange told.settings.pos →
+    unless fault (meaning_of text told) ≡ Ok meaning → IsAccepted text meaning
+accepted_unless text told meaning None none range is = record { told = told; is = cc; in_range = range; none = none }
+accepted_unless text told meaning (Some fault) found range is = cc
 
-accepted_with : (text : List ℕ) (meaning : Meaning) (found : Result Opening Fault) → IfOk found (λ (o : Opening). IsInRange o.settings.pos) → judged_with text found ≡ Ok meaning → IsAccepted text meaning
+accepted_with : (text : List ℕ) (meaning : Meaning) (found : Result PreambleMeaning Fault) → IfOk found (λ (o : PreambleMeaning). IsInRange o.settings.pos) → judged_with text found ≡ Ok meaning → IsAccepted text meaning
 unfolding judged_with
-accepted_with text meaning (Ok opening) range is = accepted_unless text opening meaning (body_fault opening.settings.pos (items_of (stripped opening.body))) refl range is
+accepted_with text meaning (Ok told) range is = accepted_unless text told meaning (body_fault told.settings.pos (items_of (stripped told.body))) refl range is
 accepted_with text meaning (Err fault) range is = cc
 
 accepted : (text : List ℕ) (meaning : Meaning) → judged text ≡ Ok meaning → IsAccepted text meaning
 accepted text meaning is =
-    accepted_with text meaning (opening_of (length text) (lines_from text 0)) (opening_of-in_range (length text) (lines_from text 0)) (sym (judged-is text) ∙ is)
+    accepted_with text meaning (preamble_of (length text) (lines_from text 0)) (preamble_of-in_range (length text) (lines_from text 0)) (sym (judged-is text) ∙ is)
 
-meaning_of-pos : (text : List ℕ) (opening : Opening) → IsInRange opening.settings.pos → IsInRange (meaning_of text opening).pos
+meaning_of-pos : (text : List ℕ) (told : PreambleMeaning) → IsInRange told.settings.pos → IsInRange (meaning_of text told).pos
 unfolding meaning_of
-meaning_of-pos text opening range = range
+meaning_of-pos text told range = range
 
 module _ (text : List ℕ) (meaning : Meaning) (is : judged text ≡ Ok meaning) where
   pub accepted-items : StayInRange meaning.pos.x (start_at meaning.pos) meaning.runs
   accepted-items =
       let h = accepted text meaning is in
-      subst (λ (m : Meaning). StayInRange m.pos.x (start_at m.pos) m.runs) h.is (stay-opening text h.opening h.none)
+      subst (λ (m : Meaning). StayInRange m.pos.x (start_at m.pos) m.runs) h.is (stay-preamble text h.preamble h.none)
 
   pub accepted-live_cells : live_cells meaning.runs ≤ most_live_cells
   accepted-live_cells =
@@ -135,6 +135,6 @@ module _ (text : List ℕ) (meaning : Meaning) (is : judged text ≡ Ok meaning)
   pub accepted-cells : (x y : ℤ) → live_plane meaning x y ≡ true → IsInRange (record { y = y; x = x })
   accepted-cells x y live =
       let h = accepted text meaning is in
-      let range : IsInRange meaning.pos = subst (λ (m : Meaning). IsInRange m.pos) h.is (meaning_of-pos text h.opening h.in_range) in
+      let range : IsInRange meaning.pos = subst (λ (m : Meaning). IsInRange m.pos) h.is (meaning_of-pos text h.preamble h.in_range) in
       let column = within meaning.pos.x range.x in
       covered-in_range meaning.pos.x (start_at meaning.pos) meaning.runs x y column (record { column = column; row = within meaning.pos.y range.y }) accepted-items live

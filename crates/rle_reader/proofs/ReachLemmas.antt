@@ -9,7 +9,7 @@ use Rattle.rle_reader.specs.LiveRuns.{LiesWithin, live_run, live_runs_from, live
 use Rattle.plane.specs.Range.{IsInRange}
 use Rattle.rle_reader.specs.Body.{stripped_from}
 use Rattle.rle_reader.specs.Meaning.{body_fault, meaning_of}
-use Rattle.rle_reader.specs.Seen.{live_runs_kept, opening_seen}
+use Rattle.rle_reader.specs.Seen.{live_runs_kept, preamble_meaning}
 use Rattle.rle_reader.specs.declared.preamble.Preamble.{Preamble}
 use Rattle.rle_reader.proofs.FitLemmas.{runs_kept-accepted}
 use Rattle.rle_reader.specs.State.{State, state_at, start_at, after_item, leaves_range, passes_cells, passes_limit, motion_fault}
@@ -129,7 +129,7 @@ bounded_all corner runs left column row live right rest reach none bounded enoug
 
 -- the runs that are kept of an accepted text are those of its meaning
 pub reach_accepted : (source : List ℕ) (preamble : Preamble) (reach : ℕ) → IsInRange preamble.settings.pos → body_fault preamble.settings.pos (items_of (stripped_from source preamble.body true)) ≡ None →
-    AllByRecursion (LiesWithin reach) (live_runs_kept source preamble) → AllByRecursion (LiesWithin reach) (live_runs_of (meaning_of source (opening_seen source preamble)))
+    AllByRecursion (LiesWithin reach) (live_runs_kept source preamble) → AllByRecursion (LiesWithin reach) (live_runs_of (meaning_of source (preamble_meaning source preamble)))
 unfolding meaning_of
 reach_accepted source preamble reach range none all =
     subst (λ runs. AllByRecursion (LiesWithin reach) (live_runs_from preamble.settings.pos.x (start_at preamble.settings.pos) runs)) (runs_kept-accepted source preamble range none) all

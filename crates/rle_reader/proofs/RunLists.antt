@@ -18,7 +18,7 @@ use Rattle.rle_reader.specs.Items.{ItemSlice, Item, item_slice_between, item_sli
 use Rattle.rle_reader.specs.LiveRuns.{live_run, live_runs_from, live_runs_of}
 use Rattle.rle_reader.specs.Meaning.{Meaning, StayInRange, body_fault, is_covered, is_live, live_plane, meaning_of}
 use Rattle.rle_reader.specs.Range.{IsWithinReach}
-use Rattle.rle_reader.specs.Seen.{opening_seen}
+use Rattle.rle_reader.specs.Seen.{preamble_meaning}
 use Rattle.rle_reader.specs.State.{State, state_at, start_at, after_item, leaves_range, passes_limit}
 use Rattle.rle_reader.specs.declared.item.Tag.{Tag}
 use Rattle.rle_reader.specs.declared.item.Tag.TheVariants.{Dead, Live, Row}
@@ -152,8 +152,8 @@ live_runs-are meaning range stay counted =
 
 -- those of an accepted text
 pub accepted_runs : (source : List ℕ) (preamble : Preamble) → IsInRange preamble.settings.pos → body_fault preamble.settings.pos (items_of (stripped_from source preamble.body true)) ≡ None →
-    AreRuns (live_runs_of (meaning_of source (opening_seen source preamble)))
+    AreRuns (live_runs_of (meaning_of source (preamble_meaning source preamble)))
 unfolding meaning_of
 accepted_runs source preamble range none =
-    live_runs-are (meaning_of source (opening_seen source preamble)) range (stay-accepted source preamble none)
+    live_runs-are (meaning_of source (preamble_meaning source preamble)) range (stay-accepted source preamble none)
     (runs_counted source (items_of (stripped (lines_from source preamble.body))).items)

@@ -15,7 +15,7 @@ use Rattle.text_lines.proofs.LineLemmas.{lines_at-first, lines_at-nil}
 use Rattle.rle_reader.specs.Body.{is_skipped, stripped, stripped_from}
 use Rattle.rle_reader.specs.Items.{Item, ItemSlice, IsItem, item_slice_between, item_slice_from, items_of, count_of, place_of, run_of, tag_of}
 use Rattle.rle_reader.specs.Meaning.{Meaning, judged, meaning_of, body_fault}
-use Rattle.rle_reader.specs.Opening.{Opening, may_stand, opening_of}
+use Rattle.rle_reader.specs.Preamble.{PreambleMeaning, may_stand, preamble_of}
 use Rattle.rle_reader.specs.Slices.{AreSlices, IsSlice}
 use Rattle.rle_reader.specs.declared.body.LocatedByte.{LocatedByte}
 use Rattle.rle_reader.specs.declared.item.Tag.{Tag}
@@ -207,17 +207,17 @@ lines_behind zero source at = (at, refl)
 lines_behind (suc count) source at = lines_step count source at (cases_lt 0 (length (drop at source))) (λ next. lines_behind count source next)
 
 -- the lines of the body are those of the text from some place on
-body_lines : (source : List ℕ) (opening : Opening) → Ok opening ≡ opening_of (length source) (lines_from source 0) → (place : ℕ) × (opening.body ≡ lines_from source place)
-body_lines source opening is =
-    let found = header_and_body source opening is in
+body_lines : (source : List ℕ) (told : PreambleMeaning) → Ok told ≡ preamble_of (length source) (lines_from source 0) → (place : ℕ) × (told.body ≡ lines_from source place)
+body_lines source told is =
+    let found = header_and_body source told is in
     let from = lines_behind (prefix_len may_stand (lines_from source 0)) source 0 in
     let body = lines_behind 1 source from.0 in
     (body.0, sym found.4 ∙ ap (drop 1) (sym found.2 ∙ from.1) ∙ body.1)
 
-opening_slices : (source : List ℕ) (opening : Opening) → Ok opening ≡ opening_of (length source) (lines_from source 0) → AreSlices source 0 (meaning_of source opening).runs
+preamble_slices : (source : List ℕ) (told : PreambleMeaning) → Ok told ≡ preamble_of (length source) (lines_from source 0) → AreSlices source 0 (meaning_of source told).runs
 unfolding meaning_of stripped_from
-opening_slices source opening is =
-    let body = body_lines source opening is in
+preamble_slices source told is =
+    let body = body_lines source told is in
     subst (λ lines. AreSlices source 0 (ok_prefix (map (run_of source) (items_of (stripped lines)).items))) (sym body.1)
     (body_slices source 0 (stripped (lines_from source body.0))
     (earlier source body.0 0 (stripped (lines_from source body.0)) (omega arith) (bytes_stand source (length source) body.0 true (omega arith))))
@@ -226,13 +226,13 @@ meaning_is : (fault : Option Fault) (value meaning : Meaning) → unless fault v
 meaning_is None value meaning is = cc
 meaning_is (Some fault) value meaning is = cc
 
-accepted_slices : (text : List ℕ) (meaning : Meaning) (found : Result Opening Fault) → found ≡ opening_of (length text) (lines_from text 0) → judged_with text found ≡ Ok meaning → AreSlices text 0 meaning.runs
+accepted_slices : (text : List ℕ) (meaning : Meaning) (found : Result PreambleMeaning Fault) → found ≡ preamble_of (length text) (lines_from text 0) → judged_with text found ≡ Ok meaning → AreSlices text 0 meaning.runs
 unfolding judged_with
-accepted_slices text meaning (Ok opening) read is =
-    subst (λ (m : Meaning). AreSlices text 0 m.runs) (meaning_is (body_fault opening.settings.pos (items_of (stripped opening.body))) (meaning_of text opening) meaning is)
-    (opening_slices text opening read)
+accepted_slices text meaning (Ok told) read is =
+    subst (λ (m : Meaning). AreSlices text 0 m.runs) (meaning_is (body_fault told.settings.pos (items_of (stripped told.body))) (meaning_of text told) meaning is)
+    (preamble_slices text told read)
 accepted_slices text meaning (Err fault) read is = cc
 
 pub items_stand : (text : List ℕ) (meaning : Meaning) → judged text ≡ Ok meaning → AreSlices text 0 meaning.runs
 items_stand text meaning is =
-    accepted_slices text meaning (opening_of (length text) (lines_from text 0)) refl (sym (judged-is text) ∙ is)
+    accepted_slices text meaning (preamble_of (length text) (lines_from text 0)) refl (sym (judged-is text) ∙ is)

@@ -3,7 +3,7 @@ pub mod Numbers
 pub mod Words
 pub mod Settings
 pub mod Header
-pub mod Opening
+pub mod Preamble
 pub mod Body
 pub mod Items
 pub mod Slices

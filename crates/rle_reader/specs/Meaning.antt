@@ -12,7 +12,7 @@ use Rattle.plane.specs.Plane.{Plane}
 use Rattle.text_lines.specs.Faults.{fault_at, unless, ◌>>=◌}
 use Rattle.text_lines.specs.Lines.{lines}
 use Rattle.text_lines.specs.Meaning as pattern
-use Rattle.rle_reader.specs.Opening.{Opening, opening_of}
+use Rattle.rle_reader.specs.Preamble.{PreambleMeaning, preamble_of}
 use Rattle.rle_reader.specs.Body.{stripped}
 use Rattle.rle_reader.specs.declared.body.LocatedByte.{LocatedByte}
 use Rattle.rle_reader.specs.Items.{Item, Items, ItemSlice, items_of, place_of, count_of, tag_of, run_of, kept}
@@ -63,23 +63,23 @@ pub record Meaning : Type 0 where
   pub comments : List (List ℕ)
   pub runs : List ItemSlice
 
--- what a text with this opening means
-unfoldable pub meaning_of : List ℕ → Opening → Meaning
-meaning_of text opening = record {
-  pos = opening.settings.pos;
-  generation = opening.settings.generation;
-  rule = opening.rule;
-  rule_place = opening.header;
-  comments = opening.comments;
-  runs = runs_of text (stripped opening.body);
+-- what a text with this preamble means
+unfoldable pub meaning_of : List ℕ → PreambleMeaning → Meaning
+meaning_of text told = record {
+  pos = told.settings.pos;
+  generation = told.settings.generation;
+  rule = told.rule;
+  rule_place = told.header;
+  comments = told.comments;
+  runs = runs_of text (stripped told.body);
 }
 
 -- what a text means, or its first fault
 unfoldable pub judged : List ℕ → Result Meaning Fault
 judged text = do
-  opening ← opening_of (length text) (lines 0 text)
-  unless (body_fault opening.settings.pos (items_of (stripped opening.body)))
-      (meaning_of text opening)
+  told ← preamble_of (length text) (lines 0 text)
+  unless (body_fault told.settings.pos (items_of (stripped told.body)))
+      (meaning_of text told)
 
 -- ---- the cells that a meaning makes live
 

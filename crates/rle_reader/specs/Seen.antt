@@ -5,7 +5,7 @@ use Rattle.std.specs.Option.{option_copied}
 use Rattle.std.specs.Result.{result_map_both}
 use Rattle.plane.specs.declared.fault.Fault.{Fault}
 use Rattle.text_lines.specs.Lines.{lines_from}
-use Rattle.rle_reader.specs.Opening.{Opening, before_header}
+use Rattle.rle_reader.specs.Preamble.{PreambleMeaning, before_header}
 use Rattle.text_lines.specs.Comments.{comments_of}
 use Rattle.std.specs.Prelude.{◌≡◌, ◌↔◌, ◌<◌, true, false, [], ◌++◌, length, IfSome, IfNone, IsTrue, Option}
 use Rattle.std.specs.Option.{option_map, option_to_list}
@@ -26,9 +26,9 @@ use Rattle.rle_reader.specs.declared.item.Count.{Count}
 use Rattle.rle_reader.specs.declared.item.Run.{Run}
 use Rattle.rle_reader.specs.declared.preamble.Preamble.{Preamble}
 
--- the opening of a source of which this was read
-abbrev pub opening_seen : List ℕ → Preamble → Opening
-opening_seen source preamble = record {
+-- the preamble of a source of which this was read
+abbrev pub preamble_meaning : List ℕ → Preamble → PreambleMeaning
+preamble_meaning source preamble = record {
   settings = preamble.settings;
   comments = comments_of (before_header (lines_from source 0));
   header = preamble.header;
@@ -36,8 +36,8 @@ opening_seen source preamble = record {
   body = lines_from source preamble.body;
 }
 
-abbrev pub seen_opening : List ℕ → Result Preamble Fault → Result Opening Fault
-seen_opening source found = result_map_both (opening_seen source) (λ fault. fault) found
+abbrev pub preamble_result : List ℕ → Result Preamble Fault → Result PreambleMeaning Fault
+preamble_result source found = result_map_both (preamble_meaning source) (λ fault. fault) found
 
 -- the first fault of the body behind what was read
 abbrev pub fault_in_body : List ℕ → Preamble → Option Fault

@@ -3,8 +3,8 @@
 ghost use Rattle.std.specs.Prelude.{◌≡◌, ◌≤◌, length, IfOk, IfErr};
 ghost use Rattle.std.specs.Option.{option_copied};
 ghost use Rattle.text_lines.specs.Lines.{lines_from};
-ghost use Rattle.rle_reader.specs.Seen.{rule_at, seen_opening};
-ghost use Rattle.rle_reader.specs.Opening.{stands_before_header, opening_of};
+ghost use Rattle.rle_reader.specs.Seen.{rule_at, preamble_result};
+ghost use Rattle.rle_reader.specs.Preamble.{stands_before_header, preamble_of};
 
 use crate::header::header_rule;
 use crate::settings::Settings;
@@ -26,8 +26,8 @@ pub(crate) struct Preamble<'a> {
 impl<'a> Preamble<'a> {
     /// Reads the lines up to the header.
     pub(crate) fn read(source: &'a [u8]) -> Result<Preamble<'a>, Fault>
-        ensures opening { seen_opening source.now result
-            ≡ opening_of (length source.now) (lines_from source.now 0) }
+        ensures preamble { preamble_result source.now result
+            ≡ preamble_of (length source.now) (lines_from source.now 0) }
         ensures body { IfOk result (λ read. read.body ≤ length source.now) }
     {
         let mut lines = Lines::new(source);
@@ -58,7 +58,7 @@ impl<'a> Preamble<'a> {
 }
 
 /// Whether the line is empty or blank, or a comment.
-#[tactic(auto, unfolding(crate::specs::Opening::stands_before_header))]
+#[tactic(auto, unfolding(crate::specs::Preamble::stands_before_header))]
 pub(crate) fn stands_before_header(line: &[u8]) -> bool
     ensures { result ≡ stands_before_header line.now }
 {

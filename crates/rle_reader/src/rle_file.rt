@@ -37,24 +37,24 @@ impl<'a> Model for RleFile<'a> {
     ghost use Rattle.std.specs.List.{AllByRecursion};
     ghost use Rattle.rle_reader.specs.LiveRuns.{LiesWithin, live_runs_of};
     ghost use Rattle.rle_reader.specs.Meaning.{Meaning, meaning_of};
-    ghost use Rattle.rle_reader.specs.Opening.{opening_of};
+    ghost use Rattle.rle_reader.specs.Preamble.{preamble_of};
     ghost use Rattle.text_lines.specs.Lines.{lines_from};
     ghost use Rattle.plane.specs.Range.{IsInRange};
-    ghost use Rattle.rle_reader.specs.Seen.{fault_in_body, opening_seen};
+    ghost use Rattle.rle_reader.specs.Seen.{fault_in_body, preamble_meaning};
 
     ghost Value = { Meaning };
 
     ghost view = { λ file.
-        meaning_of file.source.now (opening_seen file.source.now file.preamble) };
+        meaning_of file.source.now (preamble_meaning file.source.now file.preamble) };
 
     ghost invariant = { λ file. (file.preamble.body ≤ length file.source.now)
         × IsInRange file.preamble.settings.pos
         × (fault_in_body file.source.now file.preamble ≡ None)
-        × (Ok (opening_seen file.source.now file.preamble)
-        ≡ opening_of (length file.source.now) (lines_from file.source.now 0))
+        × (Ok (preamble_meaning file.source.now file.preamble)
+        ≡ preamble_of (length file.source.now) (lines_from file.source.now 0))
         × (file.reach ≤ 2 ^ 62)
         × AllByRecursion (LiesWithin file.reach)
-        (live_runs_of (meaning_of file.source.now (opening_seen file.source.now file.preamble))) };
+        (live_runs_of (meaning_of file.source.now (preamble_meaning file.source.now file.preamble))) };
 }
 
 impl<'a> RleFile<'a> {

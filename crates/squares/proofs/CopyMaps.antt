@@ -6,7 +6,7 @@ use Rattle.std.specs.HashMap.{Updates}
 use Rattle.std.specs.List.{AllByRecursion}
 use Rattle.plane.specs.Plane.{Plane}
 use Rattle.plane.specs.Square.{IsSame, IsSquare}
-use Rattle.plane.proofs.Rounds.{whole_joined}
+use Rattle.plane.proofs.Middles.{whole_joined}
 use Rattle.plane.proofs.Paddings.{twice_half}
 use Rattle.plane.proofs.Same.{same_sym, same_trans}
 use Rattle.squares.specs.Book.{Book, IsBook, IsKnown, Shows, Keeps, AreQuarters, joined_squares, numbered, nth}

@@ -3,7 +3,7 @@ use Rattle.std.proofs.Common.{◌≡◌, ℕ, ◌+◌, ◌-◌, ◌^◌, All, Li
 use Rattle.plane.specs.Plane.{Plane}
 use Rattle.plane.specs.Square.{IsSame, IsSquare, bits_plane, centre_of, joined}
 use Rattle.plane.proofs.Cuts.{joined_same}
-use Rattle.plane.proofs.Rounds.{whole_joined}
+use Rattle.plane.proofs.Middles.{whole_joined}
 use Rattle.plane.proofs.Same.{plane_equal, same_refl, same_trans, same_sym}
 use Rattle.squares.specs.Book.{Book, IsKnown, Shows, Keeps, AreQuarters, joined_squares, nth, numbered}
 use Rattle.squares.specs.declared.sq.Sq.{Sq}

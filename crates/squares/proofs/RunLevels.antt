@@ -6,7 +6,7 @@ use Rattle.std.specs.Ordering.{int_eq}
 use Rattle.std.proofs.lemmas.Bool.{false≢true}
 use Rattle.std.proofs.lemmas.Bool.Decides.{nat_tests, Decides-int_eq}
 use Rattle.std.proofs.lemmas.Int.{ints}
-use Rattle.plane.specs.Centred.{centred, is_round, Holds, IsSmallestLevel}
+use Rattle.plane.specs.Centred.{centred, is_in_root, Holds, IsSmallestLevel}
 use Rattle.plane.specs.Listing.{is_at, plane_of}
 use Rattle.plane.specs.Plane.{Plane}
 use Rattle.plane.specs.Range.{IsInRange}
@@ -17,8 +17,8 @@ use Rattle.plane.proofs.Cuts.{and_left, and_right}
 use Rattle.plane.proofs.Paddings.{twice_half}
 use Rattle.plane.proofs.Same.{plane_equal}
 use Rattle.squares.specs.Book.{Book, IsKnown, Shows}
-use Rattle.squares.specs.Rounds.{IsRound, square_plane}
-use Rattle.squares.specs.Spans.{FitsRound, in_span, in_spans, marked, single_run, span_of}
+use Rattle.squares.specs.Roots.{IsRootOf, square_plane}
+use Rattle.squares.specs.Spans.{FitsInRoot, in_span, in_spans, marked, single_run, span_of}
 use Rattle.squares.specs.declared.sq.Sq.{Sq}
 use Rattle.squares.proofs.SpanCells.{none_in, first_in, marked_inside}
 
@@ -58,7 +58,7 @@ to_bottom : (n : ℕ) (z row : ℤ) → row <ℤ pos n → int_eq z row ≡ true
 to_bottom n z row t e = ap (λ u. int_lt (u +ℤ pos n) (pos (n + n))) (same_place z row e) ∙ grind (arith, ints)
 
 -- a run that fits has no cell outside
-outside : (half : ℕ) (run : Cell × ℕ) (x y : ℤ) → FitsRound half run → (spans (half + half) (x +ℤ pos half) && spans (half + half) (y +ℤ pos half)) ≡ false → is_in_run x y run ≡ false
+outside : (half : ℕ) (run : Cell × ℕ) (x y : ℤ) → FitsInRoot half run → (spans (half + half) (x +ℤ pos half) && spans (half + half) (y +ℤ pos half)) ≡ false → is_in_run x y run ≡ false
 outside half run x y fits e = by_case (is_in_run x y run) refl
   where
     row_of : (b c d : Bool) → ((b && c) && d) ≡ true → b ≡ true
@@ -85,11 +85,11 @@ outside half run x y fits e = by_case (is_in_run x y run) refl
         (both_true _ _ (from_left half x run.0.x fits.left (left_of (int_eq y run.0.y) (int_le run.0.x x) _ h)) (to_right half x (run.0.x +ℤ pos run.1) fits.right (right_of (int_eq y run.0.y) (int_le run.0.x x) _ h)))
         (both_true _ _ (from_top half y run.0.y fits.top (row_of (int_eq y run.0.y) _ _ h)) (to_bottom half y run.0.y fits.bottom (row_of (int_eq y run.0.y) _ _ h)))))
 
-none_outside : (half : ℕ) (runs : List (Cell × ℕ)) (x y : ℤ) → AllByRecursion (FitsRound half) runs → (spans (half + half) (x +ℤ pos half) && spans (half + half) (y +ℤ pos half)) ≡ false → runs_plane runs x y ≡ false
+none_outside : (half : ℕ) (runs : List (Cell × ℕ)) (x y : ℤ) → AllByRecursion (FitsInRoot half) runs → (spans (half + half) (x +ℤ pos half) && spans (half + half) (y +ℤ pos half)) ≡ false → runs_plane runs x y ≡ false
 none_outside half [] x y all e = no_run x y
 none_outside half (run ∷ runs) x y all e = first_run run runs x y ∙ neither _ _ (outside half run x y all.0 e) (none_outside half runs x y all.1 e)
 
-pub fitting_held : (level : ℕ) (runs : List (Cell × ℕ)) → 1 ≤ level → AllByRecursion (FitsRound (2 ^ (level - 1))) runs → Holds level (runs_plane runs)
+pub fitting_held : (level : ℕ) (runs : List (Cell × ℕ)) → 1 ≤ level → AllByRecursion (FitsInRoot (2 ^ (level - 1))) runs → Holds level (runs_plane runs)
 fitting_held level runs least all = record {
   dead = λ x y e. none_outside (2 ^ (level - 1)) runs x y all
       (ap (λ n. spans n (x +ℤ pos (2 ^ (level - 1))) && spans n (y +ℤ pos (2 ^ (level - 1)))) (sym (twice_half level least)) ∙ e);
@@ -116,7 +116,7 @@ module _ (half : ℕ) where
   from_row : (y : ℤ) → spans (half + half) (y +ℤ pos half) ≡ true → ((pos 0 -ℤ pos half) ≤ℤ y) × (y <ℤ pos half)
   from_row y a = (grind (arith, ints), grind (arith, ints))
 
-  pub held_run : (run : Cell × ℕ) → 0 < run.1 → ((x y : ℤ) → (spans (half + half) (x +ℤ pos half) && spans (half + half) (y +ℤ pos half)) ≡ false → is_in_run x y run ≡ false) → FitsRound half run
+  pub held_run : (run : Cell × ℕ) → 0 < run.1 → ((x y : ℤ) → (spans (half + half) (x +ℤ pos half) && spans (half + half) (y +ℤ pos half)) ≡ false → is_in_run x y run ≡ false) → FitsInRoot half run
   held_run run some dead =
       let one = inside_of run run.0.x run.0.y dead (first_in_run run some) in
       let two = inside_of run (run.0.x +ℤ (pos run.1 -ℤ pos 1)) run.0.y dead (last_in_run run some) in
@@ -124,27 +124,27 @@ module _ (half : ℕ) where
       let row = from_row run.0.y (and_right (spans (half + half) (run.0.x +ℤ pos half)) _ one) in
       record { some = some; left = ends.0; right = ends.1; top = row.0; bottom = row.1 }
 
-  held_runs : (runs : List (Cell × ℕ)) → AllByRecursion IsRun runs → ((x y : ℤ) → (spans (half + half) (x +ℤ pos half) && spans (half + half) (y +ℤ pos half)) ≡ false → runs_plane runs x y ≡ false) → AllByRecursion (FitsRound half) runs
+  held_runs : (runs : List (Cell × ℕ)) → AllByRecursion IsRun runs → ((x y : ℤ) → (spans (half + half) (x +ℤ pos half) && spans (half + half) (y +ℤ pos half)) ≡ false → runs_plane runs x y ≡ false) → AllByRecursion (FitsInRoot half) runs
   held_runs [] all dead = all
   held_runs (run ∷ runs) all dead = (
     held_run run all.0.some (λ x y e. not_first _ _ (sym (first_run run runs x y) ∙ dead x y e)),
     held_runs runs all.1 (λ x y e. not_rest (is_in_run x y run) _ (sym (first_run run runs x y) ∙ dead x y e)),
   )
 
-pub held_fitting : (level : ℕ) (runs : List (Cell × ℕ)) → 1 ≤ level → AllByRecursion IsRun runs → Holds level (runs_plane runs) → AllByRecursion (FitsRound (2 ^ (level - 1))) runs
+pub held_fitting : (level : ℕ) (runs : List (Cell × ℕ)) → 1 ≤ level → AllByRecursion IsRun runs → Holds level (runs_plane runs) → AllByRecursion (FitsInRoot (2 ^ (level - 1))) runs
 held_fitting level runs least all holds = held_runs (2 ^ (level - 1)) runs all
     (λ x y e. holds.dead x y (ap (λ n. spans n (x +ℤ pos (2 ^ (level - 1))) && spans n (y +ℤ pos (2 ^ (level - 1)))) (twice_half level least) ∙ e))
 
 -- the whole range fits at level 63
-in_range : (run : Cell × ℕ) → IsRun run → FitsRound (2 ^ 62) run
+in_range : (run : Cell × ℕ) → IsRun run → FitsInRoot (2 ^ 62) run
 in_range run h = record { some = h.some; left = h.first.low; right = h.end; top = h.row.low; bottom = h.row.high }
 
-pub all_in_range : (runs : List (Cell × ℕ)) → AllByRecursion IsRun runs → AllByRecursion (FitsRound (2 ^ 62)) runs
+pub all_in_range : (runs : List (Cell × ℕ)) → AllByRecursion IsRun runs → AllByRecursion (FitsInRoot (2 ^ 62)) runs
 all_in_range [] all = all
 all_in_range (run ∷ runs) all = (in_range run all.0, all_in_range runs all.1)
 
-pub smallest_from : (level : ℕ) (runs : List (Cell × ℕ)) → 4 ≤ level → AllByRecursion IsRun runs → AllByRecursion (FitsRound (2 ^ (level - 1))) runs →
-    ((k : ℕ) → 4 ≤ k → k < level → ¬ AllByRecursion (FitsRound (2 ^ (k - 1))) runs) → IsSmallestLevel level (runs_plane runs)
+pub smallest_from : (level : ℕ) (runs : List (Cell × ℕ)) → 4 ≤ level → AllByRecursion IsRun runs → AllByRecursion (FitsInRoot (2 ^ (level - 1))) runs →
+    ((k : ℕ) → 4 ≤ k → k < level → ¬ AllByRecursion (FitsInRoot (2 ^ (k - 1))) runs) → IsSmallestLevel level (runs_plane runs)
 smallest_from level runs least all fits none = record {
   least = least;
   holds = fitting_held level runs (omega arith) fits;
@@ -173,7 +173,7 @@ module _ (half : ℕ) (x y : ℤ) (a b : ℕ) (at_x : x +ℤ pos half ≡ pos a)
   grouped true q r = refl
   grouped false q r = refl
 
-  same_run : (run : Cell × ℕ) → FitsRound half run → in_span a b (span_of half run) ≡ is_in_run x y run
+  same_run : (run : Cell × ℕ) → FitsInRoot half run → in_span a b (span_of half run) ≡ is_in_run x y run
   same_run run fits =
       let row = to_pos run.0.y fits.top in
       let first = to_pos run.0.x fits.left in
@@ -182,17 +182,17 @@ module _ (half : ℕ) (x y : ℤ) (a b : ℕ) (at_x : x +ℤ pos half ≡ pos a)
       ∙ ap (λ t. int_eq y run.0.y && (int_le run.0.x x && t)) (same_end run.0.x _ run.1 first)
       ∙ grouped (int_eq y run.0.y) (int_le run.0.x x) _
 
-  pub same_runs : (runs : List (Cell × ℕ)) → AllByRecursion (FitsRound half) runs → in_spans (map (span_of half) runs) a b ≡ runs_plane runs x y
+  pub same_runs : (runs : List (Cell × ℕ)) → AllByRecursion (FitsInRoot half) runs → in_spans (map (span_of half) runs) a b ≡ runs_plane runs x y
   same_runs [] all = none_in a b ∙ sym (no_run x y)
   same_runs (run ∷ runs) all = first_in (span_of half run) (map (span_of half) runs) a b
       ∙ ap (λ t. t || in_spans (map (span_of half) runs) a b) (same_run run all.0) ∙ ap (λ t. is_in_run x y run || t) (same_runs runs all.1) ∙ sym (first_run run runs x y)
 
 -- a square that shows the spans of the runs shows the runs around (0,0)
-round_cells : (level : ℕ) (runs : List (Cell × ℕ)) → 1 ≤ level → AllByRecursion (FitsRound (2 ^ (level - 1))) runs →
+cells_in_root : (level : ℕ) (runs : List (Cell × ℕ)) → 1 ≤ level → AllByRecursion (FitsInRoot (2 ^ (level - 1))) runs →
     IsSame (centred level (cut (2 ^ level) 0 0 (marked (in_spans (map (span_of (2 ^ (level - 1))) runs))))) (runs_plane runs)
-round_cells level runs least all = record { same = λ x y. by_case x y (is_round level x y) refl }
+cells_in_root level runs least all = record { same = λ x y. by_case x y (is_in_root level x y) refl }
   where
-    by_case : (x y : ℤ) (t : Bool) → is_round level x y ≡ t →
+    by_case : (x y : ℤ) (t : Bool) → is_in_root level x y ≡ t →
         cut (2 ^ level) 0 0 (marked (in_spans (map (span_of (2 ^ (level - 1))) runs))) (x +ℤ pos (2 ^ (level - 1))) (y +ℤ pos (2 ^ (level - 1))) ≡ runs_plane runs x y
     by_case x y false e = ap (λ t. t && marked (in_spans (map (span_of (2 ^ (level - 1))) runs)) ((x +ℤ pos (2 ^ (level - 1))) +ℤ pos 0) ((y +ℤ pos (2 ^ (level - 1))) +ℤ pos 0)) e
         ∙ sym ((fitting_held level runs least all).dead x y e)
@@ -208,15 +208,15 @@ round_cells level runs least all = record { same = λ x y. by_case x y (is_round
         ∙ same_runs half x y a.0 b.0 a.1 b.1 runs all
 
 -- a square that shows the spans of the runs has the cells of the runs around (0,0)
-pub cells_shown : (book : Book) (level : ℕ) (runs : List (Cell × ℕ)) (sq : Sq) → 1 ≤ level → AllByRecursion (FitsRound (2 ^ (level - 1))) runs →
+pub cells_shown : (book : Book) (level : ℕ) (runs : List (Cell × ℕ)) (sq : Sq) → 1 ≤ level → AllByRecursion (FitsInRoot (2 ^ (level - 1))) runs →
     Shows book level (cut (2 ^ level) 0 0 (marked (in_spans (map (span_of (2 ^ (level - 1))) runs)))) sq → IsSame (square_plane book sq) (runs_plane runs)
 cells_shown book level runs sq least all shown = subst (λ l. IsSame (centred l (book.cells sq)) (runs_plane runs)) (sym shown.known.at_level) (record {
-  same = λ x y. shown.cells.same (x +ℤ pos (2 ^ (level - 1))) (y +ℤ pos (2 ^ (level - 1))) ∙ (round_cells level runs least all).same x y;
+  same = λ x y. shown.cells.same (x +ℤ pos (2 ^ (level - 1))) (y +ℤ pos (2 ^ (level - 1))) ∙ (cells_in_root level runs least all).same x y;
 })
 
 -- a known square of the smallest level that has the cells
-pub round_known : (book : Book) (level : ℕ) (plane : Plane) (sq : Sq) → IsSmallestLevel level plane → IsKnown book level sq → IsSame (square_plane book sq) plane → IsRound book plane sq
-round_known book level plane sq smallest known same = record {
+pub known_root : (book : Book) (level : ℕ) (plane : Plane) (sq : Sq) → IsSmallestLevel level plane → IsKnown book level sq → IsSame (square_plane book sq) plane → IsRootOf book plane sq
+known_root book level plane sq smallest known same = record {
   known = subst (λ l. IsKnown book l sq) (sym known.at_level) known;
   smallest = subst (λ l. IsSmallestLevel l plane) (sym known.at_level) smallest;
   cells = same;
@@ -244,7 +244,7 @@ single_cells (cell ∷ cells) x y =
     ap (λ t. t || runs_plane (map single_run cells) x y) (group (int_eq y cell.y) (int_le cell.x x) (int_lt x (cell.x +ℤ pos 1)) ∙ ap (λ t. int_eq y cell.y && t) (one_cell x cell.x))
     ∙ ap (λ t. is_at x y cell || t) (single_cells cells x y)
 
-pub round_cells_of : (book : Book) (runs : List (Cell × ℕ)) (cells : List Cell) (sq : Sq) → runs ≡ map single_run cells → IsRound book (runs_plane runs) sq → IsRound book (plane_of cells) sq
-round_cells_of book runs cells sq e h =
-    subst (λ plane. IsRound book plane sq) (plane_equal (runs_plane (map single_run cells)) (plane_of cells) (record { same = single_cells cells }))
-    (subst (λ (rs : List (Cell × ℕ)). IsRound book (runs_plane rs) sq) e h)
+pub cells_of_root : (book : Book) (runs : List (Cell × ℕ)) (cells : List Cell) (sq : Sq) → runs ≡ map single_run cells → IsRootOf book (runs_plane runs) sq → IsRootOf book (plane_of cells) sq
+cells_of_root book runs cells sq e h =
+    subst (λ plane. IsRootOf book plane sq) (plane_equal (runs_plane (map single_run cells)) (plane_of cells) (record { same = single_cells cells }))
+    (subst (λ (rs : List (Cell × ℕ)). IsRootOf book (runs_plane rs) sq) e h)

@@ -12,7 +12,7 @@ use Rattle.plane.specs.declared.cell.Cell.{Cell}
 use Rattle.plane.specs.Runs.{is_in_run, runs_plane}
 use Rattle.plane.specs.Square.{IsSame}
 use Rattle.plane.proofs.Elements.{AllByRecursion-weaker}
-use Rattle.squares.specs.Spans.{FitsRound, span_of}
+use Rattle.squares.specs.Spans.{FitsInRoot, span_of}
 use Rattle.squares.specs.Strips.{AreInOrder, AreInReadingOrder, AreLeft, Leads, LeadsRun, spans_left}
 use Rattle.squares.specs.declared.spans.Span.{Span}
 
@@ -55,16 +55,16 @@ same_runs_plane runs sorted same = record { same = λ x y. sym (list_any-IsPermu
 
 -- ---- the spans of runs
 
-spans_lead : (half : ℕ) (a b : Cell × ℕ) → FitsRound half a → FitsRound half b → LeadsRun a b → Leads (span_of half a) (span_of half b)
+spans_lead : (half : ℕ) (a b : Cell × ℕ) → FitsInRoot half a → FitsInRoot half b → LeadsRun a b → Leads (span_of half a) (span_of half b)
 spans_lead half a b fits_a fits_b h = ⊎_elim
     (λ above. let t = fits_a.top in inl (grind (arith, ints)))
     (λ same. let e = same.0 in let f = same.1 in let l = fits_a.left in inr (grind (arith, ints), grind (arith, ints))) h
 
-all_spans_lead : (half : ℕ) (a : Cell × ℕ) (runs : List (Cell × ℕ)) → FitsRound half a → AllByRecursion (FitsRound half) runs → AllByRecursion (LeadsRun a) runs → AllByRecursion (Leads (span_of half a)) (map (span_of half) runs)
+all_spans_lead : (half : ℕ) (a : Cell × ℕ) (runs : List (Cell × ℕ)) → FitsInRoot half a → AllByRecursion (FitsInRoot half) runs → AllByRecursion (LeadsRun a) runs → AllByRecursion (Leads (span_of half a)) (map (span_of half) runs)
 all_spans_lead half a [] fits all h = tt
 all_spans_lead half a (b ∷ runs) fits all h = (spans_lead half a b fits all.0 h.0, all_spans_lead half a runs fits all.1 h.1)
 
-pub spans_in_order : (half : ℕ) (runs : List (Cell × ℕ)) → AllByRecursion (FitsRound half) runs → AreInReadingOrder runs → AreInOrder (map (span_of half) runs)
+pub spans_in_order : (half : ℕ) (runs : List (Cell × ℕ)) → AllByRecursion (FitsInRoot half) runs → AreInReadingOrder runs → AreInOrder (map (span_of half) runs)
 spans_in_order half [] all order = tt
 spans_in_order half (run ∷ runs) all order = (all_spans_lead half run runs all.0 all.1 order.0, spans_in_order half runs all.1 order.1)
 
@@ -73,8 +73,8 @@ from_top [] = tt
 from_top (s ∷ spans) = (omega arith, from_top spans)
 
 -- what is left at first
-pub left_first : (half : ℕ) (next : Option Span) (runs rest : List (Cell × ℕ)) → half ≤ 2 ^ 62 → AllByRecursion (FitsRound half) rest → (next ≡ None → rest ≡ []) →
-    spans_left half next rest ≡ map (span_of half) runs → AllByRecursion (FitsRound half) runs → AreInReadingOrder runs → AreLeft half 0 next rest
+pub left_first : (half : ℕ) (next : Option Span) (runs rest : List (Cell × ℕ)) → half ≤ 2 ^ 62 → AllByRecursion (FitsInRoot half) rest → (next ≡ None → rest ≡ []) →
+    spans_left half next rest ≡ map (span_of half) runs → AllByRecursion (FitsInRoot half) runs → AreInReadingOrder runs → AreLeft half 0 next rest
 left_first half next runs rest bound fit ended spans all order = record {
   bound = bound;
   fit = fit;

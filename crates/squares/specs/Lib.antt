@@ -8,7 +8,7 @@ pub mod Noted
 pub mod Overlaps
 pub mod Parts
 pub mod Quarters
-pub mod Rounds
+pub mod Roots
 pub mod Spans
 pub mod SquareRows
 pub mod Strips

@@ -26,7 +26,7 @@ span_of half run = record {
 }
 
 -- the run of one or more cells lies in the square of this half side around (0,0)
-pub record FitsRound (half : ℕ) (run : Cell × ℕ) : Type 0 where
+pub record FitsInRoot (half : ℕ) (run : Cell × ℕ) : Type 0 where
   pub some : 0 < run.1
   pub left : (pos 0 -ℤ pos half) ≤ℤ run.0.x
   pub right : (run.0.x +ℤ pos run.1) ≤ℤ pos half

@@ -3,7 +3,7 @@ use Rattle.std.specs.Prelude.{◌≡◌, ◌⊎◌, ℕ, ◌+◌, ◌*◌, ◌^�
 use Rattle.std.specs.List.{AllByRecursion}
 use Rattle.std.specs.Option.{option_to_list}
 use Rattle.plane.specs.declared.cell.Cell.{Cell}
-use Rattle.squares.specs.Spans.{FitsRound, in_spans, span_of}
+use Rattle.squares.specs.Spans.{FitsInRoot, in_spans, span_of}
 use Rattle.squares.specs.declared.spans.Span.{Span}
 
 -- in the order of reading the other span begins where this one does, or behind
@@ -57,7 +57,7 @@ spans_left half next runs = option_to_list next ++ map (span_of half) runs
 -- on
 pub record AreLeft (half top : ℕ) (next : Option Span) (runs : List (Cell × ℕ)) : Type 0 where
   pub bound : half ≤ 2 ^ 62
-  pub fit : AllByRecursion (FitsRound half) runs
+  pub fit : AllByRecursion (FitsInRoot half) runs
   pub ended : next ≡ None → runs ≡ []
   pub order : AreInOrder (spans_left half next runs)
   pub rows : AllByRecursion (λ (span : Span). top ≤ span.row) (spans_left half next runs)

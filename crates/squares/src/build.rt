@@ -4,7 +4,7 @@ ghost use Rattle.std.specs.Prelude.{◌≤◌, IfErr, IfOk};
 ghost use Rattle.plane.specs.Plane.{Plane};
 ghost use Rattle.squares.specs.declared.sq.TheConstants.{HIGHEST_ROOT_LEVEL};
 ghost use Rattle.squares.specs.Book.{AddsSquares, LacksMemoryOr, MayRefuse};
-ghost use Rattle.squares.specs.Rounds.{IsRound};
+ghost use Rattle.squares.specs.Roots.{IsRootOf};
 
 use crate::book::Squares;
 use crate::sq::Sq;
@@ -22,7 +22,7 @@ pub trait Build {
     /// The square of the live cells around (0,0), at the smallest level of at least 4.
     fn build<S: Squares>(&self, alloc: Global, book: &mut S) -> Result<Sq, Refusal>
         requires { is_lawful self.now }
-        ensures ok { IfOk result (IsRound (S.book book.new) (live self.now)) }
+        ensures ok { IfOk result (IsRootOf (S.book book.new) (live self.now)) }
         ensures level { IfOk result (λ root. root.level ≤ HIGHEST_ROOT_LEVEL) }
         ensures refusal { IfErr result (LacksMemoryOr (MayRefuse (S.book book.new))) }
         ensures adds { AddsSquares (S.book book.old) (S.book book.new) };

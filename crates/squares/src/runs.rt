@@ -8,8 +8,8 @@ ghost use Rattle.plane.specs.CellSet.{IsCellSet};
 ghost use Rattle.plane.specs.Listing.{plane_of};
 ghost use Rattle.plane.specs.Runs.{IsRun, runs_plane};
 ghost use Rattle.squares.specs.Book.{AddsSquares, LacksMemoryOr, MayRefuse};
-ghost use Rattle.squares.specs.Rounds.{IsRound};
-ghost use Rattle.squares.specs.Spans.{FitsRound, single_run};
+ghost use Rattle.squares.specs.Roots.{IsRootOf};
+ghost use Rattle.squares.specs.Spans.{FitsInRoot, single_run};
 ghost use Rattle.squares.specs.Strips.{AreInReadingOrder};
 
 use crate::book::Squares;
@@ -23,7 +23,7 @@ use std::alloc::{AllocError, Global};
 fn reach(run: (Cell, u64)) -> u64
     requires { IsRun run }
     ensures range { result ≤ 2 ^ 62 }
-    ensures fits { (half : ℕ) → FitsRound half run ↔ (result ≤ half) }
+    ensures fits { (half : ℕ) → FitsInRoot half run ↔ (result ≤ half) }
 {
     let (cell, count) = run;
     let far = half_side(HIGHEST_ROOT_LEVEL);
@@ -37,7 +37,7 @@ fn reach(run: (Cell, u64)) -> u64
 fn reach_of_all(runs: &[(Cell, u64)]) -> u64
     requires { AllByRecursion IsRun runs.now }
     ensures range { result ≤ 2 ^ 62 }
-    ensures fit { (half : ℕ) → AllByRecursion (FitsRound half) runs.now ↔ (result ≤ half) }
+    ensures fit { (half : ℕ) → AllByRecursion (FitsInRoot half) runs.now ↔ (result ≤ half) }
 {
     let mut farthest = 0;
     for run in runs {
@@ -50,7 +50,7 @@ fn reach_of_all(runs: &[(Cell, u64)]) -> u64
 fn smallest_level(runs: &[(Cell, u64)]) -> u8
     requires { AllByRecursion IsRun runs.now }
     ensures smallest { IsSmallestLevel result (runs_plane runs.now) }
-    ensures fits { AllByRecursion (FitsRound (2 ^ (result - 1))) runs.now }
+    ensures fits { AllByRecursion (FitsInRoot (2 ^ (result - 1))) runs.now }
     ensures high { result ≤ HIGHEST_ROOT_LEVEL }
 {
     level_around(reach_of_all(runs))
@@ -92,7 +92,7 @@ pub fn runs_to_square<S: Squares>(
     runs: &[(Cell, u64)],
 ) -> Result<Sq, Refusal>
     requires { AllByRecursion IsRun runs.now }
-    ensures ok { IfOk result (IsRound (S.book book.new) (runs_plane runs.now)) }
+    ensures ok { IfOk result (IsRootOf (S.book book.new) (runs_plane runs.now)) }
     ensures high { IfOk result (λ sq. sq.level ≤ HIGHEST_ROOT_LEVEL) }
     ensures refusal { IfErr result (LacksMemoryOr (MayRefuse (S.book book.new))) }
     ensures adds { AddsSquares (S.book book.old) (S.book book.new) }
@@ -121,7 +121,7 @@ pub fn cells_to_square<S: Squares>(
     book: &mut S,
     cells: &CellSet,
 ) -> Result<Sq, Refusal>
-    ensures ok { IfOk result (IsRound (S.book book.new) (plane_of cells.now)) }
+    ensures ok { IfOk result (IsRootOf (S.book book.new) (plane_of cells.now)) }
     ensures high { IfOk result (λ sq. sq.level ≤ HIGHEST_ROOT_LEVEL) }
     ensures refusal { IfErr result (LacksMemoryOr (MayRefuse (S.book book.new))) }
     ensures adds { AddsSquares (S.book book.old) (S.book book.new) }

@@ -4,7 +4,7 @@
 ghost use Rattle.std.specs.Prelude.{◌≡◌, ℕ, ◌+◌, ◌*◌, ◌^◌, ◌<◌, ◌≤◌, ◌↔◌, IsTrue, false, MatchOption, pos, ◌+ℤ◌, ◌-ℤ◌, ◌≤ℤ◌, ◌<ℤ◌, unsigned_abs};
 ghost use Rattle.plane.specs.Square.{bit};
 ghost use Rattle.squares.specs.Strips.{BeginsBehind, EndsBefore};
-ghost use Rattle.squares.specs.Spans.{FitsRound, in_span, span_of};
+ghost use Rattle.squares.specs.Spans.{FitsInRoot, in_span, span_of};
 
 use plane::Cell;
 
@@ -33,7 +33,7 @@ impl Span {
     /// The run, counted from a corner so far to the left of and above (0,0).
     pub(crate) fn of(run: (Cell, u64), half: u64) -> Self
         requires half { half ≤ 2 ^ 62 }
-        requires fits { FitsRound half run }
+        requires fits { FitsInRoot half run }
         ensures { result ≡ span_of half run }
     {
         let (cell, count) = run;

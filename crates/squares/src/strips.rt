@@ -7,8 +7,8 @@ ghost use Rattle.plane.specs.Square.{IsSame};
 ghost use Rattle.plane.specs.declared.cell.Cell.{Cell as LiveCell};
 ghost use Rattle.squares.specs.declared.sq.TheConstants.{HIGHEST_ROOT_LEVEL};
 ghost use Rattle.squares.specs.Book.{AddsSquares, IsKnown, LacksMemoryOr, MayRefuse};
-ghost use Rattle.squares.specs.Rounds.{square_plane};
-ghost use Rattle.squares.specs.Spans.{FitsRound, in_spans, marked, span_of};
+ghost use Rattle.squares.specs.Roots.{square_plane};
+ghost use Rattle.squares.specs.Spans.{FitsInRoot, in_spans, marked, span_of};
 ghost use Rattle.squares.specs.SquareRows.{IsRow};
 ghost use Rattle.squares.specs.Strips.{AreInReadingOrder, AreLeft, AreTaken, IsTaken, spans_left};
 
@@ -43,8 +43,8 @@ struct Strips<R> {
 // The span of the next run in a square of this half side around (0,0).
 fn next_span<R: RunSequence>(runs: &mut R, half: u64) -> Option<Span>
     requires half { half ≤ 2 ^ 62 }
-    requires fit { AllByRecursion (FitsRound half) (R.left runs.old) }
-    ensures fit { AllByRecursion (FitsRound half) (R.left runs.new) }
+    requires fit { AllByRecursion (FitsInRoot half) (R.left runs.old) }
+    ensures fit { AllByRecursion (FitsInRoot half) (R.left runs.new) }
     ensures ended { result ≡ None → R.left runs.new ≡ [] }
     ensures spans { spans_left half result (R.left runs.new) ≡ map (span_of half) (R.left runs.old) }
 {
@@ -133,7 +133,7 @@ pub fn ordered_runs_to_square<S: Squares, R: RunSequence + Drop>(
     level: u8,
 ) -> Result<Sq, Refusal>
     requires level { (4 ≤ level) × (level ≤ HIGHEST_ROOT_LEVEL) }
-    requires fit { AllByRecursion (FitsRound (2 ^ (level - 1))) (R.left runs) }
+    requires fit { AllByRecursion (FitsInRoot (2 ^ (level - 1))) (R.left runs) }
     requires order { AreInReadingOrder (R.left runs) }
     ensures known { IfOk result (IsKnown (S.book book.new) level) }
     ensures cells { IfOk result (λ sq.

@@ -11,7 +11,7 @@ use Rattle.table_core.specs.Blocks.{Words}
 use Rattle.table_core.specs.Good.{AreGoodWords, KeepsWords}
 use Rattle.table_core.specs.Events.{desk_of, index_of}
 use Rattle.table_core.specs.Knowledge.{IsTrueOf, KnowsWord, Grows, united, nothing}
-use Rattle.table_core.specs.Runs.{Table, Action, happens, splits, joins, Happens, Splits, Joins, Acts, Runs, IsSoundTable, NewWordsAreKnown, heir_at, heir, EveryRun}
+use Rattle.table_core.specs.EveryRun.{Table, Action, happens, splits, joins, Happens, Splits, Joins, Acts, Runs, IsSoundTable, NewWordsAreKnown, heir_at, heir, EveryRun}
 use Rattle.table_core.proofs.Comparisons.{same_or_other}
 use Rattle.table_core.proofs.Lists.{all_set, all_get, all_append, all_weaker, any_of_get, get_of_any, get_set_same, get_set_other, get_append}
 use Rattle.table_core.proofs.Knowing.{true_later, united_true, united_first, united_second, nothing_true, grows_refl, grows_trans, desks_agree}

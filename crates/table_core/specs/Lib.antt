@@ -9,5 +9,5 @@ pub mod Laws
 pub mod Layout
 pub mod Learning
 pub mod Opening
-pub mod Runs
+pub mod EveryRun
 pub mod Sizes

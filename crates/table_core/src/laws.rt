@@ -3,7 +3,7 @@
 ghost use Rattle.table_core.specs.FullWays.{EveryFullWayStays};
 ghost use Rattle.table_core.specs.Laws.{EveryWay, EveryEventTeaches, EveryResultHasItsSlot, EveryTruthIsConsistent, FullShardIsSeen, GoodWordsCanBeKnown};
 ghost use Rattle.table_core.specs.Opening.{EveryFreshTable, EveryReopening};
-ghost use Rattle.table_core.specs.Runs.{EveryRun};
+ghost use Rattle.table_core.specs.EveryRun.{EveryRun};
 
 /// The way of a word has each slot of its shard, once.
 pub fn every_way()

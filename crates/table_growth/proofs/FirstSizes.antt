@@ -10,15 +10,15 @@ IsNextSize bits larger = ((bits < 20) × (larger ≡ bits + 4)) ⊎ ((20 ≤ bit
 least_first : (bits : ℕ) → IsFirstSize bits → 12 ≤ bits
 least_first bits size = grind arith
 
-pub first_least : (most bits other : ℕ) → bits ≡ min 12 most → IsFirstSizeUpTo most other → other < bits → ⊥
-first_least most bits other is up less =
+pub first_least : (limit bits other : ℕ) → bits ≡ min 12 limit → IsFirstSizeUpTo limit other → other < bits → ⊥
+first_least limit bits other is up less =
     let same = up.2 in
     let high = least_first up.0 up.1 in
     omega (arith, is, same, high, less)
 
 -- a size below the largest is one of the first sizes
-pub exact_size : (most bits : ℕ) → bits < most → IsFirstSizeUpTo most bits → IsFirstSize bits
-exact_size most bits less up =
+pub exact_size : (limit bits : ℕ) → bits < limit → IsFirstSizeUpTo limit bits → IsFirstSize bits
+exact_size limit bits less up =
     let same = up.2 in
     let e : up.0 ≡ bits = omega (arith, same, less) in
     subst IsFirstSize e up.1
@@ -35,9 +35,9 @@ next_size bits larger size next = ⊎_elim
 none_between : (bits larger size : ℕ) → IsFirstSize bits → IsNextSize bits larger → IsFirstSize size → size < larger → size ≤ bits
 none_between bits larger size here next there less = grind arith
 
-pub next_least : (most pairs bits larger next : ℕ) → bits < most → IsFirstSize bits → 2 ^ bits < pairs → IsNextSize bits larger → next ≡ min most larger →
-    ((other : ℕ) → IsFirstSizeUpTo most other → other < bits → 2 ^ other < pairs) → (other : ℕ) → IsFirstSizeUpTo most other → other < next → 2 ^ other < pairs
-next_least most pairs bits larger next below size few is_next is least other up less =
+pub next_least : (limit pairs bits larger next : ℕ) → bits < limit → IsFirstSize bits → 2 ^ bits < pairs → IsNextSize bits larger → next ≡ min limit larger →
+    ((other : ℕ) → IsFirstSizeUpTo limit other → other < bits → 2 ^ other < pairs) → (other : ℕ) → IsFirstSizeUpTo limit other → other < next → 2 ^ other < pairs
+next_least limit pairs bits larger next below size few is_next is least other up less =
     let same = up.2 in
     let short : up.0 < larger = omega (arith, is, same, less) in
     let low = none_between bits larger up.0 size is_next up.1 short in

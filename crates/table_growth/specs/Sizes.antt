@@ -10,7 +10,7 @@ IsFirstSize bits = (bits ≡ 12) ⊎ (bits ≡ 16) ⊎ (20 ≤ bits)
 
 -- one of these sizes, or the largest that there may be, if it is smaller
 abbrev pub IsFirstSizeUpTo : ℕ → ℕ → Type 0
-IsFirstSizeUpTo most bits = (size : ℕ) × IsFirstSize size × (bits ≡ min most size)
+IsFirstSizeUpTo limit bits = (size : ℕ) × IsFirstSize size × (bits ≡ min limit size)
 
 -- the factor, as a power of two
 abbrev pub bits_of : GrowthFactor → ℕ
@@ -19,4 +19,4 @@ bits_of Sixteen = 4
 
 -- so many powers of two larger, or the largest that there may be
 abbrev pub IsGrownBy : ℕ → Shape → Shape → Shape → Type 0
-IsGrownBy bits shape most next = next.bits ≡ min most.bits (shape.bits + bits)
+IsGrownBy bits shape limit next = next.bits ≡ min limit.bits (shape.bits + bits)

@@ -21,10 +21,10 @@ const DEFAULT_LIMIT_BITS: u8 = 22;
 const BITS_OF_LARGE_STEPS: u8 = 20;
 
 /// The shape of a new table: 4096 pair slots, or the largest.
-pub fn smallest(most: Shape) -> Shape
-    ensures { result.bits ≡ min 12 most.bits }
+pub fn smallest(limit: Shape) -> Shape
+    ensures { result.bits ≡ min 12 limit.bits }
 {
-    let bits = most.bits.min(START_BITS);
+    let bits = limit.bits.min(START_BITS);
     Shape { bits }
 }
 
@@ -37,22 +37,22 @@ pub enum GrowthFactor {
 
 /// The shape of a new table that is likely to need so many pair slots: the smallest that has them
 /// of 2^12, 2^16, 2^20 and each larger power of two, or the largest.
-pub fn expected_shape(pairs: u64, most: Shape) -> Shape
-    ensures within { result.bits ≤ most.bits }
-    ensures size { IsFirstSizeUpTo most.bits result.bits }
-    ensures enough { (pairs ≤ 2 ^ result.bits) ⊎ (result.bits ≡ most.bits) }
+pub fn expected_shape(pairs: u64, limit: Shape) -> Shape
+    ensures within { result.bits ≤ limit.bits }
+    ensures size { IsFirstSizeUpTo limit.bits result.bits }
+    ensures enough { (pairs ≤ 2 ^ result.bits) ⊎ (result.bits ≡ limit.bits) }
     // Each smaller size has too few.
-    ensures least { (bits : ℕ) → IsFirstSizeUpTo most.bits bits → bits < result.bits
+    ensures least { (bits : ℕ) → IsFirstSizeUpTo limit.bits bits → bits < result.bits
         → 2 ^ bits < pairs }
 {
-    let mut bits = smallest(most).bits;
-    while bits < most.bits && (1u64 << bits) < pairs {
+    let mut bits = smallest(limit).bits;
+    while bits < limit.bits && (1u64 << bits) < pairs {
         let larger = if bits < BITS_OF_LARGE_STEPS {
             bits + 4
         } else {
             bits + 1
         };
-        bits = most.bits.min(larger);
+        bits = limit.bits.min(larger);
     }
     Shape { bits }
 }
@@ -61,24 +61,24 @@ pub fn expected_shape(pairs: u64, most: Shape) -> Shape
 /// slots, as the factor says; after a large one four times as many, or sixteen times where the
 /// largest shape is above the default; and never more than the largest. `None` where the full one
 /// has the largest shape.
-pub fn larger(shape: Shape, most: Shape, growth_factor: GrowthFactor) -> Option<Shape>
-    ensures some { IfSome result (λ next. (shape.bits < next.bits) × (next.bits ≤ most.bits)) }
-    ensures none { IfNone result (most.bits ≤ shape.bits) }
+pub fn larger(shape: Shape, limit: Shape, growth_factor: GrowthFactor) -> Option<Shape>
+    ensures some { IfSome result (λ next. (shape.bits < next.bits) × (next.bits ≤ limit.bits)) }
+    ensures none { IfNone result (limit.bits ≤ shape.bits) }
     ensures small { shape.bits < 18
-        → IfSome result (IsGrownBy (bits_of growth_factor) shape most) }
-    ensures large { 18 ≤ shape.bits → (shape.bits < 20) ⊎ (most.bits ≤ 22)
-        → IfSome result (IsGrownBy 2 shape most) }
-    ensures largest { 20 ≤ shape.bits → 22 < most.bits → IfSome result (IsGrownBy 4 shape most) }
+        → IfSome result (IsGrownBy (bits_of growth_factor) shape limit) }
+    ensures large { 18 ≤ shape.bits → (shape.bits < 20) ⊎ (limit.bits ≤ 22)
+        → IfSome result (IsGrownBy 2 shape limit) }
+    ensures largest { 20 ≤ shape.bits → 22 < limit.bits → IfSome result (IsGrownBy 4 shape limit) }
 {
-    if shape.bits >= most.bits {
+    if shape.bits >= limit.bits {
         return None;
     }
     let grows_at_once = match growth_factor {
         GrowthFactor::Sixteen if shape.bits < LARGE_BITS => true,
-        _ => shape.bits >= BITS_OF_LARGE_STEPS && most.bits > DEFAULT_LIMIT_BITS,
+        _ => shape.bits >= BITS_OF_LARGE_STEPS && limit.bits > DEFAULT_LIMIT_BITS,
     };
     let bits = shape.bits + if grows_at_once { 4 } else { 2 };
-    let bits = most.bits.min(bits);
+    let bits = limit.bits.min(bits);
     Some(Shape { bits })
 }
 

@@ -1,7 +1,7 @@
 -- Universes that come as far as they get, part by part.
 use Rattle.std.proofs.Common.{◌≡◌, ◌≢◌, ℕ, ◌+◌, ◌-◌, ◌^◌, ◌≤◌, refl, subst, sym, arith}
 use Rattle.universe.specs.Advances.{IsAdvance, stuck_after, with_earlier}
-use Rattle.universe.specs.Runs.{IsLater, IsSameUniverse}
+use Rattle.universe.specs.Later.{IsLater, IsSameUniverse}
 use Rattle.universe.specs.declared.advances.Advance.{Advance}
 use Rattle.universe.specs.declared.advances.Advance.TheVariants.{Done, Stuck}
 use Rattle.universe.specs.declared.universe.Universe.{Universe}

@@ -9,11 +9,11 @@ use Rattle.plane.specs.declared.refusal.Refusal.{Refusal}
 use Rattle.plane.specs.declared.refusal.Refusal.TheVariants.{NodesFull, NoMemory}
 use Rattle.plane.proofs.Same.{same_refl, same_trans}
 use Rattle.squares.specs.Book.{Book}
-use Rattle.squares.specs.Rounds.{square_plane}
+use Rattle.squares.specs.Roots.{square_plane}
 use Rattle.squares.specs.declared.sq.Sq.{Sq}
 use Rattle.table_core.specs.declared.key.Key.{Key}
 use Rattle.universe.specs.Cells.{exponent_of, live_cells, still_cells, root_of, still_of}
-use Rattle.universe.specs.Runs.{IsAtExponent}
+use Rattle.universe.specs.Later.{IsAtExponent}
 use Rattle.universe.specs.Stills.{IsCompacted, IsCopied, IsOpenedAt, IsSweptFrom}
 use Rattle.universe.specs.Tables.{key_at}
 use Rattle.universe.specs.declared.other_tables.OtherTables.{OtherTables}

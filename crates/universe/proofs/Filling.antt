@@ -24,10 +24,10 @@ use Rattle.node_table.specs.Openings.{Opens}
 use Rattle.node_table.specs.Stills.{IsVacant, book_in, key_of, words_of}
 use Rattle.node_table.proofs.AtWork.{IsBack}
 use Rattle.node_sweep.specs.CopiedStills.{IsSwept}
-use Rattle.squares.specs.Rounds.{square_plane}
+use Rattle.squares.specs.Roots.{square_plane}
 use Rattle.universe.specs.Cells.{exponent_of, limit_of, live_cells, root_of, rule_of, still_of}
 use Rattle.universe.specs.Outcomes.{LacksMemoryOrRoom}
-use Rattle.universe.specs.Runs.{IsAttempt, IsFullAtLimit, IsFullFromAlone, IsFullInPlace, IsAtExponent}
+use Rattle.universe.specs.Later.{IsAttempt, IsFullAtLimit, IsFullFromAlone, IsFullInPlace, IsAtExponent}
 use Rattle.universe.specs.Stills.{IsOpenedAt, IsSweptFrom}
 use Rattle.universe.specs.Tables.{HasFilledUp, IsFreshTable, IsOpened, StaysOpen, key_at, known_at}
 use Rattle.universe.specs.declared.attempts.Attempt.{Attempt}

@@ -2,7 +2,7 @@
 use Rattle.std.proofs.Common.{◌≡◌, ℕ, ◌+◌, ◌-◌, ◌^◌, ◌<◌, ◌≤◌, ℤ, pos, ◌+ℤ◌, ◌-ℤ◌, ◌≤ℤ◌, Bool, true, false, ◌&&◌, Some, List, refl, sym, ◌∙◌, ap, arith}
 use Rattle.std.proofs.lemmas.Int.{ints}
 use Rattle.rule_text.specs.CountRule.{CountRule, IsRule}
-use Rattle.plane.specs.Centred.{Holds, is_round}
+use Rattle.plane.specs.Centred.{Holds, is_in_root}
 use Rattle.plane.specs.Listing.{IsListing}
 use Rattle.plane.specs.Plane.{Plane, after}
 use Rattle.plane.specs.Range.{StaysWithin}
@@ -14,11 +14,11 @@ use Rattle.plane.proofs.Paddings.{square_held, twice_half}
 use Rattle.plane.proofs.Windows.{listing_in}
 use Rattle.node_table.specs.Desks.{store_of}
 use Rattle.universe.specs.Cells.{live_cells}
-use Rattle.universe.specs.Held.{StaysHeld}
+use Rattle.universe.specs.StaysWithinRoot.{StaysWithinRoot}
 use Rattle.universe.specs.Ranges.{Encloses, KeepsToRange}
 use Rattle.universe.specs.Tables.{known_at}
 use Rattle.universe.specs.declared.universe.Universe.{Universe}
-use Rattle.universe.proofs.Held.{held, short_run}
+use Rattle.universe.proofs.StaysWithinRoot.{held, short_run}
 use Rattle.universe.proofs.Spread.{each_listed, reach_of_rooms, room_in_box, stays_on}
 
 -- a plane that a square around (0,0) holds has a listing
@@ -53,7 +53,7 @@ inside plane x y false dead live = let twice = sym live ∙ dead refl in cc
 pub square_encloses : (level : ℕ) (plane : Plane) (box : Bounds) → 1 ≤ level → Holds level plane →
     box.left ≡ (pos 0 -ℤ pos (2 ^ (level - 1))) → box.top ≡ (pos 0 -ℤ pos (2 ^ (level - 1))) → box.right ≡ (pos (2 ^ (level - 1)) -ℤ pos 1) → box.bottom ≡ (pos (2 ^ (level - 1)) -ℤ pos 1) → Encloses box plane
 square_encloses level plane box some holds left top right bottom = λ cell live.
-    let parts = both_true _ _ (inside plane cell.x cell.y (is_round level cell.x cell.y) (holds.dead cell.x cell.y) live) in
+    let parts = both_true _ _ (inside plane cell.x cell.y (is_in_root level cell.x cell.y) (holds.dead cell.x cell.y) live) in
     let whole = twice_half level some in
     let across = between (2 ^ (level - 1)) (2 ^ level) cell.x whole parts.0 in
     let down = between (2 ^ (level - 1)) (2 ^ level) cell.y whole parts.1 in
@@ -86,7 +86,7 @@ keeps_in_box level start generations plane box holds encloses stays =
 -- ---- runs that stay in the range
 
 -- each of their generations lies in the range
-pub keeps_held : (rule : CountRule) → IsRule rule → (plane : Plane) (start generations : ℕ) → KeepsToRange plane start generations → StaysHeld rule plane generations
+pub keeps_held : (rule : CountRule) → IsRule rule → (plane : Plane) (start generations : ℕ) → KeepsToRange plane start generations → StaysWithinRoot rule plane generations
 keeps_held rule is plane start generations keeps = λ n less. held rule is.no_birth_on_zero keeps.cells plane generations n keeps.listing keeps.stays.coordinates less
 
 -- they are short, unless nothing is live

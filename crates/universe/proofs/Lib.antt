@@ -2,7 +2,7 @@ pub mod OpenedWords
 mod OpenedResults
 pub mod Filling
 pub mod Halves
-pub mod Held
+pub mod StaysWithinRoot
 pub mod InRange
 pub mod Later
 pub mod Evicting
@@ -10,7 +10,7 @@ pub mod Onward
 mod Advancing
 pub mod AtRest
 pub mod Copying
-pub mod Rounds
+pub mod Roots
 pub mod SecondDesks
 pub mod Spread
 pub mod Staying

@@ -8,13 +8,13 @@ use Rattle.plane.specs.Square.{IsSame}
 use Rattle.plane.proofs.Parts.{after_same}
 use Rattle.plane.proofs.Same.{same_refl, same_sym, same_trans}
 use Rattle.universe.specs.Cells.{exponent_of, live_cells, rule_of}
-use Rattle.universe.specs.Held.{StaysHeld}
-use Rattle.universe.specs.Runs.{IsAttempt, IsExhausted, IsLater, IsSameUniverse, IsStuckAt, ReachesExponent, IsAtExponent, MayStep}
+use Rattle.universe.specs.StaysWithinRoot.{StaysWithinRoot}
+use Rattle.universe.specs.Later.{IsAttempt, IsExhausted, IsLater, IsSameUniverse, IsStuckAt, ReachesExponent, IsAtExponent, MayStep}
 use Rattle.universe.specs.declared.attempts.Attempt.{Attempt}
 use Rattle.universe.specs.declared.attempts.Attempt.TheVariants.{Done, Full}
 use Rattle.universe.specs.declared.universe.Universe.{Universe}
 use Rattle.universe.proofs.Later.{after_step, held_later}
-use Rattle.universe.proofs.Rounds.{held_same}
+use Rattle.universe.proofs.Roots.{held_same}
 
 pub same_universe : (universe : Universe) → IsSameUniverse universe universe
 same_universe universe = record { cells = same_refl (live_cells universe); rule = refl; limit = refl }
@@ -43,8 +43,8 @@ same_then {first} {second} {third} generations same now = record {
 }
 
 -- so many generations more stay in the range
-pub held_on : {first second : Universe} → (generations done more : ℕ) → StaysHeld (rule_of first) (live_cells first) generations → IsLater first done second → done + more ≤ generations →
-    StaysHeld (rule_of second) (live_cells second) more
+pub held_on : {first second : Universe} → (generations done more : ℕ) → StaysWithinRoot (rule_of first) (live_cells first) generations → IsLater first done second → done + more ≤ generations →
+    StaysWithinRoot (rule_of second) (live_cells second) more
 held_on {first} {second} generations done more held before within = λ n less.
     subst (λ (r : CountRule). Holds 63 (after r (live_cells second) n)) (sym before.rule)
     (held_later (rule_of first) (live_cells first) (live_cells second) generations done n held before.cells (omega (arith, within, less)))
@@ -71,7 +71,7 @@ step_again {first} {second} may at_exponent = record {
 }
 
 -- a step at the table of its exponent may be taken
-pub may_step : {first second : Universe} → (exponent : ℕ) → exponent ≤ 62 → StaysHeld (rule_of first) (live_cells first) (2 ^ exponent) → IsAtExponent exponent first second → MayStep second
+pub may_step : {first second : Universe} → (exponent : ℕ) → exponent ≤ 62 → StaysWithinRoot (rule_of first) (live_cells first) (2 ^ exponent) → IsAtExponent exponent first second → MayStep second
 may_step {first} {second} exponent low held at_exponent =
     let steps = 2 ^ exponent in
     let whole : 0 + steps ≤ steps = omega arith in

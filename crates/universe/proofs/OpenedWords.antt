@@ -6,7 +6,7 @@ use Rattle.plane.specs.Plane.{Plane}
 use Rattle.plane.proofs.Same.{same_trans}
 use Rattle.squares.specs.declared.sq.Sq.{Sq}
 use Rattle.squares.specs.Book.{Book, IsKnown, Shows}
-use Rattle.squares.specs.Rounds.{IsRound}
+use Rattle.squares.specs.Roots.{IsRootOf}
 use Rattle.table_core.specs.declared.key.Key.{Key}
 use Rattle.table_core.specs.Layout.{IsSlot}
 use Rattle.table_core.specs.Blocks.{Words, cells_of, square_rank, ShowsBlock}
@@ -18,7 +18,7 @@ use Rattle.node_table.specs.declared.table.NodeTable.{NodeTable}
 use Rattle.node_table.specs.Desks.{book_at, store_of}
 use Rattle.node_table.specs.Openings.{Opens}
 use Rattle.node_table.specs.Stills.{book_in, words_of}
-use Rattle.node_table.proofs.AtWork.{IsBack, back_round}
+use Rattle.node_table.proofs.AtWork.{IsBack, back_in_root}
 use Rattle.node_table.proofs.Books.{shows_of}
 use Rattle.node_table.proofs.Steps.{is_coherent}
 use Rattle.node_sweep.proofs.Squares.{known_shows}
@@ -43,5 +43,5 @@ opened_shows still rule exponent table desk opens sq known =
     record { known = shown.known; cells = same_trans shown.cells now.cells }
 
 -- what the work found around (0,0), the desk that is back knows
-pub back_as_round : {table : NodeTable} {desk back : Desk} {book : Book} (plane : Plane) (sq : Sq) → IsBack table desk back book → IsRound book plane sq → IsRound (book_at table back) plane sq
-back_as_round plane sq is round = record { known = is.known sq.level sq round.known; smallest = round.smallest; cells = back_round plane sq is round.known round.cells }
+pub back_as_root : {table : NodeTable} {desk back : Desk} {book : Book} (plane : Plane) (sq : Sq) → IsBack table desk back book → IsRootOf book plane sq → IsRootOf (book_at table back) plane sq
+back_as_root plane sq is is_root = record { known = is.known sq.level sq is_root.known; smallest = is_root.smallest; cells = back_in_root plane sq is is_root.known is_root.cells }

@@ -8,10 +8,10 @@ use Rattle.squares.specs.Book.{Book, IsKnown, Shows}
 use Rattle.squares.specs.declared.sq.Sq.{Sq}
 use Rattle.squares.proofs.Kept.{known_kept}
 use Rattle.table_core.specs.declared.key.Key.{Key}
-use Rattle.squares.specs.Rounds.{square_plane}
+use Rattle.squares.specs.Roots.{square_plane}
 use Rattle.universe.specs.Cells.{exponent_of, live_cells, next_cells}
 use Rattle.plane.proofs.Same.{same_refl}
-use Rattle.universe.specs.Runs.{IsAtExponent, IsLater, IsSameUniverse}
+use Rattle.universe.specs.Later.{IsAtExponent, IsLater, IsSameUniverse}
 use Rattle.universe.specs.Tables.{StaysOpen, key_at, known_at}
 use Rattle.universe.specs.declared.tables.OpenTable.{OpenTable}
 use Rattle.universe.specs.declared.universe.Universe.{Universe}

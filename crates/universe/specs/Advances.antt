@@ -1,6 +1,6 @@
 -- How far a universe has come.
 use Rattle.std.specs.Prelude.{ℕ, ◌+◌}
-use Rattle.universe.specs.Runs.{IsLater, IsStuckAt}
+use Rattle.universe.specs.Later.{IsLater, IsStuckAt}
 use Rattle.universe.specs.declared.advances.Advance.{Advance}
 use Rattle.universe.specs.declared.advances.Advance.TheVariants.{Done, Stuck}
 use Rattle.universe.specs.declared.universe.Universe.{Universe}

@@ -5,7 +5,7 @@ use Rattle.plane.specs.Plane.{Plane, after}
 use Rattle.node_table.specs.declared.still.Still.{Still}
 use Rattle.node_table.specs.Stills.{book_in, key_of}
 use Rattle.squares.specs.Book.{Book}
-use Rattle.squares.specs.Rounds.{square_plane}
+use Rattle.squares.specs.Roots.{square_plane}
 use Rattle.squares.specs.declared.sq.Sq.{Sq}
 use Rattle.universe.specs.declared.other_tables.OtherTables.{OtherTables}
 use Rattle.universe.specs.declared.resting.Resting.{Resting}

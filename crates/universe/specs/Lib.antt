@@ -1,12 +1,12 @@
 pub mod Advances
 pub mod Cells
-pub mod Held
+pub mod StaysWithinRoot
 pub mod Outcomes
 pub mod Planning
 pub mod Ranges
 pub mod Readers
 pub mod Rests
-pub mod Runs
+pub mod Later
 pub mod Stills
 pub mod Sums
 pub mod Tables

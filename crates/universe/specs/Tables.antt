@@ -11,7 +11,7 @@ use Rattle.node_table.specs.Stills.{IsVacant, book_in}
 use Rattle.squares.specs.declared.sq.Sq.{Sq}
 use Rattle.table_core.specs.declared.key.Key.{Key}
 use Rattle.plane.specs.Plane.{Plane}
-use Rattle.squares.specs.Rounds.{IsRound}
+use Rattle.squares.specs.Roots.{IsRootOf}
 use Rattle.squares.specs.Book.{Book, IsKnown, Keeps, Shows}
 use Rattle.universe.specs.declared.tables.OpenTable.{OpenTable}
 
@@ -61,7 +61,7 @@ pub record IsBuilt (rule : CountRule) (live : Plane) (pairs : ℕ) (opened : Ope
     (root : Sq) : Type 0 where
   pub under : IsTableUnder rule 0 opened
   pub size : pairs_in opened ≡ pairs
-  pub round : IsRound (known_at opened) live root
+  pub is_root : IsRootOf (known_at opened) live root
   pub level : root.level ≤ 63
 
 -- the table was opened from these words under this rule and exponent, and is full now; and all that

@@ -22,7 +22,7 @@ pub(crate) enum Attempt {
 impl Universe {
     ghost use Rattle.universe.specs.Cells.{exponent_of, limit_of};
     ghost use Rattle.table_growth.specs.Retries.{IsWithinLimit};
-    ghost use Rattle.universe.specs.Runs.{IsAtExponent, IsAttempt, IsFullAtLimit, IsFullInPlace, MayStep};
+    ghost use Rattle.universe.specs.Later.{IsAtExponent, IsAttempt, IsFullAtLimit, IsFullInPlace, MayStep};
 
     /// Takes one step of the cells at their table, or, where that is full, at new ones, as the plan
     /// says.

@@ -15,7 +15,7 @@ use worker_split::Team;
 
 impl Universe {
     ghost use Rattle.universe.specs.Cells.{limit_of, pairs_of, rule_of};
-    ghost use Rattle.universe.specs.Runs.{ReachesExponent, IsAtExponent};
+    ghost use Rattle.universe.specs.Later.{ReachesExponent, IsAtExponent};
 
     /// The cells at a table of this exponent. It stands beside their own, if the limit leaves room
     /// for both, and else replaces it: then it has only the cells, in as few words as have room for

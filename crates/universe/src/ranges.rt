@@ -10,7 +10,7 @@ use std::alloc::Global;
 impl Universe {
     ghost use Rattle.universe.specs.Cells.{live_cells};
     ghost use Rattle.universe.specs.Ranges.{Encloses, KeepsToRange, LeavesRange};
-    ghost use Rattle.universe.specs.Runs.{IsSameUniverse};
+    ghost use Rattle.universe.specs.Later.{IsSameUniverse};
 
     /// Judges whether so many generations stay in the range, where the live cells are those of
     /// generation `start`: `TooFar` if not. `NoMemory` where there is no room to find their box.

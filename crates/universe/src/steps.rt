@@ -3,8 +3,8 @@
 ghost use Rattle.std.specs.Prelude.{◌≡◌, ◌⊎◌, ◌≤◌, ◌<◌, ◌^◌, IfErr, IfOk, Ok};
 ghost use Rattle.plane.specs.Square.{IsSame, empty};
 ghost use Rattle.universe.specs.Advances.{IsAdvance};
-ghost use Rattle.universe.specs.Held.{StaysHeld};
-ghost use Rattle.universe.specs.Runs.{IsLater, IsStuck};
+ghost use Rattle.universe.specs.StaysWithinRoot.{StaysWithinRoot};
+ghost use Rattle.universe.specs.Later.{IsLater, IsStuck};
 
 use crate::advances::Advance;
 use crate::attempts::Attempt;
@@ -28,7 +28,7 @@ impl Universe {
         table: u8,
     ) -> Result<Advance, AllocError>
         requires exponent { exponent ≤ 62 }
-        requires held { StaysHeld (rule_of self) (live_cells self) (2 ^ exponent) }
+        requires held { StaysWithinRoot (rule_of self) (live_cells self) (2 ^ exponent) }
         ensures { IfOk result (IsAdvance self (2 ^ exponent)) }
     {
         if exponent > table {
@@ -51,7 +51,7 @@ impl Universe {
         table: u8,
     ) -> Result<Advance, AllocError>
         requires exponent { (1 ≤ exponent) × (exponent ≤ 62) }
-        requires held { StaysHeld (rule_of self) (live_cells self) (2 ^ exponent) }
+        requires held { StaysWithinRoot (rule_of self) (live_cells self) (2 ^ exponent) }
         ensures { IfOk result (IsAdvance self (2 ^ exponent)) }
     {
         let half = exponent - 1;
@@ -73,7 +73,7 @@ impl Universe {
         team: &Team<'_, R, G>,
         generations: u64,
     ) -> Result<Advance, AllocError>
-        requires held { StaysHeld (rule_of self) (live_cells self) generations }
+        requires held { StaysWithinRoot (rule_of self) (live_cells self) generations }
         requires short { (IsSame (live_cells self) empty → ⊥) → generations < 2 ^ 63 }
         ensures ok { IfOk result (IsAdvance self generations) }
         ensures no_step { IsSame (live_cells self) empty → result ≡ Ok (Advance.Done self) }
@@ -102,7 +102,7 @@ impl Universe {
         team: &Team<'_, R, G>,
         generations: u64,
     ) -> Result<Universe, Refusal>
-        requires held { StaysHeld (rule_of self) (live_cells self) generations }
+        requires held { StaysWithinRoot (rule_of self) (live_cells self) generations }
         requires short { (IsSame (live_cells self) empty → ⊥) → generations < 2 ^ 63 }
         ensures ok { IfOk result (IsLater self generations) }
         ensures no_step { IsSame (live_cells self) empty → result ≡ Ok self }

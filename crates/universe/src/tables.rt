@@ -6,7 +6,7 @@ ghost use Rattle.node_table.specs.Openings.{SaysAll};
 ghost use Rattle.node_table.specs.Stills.{book_in, key_of};
 ghost use Rattle.plane.specs.Square.{IsSame};
 ghost use Rattle.squares.specs.Book.{IsKnown, Shows};
-ghost use Rattle.squares.specs.Rounds.{IsRound, square_plane};
+ghost use Rattle.squares.specs.Roots.{IsRootOf, square_plane};
 ghost use Rattle.universe.specs.Outcomes.{IfMade, LacksMemoryOrRoom};
 ghost use Rattle.universe.specs.Readers.{IsReader};
 ghost use Rattle.worker_split.specs.Jobs.{Refuses};
@@ -145,7 +145,7 @@ impl OpenTable {
         requires level { root.level ≤ 63 }
         requires exponent { (key_at self.old).exponent ≤ 62 }
         ensures stays { StaysOpen self.old self.new }
-        ensures ok { IfOk result (IsRound (known_at self.new) (next_cells self.old root)) }
+        ensures ok { IfOk result (IsRootOf (known_at self.new) (next_cells self.old root)) }
         ensures refusal { IfErr result (Refuses (known_at self.new)) }
     {
         let team = team.at_most(self.history.workers_of_next_step(team.workers));

@@ -31,7 +31,7 @@ pub struct Universe {
 
 impl Universe {
     ghost use Rattle.universe.specs.Cells.{limit_of, live_cells, pairs_of, still_cells};
-    ghost use Rattle.universe.specs.Runs.{IsSameUniverse};
+    ghost use Rattle.universe.specs.Later.{IsSameUniverse};
 
     /// Whether no cell is live.
     pub fn is_empty(&self) -> bool

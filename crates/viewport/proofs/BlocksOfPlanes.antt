@@ -9,7 +9,7 @@ use Rattle.plane.specs.Window.{cells_in}
 use Rattle.plane.proofs.Populations.{empty_cells, same_length}
 use Rattle.viewport.specs.Blocks.{block_count}
 use Rattle.viewport.specs.Halves.{AreRowsFrom, side_by_side}
-use Rattle.viewport.proofs.BoxesRound.{or_false}
+use Rattle.viewport.proofs.BoxesOfPlanes.{or_false}
 use Rattle.viewport.proofs.Quarters.{dead_column, from_nothing}
 
 -- a window without live cells

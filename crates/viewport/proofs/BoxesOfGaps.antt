@@ -9,7 +9,7 @@ use Rattle.viewport.specs.BoundingBox.{IsBoxOf, IsLocalBox}
 use Rattle.viewport.specs.declared.gaps.Side.{Side}
 use Rattle.viewport.specs.declared.gaps.Side.TheVariants.{Left, Right, Top, Bottom}
 use Rattle.viewport.specs.Gaps.{IsGap, IsNearest}
-use Rattle.viewport.proofs.BoxesRound.{local_from, same_bounds}
+use Rattle.viewport.proofs.BoxesOfPlanes.{local_from, same_bounds}
 use Rattle.viewport.proofs.GapsOfHalves.{gap_inside}
 
 -- how far a box lies from a side of a square of this size

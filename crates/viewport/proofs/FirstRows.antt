@@ -12,7 +12,7 @@ use Rattle.plane.specs.Square.{IsSame, IsSquare, spans}
 use Rattle.plane.proofs.Paddings.{twice_half}
 use Rattle.plane.proofs.Same.{plane_equal, same_sym}
 use Rattle.viewport.specs.Rows.{AreDeadRows, IsDeadFrom, IsFirstRow, IsFirstRowBelow, IsLiveRow}
-use Rattle.viewport.proofs.BoxesRound.{or_left, or_right, both_dead, there_and_back}
+use Rattle.viewport.proofs.BoxesOfPlanes.{or_left, or_right, both_dead, there_and_back}
 use Rattle.squares.proofs.NumberMaps.{by_cases}
 use Rattle.viewport.specs.Halves.{either, side_by_side}
 use Rattle.viewport.proofs.Quarters.{dead_row, from_nothing, IsQuartered, over}

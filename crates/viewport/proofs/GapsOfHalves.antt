@@ -11,7 +11,7 @@ use Rattle.viewport.specs.declared.gaps.Side.{Side}
 use Rattle.viewport.specs.declared.gaps.Side.TheVariants.{Left, Right, Top, Bottom}
 use Rattle.viewport.specs.Gaps.{HasCellAt, IsGap, IsNearest, distance_from, lesser}
 use Rattle.viewport.specs.Halves.{either}
-use Rattle.viewport.proofs.BoxesRound.{live_in_column, live_in_row, within_span}
+use Rattle.viewport.proofs.BoxesOfPlanes.{live_in_column, live_in_row, within_span}
 
 -- cells of a square lie between its sides
 between_sides : (side : Side) (size : ℕ) (x y n : ℤ) → (pos 0 ≤ℤ x) × (x <ℤ pos size) → (pos 0 ≤ℤ y) × (y <ℤ pos size) → distance_from side size x y ≡ n → (pos 0 ≤ℤ n) × (n <ℤ pos size)

@@ -11,8 +11,8 @@ use Rattle.plane.specs.Plane.{Plane}
 use Rattle.plane.specs.Square.{bits_plane, bit, spans}
 use Rattle.plane.proofs.Cuts.{and_left, and_right}
 use Rattle.plane.proofs.Same.{plane_equal}
-use Rattle.viewport.specs.BoundingBox.{box_round}
-use Rattle.viewport.proofs.BoxesRound.{BoxMatches, either_box}
+use Rattle.viewport.specs.BoundingBox.{box_of_both}
+use Rattle.viewport.proofs.BoxesOfPlanes.{BoxMatches, either_box}
 use Rattle.squares.proofs.NumberMaps.{by_cases}
 use Rattle.viewport.specs.Halves.{either}
 use Rattle.viewport.proofs.Quarters.{and_dead_right}
@@ -99,10 +99,10 @@ dead_bit : (a b : Bool) → b ≡ false → (c : Bool) → (a || (b && c)) ≡ a
 dead_bit true b e c = refl
 dead_bit false b e c = ap (λ v. v && c) e
 
-pub bit_taken : (word i : ℕ) (o : Option Bounds) → i < 64 → bit_at word i ≡ 1 → BoxMatches (up_to word i) o → BoxMatches (up_to word (suc i)) (box_round o (Some (point_box i)))
+pub bit_taken : (word i : ℕ) (o : Option Bounds) → i < 64 → bit_at word i ≡ 1 → BoxMatches (up_to word i) o → BoxMatches (up_to word (suc i)) (box_of_both o (Some (point_box i)))
 bit_taken word i o h e is =
     let set : bit word i ≡ true = ap (λ n. n == 1) e in
-    subst (λ p. BoxMatches p (box_round o (Some (point_box i))))
+    subst (λ p. BoxMatches p (box_of_both o (Some (point_box i))))
     (plane_equal (either (up_to word i) (point i)) (up_to word (suc i)) (record { same = λ x y. sym (one_bit word i h x y ∙ live_bit (up_to word i x y) (bit word i) set (point i x y)) }))
     (either_box (up_to word i) (point i) o (Some (point_box i)) is (point_matches i))
 

@@ -1,7 +1,7 @@
 pub mod Beside
 pub mod BlocksOfPlanes
 pub mod BoxesOfGaps
-pub mod BoxesRound
+pub mod BoxesOfPlanes
 pub mod CellsOfSquares
 pub mod CentredBlocks
 pub mod Counts

@@ -6,7 +6,7 @@ use Rattle.plane.specs.Laws.{moved}
 use Rattle.plane.specs.Plane.{Plane}
 use Rattle.plane.specs.Square.{IsSame, IsSquare, spans, joined}
 use Rattle.plane.proofs.Paddings.{twice_half}
-use Rattle.plane.proofs.Rounds.{whole_joined}
+use Rattle.plane.proofs.Middles.{whole_joined}
 use Rattle.plane.proofs.Same.{plane_equal, same_sym}
 use Rattle.viewport.specs.Halves.{either, side_by_side}
 use Rattle.squares.specs.Book.{Book, IsBook, IsKnown, AreQuarters, nth}

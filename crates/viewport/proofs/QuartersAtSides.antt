@@ -14,7 +14,7 @@ use Rattle.viewport.specs.declared.gaps.Side.{Side}
 use Rattle.viewport.specs.declared.gaps.Side.TheVariants.{Left, Right, Top, Bottom}
 use Rattle.viewport.specs.Gaps.{HasCellAt, distance_from, near_first}
 use Rattle.viewport.specs.Halves.{either, side_by_side}
-use Rattle.viewport.proofs.BoxesRound.{both_dead, here_too, or_case, or_left, or_right}
+use Rattle.viewport.proofs.BoxesOfPlanes.{both_dead, here_too, or_case, or_left, or_right}
 use Rattle.viewport.proofs.GapsOfHalves.{IsHalved}
 use Rattle.viewport.proofs.Quarters.{IsQuartered, from_nothing, over, own_level, quartered}
 

@@ -11,7 +11,7 @@ use Rattle.plane.specs.Plane.{Plane}
 use Rattle.plane.specs.Square.{IsSame, IsSquare, spans, bits_plane, bit}
 use Rattle.plane.proofs.Paddings.{twice_half}
 use Rattle.viewport.specs.RowRuns.{AddsCells, AreRowRuns, cells_at, is_in_some, run_cells}
-use Rattle.viewport.proofs.BoxesRound.{or_false}
+use Rattle.viewport.proofs.BoxesOfPlanes.{or_false}
 use Rattle.squares.proofs.NumberMaps.{by_cases}
 use Rattle.viewport.proofs.FirstRows.{rows_beside, outside_low, outside_high}
 use Rattle.viewport.proofs.LeafBoxes.{eq_true}

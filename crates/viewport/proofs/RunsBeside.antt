@@ -6,7 +6,7 @@ use Rattle.std.proofs.lemmas.List.Folds.{list_any-append}
 use Rattle.plane.specs.Square.{spans}
 use Rattle.plane.proofs.Elements.{AllByRecursion-append, AllByRecursion-weaker}
 use Rattle.viewport.specs.RowRuns.{AddsCells, AreApart, EndBy, end_of, is_in_row_run, is_in_some, run_cells}
-use Rattle.viewport.proofs.BoxesRound.{or_false}
+use Rattle.viewport.proofs.BoxesOfPlanes.{or_false}
 
 -- a list by all but its last item and that item
 pub record IsEnded {X : Type 0} (xs front : List X) (last : X) : Type 0 where

@@ -58,7 +58,7 @@ pub record FitsMoved (right down : ℤ) (box : Bounds) : Type 0 where
   pub at_bottom : FitsSigned w64 (box.bottom +ℤ down)
 
 -- the smallest box round two boxes, either of which may hold nothing
-abbrev pub box_round : Option Bounds → Option Bounds → Option Bounds
-box_round None b = b
-box_round (Some a) None = Some a
-box_round (Some a) (Some b) = Some (box_union a b)
+abbrev pub box_of_both : Option Bounds → Option Bounds → Option Bounds
+box_of_both None b = b
+box_of_both (Some a) None = Some a
+box_of_both (Some a) (Some b) = Some (box_union a b)

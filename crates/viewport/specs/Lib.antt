@@ -4,7 +4,7 @@ pub mod BoundingBox
 pub mod Gaps
 pub mod Halves
 pub mod Picture
-pub mod Places
+pub mod Offsets
 pub mod Population
 pub mod RowRuns
 pub mod Rows

@@ -10,7 +10,7 @@ ghost use Rattle.viewport.specs.BlockSpans.{AreBeside, IsNearRange};
 
 use crate::block_spans::{BlockSpan, add_dead, count_span};
 use crate::populations::Counts;
-use crate::sides::{place, signed_half_side};
+use crate::sides::{offset_in, signed_half_side};
 use squares::{Reading, Sq};
 use std::alloc::AllocError;
 
@@ -54,7 +54,7 @@ pub fn count_blocks<R: Reading>(
 {
     let exponent = blocks.exponent.min(sq.level - 1);
     let level = sq.level - exponent;
-    let Some(row) = place(j, level) else {
+    let Some(row) = offset_in(j, level) else {
         return add_dead(u64::from(blocks.width), found);
     };
     let columns = columns_beside(blocks.left, blocks.width, signed_half_side(level));

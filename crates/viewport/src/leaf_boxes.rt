@@ -2,13 +2,13 @@
 
 ghost use Rattle.std.specs.Prelude.{◌≡◌};
 ghost use Rattle.plane.specs.Square.{bits_plane};
-ghost use Rattle.viewport.specs.BoundingBox.{IsLocalBox, box_round};
+ghost use Rattle.viewport.specs.BoundingBox.{IsLocalBox, box_of_both};
 
 use plane::Bounds;
 
 // The smallest box round two boxes, either of which may hold nothing.
-fn round(a: Option<Bounds>, b: Option<Bounds>) -> Option<Bounds>
-    ensures { result ≡ box_round a b }
+fn union(a: Option<Bounds>, b: Option<Bounds>) -> Option<Bounds>
+    ensures { result ≡ box_of_both a b }
 {
     match (a, b) {
         (Some(a), Some(b)) => Some(a.union(b)),
@@ -31,7 +31,7 @@ pub(crate) fn leaf_box(word: u64) -> Option<Bounds>
                 right: x,
                 bottom: y,
             };
-            bounds = round(bounds, Some(cell));
+            bounds = union(bounds, Some(cell));
         }
     }
     bounds

@@ -9,7 +9,7 @@ ghost use Rattle.squares.specs.declared.sq.TheConstants.{HIGHEST_ROOT_LEVEL};
 ghost use Rattle.viewport.specs.Picture.{mark_of, picture_text, row_text};
 
 use crate::halves::half_with_row;
-use crate::sides::place;
+use crate::sides::offset_in;
 use plane::{Refusal, Sink, WINDOW_SIDE_LIMIT, Window, write_all};
 use squares::{LEAF_LEVEL, Look, Sq, half_side};
 
@@ -73,10 +73,10 @@ fn is_live<B: Look>(book: &B, sq: Sq, x: i64, y: i64) -> bool
     requires level { sq.level ≤ HIGHEST_ROOT_LEVEL }
     ensures { result ≡ centred sq.level ((B.book book.now).cells sq) x y }
 {
-    let Some(column) = place(x, sq.level) else {
+    let Some(column) = offset_in(x, sq.level) else {
         return false;
     };
-    let Some(row) = place(y, sq.level) else {
+    let Some(row) = offset_in(y, sq.level) else {
         return false;
     };
     has_cell(book, sq, column, row)

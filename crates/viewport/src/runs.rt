@@ -8,7 +8,7 @@ ghost use Rattle.squares.specs.declared.sq.TheConstants.{HIGHEST_ROOT_LEVEL};
 ghost use Rattle.viewport.specs.RowRuns.{AddsCells, AreRowRuns, EndBy, cells_at, end_of, is_in_some, run_cells};
 
 use crate::halves::half_with_row;
-use crate::sides::{place, signed_half_side};
+use crate::sides::{offset_in, signed_half_side};
 use plane::Refusal;
 use squares::{LEAF_LEVEL, Look, Sq, half_side};
 use std::alloc::{AllocError, Global};
@@ -29,7 +29,7 @@ pub fn row_runs<B: Look>(
     ensures memory { IsOkUnless result Refusal.NoMemory }
 {
     let mut runs = Vec::new(alloc);
-    let Some(row) = place(y, sq.level) else {
+    let Some(row) = offset_in(y, sq.level) else {
         return Ok(runs);
     };
     add_row(book, sq, -signed_half_side(sq.level), row, &mut runs)?;

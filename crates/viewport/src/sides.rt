@@ -2,7 +2,7 @@
 
 ghost use Rattle.std.specs.Prelude.{◌≡◌, ◌≤◌, ◌<◌, ◌-◌, ◌^◌, pos, ◌+ℤ◌, ◌-ℤ◌, ◌≤ℤ◌, ◌<ℤ◌};
 ghost use Rattle.std.specs.Int.{int_max};
-ghost use Rattle.viewport.specs.Places.{IsPlace};
+ghost use Rattle.viewport.specs.Offsets.{IsOffsetIn};
 ghost use Rattle.squares.specs.declared.sq.TheConstants.{HIGHEST_ROOT_LEVEL};
 
 use squares::half_side;
@@ -19,10 +19,10 @@ pub(crate) fn signed_half_side(level: u8) -> i64
 
 /// How far a column or a row lies from the left side or from the top of a square of this level, if
 /// the square has it.
-pub(crate) fn place(z: i64, level: u8) -> Option<u64>
+pub(crate) fn offset_in(z: i64, level: u8) -> Option<u64>
     requires low { 1 ≤ level }
     requires high { level ≤ HIGHEST_ROOT_LEVEL }
-    ensures { IsPlace level z result }
+    ensures { IsOffsetIn level z result }
 {
     let half = signed_half_side(level);
     if z < -half || z >= half {

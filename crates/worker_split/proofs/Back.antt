@@ -7,14 +7,14 @@ use Rattle.plane.specs.Plane.{Plane}
 use Rattle.plane.specs.declared.refusal.Refusal.{Refusal}
 use Rattle.squares.specs.declared.sq.Sq.{Sq}
 use Rattle.squares.specs.Book.{Book, Keeps}
-use Rattle.squares.specs.Rounds.{IsRound}
+use Rattle.squares.specs.Roots.{IsRootOf}
 use Rattle.squares.proofs.Kept.{keeps_none}
 use Rattle.node_table.specs.declared.desk.Desk.{Desk}
 use Rattle.node_table.specs.declared.table.NodeTable.{NodeTable}
 use Rattle.node_table.specs.Desks.{IsDeskOf, IsSameDesk, book_at, work_at, expansions_of}
 use Rattle.node_table.specs.DesksAtWork.{KnowsAllOf}
 use Rattle.node_table.specs.Refusals.{known_by}
-use Rattle.node_table.proofs.AtWork.{IsBack, back_round, is_back, known_at_work}
+use Rattle.node_table.proofs.AtWork.{IsBack, back_in_root, is_back, known_at_work}
 use Rattle.table_core.proofs.Knowing.{grows_refl}
 use Rattle.worker_split.specs.Jobs.{ComesBack, HasFuture, IsJob, RefusesFull}
 use Rattle.worker_split.specs.Work.{Leaves, Works}
@@ -72,9 +72,9 @@ futures_left l (x ∷ xs) (y ∷ ys) h = (future_left l x y h.0, futures_left l 
 pub full_left : {table : NodeTable} {desk left : Desk} {book : Book} → IsLeft table desk left book → (refusal : Refusal) → RefusesFull book refusal → RefusesFull (book_at table left) refusal
 full_left {table} l refusal h = (h.0, subst (λ (b : Book). IsTrue b.is_full) (sym (l.same.same_book table)) (l.is.full h.1))
 
-pub round_left : {table : NodeTable} {desk left : Desk} {book : Book} → IsLeft table desk left book → (plane : Plane) (sq : Sq) → IsRound book plane sq → IsRound (book_at table left) plane sq
-round_left {table} l plane sq round =
-    subst (λ b. IsRound b plane sq) (sym (l.same.same_book table)) (record { known = l.is.known sq.level sq round.known; smallest = round.smallest; cells = back_round plane sq l.is round.known round.cells })
+pub root_left : {table : NodeTable} {desk left : Desk} {book : Book} → IsLeft table desk left book → (plane : Plane) (sq : Sq) → IsRootOf book plane sq → IsRootOf (book_at table left) plane sq
+root_left {table} l plane sq is_root =
+    subst (λ b. IsRootOf b plane sq) (sym (l.same.same_book table)) (record { known = l.is.known sq.level sq is_root.known; smallest = is_root.smallest; cells = back_in_root plane sq l.is is_root.known is_root.cells })
 
 pub on_err : {X E : Type 0} (r : Result X E) (P Q : E → Type 0) → ((e : E) → P e → Q e) → IfErr r P → IfErr r Q
 on_err (Ok x) P Q f h = tt

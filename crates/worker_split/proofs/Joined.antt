@@ -5,8 +5,8 @@ use Rattle.plane.specs.declared.refusal.Refusal.{Refusal}
 use Rattle.squares.specs.Book.{Book, IsBook, IsKnown, Keeps}
 use Rattle.squares.specs.declared.sq.Sq.{Sq}
 use Rattle.squares.proofs.Kept.{keeps_none, keeps_trans}
-use Rattle.hashlife_step.proofs.Trimmed.{round_kept}
-use Rattle.hashlife_step.specs.Round.{IsStepOf}
+use Rattle.hashlife_step.proofs.Trimmed.{centred_kept}
+use Rattle.hashlife_step.specs.ShowsCentred.{IsStepOf}
 use Rattle.table_core.proofs.Knowing.{grows_trans}
 use Rattle.node_table.specs.declared.at.At.{At}
 use Rattle.node_table.specs.declared.desk.Desk.{Desk}
@@ -17,7 +17,7 @@ use Rattle.node_table.specs.Teams.{AreAtOneTable}
 use Rattle.node_table.proofs.AtWork.{known_at_work}
 use Rattle.worker_split.specs.Jobs.{ComesBack, HasFuture, IsJob, Refuses, RefusesFull}
 use Rattle.worker_split.specs.Work.{Brings, SetsOut, Works}
-use Rattle.worker_split.proofs.Back.{IsLeft, comes_back, full_left, future_left, futures_left, is_left, job_at_work, round_left}
+use Rattle.worker_split.proofs.Back.{IsLeft, comes_back, full_left, future_left, futures_left, is_left, job_at_work, root_left}
 use Rattle.worker_split.proofs.Books.{has_future_kept, job_kept, jobs_kept, works_kept, works_then}
 use Rattle.worker_split.proofs.Places.{zip_kept}
 use Rattle.worker_split.proofs.Workers.{joined_keeps, one_table}
@@ -74,9 +74,9 @@ pub step_brought : {table : NodeTable} {desk left : Desk} {own work : At} {made 
     (root next : Sq) → IsStepOf (book_here work) (book_here done) root next → IsStepOf (book_at table desk) (book_at table left) root next
 step_brought {table} {desk} {left} done out keeps b root next step =
     let is = brought done out keeps b in
-    let kept = round_kept is.keeps (record { known = step.known; cells = step.cells }) in
-    let round = round_left is.is _ next (record { known = kept.known; smallest = step.smallest; cells = kept.cells }) in
-    subst (λ book. IsStepOf book (book_at table left) root next) out.work_book round
+    let kept = centred_kept is.keeps (record { known = step.known; cells = step.cells }) in
+    let is_root = root_left is.is _ next (record { known = kept.known; smallest = step.smallest; cells = kept.cells }) in
+    subst (λ book. IsStepOf book (book_at table left) root next) out.work_book is_root
 
 pub full_brought : {table : NodeTable} {desk left : Desk} {own work : At} {made : ℕ} (done : At) → SetsOut table desk own work → Keeps (book_here work) (book_here done) → Brings (book_here own) (book_here done) made left →
     (refusal : Refusal) → RefusesFull (book_here done) refusal → RefusesFull (book_at table left) refusal

@@ -5,7 +5,7 @@ ghost use Rattle.squares.specs.Book.{IsKnown};
 ghost use Rattle.node_table.specs.Desks.{IsDeskOf, book_at};
 ghost use Rattle.node_table.specs.DesksAtWork.{book_here};
 ghost use Rattle.worker_split.specs.Jobs.{ComesBack, Refuses};
-ghost use Rattle.hashlife_step.specs.Round.{IsStepOf};
+ghost use Rattle.hashlife_step.specs.ShowsCentred.{IsStepOf};
 ghost use Rattle.worker_split.specs.Work.{Continues};
 
 use crate::batches::team_future;

@@ -5,7 +5,7 @@ ghost use Rattle.std.specs.HashMap.{Updates};
 ghost use Rattle.squares.specs.Book.{AreKnown, IsKnown, nth};
 ghost use Rattle.squares.specs.Noted.{is_same_key};
 ghost use Rattle.pattern_writers.specs.ListedNodes.{AreNodes, Lists, ListsFour, number_of, root_node};
-ghost use Rattle.squares.specs.Rounds.{square_plane};
+ghost use Rattle.squares.specs.Roots.{square_plane};
 
 use super::node::ListedNode;
 use super::root::Root;

@@ -5,7 +5,7 @@ ghost use Rattle.plane.specs.Centred.{Holds};
 ghost use Rattle.plane.specs.Plane.{Plane};
 ghost use Rattle.squares.specs.Book.{AreKnown, IsKnown};
 ghost use Rattle.pattern_writers.specs.Roots.{HasRoot, IsRoot};
-ghost use Rattle.squares.specs.Rounds.{square_plane};
+ghost use Rattle.squares.specs.Roots.{square_plane};
 
 use squares::{LOWEST_ROOT_LEVEL, Look, Sq, has_empty_border};
 

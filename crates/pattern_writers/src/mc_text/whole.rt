@@ -5,7 +5,7 @@ ghost use Rattle.plane.specs.Centred.{centred};
 ghost use Rattle.plane.specs.Square.{bits_plane};
 ghost use Rattle.squares.specs.Book.{IsKnown};
 ghost use Rattle.pattern_writers.specs.ListedNodes.{AreNodes};
-ghost use Rattle.squares.specs.Rounds.{square_plane};
+ghost use Rattle.squares.specs.Roots.{square_plane};
 
 use super::listing::listed_nodes;
 use super::node::ListedNode;

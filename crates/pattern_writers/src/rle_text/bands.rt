@@ -5,7 +5,7 @@ ghost use Rattle.squares.specs.Book.{IsKnown};
 ghost use Rattle.pattern_writers.specs.Frame.{HasRoom, band_row};
 ghost use Rattle.pattern_writers.specs.RleText.{HasFrame, HasRuns};
 ghost use Rattle.pattern_writers.specs.RowRuns.{rows_between};
-ghost use Rattle.squares.specs.Rounds.{square_plane};
+ghost use Rattle.squares.specs.Roots.{square_plane};
 ghost use Rattle.squares.specs.declared.sq.TheConstants.{HIGHEST_ROOT_LEVEL};
 
 use super::frame::{BANDS, Frame};

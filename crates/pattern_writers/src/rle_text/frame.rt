@@ -21,7 +21,7 @@ pub(crate) struct Frame {
 
 impl Frame {
     /// The frame of a box, or of no cells. `BoxTooLarge` if a side is 2^31 or more.
-    pub(crate) fn round(bounds: Option<Bounds>) -> Result<Self, Refusal>
+    pub(crate) fn of(bounds: Option<Bounds>) -> Result<Self, Refusal>
         ensures frame { IfOk result (λ frame. frame ≡ frame_of bounds) }
         ensures fits { IsOk result ↔ FitsRle bounds }
         ensures too_large { IsOkUnless result Refusal.BoxTooLarge }

@@ -4,7 +4,7 @@ ghost use Rattle.std.specs.Prelude.{◌≤◌, IfOk, IfErr};
 ghost use Rattle.squares.specs.Book.{IsKnown};
 ghost use Rattle.pattern_writers.specs.Frame.{HasRoom};
 ghost use Rattle.pattern_writers.specs.RleText.{HasFrame, HasItems, IsFrameRefusal};
-ghost use Rattle.squares.specs.Rounds.{square_plane};
+ghost use Rattle.squares.specs.Roots.{square_plane};
 ghost use Rattle.squares.specs.declared.sq.TheConstants.{HIGHEST_ROOT_LEVEL};
 
 use super::bands::banded_runs;
@@ -43,5 +43,5 @@ fn cells_frame<B: Look>(alloc: Global, book: &B, sq: Sq) -> Result<Frame, Refusa
     ensures room { IfOk result HasRoom }
     ensures refused { IfErr result (IsFrameRefusal (square_plane (B.book book.now) sq)) }
 {
-    Frame::round(bounds(alloc, book, sq)?)
+    Frame::of(bounds(alloc, book, sq)?)
 }

@@ -6,7 +6,7 @@ ghost use Rattle.squares.specs.Book.{IsKnown};
 ghost use Rattle.pattern_writers.specs.Items.{next_cell};
 ghost use Rattle.pattern_writers.specs.RleText.{HasRuns};
 ghost use Rattle.pattern_writers.specs.RowRuns.{AddsRow, rows_between, run_in};
-ghost use Rattle.squares.specs.Rounds.{square_plane};
+ghost use Rattle.squares.specs.Roots.{square_plane};
 ghost use Rattle.squares.specs.declared.sq.TheConstants.{HIGHEST_ROOT_LEVEL};
 ghost use Rattle.viewport.specs.Rows.{IsFirstRow};
 

@@ -20,7 +20,7 @@ pub(crate) fn book_of(alloc: Global, text: &str, exponent: u8) -> Result<PlainBo
 }
 
 /// The square of the cells around (0,0).
-pub(crate) fn square_round<S: Squares>(
+pub(crate) fn root_of_cells<S: Squares>(
     alloc: Global,
     book: &mut S,
     cells: &CellSet,

@@ -3,7 +3,7 @@
 ghost use Rattle.std.specs.Prelude.{IfOk};
 ghost use Rattle.squares.specs.Book.{IsKnown};
 
-use crate::tests::books::{book_of, rule_of, square_round};
+use crate::tests::books::{book_of, root_of_cells, rule_of};
 use crate::tests::places::cell_at;
 use crate::tests::rows::assert_no_row;
 use hashlife_step::{Tally, future, pad, plan, step, trim};
@@ -278,10 +278,10 @@ fn later(
 fn step_agrees(alloc: Global, text: &str, exponent: u8, generations: u64) -> Result<bool, Refusal> {
     let cells = soup(alloc, u32::from(exponent))?;
     let mut book = book_of(alloc, text, exponent)?;
-    let root = square_round(alloc, &mut book, &cells)?;
+    let root = root_of_cells(alloc, &mut book, &cells)?;
     let root = stepped(&mut book, root)?;
     let cells = later(alloc, cells, text, generations)?;
-    Ok(square_round(alloc, &mut book, &cells)? == root)
+    Ok(root_of_cells(alloc, &mut book, &cells)? == root)
 }
 
 // Rules of the three neighbourhoods, and exponents with their powers of two.

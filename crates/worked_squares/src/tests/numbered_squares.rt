@@ -1,6 +1,6 @@
 //! Squares and their numbers, from cells, runs and leaves.
 
-use crate::tests::books::{book_of, square_round};
+use crate::tests::books::{book_of, root_of_cells};
 use crate::tests::places::{Place, cells_at};
 use plane::{Cell, Refusal};
 use sample_patterns::BLINKER_LEAVES;
@@ -27,7 +27,7 @@ fn life_book(alloc: Global) -> Result<PlainBook, Refusal> {
 fn gliders(alloc: Global) -> Result<[Sq; 3], Refusal> {
     let mut book = life_book(alloc)?;
     let of_runs = runs_to_square(alloc, &mut book, &GLIDER_RUNS)?;
-    let of_cells = square_round(alloc, &mut book, &cells_at(alloc, &GLIDER)?)?;
+    let of_cells = root_of_cells(alloc, &mut book, &cells_at(alloc, &GLIDER)?)?;
     let square = join_leaves(&mut book, [0, 0, 0, GLIDER_BITS])?;
     Ok([of_runs, of_cells, square])
 }

@@ -4,7 +4,7 @@ ghost use Rattle.std.specs.Prelude.{◌≤◌, IfOk};
 ghost use Rattle.squares.specs.Book.{IsKnown};
 ghost use Rattle.viewport.specs.Blocks.{IsBlockRange};
 
-use crate::tests::books::{book_of, square_round};
+use crate::tests::books::{book_of, root_of_cells};
 use crate::tests::places::{Place, cells_at};
 use crate::tests::views::shared;
 use pattern_picture::block_shades;
@@ -16,7 +16,7 @@ use viewport::Blocks;
 const WHITE: u8 = 255;
 
 // The four blocks around (0,0).
-fn four_round(exponent: u8) -> Blocks
+fn four_blocks(exponent: u8) -> Blocks
     requires { exponent ≤ 62 }
     ensures exponent { result.exponent ≤ 62 }
     ensures columns { IsBlockRange result.exponent result.left result.width }
@@ -32,14 +32,14 @@ fn four_round(exponent: u8) -> Blocks
 }
 
 // The shades of blocks of the square around (0,0) that has these cells.
-fn shades_round(alloc: Global, places: &[Place], blocks: Blocks) -> Result<Vec<u8>, Refusal>
+fn shades_at(alloc: Global, places: &[Place], blocks: Blocks) -> Result<Vec<u8>, Refusal>
     requires exponent { blocks.exponent ≤ 62 }
     requires columns { IsBlockRange blocks.exponent blocks.left blocks.width }
     requires rows { IsBlockRange blocks.exponent blocks.top blocks.height }
 {
     let mut book = book_of(alloc, "B3/S23", 0)?;
     let cells = cells_at(alloc, places)?;
-    let sq = square_round(alloc, &mut book, &cells)?;
+    let sq = root_of_cells(alloc, &mut book, &cells)?;
     block_shades(alloc, &book, sq, blocks)
 }
 
@@ -56,7 +56,7 @@ fn is_just(shades: &Result<Vec<u8>, Refusal>, expected: &[u8]) -> bool {
 fn single_cells(rt: HostRuntime) {
     for exponent in 0..6u8 {
         let shade = if exponent == 0 { 0 } else { 160 };
-        let shades = shades_round(rt.alloc(), &[(0, 0), (-1, -1)], four_round(exponent));
+        let shades = shades_at(rt.alloc(), &[(0, 0), (-1, -1)], four_blocks(exponent));
         assert!(rt; is_just(&shades, &[shade, WHITE, WHITE, shade]));
     }
 }
@@ -84,7 +84,7 @@ fn one_to_four_cells_of_four(rt: HostRuntime) {
         width: 7,
         height: 2,
     };
-    let shades = shades_round(rt.alloc(), ONE_TO_FOUR, blocks);
+    let shades = shades_at(rt.alloc(), ONE_TO_FOUR, blocks);
     let expected = [
         WHITE, WHITE, WHITE, WHITE, WHITE, WHITE, WHITE, 160, 80, 80, 0, WHITE, WHITE, WHITE,
     ];
@@ -106,7 +106,7 @@ fn full_shades(alloc: Global, exponent: u8) -> Result<Vec<u8>, Refusal> {
     }
     let mut book = book_of(alloc, "B3/S23", 0)?;
     let sq = full_square(&mut book)?;
-    block_shades(alloc, &book, sq, four_round(exponent))
+    block_shades(alloc, &book, sq, four_blocks(exponent))
 }
 
 // Full blocks are black. Larger ones, which have the 2^22 cells of a quarter, are lighter.

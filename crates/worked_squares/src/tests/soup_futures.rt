@@ -5,7 +5,7 @@
 ghost use Rattle.std.specs.Prelude.{◌<◌};
 ghost use Rattle.squares.specs.Book.{IsKnown};
 
-use crate::tests::books::{book_of, square_round};
+use crate::tests::books::{book_of, root_of_cells};
 use crate::tests::places::cell_at;
 use crate::tests::rows::assert_no_row;
 use crate::tests::soups::{SOUP_16, SOUP_32, SOUP_64};
@@ -397,10 +397,10 @@ fn trimmed_future<S: Squares>(book: &mut S, sq: Sq, tally: &mut Tally) -> Result
 // The level of a row's square, its expansions, and whether its future has the cells of the middle.
 fn reckoned(alloc: Global, row: &Row) -> Result<(u8, u64, bool), Refusal> {
     let mut book = book_of(alloc, row.rule, row.exponent)?;
-    let sq = square_round(alloc, &mut book, &cells_of(alloc, row.leaves)?)?;
+    let sq = root_of_cells(alloc, &mut book, &cells_of(alloc, row.leaves)?)?;
     let mut tally = Tally { expansions: 0 };
     let future = trimmed_future(&mut book, sq, &mut tally)?;
-    let middle = square_round(alloc, &mut book, &cells_of(alloc, row.middle)?)?;
+    let middle = root_of_cells(alloc, &mut book, &cells_of(alloc, row.middle)?)?;
     Ok((sq.level, tally.expansions, future == middle))
 }
 

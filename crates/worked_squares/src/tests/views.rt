@@ -3,7 +3,7 @@
 ghost use Rattle.std.specs.Prelude.{◌≤◌, IfOk};
 ghost use Rattle.squares.specs.Book.{IsKnown};
 
-use crate::tests::books::{book_of, square_round};
+use crate::tests::books::{book_of, root_of_cells};
 use crate::tests::places::{Place, cells_at};
 use crate::tests::rows::assert_no_row;
 use plane::{Bounds, FailAt, Memory, Refusal, Sink, Window};
@@ -213,7 +213,7 @@ fn draw<W: Sink>(
 ) -> Result<(), Refusal> {
     let cells = cells_at(alloc, places)?;
     let mut book = empty_book(alloc)?;
-    let sq = square_round(alloc, &mut book, &cells)?;
+    let sq = root_of_cells(alloc, &mut book, &cells)?;
     draw_windows(&book, sq, &[sides], sink)
 }
 

@@ -5,7 +5,7 @@ ghost use Rattle.std.specs.Prelude.{◌<◌, ◌^◌, IfOk};
 ghost use Rattle.plane.specs.Runs.{AreRuns, runs_plane};
 ghost use Rattle.plane.specs.Square.{IsSame, empty};
 ghost use Rattle.universe.specs.Cells.{live_cells, rule_of};
-ghost use Rattle.universe.specs.Held.{StaysHeld};
+ghost use Rattle.universe.specs.StaysWithinRoot.{StaysWithinRoot};
 
 use plane::{Bounds, Cell, Refusal};
 use rule_text::Rule;
@@ -65,7 +65,7 @@ pub(crate) fn in_range(
     generations: u64,
 ) -> Result<Universe, Refusal>
     ensures held { IfOk result
-        (λ same. StaysHeld (rule_of same) (live_cells same) generations) }
+        (λ same. StaysWithinRoot (rule_of same) (live_cells same) generations) }
     ensures short { IfOk result
         (λ same. (IsSame (live_cells same) empty → ⊥) → generations < 2 ^ 63) }
 {

@@ -69,7 +69,7 @@ fn build(book: &mut PlainBook, square: Square) -> Result<Sq, Refusal>
 // What stands before the comments of each text.
 const OPENING: &[u8] = b"[M2] (lifebatch 1)\n#R B3/S23\n#G 4\n";
 
-// Whether this, behind the opening, is the macrocell text of a square, with the kept comments or
+// Whether this, behind the preamble, is the macrocell text of a square, with the kept comments or
 // with none.
 fn has_text<R: Threads + Sync>(
     rt: &R,

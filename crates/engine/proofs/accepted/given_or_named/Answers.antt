@@ -2,7 +2,7 @@ use Rattle.std.proofs.Common.{◌≡◌, Err, None, codes, rules, subst, sym, ap
 use Rattle.std.specs.Option.{unwrap_or}
 use Rattle.rule_text.specs.RuleText.{Reads}
 use Rattle.engine.specs.Judgement.{ReadsRule, rule_text_of}
-use Rattle.patterns.specs.Meaning.{meaning_of}
+use Rattle.pattern_files.specs.Meaning.{meaning_of}
 use Rattle.engine.proofs.Endings.{copied_or}
 use Rattle.engine.proofs.accepted.given_or_named.Goals as goal
 

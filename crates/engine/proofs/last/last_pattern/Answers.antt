@@ -6,7 +6,7 @@ use Rattle.plane.specs.declared.refusal.Refusal.TheVariants.{NoMemory}
 use Rattle.plane.proofs.Same.{same_sym, same_trans}
 use Rattle.engine.specs.Room.{IsStuckWithin}
 use Rattle.engine.specs.Sessions.{cells_of}
-use Rattle.universe.proofs.Held.{held, short_run}
+use Rattle.universe.proofs.StaysWithinRoot.{held, short_run}
 use Rattle.engine.proofs.LastPatterns.{ends_with, stops}
 use Rattle.engine.proofs.Sessions.{lacks, later_same, none_later, same_session, stuck_if_full, sums_up_as}
 use Rattle.engine.proofs.last.last_pattern.Goals as goal

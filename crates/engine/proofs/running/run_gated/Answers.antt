@@ -12,7 +12,7 @@ use Rattle.run_options.specs.declared.options.RunOptions.{RunOptions}
 use Rattle.engine.specs.Formats.{Exceeds, HasText, format_of}
 use Rattle.engine.proofs.Acceptance.{accepted_as, refused_at_once}
 use Rattle.engine.proofs.Endings.{ends_well, refused_counting, refused_drawing, refused_reporting, refused_writing}
-use Rattle.universe.proofs.Held.{held, short_run}
+use Rattle.universe.proofs.StaysWithinRoot.{held, short_run}
 use Rattle.engine.specs.Refused.{IsRefused}
 use Rattle.engine.specs.Room.{IsStuckWithin}
 use Rattle.engine.specs.Sessions.{cells_of, comments_of}

@@ -1,7 +1,7 @@
 use Rattle.std.proofs.Common.{arith}
 use Rattle.squares.proofs.Kept.{adds_none, adds_trans}
 use Rattle.squares.specs.Book.{MayRefuse}
-use Rattle.hashlife_step.proofs.RoundSquares.{room_after}
+use Rattle.hashlife_step.proofs.CentredSquares.{room_after}
 use Rattle.plane.proofs.SentErrors.{sent_on}
 use Rattle.plane.proofs.Same.{same_refl}
 use Rattle.hashlife_step.proofs.padding.pad.Goals as goal

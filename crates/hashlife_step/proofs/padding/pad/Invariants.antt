@@ -1,6 +1,6 @@
 use Rattle.std.proofs.Common.{◌-◌}
 use Rattle.plane.specs.Centred.{centred}
-use Rattle.hashlife_step.proofs.RoundSquares.{IsReached}
+use Rattle.hashlife_step.proofs.CentredSquares.{IsReached}
 use Rattle.hashlife_step.proofs.padding.pad.Given as goal
 
 abbrev pub invariant-loop-padded : goal.invariant-loop-padded

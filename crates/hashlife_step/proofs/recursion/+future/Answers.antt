@@ -119,19 +119,19 @@ ask_ahead-loop-k-init g t c = makes_none (adds_none _)
 pub ask_ahead-future_in_order-requires : goal.ask_ahead-future_in_order-requires
 ask_ahead-future_in_order-requires g t c κs within =
     let book = g.S.Squares.book in
-    let known : IsKnown (book c.loop-k.book) c.args.level (nth c.args.squares.now c.place.result) = known_kept c.loop-k.invariant.keeps (c.requires.known c.place.result (numbered 0 0) c.place.ensures) in
+    let known : IsKnown (book c.loop-k.book) c.args.level (nth c.args.squares.now c.index.result) = known_kept c.loop-k.invariant.keeps (c.requires.known c.index.result (numbered 0 0) c.index.ensures) in
     let at_level = known.at_level in let low = c.requires.low in
     let own = known_as (sym at_level) known in
     search rules
 
 pub ask_ahead-loop-k-preserved : goal.ask_ahead-loop-k-preserved
 ask_ahead-loop-k-preserved g t c =
-    let known : IsKnown (g.S.Squares.book c.loop-k.book) c.args.level (nth c.args.squares.now c.place.result) = known_kept c.loop-k.invariant.keeps (c.requires.known c.place.result (numbered 0 0) c.place.ensures) in
+    let known : IsKnown (g.S.Squares.book c.loop-k.book) c.args.level (nth c.args.squares.now c.index.result) = known_kept c.loop-k.invariant.keeps (c.requires.known c.index.result (numbered 0 0) c.index.ensures) in
     makes_trans c.loop-k.invariant (makes_at known.at_level c.future_in_order.ensures.makes)
 
 pub ask_ahead-returns-in_err-future_in_order-clause-makes : goal.ask_ahead-returns-in_err-future_in_order-clause-makes
 ask_ahead-returns-in_err-future_in_order-clause-makes g t c =
-    let known : IsKnown (g.S.Squares.book c.loop-k.book) c.args.level (nth c.args.squares.now c.place.result) = known_kept c.loop-k.invariant.keeps (c.requires.known c.place.result (numbered 0 0) c.place.ensures) in
+    let known : IsKnown (g.S.Squares.book c.loop-k.book) c.args.level (nth c.args.squares.now c.index.result) = known_kept c.loop-k.invariant.keeps (c.requires.known c.index.result (numbered 0 0) c.index.ensures) in
     makes_trans c.loop-k.invariant (makes_at known.at_level c.future_in_order.ensures.makes)
 
 pub make-finish-requires : goal.make-finish-requires

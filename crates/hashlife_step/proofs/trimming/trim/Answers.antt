@@ -1,7 +1,7 @@
 use Rattle.std.proofs.Common.{arith, sym, ◌∙◌}
 use Rattle.std.proofs.lemmas.Bool.{false≢true}
 use Rattle.squares.proofs.Kept.{adds_none, adds_trans}
-use Rattle.hashlife_step.proofs.Trimmed.{centre_reached, round_kept, smallest_reached}
+use Rattle.hashlife_step.proofs.Trimmed.{centre_reached, centred_kept, smallest_reached}
 use Rattle.squares.specs.Book.{MayRefuse}
 use Rattle.plane.proofs.SentErrors.{sent_on}
 use Rattle.plane.proofs.Same.{same_refl}
@@ -33,7 +33,7 @@ returns-else-is_held_by_centre-clause-level g c =
     (λ _ held. false≢true (sym c.if-is_held_by_centre.false ∙ c.is_held_by_centre.ensures.value.1 held))
 
 pub returns-else-is_held_by_centre-clause-cells : goal.returns-else-is_held_by_centre-clause-cells
-returns-else-is_held_by_centre-clause-cells g c = round_kept c.is_held_by_centre.ensures.adds.keeps c.loop-trimmed.invariant.shown
+returns-else-is_held_by_centre-clause-cells g c = centred_kept c.is_held_by_centre.ensures.adds.keeps c.loop-trimmed.invariant.shown
 
 pub returns-after-loop-trimmed-clause-level : goal.returns-after-loop-trimmed-clause-level
 returns-after-loop-trimmed-clause-level g c =

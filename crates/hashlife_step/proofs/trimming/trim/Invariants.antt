@@ -1,6 +1,6 @@
 use Rattle.std.proofs.Common.{max}
 use Rattle.plane.specs.Centred.{centred}
-use Rattle.hashlife_step.proofs.RoundSquares.{IsReached}
+use Rattle.hashlife_step.proofs.CentredSquares.{IsReached}
 use Rattle.hashlife_step.proofs.trimming.trim.Given as goal
 
 abbrev pub invariant-loop-trimmed : goal.invariant-loop-trimmed

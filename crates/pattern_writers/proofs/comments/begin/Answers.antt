@@ -11,8 +11,8 @@ returns-clause-written g c =
 pub returns-clause-beginning : goal.returns-clause-beginning
 returns-clause-beginning g c =
     let lines = comment_lines c.args.comments in
-    on_err_weaker c.write_comments.result (λ begun. broken_off _ [] (c.args.opening.now ++ lines) c.in_ok-put.ensures.written begun (ap (λ l. c.args.opening.now ++ l) (sym (append-nil lines)))) c.write_comments.ensures.beginning
+    on_err_weaker c.write_comments.result (λ begun. broken_off _ [] (c.args.preamble.now ++ lines) c.in_ok-put.ensures.written begun (ap (λ l. c.args.preamble.now ++ l) (sym (append-nil lines)))) c.write_comments.ensures.beginning
 
 pub returns-in_err-put-clause-beginning : goal.returns-in_err-put-clause-beginning
 returns-in_err-put-clause-beginning g c =
-    on_err c.from_residual.result (first_broken_off _ c.args.opening.now (comment_lines c.args.comments) c.in_err-put.ensures.beginning)
+    on_err c.from_residual.result (first_broken_off _ c.args.preamble.now (comment_lines c.args.comments) c.in_err-put.ensures.beginning)

@@ -5,7 +5,7 @@ use Rattle.std.proofs.result.Match.{err_is}
 use Rattle.rule_text.specs.RuleText.{canonical_text}
 use Rattle.plane.proofs.Beginnings.{beginning_as}
 use Rattle.plane.specs.Device.{IsWriteRefusal}
-use Rattle.pattern_writers.specs.McText.{mc_opening}
+use Rattle.pattern_writers.specs.McText.{mc_preamble}
 use Rattle.pattern_writers.specs.NodeLines.{node_line}
 use Rattle.pattern_writers.specs.RleText.{comment_lines}
 use Rattle.pattern_writers.proofs.BlocksOut.{begun_first, block_broken_off, block_out, both_err, broken_off, buffered_more, first_broken_off}
@@ -15,10 +15,10 @@ use Rattle.pattern_writers.proofs.mc_text.write_mc.Goals as goal
 pub returns-clause-written : goal.returns-clause-written
 returns-clause-written g c =
     let nodes = c.in_ok-nodes.ensures.ok in
-    let opening : c.as_bytes.result.now ≡ mc_opening (canonical_text c.args.rule.now) c.args.generation = c.as_bytes.ensures.bytes ∙ c.opening_lines-opening.ensures in
-    let begun = rw opening at c.in_ok-begin.ensures.written in
+    let preamble : c.as_bytes.result.now ≡ mc_preamble (canonical_text c.args.rule.now) c.args.generation = c.as_bytes.ensures.bytes ∙ c.preamble_lines-preamble.ensures in
+    let begun = rw preamble at c.in_ok-begin.ensures.written in
     let lines = rw c.as_slice.ensures.value at c.in_ok-write_nodes.ensures.written in
-    let whole = ap (λ l. mc_opening (canonical_text c.args.rule.now) c.args.generation ++ comment_lines c.args.comments ++ l) nodes.lines in
+    let whole = ap (λ l. mc_preamble (canonical_text c.args.rule.now) c.args.generation ++ comment_lines c.args.comments ++ l) nodes.lines in
     on_ok_weaker c.write_all.result
     (λ wrote. record {
       level = nodes.level;
@@ -34,9 +34,9 @@ returns-clause-read_back g c = on_ok_weaker c.write_all.result (λ writes. mc_wr
 pub returns-in_err-begin-clause-refused : goal.returns-in_err-begin-clause-refused
 returns-in_err-begin-clause-refused g c =
     let nodes = c.in_ok-nodes.ensures.ok in
-    let opening : c.as_bytes.result.now ≡ mc_opening (canonical_text c.args.rule.now) c.args.generation = c.as_bytes.ensures.bytes ∙ c.opening_lines-opening.ensures in
-    let begun = rw opening at c.in_err-begin.ensures.beginning in
-    let first = mc_opening (canonical_text c.args.rule.now) c.args.generation ++ comment_lines c.args.comments in
+    let preamble : c.as_bytes.result.now ≡ mc_preamble (canonical_text c.args.rule.now) c.args.generation = c.as_bytes.ensures.bytes ∙ c.preamble_lines-preamble.ensures in
+    let begun = rw preamble at c.in_err-begin.ensures.beginning in
+    let first = mc_preamble (canonical_text c.args.rule.now) c.args.generation ++ comment_lines c.args.comments in
     let whole = ap (λ l. first ++ l) nodes.lines in
     let is : c.from_residual-in_err-begin.result ≡ Err c.in_err-begin.field-0.0 = err_is _ _ c.from_residual-in_err-begin.ensures.1 in
     rw is (inr (
@@ -51,10 +51,10 @@ returns-in_err-begin-clause-refused g c =
 pub returns-in_err-write_nodes-clause-refused : goal.returns-in_err-write_nodes-clause-refused
 returns-in_err-write_nodes-clause-refused g c =
     let nodes = c.in_ok-nodes.ensures.ok in
-    let opening : c.as_bytes.result.now ≡ mc_opening (canonical_text c.args.rule.now) c.args.generation = c.as_bytes.ensures.bytes ∙ c.opening_lines-opening.ensures in
-    let before = rw opening at c.in_ok-begin.ensures.written in
+    let preamble : c.as_bytes.result.now ≡ mc_preamble (canonical_text c.args.rule.now) c.args.generation = c.as_bytes.ensures.bytes ∙ c.preamble_lines-preamble.ensures in
+    let before = rw preamble at c.in_ok-begin.ensures.written in
     let begun = rw c.as_slice.ensures.value at c.in_err-write_nodes.ensures.beginning in
-    let first = mc_opening (canonical_text c.args.rule.now) c.args.generation ++ comment_lines c.args.comments in
+    let first = mc_preamble (canonical_text c.args.rule.now) c.args.generation ++ comment_lines c.args.comments in
     let whole = ap (λ l. first ++ l) nodes.lines in
     let is : c.from_residual-in_err-write_nodes.result ≡ Err c.in_err-write_nodes.field-0.0 = err_is _ _ c.from_residual-in_err-write_nodes.ensures.1 in
     rw is (inr (
@@ -69,10 +69,10 @@ returns-in_err-write_nodes-clause-refused g c =
 pub returns-clause-refused : goal.returns-clause-refused
 returns-clause-refused g c =
     let nodes = c.in_ok-nodes.ensures.ok in
-    let opening : c.as_bytes.result.now ≡ mc_opening (canonical_text c.args.rule.now) c.args.generation = c.as_bytes.ensures.bytes ∙ c.opening_lines-opening.ensures in
-    let begun = rw opening at c.in_ok-begin.ensures.written in
+    let preamble : c.as_bytes.result.now ≡ mc_preamble (canonical_text c.args.rule.now) c.args.generation = c.as_bytes.ensures.bytes ∙ c.preamble_lines-preamble.ensures in
+    let begun = rw preamble at c.in_ok-begin.ensures.written in
     let lines = rw c.as_slice.ensures.value at c.in_ok-write_nodes.ensures.written in
-    let whole = ap (λ l. mc_opening (canonical_text c.args.rule.now) c.args.generation ++ comment_lines c.args.comments ++ l) nodes.lines in
+    let whole = ap (λ l. mc_preamble (canonical_text c.args.rule.now) c.args.generation ++ comment_lines c.args.comments ++ l) nodes.lines in
     let since = c.in_ok-write_nodes.ensures.failure.unfailed ∙ c.in_ok-begin.ensures.failure.unfailed in
     IfErr-weaker c.write_all.result _ _
     (λ refusal told. inr (

@@ -3,7 +3,7 @@ use Rattle.std.proofs.lemmas.Result.{on_err_weaker, on_ok_weaker}
 use Rattle.rule_text.specs.RuleText.{canonical_text}
 use Rattle.plane.proofs.Beginnings.{beginning_as}
 use Rattle.pattern_writers.specs.Layout.{body_text}
-use Rattle.pattern_writers.specs.Opening.{header_line, position_line}
+use Rattle.pattern_writers.specs.Preamble.{header_line, position_line}
 use Rattle.pattern_writers.specs.RleText.{comment_lines}
 use Rattle.pattern_writers.proofs.BlocksOut.{begun_first, block_broken_off, block_out, broken_off, buffered_more, first_broken_off, on_err, passed_on, told_since}
 use Rattle.pattern_writers.proofs.rle_text.write_items.Goals as goal
@@ -35,11 +35,11 @@ returns-in_err-begin-clause-beginning g c =
     let frame = c.args.frame in
     let position : c.as_bytes.result.now ≡ position_line frame.corner.x frame.corner.y c.args.generation = c.as_bytes.ensures.bytes ∙ c.position_line-position.ensures in
     let begun = rw position at c.in_err-begin.ensures.beginning in
-    let opening = position_line frame.corner.x frame.corner.y c.args.generation ++ comment_lines c.args.comments in
+    let preamble = position_line frame.corner.x frame.corner.y c.args.generation ++ comment_lines c.args.comments in
     let header = header_line frame.width frame.height (canonical_text c.args.rule.now) in
     let body = body_text c.args.items.now in
     on_err c.from_residual.result
-    (begun_first c.new-block.ensures (beginning_as (ap (λ l. c.new-block.result.items ++ l) (sym (append_assoc opening header body))) (first_broken_off _ opening (header ++ body) begun)))
+    (begun_first c.new-block.ensures (beginning_as (ap (λ l. c.new-block.result.items ++ l) (sym (append_assoc preamble header body))) (first_broken_off _ preamble (header ++ body) begun)))
 
 pub returns-in_err-put-clause-beginning : goal.returns-in_err-put-clause-beginning
 returns-in_err-put-clause-beginning g c =
@@ -48,10 +48,10 @@ returns-in_err-put-clause-beginning g c =
     let header : c.as_bytes-2.result.now ≡ header_line frame.width frame.height (canonical_text c.args.rule.now) = c.as_bytes-2.ensures.bytes ∙ c.header_line-header.ensures in
     let opened = rw position at c.in_ok-begin.ensures.written in
     let begun = rw header at c.in_err-put.ensures.beginning in
-    let opening = position_line frame.corner.x frame.corner.y c.args.generation ++ comment_lines c.args.comments in
+    let preamble = position_line frame.corner.x frame.corner.y c.args.generation ++ comment_lines c.args.comments in
     let body = body_text c.args.items.now in
     on_err c.from_residual-in_err-put.result
-    (begun_first c.new-block.ensures (broken_off _ body _ opened begun (append_assoc opening (header_line frame.width frame.height (canonical_text c.args.rule.now)) body)))
+    (begun_first c.new-block.ensures (broken_off _ body _ opened begun (append_assoc preamble (header_line frame.width frame.height (canonical_text c.args.rule.now)) body)))
 
 pub returns-in_err-write_body-clause-beginning : goal.returns-in_err-write_body-clause-beginning
 returns-in_err-write_body-clause-beginning g c =

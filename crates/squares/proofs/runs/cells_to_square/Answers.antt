@@ -3,7 +3,7 @@ use Rattle.std.specs.List.{AllByRecursion}
 use Rattle.std.proofs.lemmas.Result.{IfOk-weaker}
 use Rattle.plane.specs.Runs.{IsRun}
 use Rattle.squares.specs.declared.sq.Sq.{Sq}
-use Rattle.squares.proofs.RunLevels.{round_cells_of, single_runs}
+use Rattle.squares.proofs.RunLevels.{cells_of_root, single_runs}
 use Rattle.plane.proofs.SentErrors.{sent_on}
 use Rattle.plane.specs.declared.refusal.Refusal.TheVariants.{NoMemory}
 use Rattle.squares.proofs.runs.cells_to_square.Goals as goal
@@ -14,7 +14,7 @@ runs_to_square-requires g c = subst (AllByRecursion IsRun) (sym (c.deref.ensures
 pub returns-clause-ok : goal.returns-clause-ok
 returns-clause-ok g c =
     IfOk-weaker c.runs_to_square.result _ _
-    (λ (sq : Sq) shown. round_cells_of (g.S.Squares.book c.runs_to_square.new.book) _ c.args.cells.now sq (c.deref.ensures.value ∙ c.in_ok-runs.ensures.ok) shown)
+    (λ (sq : Sq) shown. cells_of_root (g.S.Squares.book c.runs_to_square.new.book) _ c.args.cells.now sq (c.deref.ensures.value ∙ c.in_ok-runs.ensures.ok) shown)
     c.runs_to_square.ensures.ok
 
 pub returns-in_err-runs-clause-refusal : goal.returns-in_err-runs-clause-refusal

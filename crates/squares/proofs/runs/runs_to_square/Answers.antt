@@ -5,9 +5,9 @@ use Rattle.plane.specs.Square.{IsSame}
 use Rattle.plane.specs.Centred.{IsSmallestLevel}
 use Rattle.plane.specs.Runs.{IsRun, runs_plane}
 use Rattle.plane.proofs.Same.{plane_equal}
-use Rattle.squares.specs.Rounds.{square_plane}
+use Rattle.squares.specs.Roots.{square_plane}
 use Rattle.squares.specs.declared.sq.Sq.{Sq}
-use Rattle.squares.proofs.RunLevels.{round_known}
+use Rattle.squares.proofs.RunLevels.{known_root}
 use Rattle.squares.proofs.RunOrder.{all_sorted, same_runs_plane}
 use Rattle.plane.proofs.SentErrors.{sent_on}
 use Rattle.plane.specs.declared.refusal.Refusal.TheVariants.{NoMemory}
@@ -28,7 +28,7 @@ returns-clause-ok g c =
     let first : runs_plane c.deref.result.now ≡ runs_plane c.args.runs.now = ap runs_plane c.deref.ensures.value ∙ plane_equal _ _ (same_runs_plane c.args.runs.now c.in_ok-sorted.sorted.items c.in_ok-sorted.ensures.same) in
     let second : runs_plane c.deref-2.result.now ≡ runs_plane c.args.runs.now = ap runs_plane c.deref-2.ensures.value ∙ plane_equal _ _ (same_runs_plane c.args.runs.now c.in_ok-sorted.sorted.items c.in_ok-sorted.ensures.same) in
     both c.ordered_runs_to_square.result _ _ _
-    (λ (sq : Sq) known cells. round_known book level (runs_plane c.args.runs.now) sq (subst (IsSmallestLevel level) first c.smallest_level-level.ensures.smallest) known (subst (IsSame (square_plane book sq)) second cells))
+    (λ (sq : Sq) known cells. known_root book level (runs_plane c.args.runs.now) sq (subst (IsSmallestLevel level) first c.smallest_level-level.ensures.smallest) known (subst (IsSame (square_plane book sq)) second cells))
     c.ordered_runs_to_square.ensures.known c.ordered_runs_to_square.ensures.cells
 
 pub returns-in_err-sorted-clause-refusal : goal.returns-in_err-sorted-clause-refusal

@@ -3,7 +3,7 @@ use Rattle.std.proofs.Math.Pow.{pow_mono}
 use Rattle.std.specs.List.{AllByRecursion}
 use Rattle.plane.specs.Square.{cut}
 use Rattle.squares.specs.Book.{Shows}
-use Rattle.squares.specs.Spans.{FitsRound, in_spans, marked, span_of}
+use Rattle.squares.specs.Spans.{FitsInRoot, in_spans, marked, span_of}
 use Rattle.squares.specs.SquareRows.{HasColumns, IsRow, square_at}
 use Rattle.squares.specs.declared.square_rows.Segment.{Segment}
 use Rattle.squares.proofs.RunLevels.{cells_shown}
@@ -16,7 +16,7 @@ use Rattle.squares.proofs.strips.ordered_runs_to_square.Goals as goal
 pub strip_row-requires-clause-left : goal.strip_row-requires-clause-left
 strip_row-requires-clause-left g c =
     let half = c.half_side-half.ensures.value in
-    let fit = subst (λ n. AllByRecursion (FitsRound n) (g.R.RunSequence.left c.args.runs)) (sym half) c.requires.fit in
+    let fit = subst (λ n. AllByRecursion (FitsInRoot n) (g.R.RunSequence.left c.args.runs)) (sym half) c.requires.fit in
     left_first c.half_side-half.result c.next_span-next.result (g.R.RunSequence.left c.args.runs) _ c.half_side-half.ensures.bound c.next_span-next.ensures.fit c.next_span-next.ensures.ended c.next_span-next.ensures.spans fit c.requires.order
 
 pub square_at-requires : goal.square_at-requires

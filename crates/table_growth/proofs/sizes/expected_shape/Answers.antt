@@ -7,13 +7,13 @@ use Rattle.table_growth.proofs.sizes.expected_shape.Goals.{then-bits-lt-BITS_OF_
 pub loop-bits-init : goal.loop-bits-init
 loop-bits-init c =
     let is = c.smallest-bits.ensures in
-    let range = c.args.most.range in
+    let range = c.args.limit.range in
     let low = range.0 in
     record {
       low = omega (arith, is, low);
       high = omega (arith, is);
       size = (12, inl refl, omega (arith, is));
-      least = λ other up less. absurd (first_least c.args.most.bits c.smallest-bits.result.bits other is up less);
+      least = λ other up less. absurd (first_least c.args.limit.bits c.smallest-bits.result.bits other is up less);
     }
 
 pub loop-bits-preserved : goal.loop-bits-preserved
@@ -23,14 +23,14 @@ loop-bits-preserved c =
     let was = c.loop-bits.invariant in
     let low = was.low in
     let below = c.loop-bits-test.true in
-    let most = c.args.most.range.1 in
+    let limit = c.args.limit.range.1 in
     let is = c.min-bits.ensures in
     let next : IsNextSize bits larger = elim c.if-bits-lt-BITS_OF_LARGE_STEPS.branch [
       | then-bits-lt-BITS_OF_LARGE_STEPS w ↦ inl (w.if-bits-lt-BITS_OF_LARGE_STEPS.true, w.larger-is)
       | else-bits-lt-BITS_OF_LARGE_STEPS w ↦ inr (w.if-bits-lt-BITS_OF_LARGE_STEPS.false, w.larger-is)
     ] in
-    let here = exact_size c.args.most.bits bits below was.size in
-    let exact : (1 * 2 ^ bits) % 2 ^ 64 ≡ 1 * 2 ^ bits = shl_exact 1 bits 64 (omega arith) (omega (arith, most, below)) in
+    let here = exact_size c.args.limit.bits bits below was.size in
+    let exact : (1 * 2 ^ bits) % 2 ^ 64 ≡ 1 * 2 ^ bits = shl_exact 1 bits 64 (omega arith) (omega (arith, limit, below)) in
     let test = c.if-bits-pairs.true in
     let few : 2 ^ bits < c.args.pairs = omega (arith, exact, test) in
     let more : bits < larger = next_more bits larger next in
@@ -38,5 +38,5 @@ loop-bits-preserved c =
       low = omega (arith, is, below, low, more);
       high = omega (arith, is);
       size = (larger, next_size bits larger here next, is);
-      least = next_least c.args.most.bits c.args.pairs bits larger c.min-bits.result below here few next is was.least;
+      least = next_least c.args.limit.bits c.args.pairs bits larger c.min-bits.result below here few next is was.least;
     }

@@ -5,10 +5,10 @@ use Rattle.table_growth.proofs.sizes.expected_shape.Given as goal
 abbrev pub invariant-loop-bits : goal.invariant-loop-bits
 invariant-loop-bits l = record {
   low : 10 ≤ l.bits;
-  high : l.bits ≤ l.most.bits;
-  size : IsFirstSizeUpTo l.most.bits l.bits;
-  least : (bits : ℕ) → IsFirstSizeUpTo l.most.bits bits → bits < l.bits → 2 ^ bits < l.pairs;
+  high : l.bits ≤ l.limit.bits;
+  size : IsFirstSizeUpTo l.limit.bits l.bits;
+  least : (bits : ℕ) → IsFirstSizeUpTo l.limit.bits bits → bits < l.bits → 2 ^ bits < l.pairs;
 }
 
 abbrev pub decreases-loop-bits : goal.decreases-loop-bits
-decreases-loop-bits l = l.most.bits - l.bits
+decreases-loop-bits l = l.limit.bits - l.bits

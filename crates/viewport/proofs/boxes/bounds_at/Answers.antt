@@ -4,7 +4,7 @@ use Rattle.std.proofs.lemmas.Int.{to_z-of_z, ints}
 use Rattle.plane.specs.Centred.{centred}
 use Rattle.plane.specs.declared.cell.Bounds.{Bounds}
 use Rattle.viewport.specs.BoundingBox.{HasBounds}
-use Rattle.viewport.proofs.BoxesRound.{centred_bounds, inside_of, room_back}
+use Rattle.viewport.proofs.BoxesOfPlanes.{centred_bounds, inside_of, room_back}
 use Rattle.viewport.proofs.Quarters.{known_square}
 use Rattle.viewport.proofs.boxes.bounds_at.Goals as goal
 

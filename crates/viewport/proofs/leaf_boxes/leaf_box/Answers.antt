@@ -5,8 +5,8 @@ use Rattle.std.proofs.lemmas.Int.{to_z-of_z}
 use Rattle.std.proofs.lemmas.Nat.Bits.{shr_and_one}
 use Rattle.plane.specs.declared.cell.Bounds.{Bounds}
 use Rattle.plane.specs.Square.{bits_plane}
-use Rattle.viewport.specs.BoundingBox.{box_round}
-use Rattle.viewport.proofs.BoxesRound.{BoxMatches, local_from}
+use Rattle.viewport.specs.BoundingBox.{box_of_both}
+use Rattle.viewport.proofs.BoxesOfPlanes.{BoxMatches, local_from}
 use Rattle.viewport.proofs.LeafBoxes.{all_bits, leaf_square, bit_taken, bit_passed, cell_box, point_box, up_to}
 use Rattle.viewport.proofs.leaf_boxes.leaf_box.Goals as goal
 use Rattle.viewport.proofs.leaf_boxes.leaf_box.Goals.{then-word-place-eq1, else-word-place-eq1}
@@ -19,9 +19,9 @@ loop-place-preserved c =
       | then-word-place-eq1 w ↦
           let x : SFits w64 w.from-x.result = search rules in
           let y : SFits w64 w.from-y.result = search rules in
-          let round_is = simp to_z-of_z at w.round-bounds.ensures in
+          let union_is = simp to_z-of_z at w.union-bounds.ensures in
           let box_is = cell_box w.from-x.result w.from-y.result c.loop-place.place w.from-x.ensures w.from-y.ensures _ refl in
-          let all_is : c.if-word-place-eq1.bounds ≡ box_round c.loop-place.bounds (Some (point_box c.loop-place.place)) = w.bounds-is ∙ round_is ∙ ap (λ (b : Bounds). box_round c.loop-place.bounds (Some b)) box_is in
+          let all_is : c.if-word-place-eq1.bounds ≡ box_of_both c.loop-place.bounds (Some (point_box c.loop-place.place)) = w.bounds-is ∙ union_is ∙ ap (λ (b : Bounds). box_of_both c.loop-place.bounds (Some b)) box_is in
           subst (λ n. BoxMatches (up_to c.args.word n) c.if-word-place-eq1.bounds) next
           (subst (λ (o : Option Bounds). BoxMatches (up_to c.args.word (suc c.loop-place.place)) o) (sym all_is)
           (bit_taken c.args.word c.loop-place.place c.loop-place.bounds c.loop-place-test.true (sym is_bit ∙ w.if-word-place-eq1.true) c.loop-place.invariant))

@@ -1,4 +1,4 @@
-use Rattle.viewport.proofs.BoxesRound.{BoxMatches}
+use Rattle.viewport.proofs.BoxesOfPlanes.{BoxMatches}
 use Rattle.viewport.proofs.LeafBoxes.{up_to}
 use Rattle.viewport.proofs.leaf_boxes.leaf_box.Given as goal
 

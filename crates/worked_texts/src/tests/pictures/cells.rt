@@ -5,7 +5,7 @@ ghost use Rattle.pattern_picture.specs.Scale.{IsShown, IsSize};
 ghost use Rattle.png_writer.specs.Picture.{IsSide};
 
 use crate::tests::pictures::length_and_checksum;
-use pattern_picture::{Drawing, picture};
+use pattern_picture::Drawing;
 use plane::Bounds;
 use png_writer::{IMAGE_SIDE_LIMIT, Image};
 use rule_text::Rule;
@@ -33,7 +33,7 @@ fn assert_drawn<R: Abort + AllocGlobal>(
 {
     let mut book = PlainBook::new(rt.alloc(), Rule::dead(), 0);
     let sq = join_leaves(&mut book, LEAVES)?;
-    let drawing = picture(rt.alloc(), &book, sq, shown, size)?;
+    let drawing = Drawing::of(rt.alloc(), &book, sq, shown, size)?;
     let image = image_of(rt, &drawing)?;
     assert_eq!(rt; length_and_checksum(rt.alloc(), &image)?, expected);
     Ok(())

@@ -1,7 +1,7 @@
 use Rattle.std.proofs.Common.{rules, subst}
 use Rattle.node_table.specs.Stills.{book_in}
 use Rattle.plane.specs.Plane.{Plane}
-use Rattle.squares.specs.Rounds.{square_plane}
+use Rattle.squares.specs.Roots.{square_plane}
 use Rattle.viewport.specs.Rows.{IsFirstRow}
 use Rattle.engine.proofs.CellsAtRest.{same_cells}
 use Rattle.engine.proofs.pattern.Pattern.first_row.Goals as goal

@@ -3,7 +3,7 @@ use Rattle.std.proofs.result.Match.{err_is}
 use Rattle.plane.specs.Fault.{placeless}
 use Rattle.plane.specs.declared.refusal.Refusal.TheVariants.{NoMemory}
 use Rattle.universe.specs.Cells.{live_cells}
-use Rattle.patterns.specs.Meaning.{meaning_of}
+use Rattle.pattern_files.specs.Meaning.{meaning_of}
 use Rattle.engine.proofs.Acceptance.{accepted, range_refused, rule_refused, text_refused}
 use Rattle.engine.proofs.KeptComments.{meaning_comments}
 use Rattle.engine.proofs.session.Session.open_for.Goals as goal

@@ -3,7 +3,7 @@ use Rattle.atomic_table.specs.Table.{Me}
 use Rattle.table_core.specs.declared.key.Key.{Key}
 use Rattle.table_core.specs.declared.machine.Event.TheVariants.{Look}
 use Rattle.table_core.specs.Knowledge.{Grows}
-use Rattle.node_table.specs.declared.view.View.{View}
+use Rattle.node_table.specs.declared.desk_view.DeskView.{DeskView}
 use Rattle.node_table.specs.Desks.{store_of}
 use Rattle.node_table.proofs.Joining.{first_known, second_known, first_kept, second_kept}
 use Rattle.node_table.proofs.Steps.{coherent_of, meets, joins, sound_by, some_words}
@@ -51,7 +51,7 @@ returns-clause-first c =
     let after = c.load-self.new.seat.me.0.known in
     let met = c.load-self.ensures.2 t.key (ap (λ me. me.0.key) c.join_seat.ensures.2 ∙ c.requires.own.same_key) in
     first_kept c.args.self.now.seat.me.0.known c.args.other.seat.me.0.known after
-    (subst (λ (me : Me (Unit {0}) View). Grows me.0.known after) c.join_seat.ensures.2 met.grows) (store_of t) t.key ∣ coherent_of t.key after met.words ∣₁
+    (subst (λ (me : Me (Unit {0}) DeskView). Grows me.0.known after) c.join_seat.ensures.2 met.grows) (store_of t) t.key ∣ coherent_of t.key after met.words ∣₁
 
 pub returns-clause-second : goal.returns-clause-second
 returns-clause-second c =
@@ -59,7 +59,7 @@ returns-clause-second c =
     let after = c.load-self.new.seat.me.0.known in
     let met = c.load-self.ensures.2 t.key (ap (λ me. me.0.key) c.join_seat.ensures.2 ∙ c.requires.own.same_key) in
     second_kept c.args.self.now.seat.me.0.known c.args.other.seat.me.0.known after
-    (subst (λ (me : Me (Unit {0}) View). Grows me.0.known after) c.join_seat.ensures.2 met.grows) (store_of t) t.key ∣ coherent_of t.key after met.words ∣₁
+    (subst (λ (me : Me (Unit {0}) DeskView). Grows me.0.known after) c.join_seat.ensures.2 met.grows) (store_of t) t.key ∣ coherent_of t.key after met.words ∣₁
 
 pub returns-clause-grows : goal.returns-clause-grows
 returns-clause-grows c =
@@ -68,5 +68,5 @@ returns-clause-grows c =
     let two = c.args.other.seat.me.0.known in
     let after = c.load-self.new.seat.me.0.known in
     let met = c.load-self.ensures.2 t.key (ap (λ me. me.0.key) c.join_seat.ensures.2 ∙ c.requires.own.same_key) in
-    let grows = subst (λ (me : Me (Unit {0}) View). Grows me.0.known after) c.join_seat.ensures.2 met.grows in
+    let grows = subst (λ (me : Me (Unit {0}) DeskView). Grows me.0.known after) c.join_seat.ensures.2 met.grows in
     (first_known one two after grows, second_known one two after grows)

@@ -1,5 +1,5 @@
 use Rattle.std.proofs.Common.{◌∙◌, ap, sym, subst}
-use Rattle.node_table.specs.declared.view.View.{View}
+use Rattle.node_table.specs.declared.desk_view.DeskView.{DeskView}
 use Rattle.node_table.specs.Books.{IsSound}
 use Rattle.node_table.proofs.Steps.{splits, some_words}
 use Rattle.node_table.proofs.desk.Desk.split_off.Goals as goal
@@ -12,11 +12,11 @@ split_seat-seat-requires c =
 pub invariant_of-self : goal.invariant_of-self
 invariant_of-self c = record {
   free = ap (λ me. me.1) c.split_seat-seat.ensures.2 ∙ c.args.self.now.free;
-  sound = subst (λ (view : View). IsSound view) (sym (ap (λ me. me.0) c.split_seat-seat.ensures.2)) c.args.self.now.sound;
+  sound = subst (λ (view : DeskView). IsSound view) (sym (ap (λ me. me.0) c.split_seat-seat.ensures.2)) c.args.self.now.sound;
 }
 
 pub invariant_of-result : goal.invariant_of-result
 invariant_of-result c = record {
   free = ap (λ me. me.1) c.split_seat-seat.ensures.4;
-  sound = subst (λ (view : View). IsSound view) (sym (ap (λ me. me.0) c.split_seat-seat.ensures.4)) c.args.self.now.sound;
+  sound = subst (λ (view : DeskView). IsSound view) (sym (ap (λ me. me.0) c.split_seat-seat.ensures.4)) c.args.self.now.sound;
 }

@@ -6,7 +6,7 @@ use Rattle.node_table.specs.Desks.{work_at}
 use Rattle.squares.specs.Book.{Book}
 use Rattle.node_table.proofs.AtWork.{is_back}
 use Rattle.universe.proofs.Filling.{filled_up, full_book, no_result_at_first, no_result_back}
-use Rattle.universe.proofs.OpenedWords.{back_as_round}
+use Rattle.universe.proofs.OpenedWords.{back_as_root}
 use Rattle.plane.proofs.SentErrors.{sent_on}
 use Rattle.plane.specs.declared.refusal.Refusal.TheVariants.{NoMemory}
 use Rattle.universe.proofs.tables.OpenTable.of_source.Goals as goal
@@ -18,7 +18,7 @@ returns-clause-ok g c =
     record {
       under = c.in_ok-opened.ensures.under;
       size = c.in_ok-opened.ensures.size;
-      round = back_as_round (g.B.Build.live c.args.source.now) c.in_ok-root.root back (IfOk-at_ok _ c.in_ok-root.was c.build-made.ensures.ok);
+      is_root = back_as_root (g.B.Build.live c.args.source.now) c.in_ok-root.root back (IfOk-at_ok _ c.in_ok-root.was c.build-made.ensures.ok);
       level = IfOk-at_ok _ c.in_ok-root.was c.build-made.ensures.level;
     }
 

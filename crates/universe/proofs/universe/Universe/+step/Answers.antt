@@ -1,7 +1,7 @@
 use Rattle.std.proofs.Common.{◌-◌, ◌^◌, ◌<◌, ◌≤◌, ◌∙◌, subst, arith, pow_mono}
 use Rattle.std.proofs.lemmas.Nat.{one_shl, pow_pos}
 use Rattle.universe.specs.Advances.{IsAdvance}
-use Rattle.universe.specs.Runs.{IsAttempt, IsFullAtLimit, IsSameUniverse}
+use Rattle.universe.specs.Later.{IsAttempt, IsFullAtLimit, IsSameUniverse}
 use Rattle.universe.specs.declared.attempts.Attempt.{Attempt}
 use Rattle.universe.proofs.Advancing.{advance_again, by_count, halves_on, stuck_below}
 use Rattle.universe.proofs.Halves.{ok_then, two_halves}

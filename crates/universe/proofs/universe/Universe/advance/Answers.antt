@@ -7,7 +7,7 @@ use Rattle.rule_text.specs.CountRule.{IsRule}
 use Rattle.plane.specs.Square.{IsSame, empty}
 use Rattle.universe.specs.Advances.{IsAdvance}
 use Rattle.universe.specs.Cells.{live_cells, rule_of}
-use Rattle.universe.specs.Runs.{IsLater}
+use Rattle.universe.specs.Later.{IsLater}
 use Rattle.universe.proofs.Advancing.{by_count, stuck_below, stuck_on_part}
 use Rattle.universe.proofs.Later.{all_done, empty_stays, low_exponent, next_within}
 use Rattle.universe.proofs.Onward.{held_on, later_on}

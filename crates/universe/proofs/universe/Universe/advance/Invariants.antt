@@ -1,6 +1,6 @@
 use Rattle.std.proofs.Common.{◌≡◌, ◌^◌, take}
 use Rattle.std.specs.Prelude.{sum_by}
-use Rattle.universe.specs.Runs.{IsLater}
+use Rattle.universe.specs.Later.{IsLater}
 use Rattle.universe.proofs.universe.Universe.advance.Given as goal
 
 -- the universe after the steps so far, whose generations are counted

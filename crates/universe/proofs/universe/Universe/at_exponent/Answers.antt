@@ -1,7 +1,7 @@
 use Rattle.std.proofs.Common.{◌^◌, ◌∙◌, ap, subst, arith}
 use Rattle.plane.proofs.Same.{same_trans}
 use Rattle.table_core.specs.declared.key.Key.{Key}
-use Rattle.universe.specs.Runs.{IsAtExponent, ReachesExponent}
+use Rattle.universe.specs.Later.{IsAtExponent, ReachesExponent}
 use Rattle.universe.specs.Stills.{IsOpenedAt}
 use Rattle.universe.specs.declared.attempts.Attempt.{Attempt}
 use Rattle.universe.specs.declared.other_tables.OtherTables.{OtherTables}

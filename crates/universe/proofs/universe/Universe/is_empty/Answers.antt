@@ -1,6 +1,6 @@
 use Rattle.node_table.specs.Desks.{store_of}
 use Rattle.universe.specs.Tables.{known_at}
-use Rattle.universe.proofs.Rounds.{is_without_cells}
+use Rattle.universe.proofs.Roots.{is_without_cells}
 use Rattle.universe.proofs.universe.Universe.is_empty.Goals as goal
 
 pub returns : goal.returns

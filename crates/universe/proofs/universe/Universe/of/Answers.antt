@@ -20,7 +20,7 @@ invariant_of-result g c =
     let made = subst (λ (o : Option (OpenTable × Sq)). IfSome o (λ value. c.of_source-made.result ≡ Ok value)) c.in-Some.is c.in_ok-here.ensures.some in
     let built = IfOk-at_ok _ made c.of_source-made.ensures.ok in
     let size = built.size in
-    record { known = built.round.known; level = (built.round.smallest.least, built.level); within = omega (arith, low, none, same, size) }
+    record { known = built.is_root.known; level = (built.is_root.smallest.least, built.level); within = omega (arith, low, none, same, size) }
 
 pub returns-in_err-shape-clause-full : goal.returns-in_err-shape-clause-full
 returns-in_err-shape-clause-full g c =

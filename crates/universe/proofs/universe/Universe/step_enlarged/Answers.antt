@@ -1,5 +1,5 @@
 use Rattle.std.proofs.Common.{subst}
-use Rattle.universe.specs.Runs.{IsAttempt}
+use Rattle.universe.specs.Later.{IsAttempt}
 use Rattle.universe.specs.declared.attempts.Attempt.{Attempt}
 use Rattle.universe.proofs.Halves.{ok_then}
 use Rattle.universe.proofs.Onward.{attempt_again, step_again}

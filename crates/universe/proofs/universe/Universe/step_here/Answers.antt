@@ -1,5 +1,5 @@
 use Rattle.std.proofs.Common.{◌^◌, ap, arith, refl}
-use Rattle.squares.specs.Rounds.{IsRound}
+use Rattle.squares.specs.Roots.{IsRootOf}
 use Rattle.table_core.specs.declared.key.Key.{Key}
 use Rattle.universe.specs.Cells.{next_cells}
 use Rattle.universe.specs.Tables.{known_at}
@@ -9,8 +9,8 @@ use Rattle.universe.proofs.universe.Universe.step_here.Goals as goal
 
 pub returns-in-Some-clause-ok : goal.returns-in-Some-clause-ok
 returns-in-Some-clause-ok g c =
-    let round = found_ok (IsRound (known_at c.step-made.new.self) (next_cells c.args.self.here c.args.self.root)) c.step-made.result c.in_ok-root.ensures.some c.in-Some.is c.step-made.ensures.ok in
-    stepped {old = c.args.self} c.step-made.ensures.stays round.cells refl
+    let is_root = found_ok (IsRootOf (known_at c.step-made.new.self) (next_cells c.args.self.here c.args.self.root)) c.step-made.result c.in_ok-root.ensures.some c.in-Some.is c.step-made.ensures.ok in
+    stepped {old = c.args.self} c.step-made.ensures.stays is_root.cells refl
 
 pub returns-in-None-clause-ok : goal.returns-in-None-clause-ok
 returns-in-None-clause-ok g c =

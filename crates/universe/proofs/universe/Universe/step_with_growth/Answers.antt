@@ -1,7 +1,7 @@
 use Rattle.std.proofs.Common.{subst, sym}
 use Rattle.table_core.specs.declared.shape.Shape.{Shape}
 use Rattle.table_growth.specs.Retries.{IsWithinLimit}
-use Rattle.universe.specs.Runs.{IsAttempt, IsFullAtLimit}
+use Rattle.universe.specs.Later.{IsAttempt, IsFullAtLimit}
 use Rattle.universe.specs.declared.attempts.Attempt.{Attempt}
 use Rattle.universe.proofs.Onward.{attempt_again, step_again}
 use Rattle.universe.proofs.universe.Universe.step_with_growth.Goals as goal

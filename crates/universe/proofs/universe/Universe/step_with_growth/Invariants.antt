@@ -1,7 +1,7 @@
 use Rattle.std.proofs.Common.{◌≡◌}
 use Rattle.std.specs.Prelude.{Some}
 use Rattle.table_growth.specs.Retries.{retries_after}
-use Rattle.universe.specs.Runs.{IsAttempt, IsFullAtLimit}
+use Rattle.universe.specs.Later.{IsAttempt, IsFullAtLimit}
 use Rattle.table_growth.specs.declared.retries.Retry.TheVariants.{CellsAlone}
 use Rattle.universe.proofs.universe.Universe.step_with_growth.Given as goal
 
