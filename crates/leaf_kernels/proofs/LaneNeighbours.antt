@@ -1,8 +1,7 @@
 -- The live neighbours of the cells in a lane, by the rows in that lane of three vectors.
-use Rattle.std.proofs.Common.{◌≡◌, ℕ, ◌+◌, ◌*◌, ℤ, pos, ◌+ℤ◌, ◌-ℤ◌, Bool, true, false, List, length, sym, ◌∙◌, ap, arith, bit_and, w64}
+use Rattle.std.proofs.Common.{◌≡◌, ℕ, ◌+◌, ◌*◌, ℤ, pos, ◌+ℤ◌, ◌-ℤ◌, Bool, true, false, List, sym, ◌∙◌, ap, arith}
 use Rattle.std.specs.Prelude.{◌&&◌}
 use Rattle.std.proofs.lemmas.Bool.{false≢true}
-use lib.Lanes.{zip2}
 use Rattle.rule_text.specs.declared.neighbourhood.Neighbourhood.{Neighbourhood}
 use Rattle.rule_text.specs.declared.neighbourhood.Neighbourhood.TheVariants.{Moore, VonNeumann, Hexagonal}
 use Rattle.plane.specs.Plane.{Plane, live_neighbours}
@@ -11,7 +10,6 @@ use Rattle.plane.proofs.Cuts.{and_left}
 use Rattle.leaf_kernels.specs.Masks.{has_falling, has_rising}
 use Rattle.leaf_kernels.specs.Rows.{four_rows_plane, lane_plane}
 use Rattle.leaf_kernels.specs.Sums.{number}
-use Rattle.leaf_kernels.proofs.Lanes.{cells-and}
 use Rattle.leaf_kernels.proofs.Neighbours.{eight_neighbours, four_neighbours, six_neighbours}
 
 -- three numbers above, two beside, three below
@@ -41,10 +39,8 @@ masked_cell true false m p b h is = absurd (false≢true h)
 masked_cell false l m p b h is = absurd (false≢true h)
 
 -- a mask over rows that moved
-pub masked_rows : (mask moved : List ℕ) → length mask ≡ 4 → length moved ≡ 4 → (x lane : ℤ) (m p : Bool) → four_rows_plane mask x lane ≡ ((spans 64 x && spans 4 lane) && m) → four_rows_plane moved x lane ≡ p →
-    four_rows_plane (zip2 bit_and mask moved) x lane ≡ (((spans 64 x && spans 4 lane) && m) && p)
-masked_rows mask moved lm lr x lane m p is_mask is_moved =
-    cells-and w64 4 mask moved lm lr x lane ∙ ap (λ t. t && four_rows_plane moved x lane) is_mask ∙ ap (λ t. ((spans 64 x && spans 4 lane) && m) && t) is_moved
+pub masked_cells : (both mask moved m p : Bool) → both ≡ (mask && moved) → mask ≡ m → moved ≡ p → both ≡ (m && p)
+masked_cells both mask moved m p is is_mask is_moved = is ∙ ap (λ t. t && moved) is_mask ∙ ap (λ t. m && t) is_moved
 
 pub within : (s p b : Bool) → s ≡ true → b ≡ (s && p) → number b ≡ number p
 within s p b h is = ap number (is ∙ ap (λ t. t && p) h)
@@ -54,6 +50,9 @@ sum_two s a b c d h k l = omega arith
 
 pub sum_three : (s a b c d e : ℕ) → s ≡ a + b + c → a ≡ d → c ≡ e → s ≡ d + b + e
 sum_three s a b c d e h k l = omega arith
+
+pub sum_across : (s a b c d e : ℕ) → s ≡ a + b + c → a ≡ d → b ≡ e → s ≡ d + c + e
+sum_across s a b c d e h k l = omega arith
 
 -- what counts of the rows above, here and below
 pub masked_count : (neighbourhood : Neighbourhood) (above here below : List ℕ) (x lane : ℤ) (ul ur l r ll lr : Bool) (count upper beside lower : ℕ) → (spans 64 x && spans 4 lane) ≡ true →
@@ -72,6 +71,19 @@ masked_count neighbourhood above here below x lane ul ur l r ll lr count upper b
     (sum_three lower _ _ _ _ _ is_lower (masked_cell (spans 64 x) (spans 4 lane) _ _ ll inside is_ll) (masked_cell (spans 64 x) (spans 4 lane) _ _ lr inside is_lr))
     ∙ masked neighbourhood (lane_plane above here below lane) x (pos 0)
 
+-- what counts of them, if all eight do
+pub moore_count : (above here below : List ℕ) (x lane : ℤ) (l r : Bool) (count upper beside lower : ℕ) → (spans 64 x && spans 4 lane) ≡ true →
+    upper ≡ number (four_rows_plane above (x -ℤ pos 1) lane) + number (four_rows_plane above x lane) + number (four_rows_plane above (x +ℤ pos 1) lane) →
+    l ≡ (spans 64 x && four_rows_plane here (x -ℤ pos 1) lane) → r ≡ (spans 64 x && four_rows_plane here (x +ℤ pos 1) lane) → beside ≡ number l + number r →
+    lower ≡ number (four_rows_plane below (x -ℤ pos 1) lane) + number (four_rows_plane below x lane) + number (four_rows_plane below (x +ℤ pos 1) lane) →
+    count ≡ upper + beside + lower → count ≡ live_neighbours Moore (lane_plane above here below lane) x (pos 0)
+moore_count above here below x lane l r count upper beside lower inside is_upper is_l is_r is_beside is_lower is_count =
+    let in_x = and_left (spans 64 x) (spans 4 lane) inside in
+    eight_added count upper beside lower _ _ _ _ _ _ _ _ is_count is_upper
+    (sum_two beside _ _ _ _ is_beside (within (spans 64 x) _ l in_x is_l) (within (spans 64 x) _ r in_x is_r))
+    is_lower
+    ∙ sym (eight_neighbours (lane_plane above here below lane) x (pos 0))
+
 carried : (a d b e c f o k t q : ℕ) → o + 2 * k ≡ a + b + c → t + 2 * q ≡ d + e + f → (o + 2 * k) + 2 * (t + 2 * q) ≡ (a + 2 * d) + (b + 2 * e) + (c + 2 * f)
 carried a d b e c f o k t q g h = omega arith
 
@@ -83,8 +95,4 @@ pub eight_count : (above here below : List ℕ) (x lane : ℤ) (l r : Bool) (a d
     o + 2 * k ≡ a + b + c → t + 2 * q ≡ d + e + f →
     (o + 2 * k) + 2 * (t + 2 * q) ≡ live_neighbours Moore (lane_plane above here below lane) x (pos 0)
 eight_count above here below x lane l r a d b e c f o k t q inside is_upper is_l is_r is_beside is_lower is_ones is_twos =
-    let in_x = and_left (spans 64 x) (spans 4 lane) inside in
-    eight_added _ _ _ _ _ _ _ _ _ _ _ _ (carried a d b e c f o k t q is_ones is_twos) is_upper
-    (sum_two (b + 2 * e) _ _ _ _ is_beside (within (spans 64 x) _ l in_x is_l) (within (spans 64 x) _ r in_x is_r))
-    is_lower
-    ∙ sym (eight_neighbours (lane_plane above here below lane) x (pos 0))
+    moore_count above here below x lane l r _ (a + 2 * d) (b + 2 * e) (c + 2 * f) inside is_upper is_l is_r is_beside is_lower (carried a d b e c f o k t q is_ones is_twos)

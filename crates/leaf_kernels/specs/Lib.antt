@@ -1,7 +1,9 @@
+pub mod Choices
 pub mod Generation
 pub mod Inside
 pub mod Life
 pub mod Masks
+pub mod Outcomes
 pub mod Rows
 pub mod Sums
 pub mod Words

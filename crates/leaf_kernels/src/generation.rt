@@ -9,8 +9,9 @@ ghost use Rattle.leaf_kernels.specs.Rows.{rows_plane};
 
 use crate::life::{Life, is_life};
 use crate::masks::Masks;
+use crate::moore::EightNeighbours;
 use crate::rows::{from_lane_before, from_lane_behind};
-use rule_text::Rule;
+use rule_text::{Neighbourhood, Rule};
 use std::simd::prelude::*;
 
 /// What makes the next generation of cells from their rows and the rows above and below.
@@ -31,9 +32,11 @@ pub(crate) fn later_rows(rule: &Rule, rows: [u64x4; 16], generations: u8) -> [u6
         (after rule.now (rows_plane rows) generations) }
 {
     if is_life(rule) {
-        rows_after(&Life, rows, generations)
-    } else {
-        rows_after(&Masks::new(*rule), rows, generations)
+        return rows_after(&Life, rows, generations);
+    }
+    match rule.neighbourhood() {
+        Neighbourhood::Moore => rows_after(&EightNeighbours::new(*rule), rows, generations),
+        _ => rows_after(&Masks::new(*rule), rows, generations),
     }
 }
 

@@ -3,12 +3,14 @@
 //! many cells at once.
 #![tactic(auto)]
 
+mod choice;
 mod count;
-mod digit;
 mod generation;
 mod leaves;
 mod life;
 mod masks;
+mod moore;
+mod outcomes;
 mod result;
 mod rows;
 mod sixteen_rows;

@@ -1,8 +1,6 @@
 //! The next generation by Conway's Life (B3/S23), in fewer steps than by any rule.
-ghost use Rattle.std.specs.Prelude.{◌≡◌, ◌↔◌, ℤ, pos, ◌+◌, ◌+ℤ◌, ◌-ℤ◌, true, IsTrue};
-ghost use Rattle.plane.specs.Square.{spans};
+ghost use Rattle.std.specs.Prelude.{◌≡◌, ◌↔◌, IsTrue};
 ghost use Rattle.leaf_kernels.specs.Life.{life};
-ghost use Rattle.leaf_kernels.specs.Sums.{number_at, sum_at};
 
 use crate::generation::NextCells;
 use crate::rows::{dead_cells, from_left, from_right};
@@ -24,16 +22,6 @@ pub(crate) fn is_life(rule: &Rule) -> bool
 #[derive(Drop)]
 pub(crate) struct Life;
 
-// The cell and the two beside it.
-#[inline(always)]
-fn three(rows: u64x4) -> Sum
-    ensures { (x lane : ℤ) → spans 64 x ≡ true → sum_at result x lane
-        ≡ number_at rows (x -ℤ pos 1) lane + number_at rows x lane
-        + number_at rows (x +ℤ pos 1) lane }
-{
-    Sum::of_three(from_left(rows), rows, from_right(rows))
-}
-
 impl NextCells for Life {
     ghost rule = { λ _. life };
 
@@ -41,9 +29,9 @@ impl NextCells for Life {
     // eight.
     #[inline(always)]
     fn next_cells(&self, above: u64x4, here: u64x4, below: u64x4) -> u64x4 {
-        let upper = three(above);
+        let upper = Sum::across(above);
         let beside = Sum::of_two(from_left(here), from_right(here));
-        let lower = three(below);
+        let lower = Sum::across(below);
         let ones = Sum::of_three(upper.ones, beside.ones, lower.ones);
         let twos = Sum::of_three(upper.twos, beside.twos, lower.twos);
         (ones.twos ^ twos.ones) & dead_cells(twos.twos) & (ones.ones | here)

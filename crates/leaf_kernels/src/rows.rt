@@ -1,9 +1,9 @@
 //! Sixty-four rows of sixty-four cells in sixteen vectors of four rows: row `y` is lane `y / 16` of
 //! the vector `y % 16`, bit `x` of it the cell `(x, y)`. So the rows above and below those of a
 //! vector are those of the vectors beside it.
-ghost use Rattle.std.specs.Prelude.{◌≡◌, Bool, pos, ◌+ℤ◌, ◌-ℤ◌, ◌&&◌, if◌then◌else◌, not};
+ghost use Rattle.std.specs.Prelude.{◌≡◌, Bool, ℤ, pos, ◌+ℤ◌, ◌-ℤ◌, ◌&&◌, if◌then◌else◌, not};
 ghost use Rattle.plane.specs.Square.{spans};
-ghost use Rattle.leaf_kernels.specs.Masks.{mask_of};
+ghost use Rattle.leaf_kernels.specs.Choices.{all_cells, differ};
 ghost use Rattle.leaf_kernels.specs.Rows.{HasCells, four_rows_plane, in_rows};
 
 use std::simd::prelude::*;
@@ -48,20 +48,30 @@ pub(crate) fn dead_cells(rows: u64x4) -> u64x4
     !rows
 }
 
-/// All cells or none, by a word of which all bits are live or none.
+/// All cells or none.
 #[inline(always)]
-pub(crate) fn everywhere(mask: u64) -> u64x4
-    ensures { (live : Bool) → mask ≡ mask_of live
-        → HasCells result (λ x lane. in_rows x lane && live) }
+pub(crate) fn everywhere(live: bool) -> u64x4
+    ensures { HasCells result (all_cells live) }
 {
-    u64x4::splat(mask)
+    u64x4::splat(if live { u64::MAX } else { 0 })
 }
 
-/// The one's cells where `bit` is dead, the other's where it is live.
+/// The cells that are live in both.
 #[inline(always)]
-pub(crate) fn choose(bit: u64x4, dead: u64x4, live: u64x4) -> u64x4
-    ensures { HasCells result (λ x lane. if four_rows_plane bit x lane
-        then four_rows_plane live x lane else four_rows_plane dead x lane) }
+pub(crate) fn both(first: u64x4, second: u64x4) -> u64x4
+    ensures { HasCells result (λ x lane.
+        four_rows_plane first x lane && four_rows_plane second x lane) }
 {
-    dead ^ ((dead ^ live) & bit)
+    first & second
+}
+
+/// The one's cells where `bit` is dead, the other's where it is live, by the one's cells and where
+/// the two differ.
+#[inline(always)]
+pub(crate) fn select(bit: u64x4, dead: u64x4, difference: u64x4) -> u64x4
+    ensures { (x lane : ℤ) (one other : Bool) → four_rows_plane dead x lane ≡ one
+        → four_rows_plane difference x lane ≡ differ one other
+        → four_rows_plane result x lane ≡ if four_rows_plane bit x lane then other else one }
+{
+    dead ^ (bit & difference)
 }

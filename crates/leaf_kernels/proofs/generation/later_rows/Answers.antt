@@ -7,7 +7,3 @@ use Rattle.leaf_kernels.proofs.generation.later_rows.Goals as goal
 pub returns-then-is_life : goal.returns-then-is_life
 returns-then-is_life c =
     subst (λ rule. AgreeInside 64 c.args.generations (rows_plane c.rows_after.result) (after rule (rows_plane c.args.rows) c.args.generations)) (sym (c.is_life.ensures.0 c.if-is_life.true)) c.rows_after.ensures
-
-pub returns-else-is_life : goal.returns-else-is_life
-returns-else-is_life c =
-    subst (λ rule. AgreeInside 64 c.args.generations (rows_plane c.rows_after-else-is_life.result) (after rule (rows_plane c.args.rows) c.args.generations)) c.new.ensures c.rows_after-else-is_life.ensures

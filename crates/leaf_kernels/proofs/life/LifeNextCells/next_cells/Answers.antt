@@ -21,8 +21,8 @@ returns c x lane inside =
     let two = four_rows_plane c.of_three-twos.result.ones x lane in
     let four = four_rows_plane c.of_three-twos.result.twos x lane in
     let counted : (number one + 2 * number carry) + 2 * (number two + 2 * number four) ≡ live_neighbours Moore (lane_plane c.args.above c.args.here c.args.below lane) x (pos 0) =
-    eight_count c.args.above c.args.here c.args.below x lane _ _ _ _ _ _ _ _ _ _ _ _ inside (c.three-upper.ensures x lane in_x)
-    (c.from_left.ensures x lane) (c.from_right.ensures x lane) (c.of_two-beside.ensures x lane) (c.three-lower.ensures x lane in_x)
+    eight_count c.args.above c.args.here c.args.below x lane _ _ _ _ _ _ _ _ _ _ _ _ inside (c.across-upper.ensures x lane in_x)
+    (c.from_left.ensures x lane) (c.from_right.ensures x lane) (c.of_two-beside.ensures x lane) (c.across-lower.ensures x lane in_x)
     (c.of_three-ones.ensures x lane) (c.of_three-twos.ensures x lane) in
     life_rows c.of_three-ones.result.ones c.of_three-ones.result.twos c.of_three-twos.result.ones c.of_three-twos.result.twos c.dead_cells.result c.args.here
     (omega arith) (omega arith) (omega arith) (omega arith) (omega arith) c.dead_cells.ensures x lane inside
