@@ -25,13 +25,10 @@ use plane::{Fault, Refusal, rule_refusal};
 use rule_text::Rule;
 use run_options::RunOptions;
 use std::alloc::Global;
-use universe::Universe;
+use universe::{BYTES_A_PAIR_SLOT, Universe};
 
 // The rule of a file that names none.
 const LIFE: &[u8] = b"B3/S23";
-
-// About how many bytes of a large pattern file there are for each pair slot that its squares need.
-const BYTES_A_SLOT: u64 = 10;
 
 impl Session {
     ghost use Rattle.engine.specs.Sessions.{IsOpenedFor, opening};
@@ -70,7 +67,7 @@ impl Session {
     {
         let text = PatternFile::open(alloc, bytes)?;
         let rule = given_or_named(&text, run.rule)?;
-        let expected = bytes.len() as u64 / BYTES_A_SLOT;
+        let expected = bytes.len() as u64 / BYTES_A_PAIR_SLOT;
         let universe = universe_of(alloc, &rule, &text, expected, run.gens, run.pairs)?;
         Ok(Session {
             comments: kept_comments(alloc, &text)?,

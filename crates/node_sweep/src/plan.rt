@@ -17,12 +17,6 @@ use std::thread::{Threads, map_indices};
 // With fewer pair slots for each worker, fewer workers find out what is copied.
 const SLOTS_A_WORKER: u32 = 1 << 17;
 
-// Squares of this part of the side of a step's square, as a power of two, are counted.
-const COUNTED_PART: u8 = 6;
-
-// More of them are known once a step has come far.
-const FEW_PARTS: u32 = 100;
-
 /// Who finds out what is copied.
 #[derive(Clone, Copy)]
 pub struct Workers<'a, R> {
@@ -98,13 +92,12 @@ impl CopyPlan {
         self.finished
     }
 
-    /// Whether the step under this exponent that filled the table has come far: the table has many
-    /// small parts of squares that are just large enough for a whole step. No clause promises the
-    /// answer: it only decides how much larger the next table is.
-    pub fn has_come_far(&self, exponent: u8) -> bool {
-        // A square of level exponent + 3 has the rank 2 * exponent.
-        let counted = exponent.saturating_sub(COUNTED_PART).saturating_mul(2);
-        counted != 0 && self.counts.pairs[usize::from(counted)] > FEW_PARTS
+    /// How many squares of this level are kept, which is above that of leaves. No clause promises
+    /// the answer.
+    pub fn square_count(&self, level: u8) -> u32 {
+        // A square of level n + 3 is a pair of the rank 2 * n.
+        let rank = level.saturating_sub(3).saturating_mul(2);
+        self.counts.pairs[usize::from(rank)]
     }
 
     /// The slots of the pairs, in the parts of the table.

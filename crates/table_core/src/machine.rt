@@ -7,7 +7,7 @@ use crate::word::result_word;
 
 /// One atomic step: a load, or a compare-exchange with 0, of one word by one desk. `slot` is the
 /// index of the word among those of the table.
-#[derive(Clone, Copy, Debug, PartialEq, Eq)]
+#[derive(Clone, Copy)]
 pub enum Event {
     /// Loads the word of a leaf or a pair.
     Look { desk: usize, slot: u32 },

@@ -1,2 +1,1 @@
 pub mod Retries
-pub mod Sizes

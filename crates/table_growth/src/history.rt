@@ -2,28 +2,12 @@
 
 ghost use Rattle.std.specs.Prelude.{◌≤◌};
 
-use crate::sizes::{GrowthFactor, LARGE_BITS};
+use crate::policy::{
+    FEW_EXPANSIONS, FINISHED_SHARE, LARGE_BITS, SLOTS_AN_EXPANSION, STEPS_BEFORE_SMALLER_SWEEP,
+    STEPS_BEFORE_SWEEP, STEPS_OF_GROWTH,
+};
+use crate::sizes::GrowthFactor;
 use node_sweep::Finished;
-
-// A full large table that has taken this many steps is swept before it grows.
-const STEPS_BEFORE_SWEEP: u32 = 4;
-
-// The same for a full table that has a quarter or half as many slots as a large one.
-const STEPS_BEFORE_SMALLER_SWEEP: u32 = 256;
-
-// A table that has taken more steps than this has nearly as many slots as a step needs.
-const STEPS_OF_GROWTH: u32 = 4;
-
-// A step of at most this many expansions is short: threads would take more time to start than they
-// save.
-const FEW_EXPANSIONS: u64 = 16384;
-
-// One more collection for a step helps only if one more in so many large squares is finished than
-// at the last.
-const FINISHED_SHARE: u64 = 32;
-
-// A step that expanded fewer squares than one for this many pair slots had too little room.
-const SLOTS_AN_EXPANSION: u64 = 16;
 
 // What was collected from full tables for the step that comes next.
 #[derive(Clone, Copy)]

@@ -4,9 +4,13 @@
 #![tactic(auto)]
 
 mod history;
+mod policy;
 mod retries;
 mod sizes;
 
 pub use history::TableHistory;
-pub use retries::{COLLECTION_SHARES, Retry, RetryPlan};
-pub use sizes::{GrowthFactor, expected_shape, larger, pair_count, shape_between, smallest};
+pub use policy::{BYTES_A_PAIR_SLOT, COLLECTION_SHARES, SHARED_COPY_PAIRS};
+pub use retries::{Retry, RetryPlan};
+pub use sizes::{
+    GrowthFactor, expected_shape, has_come_far, larger, pair_count, shape_between, smallest,
+};

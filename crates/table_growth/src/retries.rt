@@ -3,25 +3,9 @@
 ghost use Rattle.std.specs.Prelude.{◌≡◌, Some, IfNone, IfSome};
 
 use crate::history::TableHistory;
+use crate::policy::{DEFAULT_LIMIT_BITS, LARGE_TEAM, MOST_COLLECTIONS};
 use crate::sizes::larger;
-use node_sweep::Shares;
 use table_core::Shape;
-
-/// How much a collection keeps beside what the root reaches: small squares in a quarter of the pair
-/// slots, and large ones that have results in one in 128. No small squares are kept where pairs of
-/// leaves take more than one pair slot in 16: their leaves would leave too few leaf slots for
-/// others.
-pub const COLLECTION_SHARES: Shares = Shares {
-    small: 4,
-    large: 128,
-    leaves: 16,
-};
-
-// So many workers make the squares of a first step again faster than one thread copies them.
-const LARGE_TEAM: usize = 8;
-
-// After so many collections for one step, only the cells are tried.
-const MOST_COLLECTIONS: u32 = 1 << 20;
 
 /// How a step is tried again: at a new table of which size, and with what of the table that was
 /// full.
@@ -55,8 +39,9 @@ impl RetryPlan {
 
     /// What comes after this try, which met a full table; `None` stands for the first try, at the
     /// table as it was. A table that earlier steps have filled is swept, if it isn't the largest;
-    /// then comes each larger size, in the first step of many workers with only the cells; then
-    /// collections, as long as one helps; and at last only the cells. If they fill the largest
+    /// then comes each larger size, in the first step of many workers with only the cells where there
+    /// may be more slots than by default; then collections, as long as one helps; and at last only the
+    /// cells. If they fill the largest
     /// table too, nothing comes: the step has to be halved.
     pub fn next(&self, tried: Option<Retry>, collection_helps: bool) -> Option<Retry>
         ensures within { IfSome result (IsWithinLimit self.now.limit) }
@@ -87,9 +72,11 @@ impl RetryPlan {
     }
 
     // Whether the step begins again with only the cells at a larger table: many workers take the
-    // first step of the table's cells.
+    // first step of the table's cells, and there may be more slots than by default.
     fn should_restart(&self) -> bool {
-        self.workers >= LARGE_TEAM && self.history.has_no_step()
+        self.workers >= LARGE_TEAM
+            && self.limit.bits > DEFAULT_LIMIT_BITS
+            && self.history.has_no_step()
     }
 
     // What comes after a table of the largest shape, which was collected so many times.

@@ -1,28 +1,17 @@
 //! The sizes of tables, from a small one on.
 
-ghost use Rattle.std.specs.Prelude.{◌≡◌, ◌<◌, ◌≤◌, ◌⊎◌, ◌+◌, ◌^◌, ℕ, min, IfNone, IfSome};
-ghost use Rattle.table_growth.specs.Sizes.{IsFirstSizeUpTo, IsGrownBy, bits_of};
+ghost use Rattle.std.specs.Prelude.{◌≡◌, ◌<◌, ◌≤◌, ◌⊎◌, ◌+◌, ◌^◌, IfNone, IfSome};
 
+use crate::policy::{
+    BITS_OF_LARGE_STEPS, BITS_OF_SMALL_STEPS, COUNTED_PART, DEFAULT_LIMIT_BITS, FEW_PARTS,
+    LARGE_BITS, START_BITS,
+};
+use node_sweep::CopyPlan;
 use table_core::{Kind, Shape};
-
-// How many pair slots a new table has, as a power of two, if it may have so many.
-const START_BITS: u8 = 12;
-
-/// From how many pair slots on a table is large, as a power of two: it is larger than a processor's
-/// cache.
-pub(crate) const LARGE_BITS: u8 = 18;
-
-// How many pair slots a run's tables may have together unless it is told otherwise, as a power of
-// two.
-const DEFAULT_LIMIT_BITS: u8 = 22;
-
-// From how many pair slots on a table grows by sixteen where it may have more slots than by
-// default: who gives so many needs them.
-const BITS_OF_LARGE_STEPS: u8 = 20;
 
 /// The shape of a new table: 4096 pair slots, or the largest.
 pub fn smallest(limit: Shape) -> Shape
-    ensures { result.bits ≡ min 12 limit.bits }
+    ensures { result.bits ≤ limit.bits }
 {
     let bits = limit.bits.min(START_BITS);
     Shape { bits }
@@ -39,11 +28,7 @@ pub enum GrowthFactor {
 /// of 2^12, 2^16, 2^20 and each larger power of two, or the largest.
 pub fn expected_shape(pairs: u64, limit: Shape) -> Shape
     ensures within { result.bits ≤ limit.bits }
-    ensures size { IsFirstSizeUpTo limit.bits result.bits }
     ensures enough { (pairs ≤ 2 ^ result.bits) ⊎ (result.bits ≡ limit.bits) }
-    // Each smaller size has too few.
-    ensures least { (bits : ℕ) → IsFirstSizeUpTo limit.bits bits → bits < result.bits
-        → 2 ^ bits < pairs }
 {
     let mut bits = smallest(limit).bits;
     while bits < limit.bits && (1u64 << bits) < pairs {
@@ -64,11 +49,6 @@ pub fn expected_shape(pairs: u64, limit: Shape) -> Shape
 pub fn larger(shape: Shape, limit: Shape, growth_factor: GrowthFactor) -> Option<Shape>
     ensures some { IfSome result (λ next. (shape.bits < next.bits) × (next.bits ≤ limit.bits)) }
     ensures none { IfNone result (limit.bits ≤ shape.bits) }
-    ensures small { shape.bits < 18
-        → IfSome result (IsGrownBy (bits_of growth_factor) shape limit) }
-    ensures large { 18 ≤ shape.bits → (shape.bits < 20) ⊎ (limit.bits ≤ 22)
-        → IfSome result (IsGrownBy 2 shape limit) }
-    ensures largest { 20 ≤ shape.bits → 22 < limit.bits → IfSome result (IsGrownBy 4 shape limit) }
 {
     if shape.bits >= limit.bits {
         return None;
@@ -83,16 +63,24 @@ pub fn larger(shape: Shape, limit: Shape, growth_factor: GrowthFactor) -> Option
 }
 
 /// The shape with four times as many pair slots as this one, if a full table of this one is replaced
-/// by a still larger one.
+/// by a still larger one unless the step has come far.
 pub fn shape_between(from: Shape, to: Shape) -> Option<Shape>
     ensures { IfSome result
         (λ between. (between.bits ≡ from.bits + 2) × (between.bits < to.bits)) }
 {
     let bits = from.bits + 2;
-    if from.bits < BITS_OF_LARGE_STEPS || bits >= to.bits {
+    if from.bits < BITS_OF_SMALL_STEPS || bits >= to.bits {
         return None;
     }
     Some(Shape { bits })
+}
+
+/// Whether the step under this exponent that filled the table of the plan has come far: the table
+/// has many small parts of squares that are just large enough for a whole step. No clause promises
+/// the answer: it only decides how much larger the next table is.
+pub fn has_come_far(plan: &CopyPlan, exponent: u8) -> bool {
+    // The square of a step has the level exponent + 3, so its counted parts are no leaves.
+    exponent > COUNTED_PART && plan.square_count(exponent - COUNTED_PART + 3) > FEW_PARTS
 }
 
 /// How many pair slots a table of this shape has.

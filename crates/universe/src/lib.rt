@@ -19,4 +19,5 @@ mod universe;
 pub use advances::Advance;
 pub use resting::Resting;
 pub use rooted_still::RootedStill;
+pub use table_growth::BYTES_A_PAIR_SLOT;
 pub use universe::Universe;

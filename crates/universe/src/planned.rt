@@ -9,12 +9,8 @@ use squares::Sq;
 use std::alloc::AllocError;
 use std::thread::{Threads, join};
 use table_core::{Kind, Shape};
-use table_growth::{TableHistory, shape_between};
+use table_growth::{SHARED_COPY_PAIRS, TableHistory, has_come_far, shape_between};
 use worker_split::Team;
-
-// From how many pair slots on one more thread makes the new words, while the others find out what
-// is copied.
-const SHARED_COPY_PAIRS: u32 = 1 << 20;
 
 /// A plan of a copy, and the words of this shape that it is copied into.
 #[derive(Drop)]
@@ -70,7 +66,7 @@ impl OpenTable {
             return Ok(Some(planned));
         };
         let planned = self.plan_in(team, root, smaller, keep)?;
-        if planned.plan.has_come_far(self.table.key().exponent) {
+        if has_come_far(&planned.plan, self.table.key().exponent) {
             return Ok(Some(planned));
         }
         let Planned { plan, blank, .. } = planned;

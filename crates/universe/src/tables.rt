@@ -11,10 +11,8 @@ ghost use Rattle.universe.specs.Outcomes.{IfMade, LacksMemoryOrRoom};
 ghost use Rattle.universe.specs.Readers.{IsReader};
 ghost use Rattle.worker_split.specs.Jobs.{Refuses};
 
-use crate::planned::Planned;
-use crate::refusals::unless_full;
 use crate::rooted_still::RootedStill;
-use node_sweep::{Keep, copy};
+use node_sweep::Keep;
 use node_table::{At, Desk, NodeTable, Still};
 use plane::Refusal;
 use rule_text::Rule;
@@ -94,17 +92,14 @@ impl OpenTable {
         ensures pairs { IfMade result (HasPairs (2 ^ shape.bits)) }
     {
         let Key { rule, exponent, .. } = *self.table.key();
+        let history = self.history.for_new_table(shape.bits);
         // All squares are copied, whichever is given as the root.
         let root = Sq::empty(4);
-        let Planned { plan, blank, .. } = self.plan_in(team, root, shape, Keep::Everything)?;
-        let still = self.table.close(self.desk);
-        let made = copy(team.alloc, &still, root, &plan, blank);
-        let Some((larger, _)) = unless_full(made)? else {
+        let planned = self.plan_in(team, root, shape, Keep::Everything)?;
+        let Some(RootedStill { still, .. }) = self.close(root).copy(team.alloc, planned)? else {
             return Ok(None);
         };
-        drop(still);
-        let history = self.history.for_new_table(shape.bits);
-        let table = OpenTable::of_words(team.alloc, larger, &rule, exponent, history)?;
+        let table = OpenTable::of_words(team.alloc, still, &rule, exponent, history)?;
         Ok(Some(table))
     }
 

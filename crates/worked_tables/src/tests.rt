@@ -12,6 +12,7 @@ mod reopened;
 mod retries;
 mod rounds;
 mod searches;
+mod sizes;
 mod steps;
 mod sweeps;
 mod tables;

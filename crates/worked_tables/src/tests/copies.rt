@@ -1,12 +1,13 @@
 //! Copies as they were planned at an open table: growths and collections.
 
-ghost use Rattle.std.specs.Prelude.{◌≤◌};
+ghost use Rattle.std.specs.Prelude.{◌≤◌, IfOk};
+ghost use Rattle.std.proofs.Props.{props};
 ghost use Rattle.squares.specs.Book.{IsKnown};
 ghost use Rattle.node_table.specs.Desks.{IsDeskOf, book_at};
 ghost use Rattle.node_table.specs.Stills.{book_in};
 
 use crate::tests::leaves::make_leaves;
-use crate::tests::sweeps::{Made, make};
+use crate::tests::sweeps::{Made, are_same, make};
 use crate::tests::tables::{PAIRS, empty_table, open_table};
 use hashlife_step::{Tally, step};
 use node_sweep::{BlankWords, CopyPlan, Finished, Keep, Workers, copy, sweep};
@@ -19,7 +20,7 @@ use std::process::Abort;
 use std::test::Fail;
 use std::thread::Threads;
 use table_core::{Kind, Shape};
-use table_growth::COLLECTION_SHARES;
+use table_growth::{COLLECTION_SHARES, has_come_far};
 
 const COLLECTED: Keep = Keep::Collected(COLLECTION_SHARES);
 
@@ -40,6 +41,7 @@ pub(crate) struct Copied {
     pub(crate) made: Result<(Still, Sq), Refusal>,
     finished: Option<Finished>,
     ghost known: { IsKnown (book_in words) root.level root },
+    ghost copy_known: { IfOk made (λ made. IsKnown (book_in made.0) made.1.level made.1) } by { Prim.hlevel props },
 }
 
 /// A known square of a table, copied as it is planned there; the table is closed before.
@@ -95,7 +97,8 @@ fn not_copied(words: Still, root: Sq) -> Copied
     }
 }
 
-// What is made at a table of so many pair slots under this exponent, copied.
+// What is made at a table of so many pair slots under this exponent, copied. The copy has the same
+// cells.
 fn make_and_copy<R: Abort + AllocGlobal + Threads + Sync>(
     rt: &R,
     made: Made,
@@ -108,7 +111,12 @@ fn make_and_copy<R: Abort + AllocGlobal + Threads + Sync>(
     assert!(rt; at.exponent() <= 62);
     let root = make(&mut at, made);
     let desk = at.leave();
-    copied_from(rt, table, desk, root?, copying)
+    let copied = copied_from(rt, table, desk, root?, copying)?;
+    if let Ok((still, copy)) = &copied.made {
+        let original = (&copied.words, copied.root);
+        assert!(rt; are_same(rt.alloc(), original, (still, *copy))?);
+    }
+    Ok(copied)
 }
 
 // All leaves of a full table stay where it is enlarged, and one of twice the size has room for one
@@ -257,7 +265,7 @@ fn many_small_squares_show_how_far_a_step_has_come(rt: HostRuntime) -> Result<()
         };
         let keep = Keep::Everything;
         let plan = CopyPlan::of_table(&workers, &table, root, keep, 16 * PAIRS)?;
-        assert_eq!(rt; plan.has_come_far(exponent), is_far);
+        assert_eq!(rt; has_come_far(&plan, exponent), is_far);
     }
     Ok(())
 }

@@ -92,8 +92,13 @@ fn each_retry_in_its_order(rt: HostRuntime) -> Result<(), Fail> {
         full(20, 23, 0, 0, "23 alone halve"),
         full(22, 25, 0, 0, "25 alone halve"),
         by_team(7, full(12, 22, 0, 1, "16 20 22 collect alone halve")),
-        by_team(8, full(12, 17, 0, 0, "16-alone 17-alone alone halve")),
-        by_team(64, full(12, 17, 1, 0, "16 17 alone halve")),
+        by_team(64, full(12, 22, 0, 0, "16 20 22 alone halve")),
+        by_team(7, full(12, 23, 0, 0, "16 20 23 alone halve")),
+        by_team(
+            8,
+            full(12, 23, 0, 0, "16-alone 20-alone 23-alone alone halve"),
+        ),
+        by_team(8, full(12, 23, 1, 0, "16 20 23 alone halve")),
     ];
     for case in &cases {
         assert_eq!(rt; order(rt.alloc(), case)?.as_str(), case.order);

@@ -1,13 +1,10 @@
-use Rattle.std.proofs.Common.{ℕ, ◌-◌, ◌^◌, ◌<◌, ◌≤◌}
-use Rattle.table_growth.specs.Sizes.{IsFirstSizeUpTo}
+use Rattle.std.proofs.Common.{◌-◌, ◌≤◌}
 use Rattle.table_growth.proofs.sizes.expected_shape.Given as goal
 
 abbrev pub invariant-loop-bits : goal.invariant-loop-bits
 invariant-loop-bits l = record {
   low : 10 ≤ l.bits;
   high : l.bits ≤ l.limit.bits;
-  size : IsFirstSizeUpTo l.limit.bits l.bits;
-  least : (bits : ℕ) → IsFirstSizeUpTo l.limit.bits bits → bits < l.bits → 2 ^ bits < l.pairs;
 }
 
 abbrev pub decreases-loop-bits : goal.decreases-loop-bits
