@@ -1,4 +1,5 @@
 pub mod Acceptance
+pub mod BoxesInRange
 mod CellsAtRest
 pub mod CutRuns
 pub mod Endings
@@ -8,10 +9,8 @@ pub mod LastPatterns
 mod Onward
 pub mod OneRun
 pub mod OtherWorkers
-pub mod Pictures
 pub mod Reports
 pub mod SessionRuns
 pub mod Sessions
-pub mod ShownBoxes
 pub mod Steps
 mod WholeReports

@@ -7,9 +7,8 @@ use Rattle.plane.specs.Listing.{IsListing, plane_of}
 use Rattle.plane.specs.Plane.{Plane}
 use Rattle.plane.specs.declared.cell.Cell.{Cell}
 use Rattle.pattern_writers.specs.Frame.{FitsRle}
-use Rattle.pattern_writers.specs.Reading.{IsReadBackFromMc}
+use Rattle.pattern_writers.specs.Reading.{IsReadBackFromMc, IsReadBackFromRle}
 use Rattle.pattern_writers.specs.McText.{mc_text}
-use Rattle.pattern_writers.specs.Reading.{IsReadBackFromRle}
 use Rattle.pattern_writers.specs.RleText.{rle_text}
 use Rattle.engine.specs.declared.options.Format.{Format}
 use Rattle.engine.specs.declared.options.Format.TheVariants.{Rle, Macrocell}

@@ -5,7 +5,6 @@ pub mod Judgement
 pub mod KeptComments
 pub mod Last
 pub mod Pattern
-pub mod Pictures
 pub mod Refused
 pub mod Report
 pub mod Room

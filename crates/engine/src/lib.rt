@@ -21,7 +21,6 @@ pub use last::last_pattern;
 pub use laws::{a_cut_run_goes_on, every_number_of_workers, one_ending, one_judgement};
 pub use options::{Format, Options};
 pub use pattern::{Heading, Pattern};
-pub use pattern_picture::{Drawing, Scale};
 pub use run_options::RunOptions;
 pub use running::{Summary, run, run_from, run_gated};
 pub use session::Session;

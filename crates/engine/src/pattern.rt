@@ -5,18 +5,16 @@ ghost use Rattle.node_table.specs.Openings.{SaysAll};
 ghost use Rattle.plane.specs.Square.{IsSame};
 ghost use Rattle.node_table.specs.Stills.{book_in};
 ghost use Rattle.squares.specs.Book.{IsKnown};
-ghost use Rattle.universe.specs.Cells.{known_by, resting_limit, resting_rule, root_of, rooted_of, shown_by, still_of};
+ghost use Rattle.squares.specs.Roots.{square_plane};
+ghost use Rattle.universe.specs.Cells.{known_by, resting_limit, resting_rule, shown_by};
 ghost use Rattle.universe.specs.Rests.{IsAtRest};
 ghost use Rattle.viewport.specs.Population.{HasPopulation};
 ghost use Rattle.viewport.specs.RowRuns.{AreRowRuns};
 ghost use Rattle.viewport.specs.Rows.{IsFirstRow};
-ghost use Rattle.pattern_picture.specs.Drawings.{IsDrawingOf};
-ghost use Rattle.pattern_picture.specs.Scale.{IsShown, IsSize};
 ghost use Rattle.viewport.specs.BoundingBox.{HasBounds};
 
 use crate::options::Format;
 use node_table::Still;
-use pattern_picture::Drawing;
 use pattern_writers::{write_mc, write_rle};
 use plane::{Bounds, Refusal, Sink, Window};
 use rule_text::Rule;
@@ -45,7 +43,7 @@ impl Pattern {
     ghost use Rattle.pattern_writers.specs.Output.{IfTaken};
     ghost use Rattle.pattern_writers.specs.Output.{IsWriterRefusal};
     ghost use Rattle.engine.specs.Formats.{Exceeds, HasText, format_of};
-    ghost use Rattle.engine.specs.Pattern.{StandsAlone, plane_of};
+    ghost use Rattle.engine.specs.Pattern.{StandsAlone, plane_of, square_of, words_of};
     ghost use Rattle.engine.specs.Report.{window_text};
     ghost use Rattle.std.specs.Io.KnownBytes.{Appends};
 
@@ -124,19 +122,6 @@ impl Pattern {
         viewport::row_runs(alloc, self.still(), self.root(), y)
     }
 
-    /// The drawing of a rectangle of the pattern, whose sides lie from -2^62 to 2^62, as large as
-    /// can be with at most `size` pixels on each side, 16 to 4096. `NoMemory` where there is no
-    /// room for it.
-    pub fn draw(&self, alloc: Global, shown: Bounds, size: u32) -> Result<Drawing, Refusal>
-        requires shown { IsShown shown }
-        requires size { IsSize size }
-        ensures drawn { IfOk result (IsDrawingOf (plane_of self.now) shown size) }
-        ensures memory { IsOkUnless result Refusal.NoMemory }
-    {
-        let (still, root) = (self.still(), self.root());
-        Drawing::of(alloc, still, root, shown, size)
-    }
-
     /// Writes the text of a window of the pattern, if one is asked for. `WriteFailed` where the
     /// sink failed, which took a beginning of the text then.
     pub fn write_window<W: Sink>(
@@ -203,18 +188,19 @@ impl Pattern {
         }
     }
 
-    // The words that hold the cells.
-    fn still(&self) -> &Still
-        ensures { result.now ≡ still_of (rooted_of self.now.resting) }
+    /// The words that hold the cells.
+    pub fn still(&self) -> &Still
+        ensures { result.now ≡ words_of self.now }
     {
         self.resting.cells().still()
     }
 
-    // The square of the cells in these words.
-    fn root(&self) -> Sq
-        ensures root { result ≡ root_of (rooted_of self.now.resting) }
-        ensures known { IsKnown (book_in (still_of (rooted_of self.now.resting))) result.level result }
+    /// The square of the cells in these words.
+    pub fn root(&self) -> Sq
+        ensures root { result ≡ square_of self.now }
+        ensures known { IsKnown (book_in (words_of self.now)) result.level result }
         ensures level { (3 < result.level) × (result.level ≤ 63) }
+        ensures cells { plane_of self.now ≡ square_plane (book_in (words_of self.now)) result }
     {
         self.resting.cells().root()
     }

@@ -1,13 +1,11 @@
 //! A pattern that stays open: it is asked, advanced, and asked again.
 
-ghost use Rattle.std.specs.Prelude.{◌≡◌, ◌⊎◌, ◌≤◌, None, false, true, IfErr, IfOk, IsOkUnless, OnOk};
+ghost use Rattle.std.specs.Prelude.{◌≡◌, ◌⊎◌, ◌≤◌, None, false, true, IfErr, IfNone, IfOk, IfSome, IsOkUnless, OnOk};
 ghost use Rattle.std.specs.Io.KnownBytes.{Appends};
 ghost use Rattle.rule_text.specs.CountRule.{IsRule};
 ghost use Rattle.plane.specs.Device.{AppendsBeginning, IsWriteRefusal};
 ghost use Rattle.plane.specs.Square.{IsSame};
 ghost use Rattle.plane.specs.declared.range.TheConstants.{GENERATION_LIMIT};
-ghost use Rattle.pattern_picture.specs.Drawings.{IsDrawingOf};
-ghost use Rattle.pattern_picture.specs.Scale.{IsShown, IsSize};
 ghost use Rattle.pattern_writers.specs.Output.{IfTaken, IsWriterRefusal};
 ghost use Rattle.viewport.specs.BoundingBox.{HasBounds};
 ghost use Rattle.viewport.specs.Population.{HasPopulation};
@@ -17,14 +15,13 @@ ghost use Rattle.engine.specs.Accepted.{SumsUp};
 ghost use Rattle.engine.specs.Formats.{Exceeds, HasText, format_of};
 ghost use Rattle.engine.specs.Pattern.{StandsAlone, plane_of};
 ghost use Rattle.engine.specs.Report.{window_text};
-ghost use Rattle.engine.specs.States.{IsByRule, KeepsResults};
+ghost use Rattle.engine.specs.States.{IsByRule, KeepsResults, is_at_rest};
 
 use crate::kept_comments::KeptComments;
 use crate::options::Format;
 use crate::pattern::{Heading, Pattern};
 use crate::running::Summary;
 use crate::state::State;
-use pattern_picture::Drawing;
 use plane::{Bounds, Refusal, Sink, Window};
 use rule_text::Rule;
 use std::alloc::Global;
@@ -127,6 +124,25 @@ impl Session {
         })
     }
 
+    /// Brings the cells to rest, so that [`Session::pattern`] has them. Nothing is copied, and the
+    /// next generations are found with all results that are known.
+    pub fn rest(&mut self)
+        ensures same { IsSameSession self.old self.new }
+        ensures results { KeepsResults self.old.state self.new.state }
+        ensures rest { is_open self.old ≡ true → is_at_rest self.new.state ≡ true }
+    {
+        self.state.rest();
+    }
+
+    /// The cells, if they are at rest.
+    pub fn pattern(&self) -> Option<&Pattern>
+        ensures some { IfSome result (λ pattern. plane_of pattern.now ≡ cells_of self.now) }
+        ensures open { IfSome result (λ _. is_open self.now ≡ true) }
+        ensures none { IfNone result (is_at_rest self.now.state ≡ false) }
+    {
+        self.state.pattern()
+    }
+
     /// The first row with a live cell from row y on downwards. `NoMemory` where it is closed.
     pub fn first_row(&mut self, y: i64) -> Result<Option<i64>, Refusal>
         ensures ok { IfOk result (IsFirstRow (cells_of self.new) y) }
@@ -152,21 +168,6 @@ impl Session {
         self.state.rest();
         let pattern = self.state.pattern().ok_or(Refusal::NoMemory)?;
         pattern.row_runs(alloc, y)
-    }
-
-    /// The drawing of a rectangle of its cells, as [`Pattern::draw`] makes it.
-    pub fn draw(&mut self, alloc: Global, shown: Bounds, size: u32) -> Result<Drawing, Refusal>
-        requires shown { IsShown shown }
-        requires size { IsSize size }
-        ensures drawn { IfOk result (IsDrawingOf (cells_of self.new) shown size) }
-        ensures same { IsSameSession self.old self.new }
-        ensures results { KeepsResults self.old.state self.new.state }
-        ensures closed { OnOk result (is_open self.old ≡ true) }
-        ensures memory { IsOkUnless result Refusal.NoMemory }
-    {
-        self.state.rest();
-        let pattern = self.state.pattern().ok_or(Refusal::NoMemory)?;
-        pattern.draw(alloc, shown, size)
     }
 
     /// Writes the text of a window of its cells, if one is asked for, as [`Pattern::write_window`]

@@ -1,6 +1,6 @@
 -- The line of a picture.
 use Rattle.std.proofs.Common.{◌≡◌, ◌≢◌, ℕ, ◌^◌, ◌==◌, false, List, ◌++◌, codes, append_assoc, arith}
-use Rattle.engine.specs.Pictures.{Scale}
+use Rattle.pattern_picture.specs.declared.scale.Scale.{Scale}
 use Rattle.view_program.specs.PictureLine.{pixel_words, product_words}
 
 -- what is said of a pixel where every cell has some

@@ -5,8 +5,11 @@ use Rattle.std.proofs.Math.Nat.{mul-le-mul_left, mul-le-mul_right}
 use Rattle.std.proofs.Math.Seq.{take-append_seam, drop-append_seam}
 use Rattle.plane.specs.declared.cell.Bounds.{Bounds}
 use Rattle.plane.specs.Plane.{Plane}
-use Rattle.engine.specs.Pictures.{Drawing, IsDrawingOf, IsSize, block_shades, longer_side, shade_rows}
-use Rattle.engine.proofs.Pictures.{shade_rows-joined, shade_rows-length, shade_rows-width}
+use Rattle.pattern_picture.specs.Drawings.{IsDrawingOf}
+use Rattle.pattern_picture.specs.Scale.{IsSize, longer_side}
+use Rattle.pattern_picture.specs.Shades.{block_shades, shade_rows}
+use Rattle.pattern_picture.specs.declared.pictures.Drawing.{Drawing}
+use Rattle.pattern_picture.proofs.ShadeRows.{shade_rows-joined, shade_rows-length, shade_rows-width}
 use Rattle.png_writer.specs.Picture.{IsSide, Picture}
 use Rattle.png_writer.specs.Pixels.{cut_rows, zoomed}
 use Rattle.view_program.specs.Drawn.{IsPictureOf}
@@ -36,7 +39,7 @@ module _ (plane : Plane) (shown : Bounds) (size : ℕ) (drawing : Drawing) (draw
   drawn_rows = shade_rows plane drawing.blocks
 
   -- its shades are its rows, one behind the other
-  shades-cut : cut_rows drawing.blocks.width drawing.blocks.height (block_shades plane drawing.blocks) ≡ drawn_rows
+  pub shades-cut : cut_rows drawing.blocks.width drawing.blocks.height (block_shades plane drawing.blocks) ≡ drawn_rows
   shades-cut =
       ap (cut_rows drawing.blocks.width drawing.blocks.height) (shade_rows-joined plane drawing.blocks)
       ∙ ap (λ n. cut_rows drawing.blocks.width n (concat drawn_rows)) (sym (shade_rows-length plane drawing.blocks))
@@ -55,7 +58,7 @@ module _ (plane : Plane) (shown : Bounds) (size : ℕ) (drawing : Drawing) (draw
   rows_fit sized = rw drawn.blocks (is_side drawing.scale.zoom _ (longer_side drawing.scale.exponent shown) size sized drawn.scaled.pixels.0 (omega arith) (omega arith) drawn.scaled.fits)
 
   -- and its pixels, made of a slice of its shades
-  pub picture_drawn : (slice : List ℕ) → slice ≡ drawing.shades.items → (picture : Picture) → picture.width ≡ drawing.scale.zoom * drawing.blocks.width →
+  unfoldable pub picture_drawn : (slice : List ℕ) → slice ≡ drawing.shades.items → (picture : Picture) → picture.width ≡ drawing.scale.zoom * drawing.blocks.width →
       picture.rows ≡ zoomed drawing.scale.zoom (cut_rows drawing.blocks.width drawing.blocks.height slice) → IsPictureOf plane shown size picture
   picture_drawn slice same picture width rows = record {
     scale = drawing.scale;

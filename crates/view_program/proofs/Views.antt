@@ -1,5 +1,5 @@
 -- How a view ends.
-use Rattle.std.proofs.Common.{◌≡◌, ℕ, Option, List, ◌++◌, Ok, Err, refl, ap, subst, inl, inr}
+use Rattle.std.proofs.Common.{◌≡◌, ℕ, Option, List, ◌++◌, Ok, Err, refl, ap, inl, inr}
 use Rattle.std.specs.Io.KnownBytes.{Appends}
 use Rattle.plane.specs.Device.{AppendsBeginning}
 use Rattle.plane.proofs.Beginnings.{beginning_of_more, text_and_beginning}
@@ -12,13 +12,12 @@ use Rattle.plane.specs.declared.fault.Fault.{Fault}
 use Rattle.plane.specs.declared.refusal.Refusal.{Refusal}
 use Rattle.plane.specs.declared.refusal.Refusal.TheVariants.{NoMemory, WriteFailed}
 use Rattle.engine.specs.Last.{EndsWith}
-use Rattle.engine.specs.Pictures.{IsScale, Scale}
 use Rattle.engine.specs.Refused.{IsRefused}
 use Rattle.engine.specs.SummaryLine.{summary_line}
 use Rattle.engine.specs.declared.running.Summary.{Summary}
-use Rattle.engine.proofs.Pictures.{one_scale_lem}
-use Rattle.png_writer.specs.Picture.{IsPngFile, Picture}
+use Rattle.png_writer.specs.Picture.{Picture}
 use Rattle.view_program.specs.Drawn.{IsPictureOf}
+use Rattle.view_program.specs.PictureFormat.{picture_format}
 use Rattle.view_program.specs.PictureLine.{picture_line}
 use Rattle.view_program.specs.Shown.{rectangle_shown}
 use Rattle.view_program.specs.View.{IsDrawn, IsView}
@@ -63,28 +62,23 @@ module _ {W V : Type 0} (bytes : List ℕ) (view : View) (name : List ℕ) (repo
     module _ (between : Option (List ℕ)) (first : Appends (report.taken report.old) between (summary_line answer)) where
       -- and whose report failed in its second
       pub second_line_failed : (refusal : Refusal) → refusal ≡ WriteFailed → Fails report → file.new ≡ file.old →
-          ((scale : Scale) × IsScale shown view.size scale × AppendsBeginning between (report.taken report.new) (picture_line name shown scale)) → IsView bytes view name report file (Err (placeless refusal))
-      second_line_failed refusal is failed same_file second =
-          let one = one_scale_lem shown view.size second.0 shows.scale second.1 shows.scaled in
-          report_failed refusal is failed same_file
-          (text_and_beginning (summary_line answer) first (subst (λ scale. AppendsBeginning between (report.taken report.new) (picture_line name shown scale)) one second.2))
+          AppendsBeginning between (report.taken report.new) (picture_line name shown shows.scale) → IsView bytes view name report file (Err (placeless refusal))
+      second_line_failed refusal is failed same_file second = report_failed refusal is failed same_file (text_and_beginning (summary_line answer) first second)
 
       -- and has written both
-      module _ (second : (scale : Scale) × IsScale shown view.size scale × Appends between (report.taken report.new) (picture_line name shown scale)) (unfailed : IsUnfailed report) where
+      module _ (second : Appends between (report.taken report.new) (picture_line name shown shows.scale)) (unfailed : IsUnfailed report) where
         takes_lines : Takes report lines
-        takes_lines =
-            let one = one_scale_lem shown view.size second.0 shows.scale second.1 shows.scaled in
-            Appends-trans _ _ _ _ _ first (subst (λ scale. Appends between (report.taken report.new) (picture_line name shown scale)) one second.2)
+        takes_lines = Appends-trans _ _ _ _ _ first second
 
         -- and whose file failed
-        pub file_failed : (refusal : Refusal) → refusal ≡ WriteFailed → Fails file → ((drawn : List ℕ) × IsPngFile picture.width picture.rows drawn × TakesBeginning file drawn) →
+        pub file_failed : (refusal : Refusal) → refusal ≡ WriteFailed → Fails file → ((drawn : List ℕ) × picture_format.IsFile picture.width picture.rows drawn × TakesBeginning file drawn) →
             IsView bytes view name report file (Err (placeless refusal))
         file_failed refusal is failed begun =
             let told = ap placeless is in
             record { finished = tt; unfailed = inl (ap Err told); refused = inr (inr (told, (lines, picture, is_drawn, takes_lines, begun), unfailed, failed)) }
 
         -- and the picture
-        pub ends_well : IsUnfailed file → ((drawn : List ℕ) × IsPngFile picture.width picture.rows drawn × Takes file drawn) → IsView bytes view name report file (Ok tt)
+        pub ends_well : IsUnfailed file → ((drawn : List ℕ) × picture_format.IsFile picture.width picture.rows drawn × Takes file drawn) → IsView bytes view name report file (Ok tt)
         ends_well file_unfailed takes = record {
           finished = (lines, picture, is_drawn, takes_lines, takes);
           unfailed = inr (file_unfailed, unfailed);

@@ -1,7 +1,7 @@
 -- The window that is asked for.
 use Rattle.std.proofs.Common.{ℕ, List, Option, None, Some, IfSome, sym, subst}
 use Rattle.plane.specs.declared.cell.Bounds.{Bounds}
-use Rattle.engine.specs.Pictures.{IsShown}
+use Rattle.pattern_picture.specs.Scale.{IsShown}
 use Rattle.program_parts.specs.WindowText.{IsAskedWindow}
 use Rattle.view_program.specs.Shown.{CanBeShown, sides_of}
 

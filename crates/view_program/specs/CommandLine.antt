@@ -4,13 +4,14 @@ use Rattle.std.specs.List.{ends_with}
 use Rattle.clap.specs.Words.{App, Rule, Text, fault_of, is_simple_and_free, new_app, with_rule}
 use Rattle.clap.specs.declared.builder.value_parser.ValueParser.TheVariants as parser
 use Rattle.clap.proofs.OnLiterals.{clap_on_literals}
-use Rattle.engine.specs.Pictures.{IsSize}
+use Rattle.pattern_picture.specs.Scale.{IsSize}
 use Rattle.program_parts.specs.CommandLine.{CommandLine}
 use Rattle.program_parts.specs.OptionRules.{file_argument, generation_option, node_option, rule_option, valued, valued_in_short, window_option, worker_option}
 use Rattle.program_parts.specs.RunWords.{AskForRun}
-use Rattle.program_parts.specs.Texts.{HasText, text_in, value_in}
-use Rattle.program_parts.specs.Values.{IsNumber}
+use Rattle.program_parts.specs.Texts.{HasText, IsThere, text_in, value_in}
+use Rattle.program_parts.specs.Values.{IsFitNumber, IsNumber}
 use Rattle.program_parts.specs.WindowText.{IsAskedWindow, IsFitWindow, IsRefusedWindow}
+use Rattle.view_program.specs.PictureFormat.{picture_format}
 use Rattle.view_program.specs.Shown.{CanBeShown, sides_of}
 use Rattle.view_program.specs.declared.asking.Asked.{Asked}
 use Rattle.view_program.specs.declared.asking.View.{View}
@@ -49,7 +50,7 @@ value_for name words = value_in command_form name words
 
 -- a picture may have this name
 abbrev pub IsFitName : Text → Type 0
-IsFitName name = ends_with nat_eq name (codes ".png") ≡ true
+IsFitName name = ends_with nat_eq name picture_format.ending ≡ true
 
 -- the text is a numeral of this number, and a picture may have so many pixels on a side
 abbrev pub IsSizeNumber : Option Text → ℕ → Type 0
@@ -82,11 +83,13 @@ AskForView words view =
     text_for (codes "output") words ≡ Some (string_bytes asked.output) →
     IsFitName (string_bytes asked.output) → AsksFor words (record asked { view = view })
 
--- the form of the words, and the values that are fit: a NAME that ends with .png, the size of a
--- picture, and a window whose cells can be shown
+-- the form of the words, and the values that are fit: a NAME that ends as those of pictures, the
+-- size of a picture, and a window whose cells can be shown
 abbrev pub command_line : CommandLine
 command_line = record {
   form = command_form;
+  IsFitGeneration = IsFitNumber;
+  IsFitInput = IsThere;
   IsFitOutput = IsFitOutput;
   AreFitOptions = λ words. (size : ℕ) × IsSizeNumber (value_for (codes "size") words) size;
   IsFitWindow = IsFitWindow 64;

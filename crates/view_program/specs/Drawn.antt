@@ -2,7 +2,9 @@
 use Rattle.std.specs.Prelude.{◌≡◌, ℕ, ◌*◌}
 use Rattle.plane.specs.declared.cell.Bounds.{Bounds}
 use Rattle.plane.specs.Plane.{Plane}
-use Rattle.engine.specs.Pictures.{IsScale, Scale, block_span, blocks_of, shade_rows}
+use Rattle.pattern_picture.specs.Scale.{IsScale, block_span, blocks_of}
+use Rattle.pattern_picture.specs.Shades.{shade_rows}
+use Rattle.pattern_picture.specs.declared.scale.Scale.{Scale}
 use Rattle.png_writer.specs.Picture.{Picture}
 use Rattle.png_writer.specs.Pixels.{zoomed}
 

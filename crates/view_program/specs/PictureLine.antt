@@ -1,6 +1,7 @@
 -- The line that says what a pixel is.
 use Rattle.std.specs.Prelude.{ℕ, ◌*◌, ◌^◌, ◌==◌, if◌then◌else◌, List, ◌++◌, codes, decimal}
-use Rattle.engine.specs.Pictures.{Scale, block_span}
+use Rattle.pattern_picture.specs.Scale.{block_span}
+use Rattle.pattern_picture.specs.declared.scale.Scale.{Scale}
 use Rattle.plane.specs.declared.cell.Bounds.{Bounds}
 
 -- columns and rows

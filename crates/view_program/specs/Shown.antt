@@ -1,6 +1,6 @@
 -- The rectangle of cells that is shown.
 use Rattle.std.specs.Prelude.{ℕ, ℤ, pos, ◌+ℤ◌, ◌-ℤ◌, Option, None, Some}
-use Rattle.engine.specs.Pictures.{IsShown}
+use Rattle.pattern_picture.specs.Scale.{IsShown}
 use Rattle.plane.specs.Window.{Rectangle}
 use Rattle.plane.specs.declared.cell.Bounds.{Bounds}
 

@@ -9,8 +9,9 @@ use Rattle.engine.specs.Last.{EndsWith}
 use Rattle.engine.specs.Refused.{IsRefused}
 use Rattle.engine.specs.SummaryLine.{summary_line}
 use Rattle.engine.specs.declared.running.Summary.{Summary}
-use Rattle.png_writer.specs.Picture.{IsPngFile, Picture}
+use Rattle.png_writer.specs.Picture.{Picture}
 use Rattle.view_program.specs.Drawn.{IsPictureOf}
+use Rattle.view_program.specs.PictureFormat.{picture_format}
 use Rattle.view_program.specs.PictureLine.{picture_line}
 use Rattle.view_program.specs.Shown.{rectangle_shown}
 use Rattle.view_program.specs.declared.asking.View.{View}
@@ -27,16 +28,16 @@ pub record IsDrawn (bytes : List ℕ) (view : View) (name said : List ℕ)
       ≡ summary_line answer
       ++ picture_line name (rectangle_shown view.window answer.bounds) shows.scale
 
--- a view ended well: its report took what it says, and its file a PNG file of the picture
+-- a view ended well: its report took what it says, and its file the file of the picture
 abbrev pub HasDrawn : {W V : Type 0} → List ℕ → View → List ℕ → SinkChange W → SinkChange V → Type 0
 HasDrawn bytes view name report file =
     (said : List ℕ) × (picture : Picture) × IsDrawn bytes view name said picture × Takes report said
-    × ((drawn : List ℕ) × IsPngFile picture.width picture.rows drawn × Takes file drawn)
+    × ((drawn : List ℕ) × picture_format.IsFile picture.width picture.rows drawn × Takes file drawn)
 
 -- a view was refused: its run was, or memory ran out, and nothing was written; or it can be drawn,
 -- and a sink failed: that of the report, which took a beginning of what is said, and nothing was
--- written to the file; or that of the file, after the whole report, which took a beginning of a PNG
--- file of the picture
+-- written to the file; or that of the file, after the whole report, which took a beginning of
+-- the file of the picture
 abbrev pub HasNotDrawn : {W V : Type 0} → List ℕ → View → List ℕ → SinkChange W → SinkChange V →
     Fault → Type 0
 HasNotDrawn bytes view name report file fault =
@@ -48,7 +49,7 @@ HasNotDrawn bytes view name report file fault =
     ⊎ ((fault ≡ placeless WriteFailed)
     × ((said : List ℕ) × (picture : Picture) × IsDrawn bytes view name said picture
     × Takes report said
-    × ((drawn : List ℕ) × IsPngFile picture.width picture.rows drawn × TakesBeginning file drawn))
+    × ((drawn : List ℕ) × picture_format.IsFile picture.width picture.rows drawn × TakesBeginning file drawn))
     × IsUnfailed report × Fails file)
 
 -- what a view of these bytes does to its report and to its file, and what it answers

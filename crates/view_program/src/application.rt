@@ -7,6 +7,7 @@ ghost use Rattle.view_program.specs.Status.{behaviour};
 use crate::asking::{Asked, is_fit_name, view_by};
 use crate::command_line::{ABOUT, EXAMPLES, NAME, options};
 use crate::drawing::draw_from;
+use crate::picture_format::ENDING;
 use clap::{ArgMatches, Command};
 use plane::{Fault, Sink, Source};
 use program_parts::{Application, Misfit, WordsReason, command_with};
@@ -39,7 +40,7 @@ impl Application for Lifeview {
         command_with(alloc, NAME, ABOUT, options(alloc)?, EXAMPLES)
     }
 
-    // It answers `Unfit` for a picture whose name does not end with `.png`, for a window that is
+    // It answers `Unfit` for a picture whose name does not end as those of pictures, for a window that is
     // not four numbers and for a number of nodes that is not a power of two, then `Refused` with
     // `BadRule` or `BirthOnZero` for the rule that is given, then `Refused` with `WindowTooLarge`
     // for a window without cells or with a side beyond 2^62.
@@ -51,7 +52,7 @@ impl Application for Lifeview {
             return Err(WordsReason::Unfit(Misfit::Other));
         };
         if !is_fit_name(output) {
-            return Err(WordsReason::Unfit(Misfit::Ending(".png")));
+            return Err(WordsReason::Unfit(Misfit::Ending(ENDING)));
         }
         let view = view_by(matches)?;
         Ok(Asked {

@@ -7,6 +7,7 @@ ghost use Rattle.program_parts.specs.Texts.{AreMatchesIn};
 ghost use Rattle.program_parts.specs.Values.{IsUnfit};
 ghost use Rattle.view_program.specs.CommandLine.{AskForView, HasFiles, IsFitName, IsSizeNumber, command_form, command_line};
 
+use crate::picture_format::ENDING;
 use crate::shown::window_asked;
 use clap::ArgMatches;
 use engine::RunOptions;
@@ -79,5 +80,5 @@ fn size_asked(matches: &ArgMatches<'_>) -> Result<u32, WordsReason>
 pub(crate) fn is_fit_name(name: &str) -> bool
     ensures { IsTrue result ↔ IsFitName name.now }
 {
-    name.as_bytes().ends_with(b".png")
+    name.as_bytes().ends_with(ENDING.as_bytes())
 }

@@ -2,14 +2,15 @@
 
 ghost use Rattle.std.specs.Prelude.{◌≡◌, IfSome};
 ghost use Rattle.plane.specs.SourceChange.{IsDoneWithAll, reading_of};
-ghost use Rattle.engine.specs.Pictures.{IsShown, IsSize};
+ghost use Rattle.pattern_picture.specs.Scale.{IsShown, IsSize};
 ghost use Rattle.engine.specs.RunOptions.{IsPairCount, IsWorkerCount};
 ghost use Rattle.plane.specs.SinkChange.{change_of};
 ghost use Rattle.view_program.specs.View.{IsView};
 
 use crate::asking::View;
+use crate::picture_format::picture_file;
 use crate::picture_line::write_picture_line;
-use crate::png_text::png_text;
+use crate::rectangle::drawing_of;
 use crate::shown::rectangle_shown;
 use engine::{last_pattern, load, write_summary};
 use plane::{Fault, Sink, Source, write_all};
@@ -46,7 +47,7 @@ pub fn draw<R: Threads + Sync, W: Sink, V: Sink>(
 {
     let (last, summary) = last_pattern(rt, alloc, bytes, &view.run)?;
     let shown = rectangle_shown(view.window, summary.bounds);
-    let drawing = last.draw(alloc, shown, view.size)?;
+    let drawing = drawing_of(alloc, &last, shown, view.size)?;
     let image = Image::zoomed(
         alloc,
         drawing.shades.as_slice(),
@@ -54,9 +55,9 @@ pub fn draw<R: Threads + Sync, W: Sink, V: Sink>(
         drawing.blocks.height,
         drawing.scale.zoom,
     )?;
-    let text = png_text(alloc, &image)?;
+    let text = picture_file(alloc, &image)?;
     write_summary(report, &summary)?;
-    write_picture_line(report, name, shown, view.size)?;
+    write_picture_line(report, name, shown, drawing.scale)?;
     write_all(file, text.as_slice())?;
     Ok(())
 }

@@ -6,11 +6,14 @@ mod application;
 mod asking;
 mod command_line;
 mod drawing;
+mod picture_format;
 mod picture_line;
-mod png_text;
+mod rectangle;
 mod shown;
 
 pub use application::Lifeview;
 pub use asking::{Asked, LARGEST_SIZE, SMALLEST_SIZE, View};
 pub use command_line::NAME;
 pub use drawing::{draw, draw_from};
+pub use picture_format::picture_file;
+pub use rectangle::drawing_of;

@@ -3,34 +3,34 @@
 ghost use Rattle.std.specs.Prelude.{◌≡◌, ◌≤◌, ◌+◌, ◌^◌, ◌++◌, OnErr, OnOk, length};
 ghost use Rattle.std.specs.Io.KnownBytes.{Appends};
 ghost use Rattle.plane.specs.Device.{AppendsBeginning, TellsFailure};
-ghost use Rattle.engine.specs.Pictures.{IsScale, IsShown, IsSize, Scale, longer_side};
+ghost use Rattle.pattern_picture.specs.Scale.{IsShown, longer_side};
 ghost use Rattle.view_program.specs.PictureLine.{picture_line, pixel_words, product_words, scale_words};
 
-use engine::Scale;
+use pattern_picture::Scale;
 use plane::{Bounds, Refusal, Sink, TextLine, write_all};
 
 // Room for four numbers of up to 40 digits and the words between them.
 const LINE_ROOM: usize = 224;
 
 /// Writes one line with the name of a picture, its columns and rows, and what a pixel is, for a
-/// rectangle that is shown at the largest scale with at most `size` pixels on each side.
-/// `WriteFailed` if the sink failed.
+/// rectangle that is shown at this scale. `WriteFailed` if the sink failed.
 pub(crate) fn write_picture_line<W: Sink>(
     out: &mut W,
     name: &str,
     shown: Bounds,
-    size: u32,
+    scale: Scale,
 ) -> Result<(), Refusal>
     requires shown { IsShown shown }
-    requires size { IsSize size }
-    ensures written { OnOk result ((scale : Scale) × IsScale shown size scale
-        × Appends (W.taken out.old) (W.taken out.new) (picture_line name.now shown scale)) }
-    ensures beginning { OnErr result ((scale : Scale) × IsScale shown size scale
-        × AppendsBeginning (W.taken out.old) (W.taken out.new)
+    requires exponent { scale.exponent ≤ 62 }
+    requires zoom { scale.zoom ≤ 16 }
+    requires sides { longer_side scale.exponent shown ≤ 4096 }
+    ensures written { OnOk result (Appends (W.taken out.old) (W.taken out.new)
+        (picture_line name.now shown scale)) }
+    ensures beginning { OnErr result (AppendsBeginning (W.taken out.old) (W.taken out.new)
         (picture_line name.now shown scale)) }
     ensures failure { TellsFailure (W.failure_count out.old) (W.failure_count out.new) result }
 {
-    let line = scale_words(shown, Scale::of(shown, size));
+    let line = scale_words(shown, scale);
     write_all(out, name.as_bytes())?;
     line.write_to(out)
 }

@@ -2,7 +2,7 @@
 
 ghost use Rattle.std.specs.Prelude.{◌≡◌, IfErr, IfOk};
 ghost use Rattle.std.specs.Option.{SomeIff};
-ghost use Rattle.engine.specs.Pictures.{IsShownSide};
+ghost use Rattle.pattern_picture.specs.Scale.{IsShownSide};
 ghost use Rattle.program_parts.specs.WindowText.{HasNoWindow, IsWindowOf, rectangle_of};
 ghost use Rattle.view_program.specs.Shown.{CanBeShown, last_of, rectangle_shown, sides_of};
 

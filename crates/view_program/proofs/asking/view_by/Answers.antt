@@ -4,7 +4,7 @@ use Rattle.program_parts.specs.WindowText.{IsAskedWindow, IsFitWindow}
 use Rattle.program_parts.specs.declared.reason.WordsReason.TheVariants.{Refused}
 use Rattle.view_program.specs.CommandLine.{IsSizeNumber, command_form, command_line}
 use Rattle.view_program.specs.Shown.{CanBeShown, sides_of}
-use Rattle.program_parts.proofs.AskedRuns.{asked_run, refused_by_rule, refused_by_window, unfit_number}
+use Rattle.program_parts.proofs.AskedRuns.{asked_run, fit_limits, refused_by_rule, refused_by_window, unfit_number}
 use Rattle.program_parts.proofs.AskedWords.{text_by, value_by}
 use Rattle.program_parts.proofs.WindowTexts.{asked_window, fit_window, refused_window}
 use Rattle.view_program.proofs.asking.view_by.Goals as goal
@@ -12,7 +12,7 @@ use Rattle.view_program.proofs.asking.view_by.Goals as goal
 pub returns-in_err-run-clause-faults : goal.returns-in_err-run-clause-faults
 returns-in_err-run-clause-faults c = λ words are files.
     let is : c.from_residual.result ≡ Err c.in_err-run.field-0.0 = err_is _ _ c.from_residual.ensures.1 in
-    rw is (unfit_number command_line words _ are.0 (c.in_err-run.ensures.err command_form words are))
+    rw is (unfit_number command_line words (λ text fit. fit) _ are.0 (c.in_err-run.ensures.err command_form words are))
 
 pub returns-in_err-size-clause-faults : goal.returns-in_err-size-clause-faults
 returns-in_err-size-clause-faults c = λ words are files.
@@ -32,7 +32,8 @@ returns-in_err-rule-clause-faults c = λ words are files.
     let value = value_by command_form words c.args.matches.now are in
     let is : c.from_residual-in_err-rule.result ≡ Err (Refused c.in_err-rule.field-0.0) = err_is _ _ c.from_residual-in_err-rule.ensures.1 in
     rw is (refused_by_rule command_line words c.args.matches.now are _ c.get_str-2.ensures c.in_err-rule.field-0.0 c.in_err-rule.ensures.err (record {
-      run = (c.in_ok-run.run', c.in_ok-run.ensures.ok command_form words are);
+      limits = fit_limits command_form words c.in_ok-run.run' (c.in_ok-run.ensures.ok command_form words are);
+      generation = (c.in_ok-run.run'.gens, (c.in_ok-run.ensures.ok command_form words are).gens);
       file = files.file;
       output = files.output;
       window = subst (IsFitWindow 64) (c.get_str.ensures ∙ text (codes "window")) (fit_window 64 _ c.in_ok-numbers.numbers c.in_ok-numbers.ensures.ok);
@@ -46,7 +47,8 @@ returns-in_err-window-clause-faults c = λ words are files.
     let is : c.from_residual-in_err-window.result ≡ Err (Refused c.in_err-window.field-0.0) = err_is _ _ c.from_residual-in_err-window.ensures.1 in
     let refused = refused_window 64 CanBeShown _ c.in_ok-numbers.numbers c.in_ok-numbers.ensures.ok c.in_err-window.ensures.err.1 in
     rw is (refused_by_window command_line words c.args.matches.now are _ c.get_str-2.ensures c.in_ok-rule.rule _ c.in_err-window.field-0.0 c.in_ok-rule.ensures.ok c.get_str.ensures refused c.in_err-window.ensures.err.0 (record {
-      run = (c.in_ok-run.run', c.in_ok-run.ensures.ok command_form words are);
+      limits = fit_limits command_form words c.in_ok-run.run' (c.in_ok-run.ensures.ok command_form words are);
+      generation = (c.in_ok-run.run'.gens, (c.in_ok-run.ensures.ok command_form words are).gens);
       file = files.file;
       output = files.output;
       window = subst (IsFitWindow 64) (c.get_str.ensures ∙ text (codes "window")) (fit_window 64 _ c.in_ok-numbers.numbers c.in_ok-numbers.ensures.ok);

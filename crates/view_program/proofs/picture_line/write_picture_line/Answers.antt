@@ -11,28 +11,25 @@ use Rattle.view_program.proofs.picture_line.write_picture_line.Goals as goal
 
 pub returns-clause-written : goal.returns-clause-written
 returns-clause-written g c =
-    let scale = c.of.result in
     let name : c.as_bytes.result.now ≡ c.args.name.now = search rules in
     let words = c.scale_words-line.ensures in
     let first = subst (λ bytes. Appends (g.W.Sink.taken c.args.out.now) (g.W.Sink.taken c.write_all.new.sink) bytes) name c.in_ok-write_all.ensures.written in
     on_ok_weaker c.write_to.result
-    (λ wrote. (scale, c.of.ensures, Appends-trans _ _ _ c.args.name.now (scale_words c.args.shown scale) first wrote))
+    (λ wrote. Appends-trans _ _ _ c.args.name.now (scale_words c.args.shown c.args.scale) first wrote)
     (subst (λ bytes. OnOk c.write_to.result (Appends (g.W.Sink.taken c.write_all.new.sink) (g.W.Sink.taken c.write_to.new.sink) bytes)) words c.write_to.ensures.written)
 
 pub returns-in_err-write_all-clause-beginning : goal.returns-in_err-write_all-clause-beginning
 returns-in_err-write_all-clause-beginning g c =
-    let scale = c.of.result in
     let name : c.as_bytes.result.now ≡ c.args.name.now = search rules in
     let first = subst (AppendsBeginning (g.W.Sink.taken c.args.out.now) (g.W.Sink.taken c.write_all.new.sink)) name c.in_err-write_all.ensures.beginning in
     let is : c.from_residual.result ≡ Err c.in_err-write_all.field-0.0 = err_is _ _ c.from_residual.ensures.1 in
-    rw is (scale, c.of.ensures, beginning_of_more (scale_words c.args.shown scale) first)
+    rw is (beginning_of_more (scale_words c.args.shown c.args.scale) first)
 
 pub returns-clause-beginning : goal.returns-clause-beginning
 returns-clause-beginning g c =
-    let scale = c.of.result in
     let name : c.as_bytes.result.now ≡ c.args.name.now = search rules in
     let words = c.scale_words-line.ensures in
     let first = subst (λ bytes. Appends (g.W.Sink.taken c.args.out.now) (g.W.Sink.taken c.write_all.new.sink) bytes) name c.in_ok-write_all.ensures.written in
     on_err_weaker c.write_to.result
-    (λ begun. (scale, c.of.ensures, text_and_beginning c.args.name.now first begun))
+    (λ begun. text_and_beginning c.args.name.now first begun)
     (subst (λ bytes. OnErr c.write_to.result (AppendsBeginning (g.W.Sink.taken c.write_all.new.sink) (g.W.Sink.taken c.write_to.new.sink) bytes)) words c.write_to.ensures.beginning)
