@@ -9,8 +9,8 @@ use Rattle.plane.specs.Window.{IsWindow}
 use Rattle.program_parts.specs.CommandLine.{CommandLine}
 use Rattle.program_parts.specs.OptionRules.{file_argument, generation_option, node_option, numeric, rule_option, valued_in_short, window_option, worker_option}
 use Rattle.program_parts.specs.RunWords.{AskForRun}
-use Rattle.program_parts.specs.Texts.{text_in, value_in}
-use Rattle.program_parts.specs.Values.{IsNumber}
+use Rattle.program_parts.specs.Texts.{IsThere, text_in, value_in}
+use Rattle.program_parts.specs.Values.{IsFitNumber, IsNumber}
 use Rattle.program_parts.specs.WindowText.{IsAskedWindow, IsFitWindow, IsRefusedWindow}
 use Rattle.engine.specs.RunOptions.{run_of}
 use Rattle.engine.specs.declared.options.Format.{Format}
@@ -96,8 +96,10 @@ AskForOptions words options =
 abbrev pub command_line : CommandLine
 command_line = record {
   form = command_form;
+  IsFitGeneration = IsFitNumber;
+  IsFitInput = IsThere;
   IsFitOutput = λ output. (format : Option Format) × IsFormat output format;
-  AreFitOptions = λ words. (number : ℕ) × IsNumber (value_for (codes "stepsize") words) number;
+  AreFitOptions = λ words. IsFitNumber (value_for (codes "stepsize") words);
   IsFitWindow = IsFitWindow 32;
   IsRefusedWindow = IsRefusedWindow 32 IsWindow;
 }

@@ -10,9 +10,5 @@ mod window_option;
 pub use application::{Lifebatch, asked, program};
 pub use asking::Asked;
 pub use command_line::NAME;
-pub use engine::{
-    Format, Gate, OpenGate, Options, Summary, every_number_of_workers, load, one_ending,
-    one_judgement, run, run_gated,
-};
-pub use pattern_writers::{distinct_texts, same_text};
+pub use engine::{Format, Gate, Options, Summary, load, run, run_gated};
 pub use program_parts::WordsFault;

@@ -1,5 +1,5 @@
 -- The numbers of generations that are tried, as words give them.
-use Rattle.std.specs.Prelude.{◌≡◌, ◌⊎◌, ℕ, ◌^◌, ◌≤◌, Option, None, Some}
+use Rattle.std.specs.Prelude.{◌≡◌, ◌⊎◌, ℕ, ◌^◌, ◌≤◌, Option, None, Some, List}
 use Rattle.clap.specs.Words.{Text}
 use Rattle.period_search.specs.declared.candidates.Candidates.{Candidates}
 use Rattle.period_search.specs.declared.candidates.Candidates.TheVariants.{UpTo, DivisorsOf}
@@ -8,7 +8,6 @@ use Rattle.program_parts.specs.declared.reason.Misfit.TheVariants.{Other, Togeth
 use Rattle.program_parts.specs.declared.reason.WordsReason.{WordsReason}
 use Rattle.program_parts.specs.declared.reason.WordsReason.TheVariants.{Unfit}
 use Rattle.std.specs.Borrow.{Bor}
-use Rattle.std.specs.Prelude.{List}
 
 -- the text is a numeral of this number, which is from 1 to a limit
 pub record IsCount (limit : ℕ) (text : Text) (number : ℕ) : Type 0 where

@@ -7,7 +7,8 @@ use Rattle.period_search.specs.declared.candidates.Candidates.{Candidates}
 use Rattle.program_parts.specs.CommandLine.{CommandLine}
 use Rattle.program_parts.specs.OptionRules.{file_argument, generation_option, node_option, rule_option, valued, worker_option}
 use Rattle.program_parts.specs.RunWords.{AskForRun}
-use Rattle.program_parts.specs.Texts.{text_in}
+use Rattle.program_parts.specs.Texts.{IsThere, text_in}
+use Rattle.program_parts.specs.Values.{IsFitNumber}
 use Rattle.period_program.specs.CandidateTexts.{IsAskedCandidates}
 use Rattle.period_program.specs.declared.asking.Asked.{Asked}
 use Rattle.period_program.specs.declared.asking.Search.{Search}
@@ -58,6 +59,8 @@ AskForSearch words search =
 abbrev pub command_line : CommandLine
 command_line = record {
   form = command_form;
+  IsFitGeneration = IsFitNumber;
+  IsFitInput = IsThere;
   IsFitOutput = λ output. ⊤;
   AreFitOptions = λ words. (candidates : Candidates) × AskForCandidates words candidates;
   IsFitWindow = λ window. ⊤;

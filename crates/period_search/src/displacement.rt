@@ -1,8 +1,8 @@
 //! How far an open pattern is one at rest, moved.
 
-ghost use Rattle.std.specs.Prelude.{◌≡◌, IfNone, IfOk, IfSome, IsOkUnless, Some, ℤ, pos};
+ghost use Rattle.std.specs.Prelude.{◌≡◌, IfNone, IfOk, IfSome, IsOkUnless, OnOk, Some, true, ℤ, pos};
 ghost use Rattle.engine.specs.Pattern.{plane_of};
-ghost use Rattle.engine.specs.Sessions.{IsSameSession, cells_of};
+ghost use Rattle.engine.specs.Sessions.{IsSameSession, cells_of, is_open};
 ghost use Rattle.period_search.specs.Boxes.{IsInRange};
 ghost use Rattle.plane.specs.Laws.{moved};
 ghost use Rattle.plane.specs.Square.{IsSame, empty};
@@ -16,7 +16,28 @@ use std::alloc::Global;
 
 /// How far the session's cells are those of the pattern, moved to the right and down; `None` where
 /// they are not, and 0 and 0 where no cell is live in either. `NoMemory` where there is no room to
-/// find out.
+/// find out, and where the session is closed.
+pub fn displacement_from(
+    alloc: Global,
+    first: &Pattern,
+    session: &mut Session,
+) -> Result<Option<(i64, i64)>, Refusal>
+    ensures session { IsSameSession session.old session.new }
+    ensures some { IfOk result (λ found. IfSome found (λ by.
+        IsSame (cells_of session.old) (moved by.0 by.1 (plane_of first.now)))) }
+    ensures still { IfOk result (λ found. IfSome found (λ by.
+        IsSame (plane_of first.now) empty → (by.0 ≡ pos 0) × (by.1 ≡ pos 0))) }
+    ensures none { IfOk result (λ found. IfNone found ((right down : ℤ) →
+        IsSame (cells_of session.old) (moved right down (plane_of first.now)) → ⊥)) }
+    ensures closed { OnOk result (is_open session.old ≡ true) }
+    ensures memory { IsOkUnless result Refusal.NoMemory }
+{
+    let population = first.population(alloc)?;
+    let bounds = first.bounds(alloc)?;
+    displacement(alloc, first, population, bounds, session)
+}
+
+/// The same, where the pattern's population and box are known.
 pub(crate) fn displacement(
     alloc: Global,
     first: &Pattern,
@@ -33,6 +54,7 @@ pub(crate) fn displacement(
         IsSame (plane_of first.now) empty → (by.0 ≡ pos 0) × (by.1 ≡ pos 0))) }
     ensures none { IfOk result (λ found. IfNone found ((right down : ℤ) →
         IsSame (cells_of session.old) (moved right down (plane_of first.now)) → ⊥)) }
+    ensures closed { OnOk result (is_open session.old ≡ true) }
     ensures memory { IsOkUnless result Refusal.NoMemory }
 {
     if session.population(alloc)? != population {

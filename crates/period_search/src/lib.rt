@@ -10,5 +10,6 @@ mod runs;
 mod search;
 
 pub use candidates::Candidates;
+pub use displacement::displacement_from;
 pub use period::Period;
 pub use search::{least_period, one_answer};

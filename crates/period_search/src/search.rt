@@ -1,7 +1,7 @@
 //! The search for the least period of an open pattern.
 
-ghost use Rattle.std.specs.Prelude.{IfErr, IfNone, IfOk, IfSome};
-ghost use Rattle.engine.specs.Sessions.{IsLaterSession, cells_of};
+ghost use Rattle.std.specs.Prelude.{◌≡◌, true, IfErr, IfNone, IfOk, IfSome, OnOk};
+ghost use Rattle.engine.specs.Sessions.{IsLaterSession, cells_of, is_open};
 ghost use Rattle.period_search.specs.Candidates.{AreSome, last_of};
 ghost use Rattle.period_search.specs.Searches.{IsAnswer, OneAnswer, StopsOnTheWay};
 
@@ -29,6 +29,7 @@ pub fn least_period<R: Threads + Sync, G: Gate>(
         IsLaterSession session.old period.generations session.new)) }
     ensures ended { IfOk result (λ found. IfNone found
         (IsLaterSession session.old (last_of candidates) session.new)) }
+    ensures closed { OnOk result (is_open session.old ≡ true) }
     ensures refused { IfErr result (StopsOnTheWay candidates session.old session.new) }
 {
     let first = session.snapshot(team.alloc)?;

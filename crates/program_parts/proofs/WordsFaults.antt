@@ -23,8 +23,8 @@ use Rattle.program_parts.specs.declared.reason.WordsReason.TheVariants.{Clap, Un
 unfit : (line : CommandLine) (words : List Text) (misfit : Misfit) → IsMisfit line words misfit → IsFit line words → ⊥
 unfit line words (Ending endings) is fit = is fit.output
 unfit line words Window is fit = is fit.window
-unfit line words Nodes is fit = is fit.run.0.pairs fit.run.1.pairs
-unfit line words Workers is fit = is fit.run.0.workers fit.run.1.workers
+unfit line words Nodes is fit = is fit.limits.0.pairs fit.limits.1.pairs
+unfit line words Workers is fit = is fit.limits.0.workers fit.limits.1.workers
 unfit line words (Together options) is fit = is fit.options
 unfit line words Other is fit = is fit
 

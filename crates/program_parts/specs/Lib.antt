@@ -3,6 +3,7 @@ pub mod Behaviour
 pub mod CommandLine
 pub mod Faults
 pub mod Files
+pub mod GrowingTexts
 pub mod Messages
 pub mod OptionRules
 pub mod RunWords

@@ -21,6 +21,10 @@ abbrev pub AreMatchesIn : App → List Text → ArgMatches → Type 0
 AreMatchesIn app words matches =
     (fault_of app words ≡ []) × (rows_of (found_of matches) ≡ matches_of app words)
 
+-- there is a text
+abbrev pub IsThere : Option Text → Type 0
+IsThere given = (text : Text) × (given ≡ Some text)
+
 -- the words give a text for this argument
 abbrev pub HasText : App → List ℕ → List Text → Type 0
-HasText app name words = (text : Text) × (text_in app name words ≡ Some text)
+HasText app name words = IsThere (text_in app name words)

@@ -18,6 +18,10 @@ abbrev pub IsNumber : Option Text → ℕ → Type 0
 IsNumber None number = ⊥
 IsNumber (Some text) number = IsUnsigned 64 text number
 
+-- the text is a numeral of a number below 2^64
+abbrev pub IsFitNumber : Option Text → Type 0
+IsFitNumber text = (number : ℕ) × IsNumber text number
+
 -- the text is a numeral of this number, and a table may have so many pair slots
 abbrev pub IsPairNumber : Option Text → ℕ → Type 0
 IsPairNumber text pairs = IsNumber text pairs × IsPairCount pairs

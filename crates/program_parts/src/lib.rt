@@ -5,6 +5,7 @@
 
 mod application;
 mod entry;
+mod growing_text;
 mod input_file;
 mod messages;
 mod numbers;
@@ -17,9 +18,10 @@ mod window_text;
 
 pub use application::Application;
 pub use entry::{asked, program};
+pub use growing_text::GrowingText;
 pub use input_file::InputFile;
 pub use messages::tell_no_words;
-pub use numbers::{copied, number_for, rule_asked, run_numbers};
+pub use numbers::{Limits, copied, limits_asked, number_for, rule_asked, run_numbers};
 pub use options::{
     command_with, file_argument, generation_option, long_option, node_option, number_option,
     rule_option, short_option, window_option, worker_option,

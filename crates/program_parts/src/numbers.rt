@@ -3,7 +3,7 @@
 ghost use Rattle.std.specs.Prelude.{◌≡◌, List, codes, string_bytes, IfOk, IfErr};
 ghost use Rattle.std.specs.Option.{option_copied, option_map};
 ghost use Rattle.clap.specs.Words.{App, Text, found_of, one_text};
-ghost use Rattle.program_parts.specs.RunWords.{GiveNumbers, IsUnfitNumber};
+ghost use Rattle.program_parts.specs.RunWords.{GiveLimits, GiveNumbers, IsUnfitLimit, IsUnfitNumber};
 ghost use Rattle.program_parts.specs.Texts.{AreMatchesIn};
 ghost use Rattle.program_parts.specs.Values.{IsAskedRule, IsNumber, IsPairNumber, IsRefusedRule, IsUnfit, IsWorkerNumber};
 
@@ -79,6 +79,29 @@ pub fn copied(alloc: Global, text: Option<&str>) -> Result<Option<String>, Alloc
         Some(text) => Ok(Some(String::from_str(alloc, text)?)),
         None => Ok(None),
     }
+}
+
+/// How large the tables of a program may be, and how many workers take its steps.
+#[derive(Clone, Copy, Debug, PartialEq, Eq)]
+pub struct Limits {
+    /// The most pair slots that all tables of squares may have together: a power of two, from 2^10
+    /// to 2^28.
+    pub pairs: u32,
+    /// How many workers take the steps, from 1 to 64.
+    pub workers: usize,
+}
+
+/// The slots and the workers that words ask for. `Unfit` with `Nodes` or `Workers` if one of the
+/// numbers is not fit.
+pub fn limits_asked(matches: &ArgMatches<'_>) -> Result<Limits, WordsReason>
+    ensures ok { (form : App) (words : List Text) → AreMatchesIn form words matches.now →
+        IfOk result (GiveLimits form words) }
+    ensures err { (form : App) (words : List Text) → AreMatchesIn form words matches.now →
+        IfErr result (IsUnfitLimit form words) }
+{
+    let pairs = pairs_asked(matches)?;
+    let workers = workers_asked(matches)?;
+    Ok(Limits { pairs, workers })
 }
 
 /// The generations, the slots and the workers of the run that words ask for; it has no rule yet.

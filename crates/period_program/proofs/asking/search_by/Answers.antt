@@ -1,7 +1,7 @@
 use Rattle.std.proofs.Common.{◌≡◌, ◌∙◌, Err, codes}
 use Rattle.std.proofs.result.Match.{err_is}
 use Rattle.program_parts.specs.declared.reason.WordsReason.TheVariants.{Refused}
-use Rattle.program_parts.proofs.AskedRuns.{asked_run, refused_by_rule, unfit_number}
+use Rattle.program_parts.proofs.AskedRuns.{asked_run, fit_limits, refused_by_rule, unfit_number}
 use Rattle.program_parts.proofs.AskedWords.{text_by}
 use Rattle.period_program.specs.CommandLine.{command_form, command_line}
 use Rattle.period_program.proofs.AskedCandidates.{asked_as, unfit_candidates}
@@ -10,7 +10,7 @@ use Rattle.period_program.proofs.asking.search_by.Goals as goal
 pub returns-in_err-run-clause-faults : goal.returns-in_err-run-clause-faults
 returns-in_err-run-clause-faults c = λ words are file.
     let is : c.from_residual.result ≡ Err c.in_err-run.field-0.0 = err_is _ _ c.from_residual.ensures.1 in
-    rw is (unfit_number command_line words _ are.0 (c.in_err-run.ensures.err command_form words are))
+    rw is (unfit_number command_line words (λ text fit. fit) _ are.0 (c.in_err-run.ensures.err command_form words are))
 
 pub returns-in_err-candidates-clause-faults : goal.returns-in_err-candidates-clause-faults
 returns-in_err-candidates-clause-faults c = λ words are file.
@@ -23,7 +23,8 @@ returns-in_err-rule-clause-faults c = λ words are file.
     let text = text_by command_form words c.args.matches.now are in
     let is : c.from_residual-in_err-rule.result ≡ Err (Refused c.in_err-rule.field-0.0) = err_is _ _ c.from_residual-in_err-rule.ensures.1 in
     rw is (refused_by_rule command_line words c.args.matches.now are _ c.get_str-3.ensures c.in_err-rule.field-0.0 c.in_err-rule.ensures.err (record {
-      run = (c.in_ok-run.run', c.in_ok-run.ensures.ok command_form words are);
+      limits = fit_limits command_form words c.in_ok-run.run' (c.in_ok-run.ensures.ok command_form words are);
+      generation = (c.in_ok-run.run'.gens, (c.in_ok-run.ensures.ok command_form words are).gens);
       file = file;
       output = tt;
       window = tt;

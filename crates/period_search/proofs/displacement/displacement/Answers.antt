@@ -2,7 +2,7 @@ use Rattle.std.proofs.Common.{ℤ, None, Some, subst}
 use Rattle.std.specs.Prelude.{IfNone, IfOk}
 use Rattle.engine.specs.Pattern.{plane_of}
 use Rattle.engine.specs.Sessions.{IsSameSession, cells_of}
-use Rattle.engine.proofs.Sessions.{same_then}
+use Rattle.engine.proofs.Sessions.{same_then, whenever}
 use Rattle.plane.specs.Laws.{moved}
 use Rattle.plane.specs.Plane.{Plane}
 use Rattle.plane.specs.Square.{IsSame}
@@ -46,3 +46,6 @@ pub returns-in-Some-Some-clause-still : goal.returns-in-Some-Some-clause-still
 returns-in-Some-Some-clause-still c =
     let plane = plane_of c.args.first.now in
     nothing_still plane c.in-Some-Some.from c.displacement_of_boxes.result (bounds_at plane plane c.args.bounds (Some c.in-Some-Some.from) (same_refl plane) c.in-Some-Some.is-0 c.requires.bounds)
+
+pub returns-in-Some-Some-clause-closed : goal.returns-in-Some-Some-clause-closed
+returns-in-Some-Some-clause-closed c = whenever c.displacement_of_boxes.result c.in_ok-population.ensures.closed
