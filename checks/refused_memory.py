@@ -13,18 +13,15 @@ shorter. Threads are refused in the same way, which must change nothing.
 """
 import argparse
 import itertools
-import os
 import pathlib
-import subprocess
 import sys
 import tempfile
-import threading
 from collections import Counter
 from collections.abc import Iterator
 from dataclasses import dataclass
 
-from common.check import BUILT, BUILT_PERIOD, C_COMPILER, CannotRun, Check, end, status_of
-from common.program import text_of
+from common.check import BUILT, BUILT_PERIOD, C_COMPILER, Check, end, status_of
+from common.refusing import Refuser
 
 CHECK = Check(
     text=__doc__,
@@ -35,8 +32,6 @@ CHECK = Check(
     replay="give the --only and the --number that are printed.",
 )
 
-# How many seconds a run may take.
-SECONDS = 60
 # After so many runs in a row without a refusal there is no more to refuse.
 MISSED = 3
 WRONG = "different"
@@ -99,43 +94,19 @@ RUNS = [
 
 
 class Machine:
-    """A folder with the library, and the programs."""
+    """A folder in which memory or threads are refused to the programs."""
 
     def __init__(self, programs: dict[str, str], folder: pathlib.Path):
-        self.programs, self.folder, self.library = programs, folder, folder / "refuse.so"
-        source = pathlib.Path(__file__).resolve().parent / "common" / "refuse.c"
-        words = ["cc", "-O2", "-shared", "-fPIC", "-o", self.library, source, "-ldl"]
-        compiled = subprocess.run(words, capture_output=True)
-        if compiled.returncode:
-            raise CannotRun(f"cc doesn't compile common/refuse.c: {text_of(compiled.stderr)}")
+        self.programs, self.folder, self.refuser = programs, folder, Refuser(folder)
 
     def ended(self, run: Run, kind: str = "memory", first: int = 0, last: int = 0) -> tuple[Told, bool]:
         """The result of a run, and whether anything was refused in it."""
         (self.folder / "in").write_text(run.file)
         for old in self.folder.glob("out.*"):
             old.unlink()
-        read, write = os.pipe()
-        settings = {
-            "LD_PRELOAD": str(self.library),
-            "REFUSED": kind,
-            "FIRST": str(first),
-            "LAST": str(last),
-            "TOLD": str(write),
-        }
-        how = {"stdout": subprocess.PIPE, "stderr": subprocess.PIPE, "pass_fds": [write]}
-        with subprocess.Popen(
-            [self.programs[run.program], *run.words], cwd=self.folder, env=settings, **how
-        ) as process:
-            os.close(write)
-            # A run that hangs is killed, and its status says so.
-            late = threading.Timer(SECONDS, process.kill)
-            late.start()
-            report, message = process.communicate()
-            late.cancel()
-        with os.fdopen(read, "rb") as pipe:
-            is_refused = bool(pipe.read())
+        it = self.refuser.ended([self.programs[run.program], *run.words], kind, first, last)
         file = next((path.read_bytes() for path in self.folder.glob("out.*")), None)
-        return Told(process.returncode, text_of(report), text_of(message), file), is_refused
+        return Told(it.status, it.report, it.message, file), it.is_refused
 
 
 def is_plain(told: Told, run: Run) -> bool:
