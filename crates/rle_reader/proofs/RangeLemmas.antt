@@ -99,14 +99,14 @@ live_cells-few left state (run ∷ runs) few stay =
 
 -- the meaning is that of an preamble without a fault
 record IsAccepted (text : List ℕ) (meaning : Meaning) : Type 0 where
-  told : PreambleMeaning
-  is : meaning_of text told ≡ meaning
-  in_range : IsInRange told.settings.pos
-  none : body_fault told.settings.pos (items_of (stripped told.body)) ≡ None
+  preamble : PreambleMeaning
+  is : meaning_of text preamble ≡ meaning
+  in_range : IsInRange preamble.settings.pos
+  none : body_fault preamble.settings.pos (items_of (stripped preamble.body)) ≡ None
 
 accepted_unless : (text : List ℕ) (told : PreambleMeaning) (meaning : Meaning) (fault : Option Fault) → body_fault told.settings.pos (items_of (stripped told.body)) ≡ fault → IsInRange told.settings.pos →
     unless fault (meaning_of text told) ≡ Ok meaning → IsAccepted text meaning
-accepted_unless text told meaning None none range is = record { told = told; is = cc; in_range = range; none = none }
+accepted_unless text told meaning None none range is = record { preamble = told; is = cc; in_range = range; none = none }
 accepted_unless text told meaning (Some fault) found range is = cc
 
 accepted_with : (text : List ℕ) (meaning : Meaning) (found : Result PreambleMeaning Fault) → IfOk found (λ (o : PreambleMeaning). IsInRange o.settings.pos) → judged_with text found ≡ Ok meaning → IsAccepted text meaning

@@ -1,6 +1,5 @@
 -- The items of a body: digits, none or more, and then a byte that is neither a digit nor `!`.
-use Rattle.std.specs.Prelude.{◌≡◌, ℕ, ◌+◌, ◌==◌, ◌||◌, true, false, Bool, if◌then◌else◌, List, [], ◌∷◌, ◌++◌, map, slice_range}
-use Rattle.std.specs.Prelude.{Result, Ok, Err, Option, None, Some, drop}
+use Rattle.std.specs.Prelude.{◌≡◌, ℕ, ◌+◌, ◌==◌, ◌||◌, true, false, Bool, if◌then◌else◌, List, [], ◌∷◌, ◌++◌, map, slice_range, Result, Ok, Err, Option, None, Some, drop}
 use Rattle.std.specs.Char.{is_ascii_digit}
 use Rattle.std.specs.Int.{is_in_range}
 use Rattle.std.specs.List.{flat_map, AllByRecursion}

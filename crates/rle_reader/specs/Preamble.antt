@@ -1,6 +1,5 @@
 -- What stands before the body of a file, and the body's lines.
-use Rattle.std.specs.Prelude.{ℕ, Bool, ◌||◌, List, [], ◌∷◌, drop, Option}
-use Rattle.std.specs.Prelude.{Result, Ok, Err}
+use Rattle.std.specs.Prelude.{ℕ, Bool, ◌||◌, List, [], ◌∷◌, drop, Option, Result, Ok, Err}
 use Rattle.std.specs.List.{take_while, prefix_len}
 use Rattle.plane.specs.declared.fault.Fault.{Fault}
 use Rattle.plane.specs.declared.refusal.Refusal.TheVariants.{NotAPattern}

@@ -1,14 +1,11 @@
 -- What the parts of a file that was read are seen as.
-use Rattle.std.specs.Prelude.{ℕ, List}
-use Rattle.std.specs.Prelude.{Result}
-use Rattle.std.specs.Option.{option_copied}
+use Rattle.std.specs.Prelude.{ℕ, List, Result, ◌≡◌, ◌↔◌, ◌<◌, true, false, [], ◌++◌, length, IfSome, IfNone, IsTrue, Option}
+use Rattle.std.specs.Option.{option_copied, option_map, option_to_list}
 use Rattle.std.specs.Result.{result_map_both}
 use Rattle.plane.specs.declared.fault.Fault.{Fault}
 use Rattle.text_lines.specs.Lines.{lines_from}
 use Rattle.rle_reader.specs.Preamble.{PreambleMeaning, before_header}
 use Rattle.text_lines.specs.Comments.{comments_of}
-use Rattle.std.specs.Prelude.{◌≡◌, ◌↔◌, ◌<◌, true, false, [], ◌++◌, length, IfSome, IfNone, IsTrue, Option}
-use Rattle.std.specs.Option.{option_map, option_to_list}
 use Rattle.std.specs.List.{AllByRecursion}
 use Rattle.std.specs.Char.{is_ascii_digit}
 use Rattle.rle_reader.specs.declared.body.LocatedByte.{LocatedByte}

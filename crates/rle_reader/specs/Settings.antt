@@ -1,6 +1,5 @@
 -- What the `#CXRLE` lines say together.
-use Rattle.std.specs.Prelude.{ℕ, pos, nat_le, if◌then◌else◌, List, [], map, fold, Option, None, Some}
-use Rattle.std.specs.Prelude.{Result, Ok, Err}
+use Rattle.std.specs.Prelude.{ℕ, pos, nat_le, if◌then◌else◌, List, [], map, fold, Option, None, Some, Result, Ok, Err}
 use Rattle.std.specs.List.{filter_map}
 use Rattle.std.specs.Result.{result_ok, result_err}
 use Rattle.plane.specs.Refusal.{number_of}
