@@ -26,7 +26,7 @@ CHECK = Check(
         Need(
             "the built tests of worked_runs",
             "rt ci, or rt test there, builds them",
-            lambda options: options.tests.is_file(),
+            lambda options: getattr(options, "tests", TESTS).is_file(),
         ),
         C_COMPILER,
     ),
