@@ -27,7 +27,7 @@ use Rattle.engine.specs.declared.running.Summary.{Summary}
 use Rattle.engine.proofs.Acceptance.{leaves_as}
 use Rattle.engine.proofs.Endings.{listing_as, population_as}
 use Rattle.engine.specs.Room.{IsStuckWithin}
-use Rattle.engine.specs.Sessions.{IsLaterSession, IsNotAdvanced, IsSameSession, IsStuckOnTheWay, cells_of, comments_of, is_open, pairs_of}
+use Rattle.engine.specs.Sessions.{IsLaterSession, IsLostSession, IsNotAdvanced, IsSameSession, IsStuckOnTheWay, cells_of, comments_of, pairs_of}
 use Rattle.engine.specs.States.{IsByRule, IsSameState, is_there, state_cells, state_limit}
 use Rattle.engine.specs.declared.pattern.Pattern.{Pattern}
 use Rattle.engine.specs.declared.session.Session.{Session}
@@ -195,6 +195,14 @@ same_then_stuck {first} {second} {third} generations same stuck = record {
   stuck = stuck.stuck;
 }
 
+pub same_then_lost : {first second third : Session} → IsSameSession first second → IsLostSession second third → IsLostSession first third
+same_then_lost same lost = record {
+  comments = lost.comments ∙ same.pattern.comments;
+  rule = lost.rule ∙ same.pattern.rule;
+  generation = lost.generation ∙ same.generation;
+  closed = lost.closed;
+}
+
 -- ---- at work
 
 pub cells_at_work : (state : State) (universe : Universe) → state ≡ AtWork universe → IsSame (state_cells state) (live_cells universe)
@@ -216,15 +224,20 @@ later_result first second third generations (Ok done) same later = same_then_lat
 later_result first second third generations (Err refusal) same later = tt
 
 pub refused_result : (first second third : Session) (generations : ℕ) (result : Result Unit Refusal) → IsSameSession first second →
-    IfErr result (λ refusal. ((refusal ≡ NodesFull) × IsStuckOnTheWay second generations third) ⊎ ((refusal ≡ NoMemory) × (is_open third ≡ false))) → IfErr result (IsNotAdvanced first generations third)
+    IfErr result (λ refusal. ((refusal ≡ NodesFull) × IsStuckOnTheWay second generations third) ⊎ ((refusal ≡ NoMemory) × IsLostSession second third)) → IfErr result (IsNotAdvanced first generations third)
 refused_result first second third generations (Ok done) same refused = tt
 refused_result first second third generations (Err refusal) same (inl (full, stuck)) = inr (inl (full, same_then_stuck {first = first} {second = second} {third = third} generations same stuck))
-refused_result first second third generations (Err refusal) same (inr (memory, closed)) = inr (inr (memory, inr closed))
+refused_result first second third generations (Err refusal) same (inr (memory, lost)) = inr (inr (memory, inr (same_then_lost {first = first} {second = second} {third = third} same lost)))
 
 -- what holds at any rate holds of an answer
 pub whenever : {T E P : Type 0} (result : Result T E) → P → OnOk result P
 whenever (Ok done) holds = holds
 whenever (Err refusal) holds = tt
+
+-- what holds at any rate holds of a refusal
+pub at_any_rate : {T E P : Type 0} (Is : E → Type 0) (result : Result T E) → P → IfErr result (λ refusal. Is refusal ⊎ P)
+at_any_rate Is (Ok done) holds = tt
+at_any_rate Is (Err refusal) holds = inr holds
 
 -- a session whose range was not judged, or leaves the range
 pub not_judged : (old new : Session) (universe : Universe) (generations : ℕ) (refusal : Refusal) → IsSame (live_cells universe) (cells_of old) → IsSameSession old new →
@@ -244,18 +257,18 @@ without_other_tables state pattern fresh is cells rule limit = subst (λ (s : St
 })
 
 -- what a run tells of a session that did not come to its last generation
-pub lacks : {old new : Session} (generations : ℕ) (refusal : Refusal) → ((refusal ≡ NodesFull) × IsStuckOnTheWay old generations new) ⊎ ((refusal ≡ NoMemory) × (is_open new ≡ false)) → LacksMemoryOrRoom refusal
+pub lacks : {old new : Session} (generations : ℕ) (refusal : Refusal) → ((refusal ≡ NodesFull) × IsStuckOnTheWay old generations new) ⊎ ((refusal ≡ NoMemory) × IsLostSession old new) → LacksMemoryOrRoom refusal
 lacks generations refusal (inl (full, stuck)) = inr full
-lacks generations refusal (inr (memory, closed)) = inl memory
+lacks generations refusal (inr (memory, lost)) = inl memory
 
 memory_not_full : (refusal : Refusal) → refusal ≡ NoMemory → refusal ≡ NodesFull → ⊥
 memory_not_full refusal memory full = cc
 
 pub stuck_if_full : {first second third : Session} (generations done more : ℕ) (refusal : Refusal) → IsLaterSession first done second → done + more ≤ generations →
-    ((refusal ≡ NodesFull) × IsStuckOnTheWay second more third) ⊎ ((refusal ≡ NoMemory) × (is_open third ≡ false)) → refusal ≡ NodesFull → IsStuckWithin first.rule (cells_of first) (pairs_of first) generations
+    ((refusal ≡ NodesFull) × IsStuckOnTheWay second more third) ⊎ ((refusal ≡ NoMemory) × IsLostSession second third) → refusal ≡ NodesFull → IsStuckWithin first.rule (cells_of first) (pairs_of first) generations
 stuck_if_full {first} {second} {third} generations done more refusal before within (inl (full, stuck)) is =
     stuck_within {old = first} {new = third} generations (stuck_from_later {first = first} {second = second} {third = third} generations done more before within stuck)
-stuck_if_full {first} {second} {third} generations done more refusal before within (inr (memory, closed)) is = absurd (memory_not_full refusal memory is)
+stuck_if_full {first} {second} {third} generations done more refusal before within (inr (memory, lost)) is = absurd (memory_not_full refusal memory is)
 
 -- a sink that failed took a beginning of the text
 pub refused_window : (Begins : Type 0) (Failed Closed : Refusal → Type 0) (result : Result Unit Refusal) → IfErr result Failed → OnErr result Begins → IfErr result (λ refusal. (Failed refusal × Begins) ⊎ Closed refusal)

@@ -64,15 +64,22 @@ pub record IsStuckOnTheWay (old : Session) (generations : ℕ) (new : Session) :
   pub later : IsLaterSession old done new
   pub stuck : IsStuckHere new
 
+-- the same comments, rule and number of its generation, but closed: its cells are lost
+pub record IsLostSession (old new : Session) : Type 0 where
+  pub comments : comments_of new ≡ comments_of old
+  pub rule : new.rule ≡ old.rule
+  pub generation : new.generation ≡ old.generation
+  pub closed : is_open new ≡ false
+
 -- why it did not advance, and what it is then. So many generations leave the range, and it is as it
 -- was; or its tables are too small for one of them, and it is the generation before; or memory ran
--- out, and it is as it was, or closed
+-- out, and it is as it was, or its cells are lost
 abbrev pub IsNotAdvanced : Session → ℕ → Session → Refusal → Type 0
 IsNotAdvanced old generations new refusal =
     ((refusal ≡ TooFar) × LeavesRange (cells_of old) old.generation generations
     × IsSameSession old new)
     ⊎ ((refusal ≡ NodesFull) × IsStuckOnTheWay old generations new)
-    ⊎ ((refusal ≡ NoMemory) × (IsSameSession old new ⊎ (is_open new ≡ false)))
+    ⊎ ((refusal ≡ NoMemory) × (IsSameSession old new ⊎ IsLostSession old new))
 
 -- a session that was opened of these bytes for a run of these options: it has the comments, the
 -- generation and the cells of the file, and the run is accepted by its rule

@@ -1,11 +1,11 @@
 //! Sessions that advance.
 
-ghost use Rattle.std.specs.Prelude.{◌≡◌, ◌⊎◌, ◌+◌, ◌≤◌, ◌<◌, ◌^◌, false, true, IfErr, OnOk};
+ghost use Rattle.std.specs.Prelude.{◌≡◌, ◌⊎◌, ◌+◌, ◌≤◌, ◌<◌, ◌^◌, true, IfErr, OnOk};
 ghost use Rattle.plane.specs.Square.{IsSame, empty};
 ghost use Rattle.plane.specs.declared.range.TheConstants.{GENERATION_LIMIT};
 ghost use Rattle.universe.specs.StaysWithinRoot.{StaysWithinRoot};
 ghost use Rattle.universe.specs.Ranges.{KeepsToRange};
-ghost use Rattle.engine.specs.Sessions.{IsLaterSession, IsNotAdvanced, IsStuckOnTheWay, cells_of, is_open};
+ghost use Rattle.engine.specs.Sessions.{IsLaterSession, IsLostSession, IsNotAdvanced, IsStuckOnTheWay, cells_of, is_open};
 
 use crate::session::Session;
 use plane::Refusal;
@@ -30,6 +30,8 @@ impl Session {
             (KeepsToRange (cells_of self.old) self.old.generation generations) }
         ensures closed { OnOk result (is_open self.old ≡ true) }
         ensures refused { IfErr result (IsNotAdvanced self.old generations self.new) }
+        ensures opened { IfErr result (λ refusal. (refusal ≡ Refusal.NoMemory)
+            ⊎ (is_open self.old ≡ true)) }
     {
         let mut universe = self.state.take_universe(team.alloc)?;
         let judged = universe.judge_range(team.alloc, self.generation, generations);
@@ -50,7 +52,7 @@ impl Session {
         ensures ok { OnOk result (IsLaterSession self.old generations self.new) }
         ensures refused { IfErr result (λ refusal.
             ((refusal ≡ Refusal.NodesFull) × IsStuckOnTheWay self.old generations self.new)
-            ⊎ ((refusal ≡ Refusal.NoMemory) × (is_open self.new ≡ false))) }
+            ⊎ ((refusal ≡ Refusal.NoMemory) × IsLostSession self.old self.new)) }
     {
         let universe = self.state.take_universe(team.alloc)?;
         match universe.advance(team, generations)? {

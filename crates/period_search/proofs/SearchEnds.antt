@@ -34,5 +34,6 @@ refused_in_plane candidates old new refusal way =
 -- memory ran out, or the plane of the first cells does not come to a candidate
 pub stops_in_plane : (candidates : Candidates) (old new : Session) (refusal : Refusal) → StopsOnTheWay candidates old new refusal →
     (refusal ≡ NoMemory) ⊎ StopsInPlane old.rule (cells_of old) old.generation (pairs_of old) candidates refusal
-stops_in_plane candidates old new refusal (inl (memory, later)) = inl memory
-stops_in_plane candidates old new refusal (inr way) = refused_in_plane candidates old new refusal way
+stops_in_plane candidates old new refusal (inl (memory, same)) = inl memory
+stops_in_plane candidates old new refusal (inr (opened, inl (memory, came))) = inl memory
+stops_in_plane candidates old new refusal (inr (opened, inr way)) = refused_in_plane candidates old new refusal way

@@ -1,5 +1,5 @@
 -- What a search for periods has found out when it tries the next number of generations.
-use Rattle.std.proofs.Common.{◌≡◌, inl, inr, ℕ, zero, suc, ◌+◌, ◌-◌, ◌*◌, ◌/◌, ◌%◌, ◌<◌, ◌≤◌, ℤ, pos, ◌-ℤ◌, ◌*ℤ◌, ⊎_elim, sym, ◌∙◌, ap, subst, arith, eq-zero-or-pos, div-add-mod', one-mul}
+use Rattle.std.proofs.Common.{◌≡◌, inl, inr, ℕ, zero, suc, ◌+◌, ◌-◌, ◌*◌, ◌/◌, ◌%◌, ◌<◌, ◌≤◌, ℤ, pos, ◌-ℤ◌, ◌*ℤ◌, ⊎_elim, sym, ◌∙◌, ap, subst, true, arith, eq-zero-or-pos, div-add-mod', one-mul}
 use Rattle.std.proofs.lemmas.Bool.{cases_lt}
 use Rattle.std.proofs.lemmas.Nat.{mod_below}
 use Rattle.std.proofs.Math.Nat.{mul_assoc, suc-mul, zero-mul}
@@ -10,7 +10,7 @@ use Rattle.plane.specs.Square.{IsSame, empty}
 use Rattle.plane.specs.declared.refusal.Refusal.{Refusal}
 use Rattle.plane.specs.declared.refusal.Refusal.TheVariants.{NoMemory}
 use Rattle.plane.proofs.Same.{same_sym, same_trans}
-use Rattle.engine.specs.Sessions.{IsLaterSession, IsNotAdvanced, IsSameSession, cells_of}
+use Rattle.engine.specs.Sessions.{IsLaterSession, IsNotAdvanced, IsSameSession, cells_of, is_open}
 use Rattle.engine.specs.declared.session.Session.{Session}
 use Rattle.engine.proofs.Sessions.{later_on, later_same, none_later}
 use Rattle.periods.specs.Periods.{HasPeriod, IsLeastPeriod, IsPeriod}
@@ -78,7 +78,7 @@ none_left candidates start session tried has none n one period =
     ⊎_elim (λ (behind : tried < n). none n behind one) (λ (before : n ≤ tried). has.none n before one period) (cases_lt tried n)
 
 -- a candidate is at most the last one, which is one unless it is 0
-within_last : (candidates : Candidates) (n : ℕ) → AreSome candidates → IsCandidate candidates n → n ≤ last_of candidates
+pub within_last : (candidates : Candidates) (n : ℕ) → AreSome candidates → IsCandidate candidates n → n ≤ last_of candidates
 within_last (UpTo most) n some one = one.1
 within_last (DivisorsOf whole) n some (zero, product) = let none : zero * n ≡ 0 = zero-mul n in absurd (omega (arith, none, product, some))
 within_last (DivisorsOf whole) n some (suc times, product) = let more : suc times * n ≡ times * n + n = suc-mul times n in omega (arith, product, more)
@@ -95,13 +95,14 @@ came_to_last candidates start session tried has none =
     (cases_lt tried (last_of candidates))
 
 -- memory ran out at a generation that it came to
-pub out_of_memory : (candidates : Candidates) (start here session : Session) (done : ℕ) (refusal : Refusal) → refusal ≡ NoMemory → IsLaterSession start done here → IsSameSession here session → StopsOnTheWay candidates start session refusal
-out_of_memory candidates start here session done refusal memory later same = inl (memory, (done, later_same {first = start} {second = here} {third = session} done later same))
+pub out_of_memory : (candidates : Candidates) (start here session : Session) (done : ℕ) (refusal : Refusal) → refusal ≡ NoMemory → is_open start ≡ true → done ≤ last_of candidates → IsLaterSession start done here → IsSameSession here session →
+    StopsOnTheWay candidates start session refusal
+out_of_memory candidates start here session done refusal memory opened within later same = inr (opened, inl (memory, (done, within, later_same {first = start} {second = here} {third = session} done later same)))
 
-pub not_advanced : (candidates : Candidates) (start here new : Session) (tried next : ℕ) (refusal : Refusal) → HasTried candidates start here tried → IsNext candidates tried next →
+pub not_advanced : (candidates : Candidates) (start here new : Session) (tried next : ℕ) (refusal : Refusal) → is_open start ≡ true → HasTried candidates start here tried → IsNext candidates tried next →
     IsNotAdvanced here (next - tried) new refusal → StopsOnTheWay candidates start new refusal
-not_advanced candidates start here new tried next refusal has is_next refused =
-    inr (record { here = here; done = tried; next = next; later = has.later; none = has.none; is_next = is_next; refused = refused })
+not_advanced candidates start here new tried next refusal opened has is_next refused =
+    inr (opened, inr (record { here = here; done = tried; next = next; later = has.later; none = has.none; is_next = is_next; refused = refused }))
 
 -- the session went on to the next number and was compared there
 module _ (candidates : Candidates) (start here there session : Session) (first : Plane) (tried number : ℕ) (same : IsSame first (cells_of start)) (has : HasTried candidates start here tried) (is_next : IsNext candidates tried number) (on : IsLaterSession here (number - tried) there) (compared : IsSameSession there session) where

@@ -1,5 +1,5 @@
 -- Searches for periods: what they answer, and how they end early.
-use Rattle.std.specs.Prelude.{◌≡◌, ◌⊎◌, ℕ, ◌+◌, ◌-◌, ◌≤◌, pos, List, None, Option, Some}
+use Rattle.std.specs.Prelude.{◌≡◌, ◌⊎◌, ℕ, ◌+◌, ◌-◌, ◌≤◌, pos, true, List, None, Option, Some}
 use Rattle.rule_text.specs.CountRule.{CountRule}
 use Rattle.plane.specs.Listing.{IsListing}
 use Rattle.plane.specs.Plane.{Plane, after}
@@ -9,10 +9,10 @@ use Rattle.plane.specs.declared.refusal.Refusal.{Refusal}
 use Rattle.plane.specs.declared.refusal.Refusal.TheVariants.{NodesFull, NoMemory, TooFar}
 use Rattle.universe.specs.Ranges.{LeavesRange}
 use Rattle.engine.specs.Room.{IsStuckWithin}
-use Rattle.engine.specs.Sessions.{IsLaterSession, IsNotAdvanced, cells_of}
+use Rattle.engine.specs.Sessions.{IsLaterSession, IsNotAdvanced, IsSameSession, cells_of, is_open}
 use Rattle.engine.specs.declared.session.Session.{Session}
 use Rattle.periods.specs.Periods.{HasPeriod, IsLeastPeriod}
-use Rattle.period_search.specs.Candidates.{IsCandidate, IsNext}
+use Rattle.period_search.specs.Candidates.{IsCandidate, IsNext, last_of}
 use Rattle.period_search.specs.declared.candidates.Candidates.{Candidates}
 use Rattle.period_search.specs.declared.period.Period.{Period}
 
@@ -61,11 +61,19 @@ pub record IsRefusedOnTheWay (candidates : Candidates) (old new : Session)
   pub is_next : IsNext candidates done next
   pub refused : IsNotAdvanced here (next - done) new refusal
 
--- memory ran out at a generation that it came to, or it did not advance to a candidate
+-- it came to a generation that is at most the last candidate
+abbrev pub ComesOnTheWay : Candidates → Session → Session → Type 0
+ComesOnTheWay candidates old new =
+    (done : ℕ) × (done ≤ last_of candidates) × IsLaterSession old done new
+
+-- memory ran out, and it is as it was; or it was open, and memory ran out at a generation that it
+-- came to, or it did not advance to a candidate
 abbrev pub StopsOnTheWay : Candidates → Session → Session → Refusal → Type 0
 StopsOnTheWay candidates old new refusal =
-    ((refusal ≡ NoMemory) × ((done : ℕ) × IsLaterSession old done new))
-    ⊎ IsRefusedOnTheWay candidates old new refusal
+    ((refusal ≡ NoMemory) × IsSameSession old new)
+    ⊎ ((is_open old ≡ true)
+    × (((refusal ≡ NoMemory) × ComesOnTheWay candidates old new)
+    ⊎ IsRefusedOnTheWay candidates old new refusal))
 
 -- the same without the session: no candidate up to a number of generations is a period, and from
 -- there the plane does not come to the next one. The range is left, or tables of so many pair slots

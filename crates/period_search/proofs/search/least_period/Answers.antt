@@ -7,7 +7,7 @@ use Rattle.plane.specs.Square.{IsSame, empty}
 use Rattle.plane.proofs.Same.{same_trans}
 use Rattle.plane.proofs.SentErrors.{sent_on}
 use Rattle.period_search.specs.Searches.{StopsOnTheWay}
-use Rattle.period_search.proofs.SearchSteps.{answered, came, came_on, came_to_last, not_advanced, nothing_tried, out_of_memory, tried_too}
+use Rattle.period_search.proofs.SearchSteps.{answered, came, came_on, came_to_last, not_advanced, nothing_tried, out_of_memory, tried_too, within_last}
 use Rattle.period_search.proofs.search.least_period.Goals as goal
 
 pub loop-generations-init : goal.loop-generations-init
@@ -16,13 +16,14 @@ loop-generations-init g c = nothing_tried c.args.candidates c.args.session.now c
 pub returns-in_err-advance-clause-refused : goal.returns-in_err-advance-clause-refused
 returns-in_err-advance-clause-refused g c =
     sent_on (StopsOnTheWay c.args.candidates c.args.session.now c.advance.new.self) c.from_residual-in_err-advance.result c.in_err-advance.field-0.0 c.from_residual-in_err-advance.ensures.1
-    (not_advanced c.args.candidates c.args.session.now c.loop-generations.session c.advance.new.self c.loop-generations.tried c.in-Some.generations c.in_err-advance.field-0.0 c.loop-generations.invariant c.in-Some.ensures.next c.in_err-advance.ensures.refused)
+    (not_advanced c.args.candidates c.args.session.now c.loop-generations.session c.advance.new.self c.loop-generations.tried c.in-Some.generations c.in_err-advance.field-0.0 c.in_ok-first.ensures.closed c.loop-generations.invariant c.in-Some.ensures.next c.in_err-advance.ensures.refused)
 
 pub returns-in_err-by-clause-refused : goal.returns-in_err-by-clause-refused
 returns-in_err-by-clause-refused g c =
     let there = c.advance.new.self in
     sent_on (StopsOnTheWay c.args.candidates c.args.session.now c.displacement.new.session) c.from_residual-in_err-by.result c.in_err-by.field-0.0 c.from_residual-in_err-by.ensures.1
-    (out_of_memory c.args.candidates c.args.session.now there c.displacement.new.session c.in-Some.generations c.in_err-by.field-0.0 c.in_err-by.ensures.memory
+    (out_of_memory c.args.candidates c.args.session.now there c.displacement.new.session c.in-Some.generations c.in_err-by.field-0.0 c.in_err-by.ensures.memory c.in_ok-first.ensures.closed
+    (within_last c.args.candidates c.in-Some.generations c.requires c.in-Some.ensures.next.one)
     (came c.args.candidates c.args.session.now c.loop-generations.session there c.displacement.new.session (plane_of c.in_ok-first.first) c.loop-generations.tried c.in-Some.generations
     (same_trans c.in_ok-first.ensures.ok c.snapshot.ensures.same.cells) c.loop-generations.invariant c.in-Some.ensures.next c.in_ok-advance.ensures.ok c.displacement.ensures.session)
     c.displacement.ensures.session)

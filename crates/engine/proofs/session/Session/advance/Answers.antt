@@ -7,7 +7,7 @@ use Rattle.plane.proofs.Same.{same_trans}
 use Rattle.universe.specs.Cells.{live_cells}
 use Rattle.universe.proofs.InRange.{keeps_held, keeps_short}
 use Rattle.universe.proofs.Onward.{held_again}
-use Rattle.engine.proofs.Sessions.{cells_at_work, judged, later_result, not_judged, refused_result, whenever}
+use Rattle.engine.proofs.Sessions.{at_any_rate, cells_at_work, judged, later_result, not_judged, refused_result, whenever}
 use Rattle.engine.proofs.session.Session.advance.Goals as goal
 
 pub advance_within-requires-clause-held : goal.advance_within-requires-clause-held
@@ -40,7 +40,7 @@ returns-clause-in_range g c = whenever c.advance_within.result (keeps_as c.in_ok
 pub returns-in_err-universe-clause-refused : goal.returns-in_err-universe-clause-refused
 returns-in_err-universe-clause-refused g c =
     let is : c.from_residual.result ≡ Err NoMemory = search rules in
-    rw is (inr (inr (refl, inr (ap is_there c.take_universe.ensures.lost))))
+    rw is (inr (inr (refl, inr (record { comments = refl; rule = refl; generation = refl; closed = ap is_there c.take_universe.ensures.lost }))))
 
 pub returns-in_err-judged-clause-refused : goal.returns-in_err-judged-clause-refused
 returns-in_err-judged-clause-refused g c =
@@ -50,3 +50,11 @@ returns-in_err-judged-clause-refused g c =
 
 pub returns-clause-closed : goal.returns-clause-closed
 returns-clause-closed g c = whenever c.advance_within.result (sym c.in_ok-universe.ensures.same.there)
+
+pub returns-clause-opened : goal.returns-clause-opened
+returns-clause-opened g c = at_any_rate (λ refusal. refusal ≡ NoMemory) c.advance_within.result (sym c.in_ok-universe.ensures.same.there)
+
+pub returns-in_err-judged-clause-opened : goal.returns-in_err-judged-clause-opened
+returns-in_err-judged-clause-opened g c =
+    let is : c.from_residual-in_err-judged.result ≡ Err c.in_err-judged.field-0.0 = err_is _ _ c.from_residual-in_err-judged.ensures.1 in
+    rw is (inr (sym c.in_ok-universe.ensures.same.there))

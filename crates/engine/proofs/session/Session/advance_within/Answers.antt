@@ -22,12 +22,12 @@ returns-in-Stuck-clause-refused g c =
 pub returns-in_err-universe-clause-refused : goal.returns-in_err-universe-clause-refused
 returns-in_err-universe-clause-refused g c =
     let is : c.from_residual.result ≡ Err NoMemory = search rules in
-    rw is (inr (refl, ap is_there c.take_universe.ensures.lost))
+    rw is (inr (refl, record { comments = refl; rule = refl; generation = refl; closed = ap is_there c.take_universe.ensures.lost }))
 
 pub returns-in_err-later-clause-refused : goal.returns-in_err-later-clause-refused
 returns-in_err-later-clause-refused g c =
     let is : c.from_residual-in_err-later.result ≡ Err NoMemory = search rules in
-    rw is (inr (refl, ap is_there c.take_universe.ensures.lost))
+    rw is (inr (refl, record { comments = refl; rule = refl; generation = refl; closed = ap is_there c.take_universe.ensures.lost }))
 
 pub invariant_of-self-in-Done : goal.invariant_of-self-in-Done
 invariant_of-self-in-Done g c =
