@@ -8,9 +8,7 @@ use engine::{OpenGate, Session, Team, write_summary};
 use plane::{Fault, Sink, reach};
 use std::alloc::Global;
 use std::thread::Threads;
-
-// The most pair slots that a run's tables may have.
-const PAIRS: u32 = 4194304;
+use table_core::DEFAULT_PAIR_COUNT;
 
 /// Writes `lines` lines, one each after 1, 2, 4, 8, .. generations: the generation, the population
 /// and the bounding box. One session is advanced from line to line, with two workers. It refuses
@@ -30,7 +28,7 @@ pub(crate) fn census<R: Threads + Sync, W: Sink>(
         return Ok(());
     }
     let team = team_of_two(rt, alloc);
-    let mut session = Session::open(alloc, bytes, None, PAIRS)?;
+    let mut session = Session::open(alloc, bytes, None, DEFAULT_PAIR_COUNT)?;
     let first = session.generation();
     let bounds = session.bounds(alloc)?;
     let mut done = 0;

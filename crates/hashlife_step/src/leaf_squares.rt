@@ -1,5 +1,8 @@
 //! Squares of levels 3 to 6, by the cells of their leaves: read and joined, their futures, and the
 //! square round a leaf.
+//!
+//! Only public calls of this crate ask for the future of a square below level 6: a run pads its root,
+//! of level 4 or more, to level 6 or more.
 ghost use Rattle.std.specs.Prelude.{◌≡◌, IfOk, IfErr};
 ghost use Rattle.leaf_kernels.specs.Rows.{four_fours_plane, four_sixteens_plane, sixteen_plane};
 ghost use Rattle.plane.specs.Square.{IsSame};
@@ -7,7 +10,7 @@ ghost use Rattle.squares.specs.Book.{AddsSquares, IsFuture, IsKnown, MayRefuse, 
 ghost use Rattle.squares.specs.Roots.{square_plane};
 ghost use Rattle.hashlife_step.specs.ShowsCentred.{ShowsCentred};
 
-use leaf_kernels::{centre16, result16, result64};
+use leaf_kernels::{Leaves64, centre16, result16, result64};
 use plane::Refusal;
 use squares::{Sq, Squares, join_leaves, read_leaves};
 
@@ -36,7 +39,7 @@ fn read_sixteen<S: Squares>(book: &mut S, sq: Sq) -> [u64; 16]
 }
 
 // The leaves of a square of level 6, quarter by quarter.
-fn read_quarters<S: Squares>(book: &mut S, sq: Sq) -> [[u64; 16]; 4]
+fn read_quarters<S: Squares>(book: &mut S, sq: Sq) -> Leaves64
     requires known { IsKnown (S.book book.old) sq.level sq }
     requires level { sq.level ≡ 6 }
     ensures value { IsSame (four_sixteens_plane result) ((S.book book.old).cells sq) }

@@ -7,9 +7,13 @@ ghost use Rattle.leaf_kernels.specs.Words.{AreTransposed, lane_at};
 
 use std::simd::prelude::*;
 
+/// The leaves of a square of 64 by 64 cells: of each quarter its sixteen, 8 by 8 cells each, row by
+/// row. The quarters are the upper left, the upper right, the lower left and the lower right.
+pub type Leaves64 = [[u64; 16]; 4];
+
 /// The rows of the square that four squares of sixteen leaves make.
 #[inline(always)]
-pub(crate) fn rows_of(quarters: [[u64; 16]; 4]) -> [u64x4; 16]
+pub(crate) fn rows_of(quarters: Leaves64) -> [u64x4; 16]
     ensures { IsSame (rows_plane result) (four_sixteens_plane quarters) }
 {
     let [upper_left, upper_right, lower_left, lower_right] = quarters;

@@ -16,6 +16,7 @@ mod rows;
 mod sixteen_rows;
 mod sum;
 
+pub use leaves::Leaves64;
 pub use plane::centre16;
 pub use result::{result16, result64};
 pub use sixteen_rows::next_rows;

@@ -5,7 +5,7 @@ ghost use Rattle.plane.specs.Leaves.{leaves_plane};
 ghost use Rattle.leaf_kernels.specs.Rows.{four_fours_plane, four_sixteens_plane};
 
 use crate::generation::later_rows;
-use crate::leaves;
+use crate::leaves::{self, Leaves64};
 use crate::sixteen_rows::{centre_of_rows, next_rows, rows_of_leaves};
 use rule_text::Rule;
 
@@ -24,9 +24,9 @@ pub fn result16(rule: &Rule, leaves: [u64; 4], exp: u8) -> u64
 }
 
 /// The cells in the middle of a square of 64 by 64 cells, 2^`exp` generations on, where all cells
-/// outside the square are dead at first. The square stands in four quarters of sixteen leaves each,
-/// row by row, and its middle in four quarters of four leaves each.
-pub fn result64(rule: &Rule, quarters: [[u64; 16]; 4], exp: u8) -> [[u64; 4]; 4]
+/// outside the square are dead at first. The middle stands in four quarters of four leaves each, in
+/// the order of the square's.
+pub fn result64(rule: &Rule, quarters: Leaves64, exp: u8) -> [[u64; 4]; 4]
     requires { exp < 5 }
     ensures { IsSame (four_fours_plane result)
         (future rule.now exp 6 (four_sixteens_plane quarters)) }

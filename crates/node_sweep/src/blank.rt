@@ -1,7 +1,6 @@
 //! Words without a square, into which squares are copied.
 
-ghost use Rattle.std.specs.Prelude.{IfOk};
-ghost use Rattle.table_core.specs.Sizes.{IsPairCount};
+ghost use Rattle.std.specs.Prelude.{◌^◌, IfOk};
 ghost use Rattle.node_sweep.specs.Blank.{AreBlank};
 ghost use Rattle.node_sweep.specs.CopiedStills.{IsResized};
 ghost use Rattle.node_sweep.specs.Copying.{AreBlankWords};
@@ -16,13 +15,12 @@ pub struct BlankWords {
     pub(crate) words: Vec<u64>,
 }
 
-// The head of a table of so many pair slots, under the same rule and exponent.
-fn resize(from: &Key, pairs: u32) -> Key
-    requires { IsPairCount pairs }
-    ensures { IsResized from.now result pairs }
+// The head of a table of this shape, under the same rule and exponent.
+fn resize(from: &Key, shape: Shape) -> Key
+    ensures { IsResized from.now result (2 ^ shape.bits) }
 {
     Key {
-        shape: Shape::new(pairs),
+        shape,
         rule: from.rule,
         exponent: from.exponent,
     }
@@ -38,12 +36,11 @@ fn blank_words(alloc: Global, key: &Key) -> Result<Vec<u64>, AllocError>
 }
 
 impl BlankWords {
-    /// Words of so many pair slots, under the rule and the exponent of this head.
-    pub fn new(alloc: Global, from: &Key, pairs: u32) -> Result<BlankWords, AllocError>
-        requires { IsPairCount pairs }
-        ensures { IfOk result (AreBlank from.now pairs) }
+    /// Words of this shape, under the rule and the exponent of this head.
+    pub fn new(alloc: Global, from: &Key, shape: Shape) -> Result<BlankWords, AllocError>
+        ensures { IfOk result (AreBlank from.now (2 ^ shape.bits)) }
     {
-        let key = resize(from, pairs);
+        let key = resize(from, shape);
         let words = blank_words(alloc, &key)?;
         Ok(BlankWords { key, words })
     }

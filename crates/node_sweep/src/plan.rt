@@ -13,6 +13,7 @@ use node_table::NodeTable;
 use squares::Sq;
 use std::alloc::{AllocError, Global};
 use std::thread::{Threads, map_indices};
+use table_core::{Kind, Shape};
 
 // With fewer pair slots for each worker, fewer workers find out what is copied.
 const SLOTS_A_WORKER: u32 = 1 << 17;
@@ -55,13 +56,13 @@ impl<R> Workers<'_, R> {
 }
 
 impl CopyPlan {
-    /// What is copied of an open table where this is kept of a root, in words of so many pair slots.
+    /// What is copied of an open table where this is kept of a root, in words of this shape.
     pub fn of_table<R: Threads + Sync>(
         workers: &Workers<'_, R>,
         table: &NodeTable,
         root: Sq,
         keep: Keep,
-        pairs: u32,
+        shape: Shape,
     ) -> Result<CopyPlan, AllocError> {
         let words = OpenWords::of_table(table);
         let orders = orders(workers, words)?;
@@ -76,7 +77,7 @@ impl CopyPlan {
                 finished: None,
             });
         };
-        let kept = counts.kept_ranks(pairs, shares);
+        let kept = counts.kept_ranks(shape.slot_count(Kind::Pair), shares);
         let marks = marks(workers, words, orders.as_slice(), kept, root)?;
         Ok(CopyPlan {
             words_before,

@@ -19,7 +19,7 @@ use node_table::Still;
 use plane::Refusal;
 use squares::{Num, Sq};
 use std::alloc::Global;
-use table_core::square_rank;
+use table_core::{Shape, square_rank};
 
 impl<'a> OldWords<'a> {
     // The words of a closed table.
@@ -101,7 +101,7 @@ pub fn sweep(alloc: Global, still: &Still, root: Sq, pairs: u32) -> Result<(Stil
     ensures refusal { IfErr result (LacksMemoryOr (SaysFull (HasNoRoomFor still.now root pairs))) }
     ensures few { ReachesFewWords still.now root → IsOkUnless result Refusal.NoMemory }
 {
-    let blank = BlankWords::new(alloc, still.key(), pairs)?;
+    let blank = BlankWords::new(alloc, still.key(), Shape::new(pairs))?;
     let BlankWords { key, words } = blank;
     let transfer = Transfer {
         old: OldWords::of_still(still),

@@ -1,9 +1,10 @@
 -- Rules of options.
-use Rattle.std.specs.Prelude.{◌≡◌, ℕ, List, [], ◌∷◌, Some, codes, false, true}
+use Rattle.std.specs.Prelude.{◌≡◌, ℕ, List, [], ◌∷◌, Some, codes, decimal, false, true}
 use Rattle.std.specs.List.{AllZip}
 use Rattle.clap.specs.Words.{Rule, Text, new_rule, rule_of}
 use Rattle.clap.specs.declared.builder.arg.Arg.{Arg}
 use Rattle.clap.specs.declared.builder.value_parser.ValueParser.TheVariants as parser
+use Rattle.table_core.specs.declared.shape.TheConstants.{DEFAULT_PAIR_COUNT}
 
 -- an option with a long name
 abbrev pub valued : Text → Rule
@@ -40,10 +41,10 @@ rule_option = valued_in_short (codes "rule") 114
 abbrev pub window_option : Rule
 window_option = valued (codes "window")
 
--- `--nodes N`: a number below 2^64, 4194304 if it is left out
+-- `--nodes N`: a number below 2^64, the default number of pair slots if it is left out
 abbrev pub node_option : Rule
 node_option = record (valued (codes "nodes")) {
-  defaults = codes "4194304" ∷ [];
+  defaults = decimal DEFAULT_PAIR_COUNT ∷ [];
   parser = Some (parser.Unsigned 0 18446744073709551615);
 }
 

@@ -32,5 +32,7 @@ pub use laws::{
 };
 pub use machine::{Event, step};
 pub use rank::{LARGEST_RANK, square_rank};
-pub use shape::{Kind, LARGEST_PAIR_COUNT, SHARD_LEN, SMALLEST_PAIR_COUNT, Shape};
+pub use shape::{
+    DEFAULT_PAIR_COUNT, Kind, LARGEST_PAIR_COUNT, SHARD_LEN, SMALLEST_PAIR_COUNT, Shape,
+};
 pub use word::{pair_word, parts, result_word};

@@ -9,6 +9,9 @@ pub const SMALLEST_PAIR_COUNT: u32 = 1 << 10;
 /// The most pair slots that a table may have.
 pub const LARGEST_PAIR_COUNT: u32 = 1 << 28;
 
+/// How many pair slots the tables of a run may have together unless it is told otherwise.
+pub const DEFAULT_PAIR_COUNT: u32 = 1 << 22;
+
 /// How many slots a shard has, so how many places the way of a word has.
 pub const SHARD_LEN: u32 = 256;
 

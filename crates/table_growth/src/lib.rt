@@ -9,7 +9,7 @@ mod retries;
 mod sizes;
 
 pub use history::TableHistory;
-pub use policy::{BYTES_A_PAIR_SLOT, COLLECTION_SHARES, SHARED_COPY_PAIRS};
+pub use policy::{BITS_OF_SHARED_COPIES, BYTES_A_PAIR_SLOT, COLLECTION_SHARES};
 pub use retries::{Retry, RetryPlan};
 pub use sizes::{
     GrowthFactor, expected_shape, has_come_far, larger, pair_count, shape_between, smallest,

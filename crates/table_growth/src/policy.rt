@@ -10,16 +10,13 @@ pub(crate) const START_BITS: u8 = 12;
 /// cache.
 pub(crate) const LARGE_BITS: u8 = 18;
 
-/// How many pair slots a run's tables may have together unless it is told otherwise, as a power of
-/// two.
-pub(crate) const DEFAULT_LIMIT_BITS: u8 = 22;
-
 /// From how many pair slots on a table grows by sixteen where it may have more slots than by
 /// default, as a power of two: who gives so many needs them.
 pub(crate) const BITS_OF_LARGE_STEPS: u8 = 20;
 
-/// From how many pair slots on a table grows by four where the step that filled it has come far, as
-/// a power of two.
+/// From how many pair slots on a table grows by four where the step of one worker that filled it has
+/// come far, as a power of two. Several workers copy so small a table slower than one worker fills
+/// it: theirs does so from `BITS_OF_LARGE_STEPS` on.
 pub(crate) const BITS_OF_SMALL_STEPS: u8 = 16;
 
 /// Squares of this part of the side of a step's square, as a power of two, tell how far the step has
@@ -67,8 +64,8 @@ pub const COLLECTION_SHARES: Shares = Shares {
 };
 
 /// From how many pair slots on one more thread makes the words of a copy, while the others find out
-/// what is copied.
-pub const SHARED_COPY_PAIRS: u32 = 1 << 20;
+/// what is copied, as a power of two.
+pub const BITS_OF_SHARED_COPIES: u8 = 20;
 
 /// About how many bytes of a large pattern file there are for each pair slot that its squares need.
 pub const BYTES_A_PAIR_SLOT: u64 = 10;

@@ -3,8 +3,8 @@
 ghost use Rattle.std.specs.Prelude.{◌≡◌, Some, IfNone, IfSome};
 
 use crate::history::TableHistory;
-use crate::policy::{DEFAULT_LIMIT_BITS, LARGE_TEAM, MOST_COLLECTIONS};
-use crate::sizes::larger;
+use crate::policy::{LARGE_TEAM, MOST_COLLECTIONS};
+use crate::sizes::{exceeds_default, larger};
 use table_core::Shape;
 
 /// How a step is tried again: at a new table of which size, and with what of the table that was
@@ -74,9 +74,7 @@ impl RetryPlan {
     // Whether the step begins again with only the cells at a larger table: many workers take the
     // first step of the table's cells, and there may be more slots than by default.
     fn should_restart(&self) -> bool {
-        self.workers >= LARGE_TEAM
-            && self.limit.bits > DEFAULT_LIMIT_BITS
-            && self.history.has_no_step()
+        self.workers >= LARGE_TEAM && exceeds_default(self.limit) && self.history.has_no_step()
     }
 
     // What comes after a table of the largest shape, which was collected so many times.

@@ -3,11 +3,10 @@
 ghost use Rattle.std.specs.Prelude.{◌≡◌, ◌<◌, ◌≤◌, ◌⊎◌, ◌+◌, ◌^◌, IfNone, IfSome};
 
 use crate::policy::{
-    BITS_OF_LARGE_STEPS, BITS_OF_SMALL_STEPS, COUNTED_PART, DEFAULT_LIMIT_BITS, FEW_PARTS,
-    LARGE_BITS, START_BITS,
+    BITS_OF_LARGE_STEPS, BITS_OF_SMALL_STEPS, COUNTED_PART, FEW_PARTS, LARGE_BITS, START_BITS,
 };
 use node_sweep::CopyPlan;
-use table_core::{Kind, Shape};
+use table_core::{DEFAULT_PAIR_COUNT, Kind, Shape};
 
 /// The shape of a new table: 4096 pair slots, or the largest.
 pub fn smallest(limit: Shape) -> Shape
@@ -55,21 +54,30 @@ pub fn larger(shape: Shape, limit: Shape, growth_factor: GrowthFactor) -> Option
     }
     let grows_at_once = match growth_factor {
         GrowthFactor::Sixteen if shape.bits < LARGE_BITS => true,
-        _ => shape.bits >= BITS_OF_LARGE_STEPS && limit.bits > DEFAULT_LIMIT_BITS,
+        _ => shape.bits >= BITS_OF_LARGE_STEPS && exceeds_default(limit),
     };
     let bits = shape.bits + if grows_at_once { 4 } else { 2 };
     let bits = limit.bits.min(bits);
     Some(Shape { bits })
 }
 
+/// Whether a table of this shape has more pair slots than the tables of a run may have by default.
+pub(crate) fn exceeds_default(shape: Shape) -> bool {
+    shape.slot_count(Kind::Pair) > DEFAULT_PAIR_COUNT
+}
+
 /// The shape with four times as many pair slots as this one, if a full table of this one is replaced
 /// by a still larger one unless the step has come far.
-pub fn shape_between(from: Shape, to: Shape) -> Option<Shape>
+pub fn shape_between(from: Shape, to: Shape, workers: usize) -> Option<Shape>
     ensures { IfSome result
         (λ between. (between.bits ≡ from.bits + 2) × (between.bits < to.bits)) }
 {
     let bits = from.bits + 2;
-    if from.bits < BITS_OF_SMALL_STEPS || bits >= to.bits {
+    let least = match workers {
+        1 => BITS_OF_SMALL_STEPS,
+        _ => BITS_OF_LARGE_STEPS,
+    };
+    if from.bits < least || bits >= to.bits {
         return None;
     }
     Some(Shape { bits })

@@ -1,5 +1,4 @@
-//! The binary digits of a number of generations, in the order of their steps, and the table of each
-//! step.
+//! The steps of a number of generations, one for each of its binary digits, and the table of each.
 
 ghost use Rattle.std.specs.Prelude.{◌≡◌, ◌^◌, sum_by};
 
@@ -9,27 +8,41 @@ use hashlife_step::plan;
 // How far the exponents of the steps at one table may lie above the table's own.
 const SPAN: u8 = 2;
 
-/// The exponent of the table at which the steps of a digit are taken: that of the lowest digit of
-/// its group.
-pub(crate) fn table_for(generations: u64, exponent: u8) -> u8 {
+/// A step of 2^exponent generations, at the table of this exponent or of a lower one.
+#[derive(Clone, Copy, Default)]
+pub(crate) struct Step {
+    pub(crate) exponent: u8,
+    pub(crate) table: u8,
+}
+
+/// The steps of so many generations, in their order: the largest first if the cells are at its
+/// table, else the smallest first.
+pub(crate) fn steps_of(generations: u64, here: u8) -> ArrayVec<Step, 64>
+    ensures { sum_by (λ step. 2 ^ step.exponent) result.items ≡ generations }
+{
+    let mut steps = rising_steps(generations);
+    if matches!(steps.as_slice().last(), Some(largest) if largest.table == here) {
+        steps.as_mut_slice().reverse();
+    }
+    steps
+}
+
+// The steps of so many generations, the smallest first. Those of a group of digits are taken at the
+// table of its lowest one.
+fn rising_steps(generations: u64) -> ArrayVec<Step, 64>
+    ensures { sum_by (λ step. 2 ^ step.exponent) result.items ≡ generations }
+{
+    let mut steps = ArrayVec::new();
     let mut table = generations.trailing_zeros() as u8;
     let digits = plan(generations);
     for digit in digits.as_slice() {
-        if *digit <= exponent && *digit > table.saturating_add(SPAN) {
+        if *digit > table.saturating_add(SPAN) {
             table = *digit;
         }
+        steps.push(Step {
+            exponent: *digit,
+            table,
+        });
     }
-    table
-}
-
-/// The digits, as exponents: highest first if the cells are at the table of the highest one, else
-/// lowest first.
-pub(crate) fn digits_from(generations: u64, here: u8) -> ArrayVec<u8, 64>
-    ensures { sum_by (λ exponent. 2 ^ exponent) result.items ≡ generations }
-{
-    let mut digits = plan(generations);
-    if here == table_for(generations, 63) {
-        digits.as_mut_slice().reverse();
-    }
-    digits
+    steps
 }

@@ -8,8 +8,8 @@ use node_sweep::{BlankWords, CopyPlan, Keep, Workers};
 use squares::Sq;
 use std::alloc::AllocError;
 use std::thread::{Threads, join};
-use table_core::{Kind, Shape};
-use table_growth::{SHARED_COPY_PAIRS, TableHistory, has_come_far, shape_between};
+use table_core::Shape;
+use table_growth::{BITS_OF_SHARED_COPIES, TableHistory, has_come_far, shape_between};
 use worker_split::Team;
 
 /// A plan of a copy, and the words of this shape that it is copied into.
@@ -55,7 +55,7 @@ impl OpenTable {
         ensures { IfMade result (IsPlanned (key_at self.now) shape.bits) }
     {
         let between = match keep {
-            Keep::Everything => shape_between(self.table.key().shape, shape),
+            Keep::Everything => shape_between(self.table.key().shape, shape, team.workers),
             Keep::Collected(_) => None,
         };
         let Some(smaller) = between else {
@@ -71,8 +71,7 @@ impl OpenTable {
         }
         let Planned { plan, blank, .. } = planned;
         drop(blank);
-        let pairs = shape.slot_count(Kind::Pair);
-        let blank = BlankWords::new(team.alloc, self.table.key(), pairs)?;
+        let blank = BlankWords::new(team.alloc, self.table.key(), shape)?;
         Ok(Some(Planned { plan, blank, shape }))
     }
 
@@ -88,21 +87,20 @@ impl OpenTable {
         ensures shape { IfOk result (λ planned. planned.shape ≡ shape) }
     {
         let (alloc, key) = (team.alloc, *self.table.key());
-        let pairs = shape.slot_count(Kind::Pair);
         let workers = Workers {
             runtime: team.runtime,
             alloc,
             count: team.workers,
         };
-        if team.workers == 1 || pairs < SHARED_COPY_PAIRS {
-            let plan = CopyPlan::of_table(&workers, &self.table, root, keep, pairs)?;
-            let blank = BlankWords::new(alloc, &key, pairs)?;
+        if team.workers == 1 || shape.bits < BITS_OF_SHARED_COPIES {
+            let plan = CopyPlan::of_table(&workers, &self.table, root, keep, shape)?;
+            let blank = BlankWords::new(alloc, &key, shape)?;
             return Ok(Planned { plan, blank, shape });
         }
         let (blank, plan) = join(
             team.runtime,
-            move || BlankWords::new(alloc, &key, pairs),
-            || CopyPlan::of_table(&workers, &self.table, root, keep, pairs),
+            move || BlankWords::new(alloc, &key, shape),
+            || CopyPlan::of_table(&workers, &self.table, root, keep, shape),
         );
         let (blank, plan) = (blank?, plan?);
         Ok(Planned { plan, blank, shape })

@@ -8,7 +8,7 @@ ghost use Rattle.universe.specs.Later.{IsLater, IsStuck};
 
 use crate::advances::Advance;
 use crate::attempts::Attempt;
-use crate::digits::{digits_from, table_for};
+use crate::digits::steps_of;
 use crate::universe::Universe;
 use plane::Refusal;
 use std::alloc::AllocError;
@@ -83,14 +83,13 @@ impl Universe {
         }
         let mut universe = self;
         let mut done = 0;
-        let digits = digits_from(generations, universe.here.table.key().exponent);
-        'steps: for exponent in digits.as_slice() {
-            let table = table_for(generations, *exponent);
-            universe = match universe.step(team, *exponent, table)? {
+        let plan = steps_of(generations, universe.here.table.key().exponent);
+        'steps: for next in plan.as_slice() {
+            universe = match universe.step(team, next.exponent, next.table)? {
                 Advance::Done(later) => later,
                 stuck => return Ok(stuck.with_earlier(done)),
             };
-            done += 1 << *exponent;
+            done += 1 << next.exponent;
         }
         Ok(Advance::Done(universe))
     }

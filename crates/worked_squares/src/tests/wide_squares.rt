@@ -2,13 +2,11 @@
 //! by it.
 
 use crate::tests::books::rule_of;
-use leaf_kernels::result64;
+use leaf_kernels::{Leaves64, result64};
 use plane::Refusal;
 use rule_text::{Neighbourhood, Rule};
 
-// The leaves of a square, quarter by quarter, and those of its middle.
-type Quarters = [[u64; 16]; 4];
-
+// The leaves of the middle of a square, quarter by quarter.
 type Middle = [[u64; 4]; 4];
 
 // The quarter of sixty-four leaves row by row whose first leaf stands there.
@@ -20,7 +18,7 @@ fn quarter_of(leaves: &[u64; 64], first: usize) -> [u64; 16] {
     quarter
 }
 
-fn quarters_of(leaves: &[u64; 64]) -> Quarters {
+fn quarters_of(leaves: &[u64; 64]) -> Leaves64 {
     [
         quarter_of(leaves, 0),
         quarter_of(leaves, 4),

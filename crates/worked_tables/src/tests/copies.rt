@@ -65,15 +65,16 @@ pub(crate) fn copied_from<R: Abort + AllocGlobal + Threads + Sync>(
         alloc: rt.alloc(),
         count: workers,
     };
-    let plan = CopyPlan::of_table(&workers, &table, root, keep, pairs);
-    let words = table.close(desk);
     assert!(rt; Shape::is_pair_count(pairs));
+    let shape = Shape::new(pairs);
+    let plan = CopyPlan::of_table(&workers, &table, root, keep, shape);
+    let words = table.close(desk);
     let plan = match plan {
         Ok(plan) => plan,
         Err(_) => return Ok(not_copied(words, root)),
     };
     let finished = plan.finished();
-    let made = match BlankWords::new(rt.alloc(), words.key(), pairs) {
+    let made = match BlankWords::new(rt.alloc(), words.key(), shape) {
         Ok(blank) => copy(rt.alloc(), &words, root, &plan, blank),
         Err(_) => Err(Refusal::NoMemory),
     };
@@ -264,7 +265,8 @@ fn many_small_squares_show_how_far_a_step_has_come(rt: HostRuntime) -> Result<()
             count: 1,
         };
         let keep = Keep::Everything;
-        let plan = CopyPlan::of_table(&workers, &table, root, keep, 16 * PAIRS)?;
+        let shape = table.key().shape;
+        let plan = CopyPlan::of_table(&workers, &table, root, keep, shape)?;
         assert_eq!(rt; has_come_far(&plan, exponent), is_far);
     }
     Ok(())

@@ -38,17 +38,19 @@ fn tables_of_long_files_are_larger(rt: HostRuntime) -> Result<(), Fail> {
     Ok(())
 }
 
-// From 2^16 pair slots on there is a size between a full table's and that of sixteen times as many.
+// From 2^16 pair slots on there is a size between a full table's and that of sixteen times as many;
+// from 2^20 on where several workers take the steps.
 #[test]
 fn large_tables_grow_by_four_first(rt: HostRuntime) -> Result<(), Fail> {
-    for (from, to, bits) in [
-        (shape(12), shape(16), None),
-        (shape(16), shape(20), Some(18)),
-        (shape(18), shape(20), None),
-        (shape(20), shape(24), Some(22)),
-        (shape(26), shape(28), None),
+    for (from, to, workers, bits) in [
+        (shape(12), shape(16), 1, None),
+        (shape(16), shape(20), 1, Some(18)),
+        (shape(16), shape(20), 2, None),
+        (shape(18), shape(20), 1, None),
+        (shape(20), shape(24), 2, Some(22)),
+        (shape(26), shape(28), 1, None),
     ] {
-        let between = shape_between(from, to).map(|shape| shape.bits);
+        let between = shape_between(from, to, workers).map(|shape| shape.bits);
         assert_eq!(rt; between, bits);
     }
     Ok(())

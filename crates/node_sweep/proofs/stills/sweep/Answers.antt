@@ -1,8 +1,11 @@
-use Rattle.std.proofs.Common.{refl, subst}
+use Rattle.std.proofs.Common.{◌≡◌, ℕ, refl, subst}
 use Rattle.table_core.specs.declared.key.Key.{Key}
 use Rattle.node_sweep.specs.CopiedStills.{HasNoRoomFor, IsResized}
 use Rattle.node_sweep.proofs.Transferred.{block_as, only_memory, room_to_sweep, swept_or_full}
 use Rattle.node_sweep.proofs.stills.sweep.Goals as goal
+
+resized_as : {from still to : Key} {size pairs : ℕ} → from ≡ still → size ≡ pairs → IsResized from to size → IsResized still to pairs
+resized_as {from} {still} {to} {size} {pairs} same is resized = subst (λ (n : ℕ). IsResized still to n) is (subst (λ (k : Key). IsResized k to size) same resized)
 
 pub copied-requires-clause-block : goal.copied-requires-clause-block
 copied-requires-clause-block c =
@@ -10,13 +13,13 @@ copied-requires-clause-block c =
 
 pub returns-clause-ok : goal.returns-clause-ok
 returns-clause-ok c =
-    let resized = subst (λ (k : Key). IsResized k c.in_ok-blank.blank.key c.args.pairs) c.key.ensures c.in_ok-blank.ensures.resized in
+    let resized = resized_as c.key.ensures c.new.ensures c.in_ok-blank.ensures.resized in
     (swept_or_full c.args.still.now c.args.root c.args.pairs c.copied.result c.copied.ensures.ok (c.copied.ensures.reached refl) c.copied.ensures.refusal c.requires.known resized
     (record { key = c.of_still.ensures.key; words = c.of_still.ensures.words; same_root = refl }) refl).0
 
 pub returns-clause-refusal : goal.returns-clause-refusal
 returns-clause-refusal c =
-    let resized = subst (λ (k : Key). IsResized k c.in_ok-blank.blank.key c.args.pairs) c.key.ensures c.in_ok-blank.ensures.resized in
+    let resized = resized_as c.key.ensures c.new.ensures c.in_ok-blank.ensures.resized in
     (swept_or_full c.args.still.now c.args.root c.args.pairs c.copied.result c.copied.ensures.ok (c.copied.ensures.reached refl) c.copied.ensures.refusal c.requires.known resized
     (record { key = c.of_still.ensures.key; words = c.of_still.ensures.words; same_root = refl }) refl).1
 

@@ -1,6 +1,6 @@
-//! Pictures of rows of shades, and a sink that fails while one is written.
+//! Pictures of shades, and a sink that fails while one is written.
 
-ghost use Rattle.std.specs.Prelude.{◌≡◌, length, IfOk};
+ghost use Rattle.std.specs.Prelude.{◌≡◌, ◌*◌, length, IfOk};
 ghost use Rattle.png_writer.specs.Picture.{IsSide};
 
 use crate::tests::pictures::length_and_checksum;
@@ -14,10 +14,15 @@ fn shade_at(x: u32, y: u32) -> u8 {
     (mixed.wrapping_add(y.wrapping_mul(13)).wrapping_add(128) % 256) as u8
 }
 
-fn row_at(alloc: Global, width: u32, y: u32) -> Result<Vec<u8>, AllocError>
-    ensures { IfOk result (λ row. length row.items ≡ width) }
+// The shades of so many rows, which stand behind one another.
+fn shades_of(alloc: Global, width: u32, height: u32) -> Result<Vec<u8>, AllocError>
+    requires width { IsSide width }
+    requires height { IsSide height }
+    ensures { IfOk result (λ shades. length shades.items ≡ width * height) }
 {
-    (0..width).map(|x| shade_at(x, y)).collect(alloc)
+    (0..width * height)
+        .map(|place| shade_at(place % width, place / width))
+        .collect(alloc)
 }
 
 fn picture(alloc: Global, width: u32, height: u32) -> Result<Image, Refusal>
@@ -25,12 +30,8 @@ fn picture(alloc: Global, width: u32, height: u32) -> Result<Image, Refusal>
     requires height { IsSide height }
     ensures { IfOk result (λ image. length image.rows ≡ height) }
 {
-    let mut image = Image::with_room(alloc, width, height)?;
-    for y in 0..height {
-        let row = row_at(alloc, width, y)?;
-        image.push_row(row.as_slice());
-    }
-    Ok(image)
+    let shades = shades_of(alloc, width, height)?;
+    Image::zoomed(alloc, shades.as_slice(), width, height, 1)
 }
 
 const THREE_BY_TWO: &[u8] = &[

@@ -7,5 +7,5 @@ use Rattle.universe.proofs.universe.Universe.advance.Given as goal
 abbrev pub invariant-steps : goal.invariant-steps
 invariant-steps g l = record {
   later : IsLater l.fn.self l.done l.universe;
-  counted : l.done ≡ sum_by (λ exponent. 2 ^ exponent) (take l.exponent-index l.exponent-items);
+  counted : l.done ≡ sum_by (λ step. 2 ^ step.exponent) (take l.next-index l.next-items);
 }
