@@ -9,6 +9,7 @@ errs in small tables or refuses with another status, and for a page with a dead 
 program or a tool is missing, or if nothing is chosen or compared. With the right program and the same options the
 status has to be 0.
 """
+import argparse
 import os
 import pathlib
 import shlex
@@ -22,13 +23,16 @@ from common.check import (
     BGOLLY,
     BUILT,
     BUILT_PERIOD,
+    BUILT_PIPE,
     BUILT_VIEW,
     C_COMPILER,
+    DASK,
     DIFFERS,
     FFMPEG,
     GOLLY,
     GOLLY_PATTERNS,
     HOLDS,
+    NOTEBOOKS,
     NOT_RUN,
     PARALLEL,
     XVFB,
@@ -39,7 +43,21 @@ from common.check import (
 
 CHECK = Check(
     text=__doc__,
-    needs=(BUILT, BUILT_VIEW, BUILT_PERIOD, BGOLLY, GOLLY, GOLLY_PATTERNS, XVFB, C_COMPILER, PARALLEL, FFMPEG),
+    needs=(
+        BUILT,
+        BUILT_VIEW,
+        BUILT_PERIOD,
+        BUILT_PIPE,
+        BGOLLY,
+        GOLLY,
+        GOLLY_PATTERNS,
+        XVFB,
+        C_COMPILER,
+        PARALLEL,
+        FFMPEG,
+        DASK,
+        *NOTEBOOKS,
+    ),
     takes="a minute",
     replay="give the row, or a part of it, to --only.",
 )
@@ -62,6 +80,8 @@ PROGRAMS = {
 
 RIGHT = "is right"
 
+# The checks of lifepipe.
+OF_PIPES = ("random_dialogues", "python_many_patterns", "notebook")
 # The checks of lifeperiod, and those that use it beside lifebatch.
 OF_PERIODS = ("random_periods", "golly_periods")
 WITH_PERIODS = ("failing_reads", "golly_scripts", "refused_memory")
@@ -119,6 +139,13 @@ ROWS = [
     ),
     Row("random_periods", "--count 2", "is missing", NOT_RUN),
     Row("random_periods", "--count 0", RIGHT, NOT_RUN),
+    Row("random_dialogues", "--count 20", RIGHT, HOLDS),
+    *(
+        Row("random_dialogues", "--count 6 --seconds 1", it, DIFFERS)
+        for it in ("crashes", "hangs", "prints nothing", "refuses all")
+    ),
+    Row("random_dialogues", "--count 2", "is missing", NOT_RUN),
+    Row("random_dialogues", "--count 0", RIGHT, NOT_RUN),
     Row("golly_periods", "--only queen-bee", RIGHT, HOLDS),
     *(Row("golly_periods", "--only queen-bee", it, DIFFERS) for it in ("crashes", "prints nothing", "refuses all")),
     Row("golly_periods", "--only queen-bee", "is missing", NOT_RUN),
@@ -154,6 +181,12 @@ ROWS = [
     Row("many_patterns", "--patterns 40", "crashes", DIFFERS),
     Row("many_patterns", "--patterns 40", "is missing", NOT_RUN),
     Row("many_patterns", "--patterns 40", "", NOT_RUN),
+    Row("python_many_patterns", "--patterns 40", RIGHT, HOLDS),
+    Row("python_many_patterns", "--patterns 40", "crashes", DIFFERS),
+    Row("python_many_patterns", "--patterns 40", "is missing", NOT_RUN),
+    Row("notebook", "", RIGHT, HOLDS),
+    Row("notebook", "", "crashes", DIFFERS),
+    Row("notebook", "", "is missing", NOT_RUN),
     Row("refused_memory", "--only help --number 1", RIGHT, HOLDS),
     Row("refused_memory", "--only help --number 1", "crashes", DIFFERS),
     Row("refused_memory", "--only help --number 1", "prints nothing", DIFFERS),
@@ -189,8 +222,9 @@ ROWS = [
 class Bench:
     """A folder with the faulty programs and pages."""
 
-    def __init__(self, real: pathlib.Path, view: pathlib.Path, period: pathlib.Path, folder: pathlib.Path):
-        self.folder, self.view, self.period = folder, view.resolve(), period.resolve()
+    def __init__(self, programs: argparse.Namespace, folder: pathlib.Path):
+        real, self.folder = programs.program, folder
+        self.view, self.period, self.pipe = (it.resolve() for it in (programs.view, programs.period, programs.pipe))
         # The user `nobody` has to be able to go through it.
         folder.chmod(0o755)
         for name, text in PROGRAMS.items():
@@ -205,6 +239,8 @@ class Bench:
         """The option for the page or the program of a row, and its path."""
         if row.check in OF_PERIODS:
             return ["--period", str(self.period if row.fault == RIGHT else self.folder / row.fault)]
+        if row.check in OF_PIPES:
+            return ["--pipe", str(self.pipe if row.fault == RIGHT else self.folder / row.fault)]
         return ["--root" if row.check == "page_links" else "--program", str(self.folder / (row.fault or RIGHT))]
 
     def run(self, row: Row) -> subprocess.CompletedProcess:
@@ -233,7 +269,7 @@ def main() -> int:
     parser.add_argument("--only", default="", help="only the rows with this text in them")
     options = CHECK.options(parser)
     with tempfile.TemporaryDirectory() as name:
-        bench = Bench(options.program, options.view, options.period, pathlib.Path(name))
+        bench = Bench(options, pathlib.Path(name))
         held = [bench.holds(row) for row in ROWS if options.only in row.says()]
     return sum_up(held, "rows")
 

@@ -1,5 +1,5 @@
 #!/usr/bin/env python3
-"""Tries the launchers ./lifebatch, ./lifeview and ./lifeperiod with a kit that proves nothing and takes a moment.
+"""Tries the launchers of all programs with a kit that proves nothing and takes a moment.
 
     checks/launcher_runs.py
     checks/launcher_runs.py --short     without the build of half a minute
@@ -27,7 +27,7 @@ from collections.abc import Callable
 
 from common.check import PGREP, Check, can_run, end, sum_up
 from common.fake_kit import Repository, printed
-from common.program import PERIOD, PROGRAM, ROOT, VIEW
+from common.program import PERIOD, PIPE, PROGRAM, ROOT, VIEW
 from common.simulated_builds import MACHINES, look_after
 
 CHECK = Check(
@@ -64,7 +64,7 @@ def helps(it: Repository) -> bool:
     text_of_rt = rt.read_text()
     rt.write_text("#!/bin/sh\nexit 1\n")
     shown = []
-    for name in ("lifebatch", "lifeview", "lifeperiod"):
+    for name in ("lifebatch", "lifeview", "lifeperiod", "lifepipe"):
         text = (it.folder / "launcher" / "help" / f"{name}.txt").read_text()
         for word in ("-h", "--help"):
             status, out, err = it.run(word, name=name)
@@ -84,7 +84,7 @@ def helps(it: Repository) -> bool:
 def own_help(_: Repository) -> bool:
     """Whether the texts are what the real programs show, if these are built."""
     equal = []
-    for name, program in (("lifebatch", PROGRAM), ("lifeview", VIEW), ("lifeperiod", PERIOD)):
+    for name, program in (("lifebatch", PROGRAM), ("lifeview", VIEW), ("lifeperiod", PERIOD), ("lifepipe", PIPE)):
         if not can_run(program):
             print(f"    {name} is not built here, so its help is not compared with launcher/help/{name}.txt")
             continue
@@ -172,7 +172,7 @@ def unknown_program(it: Repository) -> bool:
     ran = subprocess.run(
         ["python3", it.folder / "launcher" / "build.py", "plane"], env=it.environment(), capture_output=True, text=True
     )
-    return ran.returncode == 2 and "lifebatch, lifeview, lifeperiod" in ran.stderr and it.logged() == []
+    return ran.returncode == 2 and "lifebatch, lifeview, lifeperiod, lifepipe" in ran.stderr and it.logged() == []
 
 
 def without_the_kit(it: Repository) -> bool:
@@ -362,7 +362,7 @@ def told(it: Repository) -> tuple[int, str]:
 def simulated_machines(_: Repository) -> bool:
     errors = sorted(
         look_after(0.2, name, machine).error()
-        for name in ("lifebatch", "lifeview", "lifeperiod")
+        for name in ("lifebatch", "lifeview", "lifeperiod", "lifepipe")
         for machine in MACHINES
     )
     close, median = sum(it <= 0.25 for it in errors), errors[len(errors) // 2]
@@ -376,10 +376,11 @@ def records(it: Repository) -> bool:
     file, script = it.folder / "launcher" / "seconds.json", it.folder / "launcher" / "record_seconds.py"
     before = file.read_text()
     early = subprocess.run([script], capture_output=True, text=True)
-    missing = "png_writer, view_program, lifeview, periods, period_search, period_program, lifeperiod"
+    missing = "png_writer, view_program, lifeview, periods, period_search, period_program, lifeperiod, pipe_requests"
     is_kept = file.read_text() == before and f"no build has recorded {missing}" in early.stderr
     it.run(name="lifeview")
     it.run(name="lifeperiod")
+    it.run(name="lifepipe")
     late = subprocess.run([script], capture_output=True, text=True)
     found = json.loads(file.read_text())
     return (

@@ -4,23 +4,23 @@
     checks/many_patterns.py
     checks/many_patterns.py --patterns 50    fewer patterns
 
-The script takes the commands from the page. It makes 200 patterns, of which one has a fault and one fills small tables,
-and runs each by itself. Then it runs the page's commands: it kills the first with all runs that it started, and repeats
-it. For several machines it adds the page's words to that command, and a script takes the place of ssh. The array job of
-Slurm runs as a script with a number. Each report and each pattern has to be the same as that of the plain run. The
-frames of a film have to be the pictures of their generations, and the film has to have them all.
+The script takes the commands from the page, but not Python's. It makes 200 patterns, of which one has a fault and one
+fills small tables, and runs each by itself. Then it runs the page's commands: it kills the first with all runs that
+it started, and repeats it. For several machines it adds the page's words to that command, and a script takes the place
+of ssh. The array job of Slurm runs as a script with a number, twice. Each report and each pattern has to be the same as
+that of the plain run. The frames of a film have to be the pictures of their generations, and the film has to have them
+all.
 """
 import os
 import pathlib
-import random
 import re
-import signal
 import subprocess
 import tempfile
 import time
 
 from common.check import BUILT, BUILT_VIEW, FFMPEG, PARALLEL, CannotRun, Check, end, status_of
 from common.launcher import malloc_settings
+from common.many import OF_PYTHON, PAGE, commands, in_place_of, kill_session, soup
 from common.program import ROOT
 
 CHECK = Check(
@@ -32,8 +32,6 @@ CHECK = Check(
     replay="run it again; it makes the same patterns each time.",
 )
 
-PAGE = ROOT / "docs" / "many-patterns.md"
-BLOCK = re.compile(r"^```sh\n(.*?)^```$", re.MULTILINE | re.DOTALL)
 # How many seconds a command may take.
 SECONDS = 300
 # The check replaces the page's numbers: tables that one pattern fills, and then enough for it.
@@ -41,18 +39,13 @@ SMALL, ENOUGH = 65536, 4194304
 GENERATIONS = 300
 # The frames of the film, five generations apart as on the page.
 FRAMES, APART = 20, 5
+# How many tasks an array job has here.
+TASKS = 3
 SSH = """#!/bin/sh
 while [ "$1" != -- ]; do shift; done
 shift
 exec sh -c "$*"
 """
-
-
-def soup(side: int, seed: int) -> str:
-    """A square of cells, each live or dead alike at every call."""
-    coin = random.Random(seed)
-    rows = ("".join("bo"[coin.random() < 0.4] for _ in range(side)) for _ in range(side))
-    return f"x = {side}, y = {side}, rule = B3/S23\n" + "$\n".join(rows) + "!\n"
 
 
 class Folder:
@@ -150,18 +143,6 @@ class Folder:
         self.differences += not holds
 
 
-def kill_session(leader: int) -> None:
-    """Kills the processes of a session that this script started."""
-    for it in pathlib.Path("/proc").glob("[0-9]*"):
-        try:
-            # The session is the fourth field behind the name in brackets.
-            session = int((it / "stat").read_text().rpartition(")")[2].split()[3])
-            if session == leader:
-                os.kill(int(it.name), signal.SIGKILL)
-        except (OSError, ValueError):
-            pass
-
-
 def killed_in_the_middle(folder: Folder, block: str) -> bool:
     """Starts a command, and kills it once a third of the runs have ended."""
     ran, began = folder.start(block), time.monotonic()
@@ -170,21 +151,6 @@ def killed_in_the_middle(folder: Folder, block: str) -> bool:
     kill_session(ran.pid)
     ran.communicate()
     return 0 < len(folder.logged()) < len(folder.texts)
-
-
-def page_blocks() -> list[str]:
-    """The blocks of the page: for a folder, for failures, with larger tables, words for several machines, for Slurm,
-    for frames, and for their film."""
-    blocks = BLOCK.findall(PAGE.read_text())
-    if len(blocks) != 7:
-        raise CannotRun(f"{PAGE.name} has {len(blocks)} blocks of commands, not seven")
-    return blocks
-
-
-def in_place_of(old: str, new: str, block: str) -> str:
-    if old not in block:
-        raise CannotRun(f"{PAGE.name} has no '{old}' where it is looked for")
-    return block.replace(old, new)
 
 
 def try_film(folder: Folder, frames: str, film: str) -> None:
@@ -199,8 +165,26 @@ def try_film(folder: Folder, frames: str, film: str) -> None:
     folder.tell("the film has all frames", counted.strip() == str(FRAMES))
 
 
+def try_array(folder: Folder, task: str, plain: dict[str, tuple[bytes, bytes, bytes]]) -> None:
+    """The tasks of an array job, with fewer names each, and each once more."""
+    folder.clear()
+    (folder.path / "log").mkdir()
+    names = sorted(folder.texts)
+    (folder.path / "patterns.txt").write_text("".join(f"patterns/{it}.rle\n" for it in names))
+    chunk = len(names) // TASKS + 1
+    task = in_place_of("* 1000 + 1)),+999p", f"* {chunk} + 1)),+{chunk - 1}p", task)
+    (folder.path / "task.sh").write_text(in_place_of("-m 1000", f"-m {GENERATIONS} --nodes {SMALL}", task))
+    tasks = "".join(f"SLURM_ARRAY_TASK_ID={number} sh task.sh; " for number in range(TASKS))
+    folder.run(tasks)
+    logs = [it.read_bytes() for it in sorted((folder.path / "log").iterdir())]
+    folder.tell("the tasks of an array job run all patterns", len(logs) == TASKS and folder.unlike(plain) == [])
+    folder.run(tasks)
+    again = [it.read_bytes() for it in sorted((folder.path / "log").iterdir())]
+    folder.tell("a task that is started again runs nothing twice", again == logs)
+
+
 def try_page(folder: Folder) -> None:
-    one_folder, failures, larger, words, task, *film = page_blocks()
+    one_folder, failures, larger, words, task, *film = commands()[OF_PYTHON:]
     one_folder = in_place_of("GENERATIONS=1000 NODES=4194304", f"GENERATIONS={GENERATIONS} NODES={SMALL}", one_folder)
     larger = in_place_of("NODES=67108864", f"NODES={ENOUGH}", larger)
     machines = in_place_of("parallel ", f"parallel {words.strip()} ", one_folder)
@@ -229,13 +213,7 @@ def try_page(folder: Folder) -> None:
     hosts = {line.split("\t")[1] for line in folder.logged()}
     folder.tell("two machines share the runs", hosts == {"alpha", "beta"} and folder.unlike(plain) == [])
 
-    folder.clear()
-    names = sorted(folder.texts)[:5]
-    (folder.path / "patterns.txt").write_text("".join(f"patterns/{it}.rle\n" for it in names))
-    (folder.path / "task.sh").write_text(in_place_of("-m 1000", f"-m {GENERATIONS} --nodes {SMALL}", task))
-    for number in range(len(names)):
-        folder.run(f"SLURM_ARRAY_TASK_ID={number + 1} sh task.sh")
-    folder.tell("an array job runs the pattern of its number", all(folder.written(it) == plain[it] for it in names))
+    try_array(folder, task, plain)
     try_film(folder, *film)
 
 

@@ -23,6 +23,7 @@ from dataclasses import dataclass
 from common.check import (
     BUILT,
     BUILT_PERIOD,
+    BUILT_PIPE,
     BUILT_VIEW,
     DIFFERS,
     HOLDS,
@@ -30,6 +31,7 @@ from common.check import (
     STATUSES,
     Check,
     add_period,
+    add_pipe,
     add_program,
     add_view,
     end,
@@ -51,6 +53,9 @@ NAMES = [
     "random_patterns",
     "pictures",
     "random_periods",
+    "random_dialogues",
+    "python_package",
+    "notebook",
     "golly_periods",
     "golly_scripts",
     "small_tables",
@@ -60,6 +65,7 @@ NAMES = [
     "failing_reads",
     "hostile_files",
     "many_patterns",
+    "python_many_patterns",
     "launcher_runs",
     "installations",
 ]
@@ -99,6 +105,7 @@ def run(name: str, check: Check, options: argparse.Namespace) -> Outcome:
     words += ["--program", str(options.program.resolve())] if BUILT in check.needs else []
     words += ["--view", str(options.view.resolve())] if BUILT_VIEW in check.needs else []
     words += ["--period", str(options.period.resolve())] if BUILT_PERIOD in check.needs else []
+    words += ["--pipe", str(options.pipe.resolve())] if BUILT_PIPE in check.needs else []
     if sys.stdout.isatty():
         # The line with the result overwrites this one.
         print(f"runs     {name}", end="\r", flush=True)
@@ -110,7 +117,7 @@ def run(name: str, check: Check, options: argparse.Namespace) -> Outcome:
 
 
 def show(it: Outcome, is_whole: bool) -> None:
-    print(f"{ANSWERS[it.status]:<8} {it.name:<17} {it.seconds:4.0f} s  {it.last_line()}", flush=True)
+    print(f"{ANSWERS[it.status]:<8} {it.name:<20} {it.seconds:4.0f} s  {it.last_line()}", flush=True)
     if is_whole or it.status != HOLDS:
         print("".join(f"    | {line}\n" for line in it.printed.splitlines()), end="", flush=True)
 
@@ -135,6 +142,7 @@ def make_parser() -> argparse.ArgumentParser:
     add_program(parser)
     add_view(parser)
     add_period(parser)
+    add_pipe(parser)
     return parser
 
 

@@ -1,9 +1,10 @@
 #!/usr/bin/env python3
 """Proves and builds a program of this repository, for the launcher of its name.
 
-    launcher/build.py lifebatch             prove and build lifebatch, lifeview or lifeperiod
+    launcher/build.py lifebatch             prove and build lifebatch, lifeview, lifeperiod or lifepipe
     launcher/build.py lifebatch --about     say about how long that takes, and build nothing
-    launcher/build.py --install PREFIX      build all programs, put them with man pages, completions and scripts there
+    launcher/build.py --install PREFIX      build all programs, and put them below PREFIX, with man pages, completions,
+                                            Golly's scripts and the Python package
     launcher/build.py --uninstall PREFIX    take away what was put there
 
 Crates are proved side by side, as many as cores and memory allow, each after those below it. For each proved crate the

@@ -48,7 +48,8 @@ def zsh_option(it: Option) -> str:
 
 
 def zsh(name: str) -> str:
-    lines = ["_arguments -s -S", *map(zsh_option, help_of(name).options), "'1:pattern file:_files'"]
+    it = help_of(name)
+    lines = ["_arguments -s -S", *map(zsh_option, it.options), *["'1:pattern file:_files'"][: len(it.arguments)]]
     return f"#compdef {name}\n" + " \\\n    ".join(lines) + "\n"
 
 

@@ -10,7 +10,7 @@ from dataclasses import dataclass
 from kit import kit
 
 ROOT = pathlib.Path(__file__).resolve().parent.parent
-PROGRAMS = ["lifebatch", "lifeview", "lifeperiod"]
+PROGRAMS = ["lifebatch", "lifeview", "lifeperiod", "lifepipe"]
 
 # Crates, lowest first, each with the crates that it uses.
 Crates = dict[str, list[str]]

@@ -73,4 +73,4 @@ def help_of(name: str) -> Help:
     summary, *paragraphs = (" ".join(it.split()) for it in blocks if it not in named.values())
     usage = " ".join(named["Usage"].partition(":")[2].split())
     options = [option(*it) for it in items(named["Options"])]
-    return Help(summary, paragraphs, usage, items(named["Arguments"]), options, items(named["Examples"]))
+    return Help(summary, paragraphs, usage, items(named.get("Arguments", "")), options, items(named["Examples"]))

@@ -12,6 +12,9 @@ from man_page import man_page
 # Below the folder of an installation: the programs themselves, Golly's scripts, and what an installation has written.
 LIBRARY = "lib/lifebatch"
 SCRIPTS = "share/golly/Scripts/Lua/Lifebatch"
+# Where the folder `lifebatch` of the Python package lies: one place for installations, and one for Debian's packages,
+# which is on Python's path.
+PYTHON, PYTHON_OF_PACKAGES = f"{LIBRARY}/python", "lib/python3/dist-packages"
 LIST = f"{LIBRARY}/installed.txt"
 # Where zsh looks for completions: one place for systems, one for their packages.
 ZSH, ZSH_OF_PACKAGES = "share/zsh/site-functions", "share/zsh/vendor-completions"
@@ -61,14 +64,20 @@ def files_of(name: str, built: pathlib.Path, zsh: str) -> Files:
     }
 
 
-def all_files(built: dict[str, pathlib.Path], zsh: str = ZSH) -> Files:
+def python_files(place: str) -> Files:
+    """The files of the Python package."""
+    package = ROOT / "python" / "lifebatch"
+    return {f"{place}/lifebatch/{it.name}": File(it) for it in [*sorted(package.glob("*.py")), package / "py.typed"]}
+
+
+def all_files(built: dict[str, pathlib.Path], zsh: str = ZSH, python: str = PYTHON) -> Files:
     """All files, by their places below the folder of an installation."""
     found: Files = {}
     for name, path in built.items():
         found.update(files_of(name, path, zsh))
     for it in sorted((ROOT / "golly").glob("*.lua")):
         found[f"{SCRIPTS}/{it.name}"] = File(it)
-    return found
+    return {**found, **python_files(python)}
 
 
 def write(file: File, path: pathlib.Path) -> None:

@@ -1,5 +1,6 @@
 #!/usr/bin/env python3
-"""Makes a Debian package of the built programs, with their man pages, completions and Golly's scripts.
+"""Makes a Debian package of the built programs, with their man pages, completions, Golly's
+scripts and the Python package.
 
     launcher/package.py                     write lifebatch_VERSION_ARCHITECTURE.deb into this folder
     launcher/package.py --to FOLDER         write it there
@@ -25,7 +26,7 @@ from calendar import timegm
 
 from crates import PROGRAMS, Program, crates_below
 from help_text import help_of
-from installed import ZSH_OF_PACKAGES, File, Files, all_files, built_programs, write
+from installed import PYTHON_OF_PACKAGES, ZSH_OF_PACKAGES, File, Files, all_files, built_programs, write
 from kit import Failed, processor
 from version import Release, printed, releases, whole_version
 
@@ -39,7 +40,8 @@ Architecture: {architecture}
 Maintainer: {maintainer}
 Installed-Size: {size}
 Depends: {depends}
-Suggests: golly
+Recommends: python3
+Suggests: golly, python3-numpy
 Section: science
 Priority: optional
 Description: HashLife for Golly's pattern files on the command line
@@ -107,7 +109,7 @@ def packed(text: bytes) -> File:
 
 def package_files(built: dict[str, pathlib.Path], maintainer: str) -> Files:
     """The files of an installation below /usr, with manuals packed, and those that Debian asks for."""
-    files = all_files(built, ZSH_OF_PACKAGES)
+    files = all_files(built, ZSH_OF_PACKAGES, PYTHON_OF_PACKAGES)
     found = {place: it for place, it in files.items() if "/man/" not in place}
     found |= {f"{place}.gz": packed(it.read()) for place, it in files.items() if "/man/" in place}
     found[f"{DOCS}/changelog.gz"] = packed("\n".join(changes(it, maintainer) for it in releases()).encode())

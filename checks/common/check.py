@@ -3,12 +3,13 @@ import argparse
 import os
 import pathlib
 import shutil
+import subprocess
 import sys
 import traceback
 from collections.abc import Callable, Sequence
 from dataclasses import dataclass
 
-from common.program import PATTERNS, PERIOD, PROGRAM, VIEW, games_path
+from common.program import PATTERNS, PERIOD, PIPE, PROGRAM, VIEW, games_path
 
 HOLDS, DIFFERS, NOT_RUN = 0, 1, 2
 
@@ -36,6 +37,20 @@ def tool(name: str, package: str) -> Need:
     return Need(name, f"apt-get install {package} brings it", lambda _: shutil.which(name) is not None)
 
 
+# The Python to which the modules belong that Debian has.
+DEBIAN_PYTHON = "/usr/bin/python3"
+
+
+def module(name: str, package: str) -> Need:
+    """A module of Debian's Python."""
+    code = f"import importlib.util, sys; sys.exit(importlib.util.find_spec({name!r}) is None)"
+
+    def is_there(_: argparse.Namespace) -> bool:
+        return can_run(pathlib.Path(DEBIAN_PYTHON)) and subprocess.run([DEBIAN_PYTHON, "-c", code]).returncode == 0
+
+    return Need(f"{name} of {DEBIAN_PYTHON}", f"apt-get install {package} brings it", is_there)
+
+
 def can_run(program: pathlib.Path) -> bool:
     return program.is_file() and os.access(program, os.X_OK)
 
@@ -52,6 +67,9 @@ BUILT_VIEW = Need(
 BUILT_PERIOD = Need(
     "the built program lifeperiod", "launcher/build.py lifeperiod builds it", lambda options: can_run(options.period)
 )
+BUILT_PIPE = Need(
+    "the built program lifepipe", "launcher/build.py lifepipe builds it", lambda options: can_run(options.pipe)
+)
 BGOLLY = tool("bgolly", "golly")
 GOLLY_PATTERNS = Need("the folder of Golly's patterns", "apt-get install golly brings it", has_patterns)
 GOLLY = Need("golly", "apt-get install golly brings it", lambda _: shutil.which("golly", path=games_path()) is not None)
@@ -62,6 +80,13 @@ PARALLEL = tool("parallel", "parallel")
 FFMPEG = tool("ffmpeg", "ffmpeg")
 PNGCHECK = tool("pngcheck", "pngcheck")
 SHLIBDEPS = tool("dpkg-shlibdeps", "dpkg-dev")
+DASK = module("distributed", "python3-distributed")
+NOTEBOOKS = (
+    module("nbconvert", "jupyter-nbconvert"),
+    module("ipykernel", "python3-ipykernel"),
+    module("matplotlib", "python3-matplotlib"),
+    module("numpy", "python3-numpy"),
+)
 
 
 def add_program(parser: argparse.ArgumentParser) -> None:
@@ -74,6 +99,10 @@ def add_view(parser: argparse.ArgumentParser) -> None:
 
 def add_period(parser: argparse.ArgumentParser) -> None:
     parser.add_argument("--period", type=pathlib.Path, default=PERIOD, help="another build of lifeperiod")
+
+
+def add_pipe(parser: argparse.ArgumentParser) -> None:
+    parser.add_argument("--pipe", type=pathlib.Path, default=PIPE, help="another build of lifepipe")
 
 
 @dataclass(frozen=True)
@@ -114,6 +143,8 @@ class Check:
             add_view(parser)
         if BUILT_PERIOD in self.needs:
             add_period(parser)
+        if BUILT_PIPE in self.needs:
+            add_pipe(parser)
         return parser
 
     def options(self, parser: argparse.ArgumentParser) -> argparse.Namespace:

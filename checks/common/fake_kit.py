@@ -40,9 +40,9 @@ class Repository:
 
     def __init__(self, folder: pathlib.Path):
         self.folder, self.log = folder, folder / "log"
-        for name in ("lifebatch", "lifeview", "lifeperiod", "crates.txt"):
+        for name in ("lifebatch", "lifeview", "lifeperiod", "lifepipe", "crates.txt"):
             shutil.copy(ROOT / name, folder)
-        for name in ("launcher", "crates", "golly", "docs"):
+        for name in ("launcher", "crates", "golly", "docs", "python"):
             shutil.copytree(ROOT / name, folder / name, ignore=shutil.ignore_patterns("out", "proofs"))
         shutil.copy(ROOT / "CHANGELOG.md", folder)
         (folder / "bin").mkdir()

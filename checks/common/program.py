@@ -11,6 +11,7 @@ ROOT = pathlib.Path(__file__).resolve().parent.parent.parent
 PROGRAM = ROOT / "crates" / "lifebatch" / "out" / "lifebatch"
 VIEW = ROOT / "crates" / "lifeview" / "out" / "lifeview"
 PERIOD = ROOT / "crates" / "lifeperiod" / "out" / "lifeperiod"
+PIPE = ROOT / "crates" / "lifepipe" / "out" / "lifepipe"
 
 # The folders in which packages of Golly put its patterns.
 PLACES = [pathlib.Path(it) / "Patterns" for it in ("/usr/share/golly", "/usr/local/share/golly", "/usr/lib/golly")]

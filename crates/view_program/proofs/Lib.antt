@@ -1,5 +1,5 @@
 mod PictureLines
-mod RowsOfBlocks
+pub mod RowsOfBlocks
 mod ShownBoxes
 mod Views
 mod WindowTexts

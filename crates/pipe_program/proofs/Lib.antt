@@ -1,0 +1,15 @@
+mod AskedPatterns
+mod AskedRequests
+mod CommandWords
+mod DialogueEnds
+mod FirstRequests
+mod Looks
+mod ReplyBeginnings
+mod ReplyWords
+mod RowsOfRuns
+mod RunsPushed
+mod SearchedPatterns
+mod ShownPatterns
+mod StepReplies
+mod StoppedPatterns
+mod Turns
