@@ -67,6 +67,7 @@ NAMES = [
     "many_patterns",
     "python_many_patterns",
     "launcher_runs",
+    "large_pages",
     "installations",
 ]
 ANSWERS = {HOLDS: "holds", DIFFERS: "DIFFERS", NOT_RUN: "NOT RUN"}

@@ -50,8 +50,10 @@ test_path() {
 }
 
 # Asks for large pages for the tables, and that vectors of a megabyte or more stand outside of the heap, so that the
-# system gets their memory back when they are freed. The caller's own setting wins.
+# system gets their memory back when they are freed. glibc 2.36 asks the system for large pages in each start only if all
+# names are bound when the program starts. The caller's own settings win.
 call() {
     export GLIBC_TUNABLES="${GLIBC_TUNABLES-glibc.malloc.hugetlb=1:glibc.malloc.mmap_threshold=1048576}"
+    export LD_BIND_NOW="${LD_BIND_NOW-1}"
     exec "$program" "$@"
 }

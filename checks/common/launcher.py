@@ -12,9 +12,9 @@ from plan import Plan
 
 __all__ = ["Pace", "Plan", "cores_of", "crates_below", "lines_of_crates", "malloc_settings"]
 
-SETTING = re.compile(r'export (GLIBC_TUNABLES)="\$\{\1-([^}"]+)\}"')
+SETTING = re.compile(r'export (\w+)="\$\{\1-([^}"]+)\}"')
 
 
 def malloc_settings() -> dict[str, str]:
     """The variables that the launcher sets for a program, where its caller has not set them."""
-    return dict([SETTING.search((ROOT / "launcher" / "call.sh").read_text(encoding="utf-8")).groups()])
+    return dict(SETTING.findall((ROOT / "launcher" / "call.sh").read_text(encoding="utf-8")))

@@ -11,9 +11,13 @@ from typing import Optional
 
 from .errors import Bad, Closed, Refused, TimedOut
 
-# As the scripts that call the programs set it: large pages for the tables, and vectors of a megabyte or more outside of
-# the heap. The caller's setting wins.
-TUNABLES = "GLIBC_TUNABLES", "glibc.malloc.hugetlb=1:glibc.malloc.mmap_threshold=1048576"
+# As the scripts that call the programs set them: large pages for the tables, and vectors of a megabyte or more outside
+# of the heap. glibc 2.36 asks for large pages in each start only if all names are bound when the program starts. The
+# caller's own settings win.
+SETTINGS = {
+    "GLIBC_TUNABLES": "glibc.malloc.hugetlb=1:glibc.malloc.mmap_threshold=1048576",
+    "LD_BIND_NOW": "1",
+}
 # How many bytes are asked for at a time, and the most of a message of a process that has ended.
 CHUNK = 65536
 
@@ -51,7 +55,7 @@ class Process:
             stderr=subprocess.PIPE,
             bufsize=0,
             start_new_session=True,
-            env=dict([TUNABLES, *os.environ.items()]),
+            env={**SETTINGS, **os.environ},
         )
         self._owner = os.getpid()
         self._end = weakref.finalize(self, end_process, self._process, self._owner)

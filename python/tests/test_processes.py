@@ -91,7 +91,9 @@ class Ends(unittest.TestCase):
 
     def test_interrupt(self):
         code = (
-            f"import lifebatch, sys\nit = lifebatch.parse({GROWING!r})\nprint(it._process.identifier, flush=True)\n"
+            # A shell lets a command in the background ignore the interrupt.
+            "import lifebatch, signal, sys\nsignal.signal(signal.SIGINT, signal.default_int_handler)\n"
+            f"it = lifebatch.parse({GROWING!r})\nprint(it._process.identifier, flush=True)\n"
             f"try:\n    it.advance({LONG})\nexcept KeyboardInterrupt:\n"
             "    print('interrupted', it.is_open, flush=True)\n    sys.stdin.read()\n"
         )
