@@ -13,7 +13,7 @@ use node_table::NodeTable;
 use squares::Sq;
 use std::alloc::{AllocError, Global};
 use std::thread::{Threads, map_indices};
-use table_core::{Kind, Shape};
+use table_core::{Kind, LARGEST_RANK, Shape};
 
 // With fewer pair slots for each worker, fewer workers find out what is copied.
 const SLOTS_A_WORKER: u32 = 1 << 17;
@@ -170,20 +170,12 @@ fn marks<R: Threads + Sync>(
     let marks = SharedBits::new(workers.alloc, words.number_count())?;
     let marking = Marking {
         words,
+        kept,
         marks: &marks,
     };
-    map_indices(
-        workers.runtime,
-        workers.alloc,
-        orders.len(),
-        &|worker: usize| {
-            if worker == 0 {
-                marking.mark(root.num.0);
-            }
-            if let Some(order) = orders.get(worker) {
-                marking.mark_order(order, kept);
-            }
-        },
-    )?;
+    marks.set(root.num.0);
+    for below in 0..LARGEST_RANK {
+        marking.mark_rank(workers, orders, LARGEST_RANK - below)?;
+    }
     Ok(marks)
 }

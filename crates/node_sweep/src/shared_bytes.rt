@@ -68,15 +68,13 @@ impl SharedBits {
         }
     }
 
-    /// Sets the bit at a place, and answers whether it was clear.
-    pub(crate) fn set(&self, place: u32) -> bool {
-        let Some(word) = self.words.get((place / 64) as usize) else {
-            return false;
-        };
-        let bit = 1u64 << (place % 64);
-        if word.load(Ordering::Relaxed) & bit != 0 {
-            return false;
+    /// Sets the bit at a place.
+    pub(crate) fn set(&self, place: u32) {
+        if let Some(word) = self.words.get((place / 64) as usize) {
+            let bit = 1u64 << (place % 64);
+            if word.load(Ordering::Relaxed) & bit == 0 {
+                word.fetch_or(bit, Ordering::Relaxed);
+            }
         }
-        word.fetch_or(bit, Ordering::Relaxed) & bit == 0
     }
 }
