@@ -222,30 +222,20 @@ pub(crate) const FAR_GLIDERS: &[Row] = &[
     },
 ];
 
+// Patterns, the limits, lines of at most 70 bytes, and a report of each step with the last
+// generation once.
 #[test]
 fn writes_patterns(rt: HostRuntime) -> Result<(), AllocError> {
-    assert_rows(&rt, PATTERNS)
-}
-
-#[test]
-fn runs_at_the_limits(rt: HostRuntime) -> Result<(), AllocError> {
-    assert_rows(&rt, LIMITS)
+    for rows in [PATTERNS, LIMITS, LONG_ROWS, STEPS] {
+        assert_rows(&rt, rows)?;
+    }
+    Ok(())
 }
 
 #[test]
 fn runs_far(rt: HostRuntime) -> Result<(), AllocError> {
     assert_rows(&rt, FAR_GLIDERS)?;
     assert_rows(&rt, &[FAR_REPLICATOR])
-}
-
-#[test]
-fn wraps_lines_at_70_bytes(rt: HostRuntime) -> Result<(), AllocError> {
-    assert_rows(&rt, LONG_ROWS)
-}
-
-#[test]
-fn reports_each_step_and_the_last_generation_once(rt: HostRuntime) -> Result<(), AllocError> {
-    assert_rows(&rt, STEPS)
 }
 
 #[test]
