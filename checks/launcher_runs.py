@@ -27,6 +27,7 @@ from collections.abc import Callable
 
 from common.check import PGREP, Check, can_run, end, sum_up
 from common.fake_kit import Repository, printed
+from common.launcher import crates_below
 from common.program import PERIOD, PIPE, PROGRAM, ROOT, VIEW
 from common.simulated_builds import MACHINES, look_after
 
@@ -115,7 +116,7 @@ def other_program(it: Repository) -> bool:
     again = it.run("y", name="lifeview")
     return (
         (status, out) == (0, "ran: x\ninput")
-        and proved == {"png_writer", "view_program", "lifeview"}
+        and proved == {*crates_below("lifeview")} - {*crates_below("lifebatch")}
         and "lifeview: proved and built" in err
         and again == (0, "ran: y\ninput", "")
         and it.logged() == []
@@ -376,8 +377,9 @@ def records(it: Repository) -> bool:
     file, script = it.folder / "launcher" / "seconds.json", it.folder / "launcher" / "record_seconds.py"
     before = file.read_text()
     early = subprocess.run([script], capture_output=True, text=True)
-    missing = "png_writer, view_program, lifeview, periods, period_search, period_program, lifeperiod, pipe_requests"
-    is_kept = file.read_text() == before and f"no build has recorded {missing}" in early.stderr
+    others = (crate for name in ("lifeview", "lifeperiod", "lifepipe") for crate in crates_below(name))
+    missing = ", ".join(dict.fromkeys(it for it in others if it not in crates_below("lifebatch")))
+    is_kept = file.read_text() == before and f"no build has recorded {missing}: " in early.stderr
     it.run(name="lifeview")
     it.run(name="lifeperiod")
     it.run(name="lifepipe")
