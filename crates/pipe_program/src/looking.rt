@@ -20,7 +20,7 @@ use png_writer::Image;
 use program_parts::GrowingText;
 use std::alloc::Global;
 use std::thread::Threads;
-use view_program::{drawing_of, picture_file};
+use view_program::{ImageFormat, drawing_of, picture_file};
 
 // Sides of a rectangle that is shown lie from -SIDE_LIMIT to SIDE_LIMIT.
 const SIDE_LIMIT: i64 = 1 << 62;
@@ -115,7 +115,7 @@ pub(crate) fn picture_text(
         drawing.blocks.height,
         drawing.scale.zoom,
     )?;
-    picture_file(alloc, &image)
+    picture_file(alloc, ImageFormat::Png, &image)
 }
 
 fn can_be_shown(shown: Bounds) -> bool

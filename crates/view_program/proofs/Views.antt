@@ -17,7 +17,7 @@ use Rattle.engine.specs.SummaryLine.{summary_line}
 use Rattle.engine.specs.declared.running.Summary.{Summary}
 use Rattle.png_writer.specs.Picture.{Picture}
 use Rattle.view_program.specs.Drawn.{IsPictureOf}
-use Rattle.view_program.specs.PictureFormat.{picture_format}
+use Rattle.view_program.specs.PictureFormat.{format_of}
 use Rattle.view_program.specs.PictureLine.{picture_line}
 use Rattle.view_program.specs.Shown.{rectangle_shown}
 use Rattle.view_program.specs.View.{IsDrawn, IsView}
@@ -71,14 +71,14 @@ module _ {W V : Type 0} (bytes : List ℕ) (view : View) (name : List ℕ) (repo
         takes_lines = Appends-trans _ _ _ _ _ first second
 
         -- and whose file failed
-        pub file_failed : (refusal : Refusal) → refusal ≡ WriteFailed → Fails file → ((drawn : List ℕ) × picture_format.IsFile picture.width picture.rows drawn × TakesBeginning file drawn) →
+        pub file_failed : (refusal : Refusal) → refusal ≡ WriteFailed → Fails file → ((drawn : List ℕ) × (format_of view.format).IsFile picture.width picture.rows drawn × TakesBeginning file drawn) →
             IsView bytes view name report file (Err (placeless refusal))
         file_failed refusal is failed begun =
             let told = ap placeless is in
             record { finished = tt; unfailed = inl (ap Err told); refused = inr (inr (told, (lines, picture, is_drawn, takes_lines, begun), unfailed, failed)) }
 
         -- and the picture
-        pub ends_well : IsUnfailed file → ((drawn : List ℕ) × picture_format.IsFile picture.width picture.rows drawn × Takes file drawn) → IsView bytes view name report file (Ok tt)
+        pub ends_well : IsUnfailed file → ((drawn : List ℕ) × (format_of view.format).IsFile picture.width picture.rows drawn × Takes file drawn) → IsView bytes view name report file (Ok tt)
         ends_well file_unfailed takes = record {
           finished = (lines, picture, is_drawn, takes_lines, takes);
           unfailed = inr (file_unfailed, unfailed);

@@ -1,6 +1,5 @@
 -- What the words of a command line ask for.
-use Rattle.std.specs.Prelude.{◌≡◌, ℕ, nat_eq, true, List, [], ◌∷◌, fold, Option, Some, codes, refl, string_bytes}
-use Rattle.std.specs.List.{ends_with}
+use Rattle.std.specs.Prelude.{◌≡◌, ℕ, true, List, [], ◌∷◌, fold, Option, Some, codes, refl, string_bytes}
 use Rattle.clap.specs.Words.{App, Rule, Text, fault_of, is_simple_and_free, new_app, with_rule}
 use Rattle.clap.specs.declared.builder.value_parser.ValueParser.TheVariants as parser
 use Rattle.clap.proofs.OnLiterals.{clap_on_literals}
@@ -11,7 +10,7 @@ use Rattle.program_parts.specs.RunWords.{AskForRun}
 use Rattle.program_parts.specs.Texts.{HasText, IsThere, text_in, value_in}
 use Rattle.program_parts.specs.Values.{IsFitNumber, IsNumber}
 use Rattle.program_parts.specs.WindowText.{IsAskedWindow, IsFitWindow, IsRefusedWindow}
-use Rattle.view_program.specs.PictureFormat.{picture_format}
+use Rattle.view_program.specs.PictureFormat.{IsFitName, IsFormat}
 use Rattle.view_program.specs.Shown.{CanBeShown, sides_of}
 use Rattle.view_program.specs.declared.asking.Asked.{Asked}
 use Rattle.view_program.specs.declared.asking.View.{View}
@@ -48,10 +47,6 @@ text_for name words = text_in command_form name words
 abbrev pub value_for : List ℕ → List Text → Option Text
 value_for name words = value_in command_form name words
 
--- a picture may have this name
-abbrev pub IsFitName : Text → Type 0
-IsFitName name = ends_with nat_eq name picture_format.ending ≡ true
-
 -- the text is a numeral of this number, and a picture may have so many pixels on a side
 abbrev pub IsSizeNumber : Option Text → ℕ → Type 0
 IsSizeNumber text size = IsNumber text size × IsSize size
@@ -62,7 +57,7 @@ pub record AsksFor (words : List Text) (asked : Asked) : Type 0 where
   pub run : AskForRun command_form words asked.view.run
   pub file : text_for (codes "file") words ≡ Some (string_bytes asked.file)
   pub output : text_for (codes "output") words ≡ Some (string_bytes asked.output)
-  pub name : IsFitName (string_bytes asked.output)
+  pub format : IsFormat (string_bytes asked.output) asked.view.format
   pub window :
       IsAskedWindow CanBeShown sides_of 64 (text_for (codes "window") words) asked.view.window
   pub size : IsSizeNumber (value_for (codes "size") words) asked.view.size
@@ -81,7 +76,7 @@ abbrev pub AskForView : List Text → View → Type 0
 AskForView words view =
     (asked : Asked) → text_for (codes "file") words ≡ Some (string_bytes asked.file) →
     text_for (codes "output") words ≡ Some (string_bytes asked.output) →
-    IsFitName (string_bytes asked.output) → AsksFor words (record asked { view = view })
+    IsFormat (string_bytes asked.output) view.format → AsksFor words (record asked { view = view })
 
 -- the form of the words, and the values that are fit: a NAME that ends as those of pictures, the
 -- size of a picture, and a window whose cells can be shown

@@ -11,7 +11,7 @@ use Rattle.engine.specs.SummaryLine.{summary_line}
 use Rattle.engine.specs.declared.running.Summary.{Summary}
 use Rattle.png_writer.specs.Picture.{Picture}
 use Rattle.view_program.specs.Drawn.{IsPictureOf}
-use Rattle.view_program.specs.PictureFormat.{picture_format}
+use Rattle.view_program.specs.PictureFormat.{format_of}
 use Rattle.view_program.specs.PictureLine.{picture_line}
 use Rattle.view_program.specs.Shown.{rectangle_shown}
 use Rattle.view_program.specs.declared.asking.View.{View}
@@ -32,7 +32,8 @@ pub record IsDrawn (bytes : List ℕ) (view : View) (name said : List ℕ)
 abbrev pub HasDrawn : {W V : Type 0} → List ℕ → View → List ℕ → SinkChange W → SinkChange V → Type 0
 HasDrawn bytes view name report file =
     (said : List ℕ) × (picture : Picture) × IsDrawn bytes view name said picture × Takes report said
-    × ((drawn : List ℕ) × picture_format.IsFile picture.width picture.rows drawn × Takes file drawn)
+    × ((drawn : List ℕ) × (format_of view.format).IsFile picture.width picture.rows drawn
+    × Takes file drawn)
 
 -- a view was refused: its run was, or memory ran out, and nothing was written; or it can be drawn,
 -- and a sink failed: that of the report, which took a beginning of what is said, and nothing was
@@ -49,7 +50,8 @@ HasNotDrawn bytes view name report file fault =
     ⊎ ((fault ≡ placeless WriteFailed)
     × ((said : List ℕ) × (picture : Picture) × IsDrawn bytes view name said picture
     × Takes report said
-    × ((drawn : List ℕ) × picture_format.IsFile picture.width picture.rows drawn × TakesBeginning file drawn))
+    × ((drawn : List ℕ) × (format_of view.format).IsFile picture.width picture.rows drawn
+    × TakesBeginning file drawn))
     × IsUnfailed report × Fails file)
 
 -- what a view of these bytes does to its report and to its file, and what it answers

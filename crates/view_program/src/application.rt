@@ -4,10 +4,10 @@ ghost use Rattle.std.specs.Prelude.{codes};
 ghost use Rattle.view_program.specs.CommandLine.{form_is_free};
 ghost use Rattle.view_program.specs.Status.{behaviour};
 
-use crate::asking::{Asked, is_fit_name, view_by};
+use crate::asking::{Asked, view_by};
 use crate::command_line::{ABOUT, EXAMPLES, NAME, options};
 use crate::drawing::draw_from;
-use crate::picture_format::ENDING;
+use crate::picture_format::{ENDINGS, format_by};
 use clap::{ArgMatches, Command};
 use plane::{Fault, Sink, Source};
 use program_parts::{Application, Misfit, WordsReason, command_with};
@@ -51,10 +51,10 @@ impl Application for Lifeview {
         let Some(output) = matches.get_str("output") else {
             return Err(WordsReason::Unfit(Misfit::Other));
         };
-        if !is_fit_name(output) {
-            return Err(WordsReason::Unfit(Misfit::Ending(ENDING)));
-        }
-        let view = view_by(matches)?;
+        let Some(format) = format_by(output) else {
+            return Err(WordsReason::Unfit(Misfit::Ending(ENDINGS)));
+        };
+        let view = view_by(matches, format)?;
         Ok(Asked {
             view,
             file: String::from_str(alloc, file)?,

@@ -1,13 +1,13 @@
 //! What the words of a command line ask for.
 
-ghost use Rattle.std.specs.Prelude.{◌↔◌, List, codes, IfOk, IfErr, IsTrue};
+ghost use Rattle.std.specs.Prelude.{◌≡◌, List, codes, IfOk, IfErr};
 ghost use Rattle.clap.specs.Words.{Text, found_of, one_text};
 ghost use Rattle.program_parts.specs.Asking.{IsReasonOf};
 ghost use Rattle.program_parts.specs.Texts.{AreMatchesIn};
 ghost use Rattle.program_parts.specs.Values.{IsUnfit};
-ghost use Rattle.view_program.specs.CommandLine.{AskForView, HasFiles, IsFitName, IsSizeNumber, command_form, command_line};
+ghost use Rattle.view_program.specs.CommandLine.{AskForView, HasFiles, IsSizeNumber, command_form, command_line};
 
-use crate::picture_format::ENDING;
+use crate::picture_format::ImageFormat;
 use crate::shown::window_asked;
 use clap::ArgMatches;
 use engine::RunOptions;
@@ -31,6 +31,8 @@ pub struct View {
     pub window: Option<Bounds>,
     /// The most pixels on a side of the picture, 16 to 4096.
     pub size: u32,
+    /// The format of the picture's file.
+    pub format: ImageFormat,
 }
 
 /// What the words of a command line ask for.
@@ -44,8 +46,9 @@ pub struct Asked {
     pub output: String,
 }
 
-/// What is drawn by the words, which name a file, and a picture whose name is fit.
-pub(crate) fn view_by(matches: &ArgMatches<'_>) -> Result<View, WordsReason>
+/// What is drawn by the words, which name a file, and a picture whose name is that of a format.
+pub(crate) fn view_by(matches: &ArgMatches<'_>, format: ImageFormat) -> Result<View, WordsReason>
+    ensures format { IfOk result (λ view. view.format ≡ format) }
     ensures asks { (words : List Text) → AreMatchesIn command_form words matches.now →
         IfOk result (AskForView words) }
     ensures faults { (words : List Text) → AreMatchesIn command_form words matches.now →
@@ -60,6 +63,7 @@ pub(crate) fn view_by(matches: &ArgMatches<'_>) -> Result<View, WordsReason>
         run: RunOptions { rule, ..run },
         window,
         size,
+        format,
     })
 }
 
@@ -74,11 +78,4 @@ fn size_asked(matches: &ArgMatches<'_>) -> Result<u32, WordsReason>
         Ok(size) if size >= SMALLEST_SIZE && size <= LARGEST_SIZE => Ok(size),
         _ => Err(WordsReason::Unfit(Misfit::Other)),
     }
-}
-
-/// Whether a picture may have this name.
-pub(crate) fn is_fit_name(name: &str) -> bool
-    ensures { IsTrue result ↔ IsFitName name.now }
-{
-    name.as_bytes().ends_with(ENDING.as_bytes())
 }

@@ -5,6 +5,7 @@ ghost use Rattle.program_parts.specs.OptionRules.{HasRule, HaveRules};
 ghost use Rattle.view_program.specs.CommandLine.{command_rules, output_option, size_option};
 
 use crate::asking::{LARGEST_SIZE, SMALLEST_SIZE};
+use crate::picture_format::OUTPUT_HELP;
 use clap::Arg;
 use clap::builder::ValueParser;
 use program_parts::{
@@ -17,7 +18,7 @@ use std::alloc::{AllocError, Global};
 pub const NAME: &str = "lifeview";
 
 /// What the help says first.
-pub(crate) const ABOUT: &str = "Draws a Golly pattern file after N generations, as a PNG picture.
+pub(crate) const ABOUT: &str = "Draws a Golly pattern file after N generations, as a picture.
 
 It reads an RLE or macrocell file, runs it for N generations by HashLife, and
 draws the last generation: all live cells, or the window that is asked for.
@@ -58,14 +59,7 @@ pub(crate) fn options<'a>(alloc: Global) -> Result<Vec<Arg<'a>>, AllocError>
 fn output_option<'a>(alloc: Global) -> Arg<'a>
     ensures { HasRule result output_option }
 {
-    short_option(
-        alloc,
-        "output",
-        'o',
-        "NAME",
-        "Write the picture to NAME, which ends with .png",
-    )
-    .required(true)
+    short_option(alloc, "output", 'o', "NAME", OUTPUT_HELP).required(true)
 }
 
 fn size_option<'a>(alloc: Global) -> Arg<'a>

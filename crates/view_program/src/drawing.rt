@@ -18,8 +18,8 @@ use png_writer::Image;
 use std::alloc::Global;
 use std::thread::Threads;
 
-/// Runs the pattern in a file's bytes, and draws its last generation as a PNG file. It writes two
-/// lines to `report`: the generation, the population and the bounding box; and the name of the
+/// Runs the pattern in a file's bytes, and draws its last generation in the view's format. It writes
+/// two lines to `report`: the generation, the population and the bounding box; and the name of the
 /// picture, its size and what a pixel is. Then it writes the picture to `file`, whose bytes are all
 /// in memory by then.
 ///
@@ -55,7 +55,7 @@ pub fn draw<R: Threads + Sync, W: Sink, V: Sink>(
         drawing.blocks.height,
         drawing.scale.zoom,
     )?;
-    let text = picture_file(alloc, &image)?;
+    let text = picture_file(alloc, view.format, &image)?;
     write_summary(report, &summary)?;
     write_picture_line(report, name, shown, drawing.scale)?;
     write_all(file, text.as_slice())?;

@@ -15,5 +15,5 @@ pub use application::Lifeview;
 pub use asking::{Asked, LARGEST_SIZE, SMALLEST_SIZE, View};
 pub use command_line::NAME;
 pub use drawing::{draw, draw_from};
-pub use picture_format::picture_file;
+pub use picture_format::{ImageFormat, picture_file};
 pub use rectangle::drawing_of;

@@ -64,7 +64,7 @@ returns-clause-asks c = λ words are asked file output name.
       run = asked_run command_line words c.args.matches.now are _ c.get_str-2.ensures c.in_ok-run.run' c.in_ok-rule.rule (c.in_ok-run.ensures.ok command_form words are) c.in_ok-rule.ensures.ok;
       file = file;
       output = output;
-      name = name;
+      format = name;
       window = subst (λ given. IsAskedWindow CanBeShown sides_of 64 given c.in_ok-window.window) (c.get_str.ensures ∙ text (codes "window")) (asked_window 64 CanBeShown sides_of _ c.in_ok-numbers.numbers _ c.in_ok-numbers.ensures.ok c.in_ok-window.ensures.ok);
       size = subst (λ given. IsSizeNumber given c.in_ok-size.size) (value (codes "size")) c.in_ok-size.ensures.ok;
     }
