@@ -95,6 +95,11 @@ def own_help(_: Repository) -> bool:
     return all(equal)
 
 
+def narrow_help(_: Repository) -> bool:
+    texts = [path.read_text() for path in (ROOT / "launcher" / "help").glob("*.txt")]
+    return texts != [] and all(len(line) <= 80 for text in texts for line in text.splitlines())
+
+
 def help_of_built(it: Repository) -> bool:
     return (
         it.run("--help") == (0, "ran: --help\ninput", "")
@@ -410,6 +415,7 @@ GROUPS: list[list[tuple[str, Callable[[Repository], bool]]]] = [
     [
         ("before a program is built, --help and -h by themselves show its help and say that it is not built", helps),
         ("the help is that of the real programs, where these are built", own_help),
+        ("no line of a help has more than 80 columns", narrow_help),
         ("an output file that can't be written is named before anything runs, with status 3", unwritable),
         ("the first call proves each crate once, builds the program for this processor and runs it", whole),
         ("a second call builds nothing", second),

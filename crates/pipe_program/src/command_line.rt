@@ -15,8 +15,8 @@ pub const NAME: &str = "lifepipe";
 pub(crate) const ABOUT: &str =
     "Keeps a Golly pattern open, and answers the requests of another program.
 
-It reads requests from standard input and writes a reply to each to standard output. \
-docs/lifepipe.md has the requests.";
+It reads requests from standard input and writes a reply to each to standard
+output. docs/lifepipe.md has the requests.";
 
 /// What the help says last.
 pub(crate) const EXAMPLES: &str = "Examples:
