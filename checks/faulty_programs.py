@@ -114,6 +114,7 @@ class Row:
 
 
 ONE = "--only Life/Oscillators/queen-bee-turn --seconds 2 --workers 1"
+FEW_WORKERS = "--times 1 --workers 2 --only lidka"
 ROWS = [
     Row("golly_patterns", ONE, RIGHT, HOLDS),
     Row("golly_patterns", ONE.replace("--seconds 2", "--seconds 0.2"), "hangs", DIFFERS),
@@ -124,6 +125,10 @@ ROWS = [
     Row("golly_patterns", "--only no-such-name", RIGHT, NOT_RUN),
     Row("golly_patterns", "--folder common", RIGHT, NOT_RUN),
     Row("golly_patterns", "--folder nowhere", RIGHT, NOT_RUN),
+    Row("many_workers", FEW_WORKERS, RIGHT, HOLDS),
+    *(Row("many_workers", FEW_WORKERS, it, DIFFERS) for it in ("crashes", "refuses all")),
+    Row("many_workers", FEW_WORKERS, "is missing", NOT_RUN),
+    Row("many_workers", "--only no-such-name", RIGHT, NOT_RUN),
     Row("random_patterns", "--count 6 --seconds 20", RIGHT, HOLDS),
     *(
         Row("random_patterns", "--count 6 --seconds 1", it, DIFFERS)

@@ -60,6 +60,7 @@ NAMES = [
     "golly_scripts",
     "small_tables",
     "golly_patterns",
+    "many_workers",
     "refused_memory",
     "refused_session",
     "failing_reads",
