@@ -32,6 +32,18 @@ keeps_as same is keeps = record { cells = keeps.cells; listing = listing_as same
 pub leaves_as : {here there : Plane} {start generation generations : ℕ} → IsSame here there → start ≡ generation → LeavesRange here start generations → LeavesRange there generation generations
 leaves_as same is leaves = record { cells = leaves.cells; listing = listing_as same leaves.listing; outside = λ stays. leaves.outside (stays_as refl (sym is) stays) }
 
+-- the range was not judged, or is left
+pub refused_range : {here there : Plane} {start generation generations : ℕ} (refusal : Refusal) → IsSame here there → start ≡ generation →
+    (refusal ≡ NoMemory) ⊎ ((refusal ≡ TooFar) × LeavesRange here start generations) →
+    LacksMemoryOrRoom refusal ⊎ ((refusal ≡ TooFar) × LeavesRange there generation generations)
+refused_range refusal same is (inl memory) = inl (inl memory)
+refused_range refusal same is (inr (far, leaves)) = inr (far, leaves_as same is leaves)
+
+-- where it was not judged, or is left, no table is full
+pub range_not_full : {Leaves : Type 0} (refusal : Refusal) → (refusal ≡ NoMemory) ⊎ ((refusal ≡ TooFar) × Leaves) → refusal ≡ NodesFull → ⊥
+range_not_full refusal (inl memory) full = cc
+range_not_full refusal (inr (far, leaves)) full = cc
+
 -- ---- the judgement
 
 -- the text is refused, or memory ran out while it was read

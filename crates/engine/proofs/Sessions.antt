@@ -9,14 +9,17 @@ use Rattle.plane.specs.Centred.{Holds}
 use Rattle.plane.specs.declared.refusal.Refusal.{Refusal}
 use Rattle.plane.specs.declared.refusal.Refusal.TheVariants.{NodesFull, NoMemory, TooFar}
 use Rattle.plane.proofs.Parts.{after_same}
-use Rattle.plane.proofs.Same.{plane_equal, same_refl, same_trans}
+use Rattle.plane.proofs.Same.{plane_equal, same_refl, same_sym, same_trans}
 use Rattle.plane.specs.Window.{Rectangle}
+use Rattle.table_core.specs.declared.key.Key.{Key}
 use Rattle.table_core.specs.declared.shape.Shape.{Shape}
 use Rattle.universe.specs.Cells.{live_cells, resting_limit, resting_rule, rule_of}
 use Rattle.universe.specs.StaysWithinRoot.{StaysWithinRoot}
 use Rattle.universe.specs.Outcomes.{LacksMemoryOrRoom}
 use Rattle.universe.specs.Ranges.{LeavesRange}
 use Rattle.universe.specs.Later.{IsLater, IsSameUniverse, IsStuckAt}
+use Rattle.universe.specs.Rests.{IsAtRest}
+use Rattle.universe.specs.declared.other_tables.OtherTables.{OtherTables}
 use Rattle.universe.specs.declared.universe.Universe.{Universe}
 use Rattle.universe.proofs.Later.{after_step, empty_later, held_later}
 use Rattle.universe.proofs.Onward.{held_again}
@@ -52,6 +55,16 @@ asked same = record {
   limit = ap (λ (s : Shape). 2 ^ s.bits) same.limit;
   there = refl;
 }
+
+-- a pattern that is at work again
+pub resumed : (state : State) (pattern : Pattern) (universe : Universe) → state ≡ AtRest pattern → IsAtRest universe pattern.resting →
+    IsSameState state (AtWork universe)
+resumed state pattern universe is same = subst (λ (s : State). IsSameState s (AtWork universe)) (sym is) (record {
+  cells = same_sym same.cells;
+  rule = λ rule by. ap (λ (key : Key). key.rule) (sym same.key) ∙ by;
+  limit = ap (λ (others : OtherTables). 2 ^ others.limit.bits) (sym same.others);
+  there = refl;
+})
 
 -- ---- sessions
 

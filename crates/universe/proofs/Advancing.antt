@@ -1,5 +1,6 @@
 -- Universes that come as far as they get, part by part.
 use Rattle.std.proofs.Common.{◌≡◌, ◌≢◌, ℕ, ◌+◌, ◌-◌, ◌^◌, ◌≤◌, refl, subst, sym, arith}
+use Rattle.std.specs.Prelude.{Result, Ok}
 use Rattle.universe.specs.Advances.{IsAdvance, stuck_after, with_earlier}
 use Rattle.universe.specs.Later.{IsLater, IsSameUniverse}
 use Rattle.universe.specs.declared.advances.Advance.{Advance}
@@ -43,3 +44,17 @@ stuck_on_part {first} {second} generations done more (Stuck there further) stuck
 pub stuck_below : (start : Universe) (generations : ℕ) (advance : Advance) → IsAdvance start generations advance → stuck_after advance ≤ generations
 stuck_below start generations (Done later) is = omega arith
 stuck_below start generations (Stuck there done) is = let before = is.before in omega (arith, before)
+
+-- what is stuck in the first half of a step is stuck in the step
+pub stuck_in_half : (start : Universe) (exponent : ℕ) (advance : Advance) → exponent ≢ 0 → ((third : Universe) → advance ≡ Done third → ⊥) →
+    IsAdvance start (2 ^ (exponent - 1)) advance → IsAdvance start (2 ^ exponent) advance
+stuck_in_half start exponent (Done third) some stuck is = absurd (stuck third refl)
+stuck_in_half start exponent (Stuck there done) some stuck is =
+    let whole = two_halves exponent some in
+    let before = is.before in
+    record { before = omega (arith, whole, before); later = is.later; one = is.one; exhausted = is.exhausted }
+
+-- what came of no step is not stuck
+pub not_stuck_at_once : {E : Type 0} (start there : Universe) (done : ℕ) (advance : Advance) →
+    ◌≡◌ {A = Result Advance E} (Ok advance) (Ok (Done start)) → advance ≡ Stuck there done → ⊥
+not_stuck_at_once start there done advance same is = absurd cc

@@ -3,6 +3,7 @@ use Rattle.std.proofs.Common.{◌≡◌, ◌≢◌, ℕ, zero, suc, ◌+◌, ◌
 use Rattle.std.proofs.Math.Nat.{pow-suc}
 use Rattle.std.proofs.lemmas.Result.{IfOk-at_ok}
 use Rattle.std.specs.Prelude.{Result, Ok, Err, IfErr, IfOk, IfSome, Option, Some}
+use Rattle.plane.specs.declared.refusal.Refusal.TheVariants.{NodesFull, NoMemory}
 
 pub ok_then : {T E : Type 0} (P Q : T → Type 0) (r : Result T E) → ((x : T) → P x → Q x) → IfOk r P → IfOk r Q
 ok_then P Q (Ok x) f h = f x h
@@ -11,6 +12,10 @@ ok_then P Q (Err e) f h = tt
 pub err_then : {T E : Type 0} (P Q : E → Type 0) (r : Result T E) → ((x : E) → P x → Q x) → IfErr r P → IfErr r Q
 err_then P Q (Ok x) f h = tt
 err_then P Q (Err e) f h = f e h
+
+-- a full table is no want of memory
+pub memory-full : NoMemory ≡ NodesFull → ⊥
+memory-full same = absurd cc
 
 pub two_halves : (exponent : ℕ) → exponent ≢ 0 → 2 ^ (exponent - 1) + 2 ^ (exponent - 1) ≡ 2 ^ exponent
 two_halves zero some = absurd (some refl)

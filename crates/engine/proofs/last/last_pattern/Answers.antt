@@ -1,7 +1,8 @@
-use Rattle.std.proofs.Common.{◌≡◌, ℕ, ◌+◌, ◌≤◌, Err, rules, refl, subst, sym, arith, inl}
+use Rattle.std.proofs.Common.{◌≡◌, ℕ, ◌+◌, ◌≤◌, Err, refl, subst, sym, ◌∙◌, ap, arith, inl}
 use Rattle.std.proofs.result.Match.{err_is}
 use Rattle.plane.specs.Fault.{placeless}
 use Rattle.plane.specs.declared.range.TheConstants.{GENERATION_LIMIT}
+use Rattle.plane.specs.declared.refusal.Refusal.{Refusal}
 use Rattle.plane.specs.declared.refusal.Refusal.TheVariants.{NoMemory}
 use Rattle.plane.proofs.Same.{same_sym, same_trans}
 use Rattle.engine.specs.Room.{IsStuckWithin}
@@ -41,14 +42,16 @@ pub returns-in_err-summary-clause-refused : goal.returns-in_err-summary-clause-r
 returns-in_err-summary-clause-refused g c =
     let opened = c.in_ok-session.ensures.ok in
     let start = c.in_ok-session.session in
-    let is : c.from_residual-in_err-summary.result ≡ Err (placeless NoMemory) = search rules in
+    let is : c.from_residual-in_err-summary.result ≡ Err (placeless NoMemory) =
+    err_is _ _ c.from_residual-in_err-summary.ensures.1 ∙ ap (λ (r : Refusal). Err (placeless r)) c.in_err-summary.ensures.memory in
     rw is (stops c.args.bytes.now c.args.run.now opened.meaning start.rule (cells_of start) opened.accepted NoMemory (inl refl) (λ full. cc))
 
 pub returns-in_err-into_pattern-clause-refused : goal.returns-in_err-into_pattern-clause-refused
 returns-in_err-into_pattern-clause-refused g c =
     let opened = c.in_ok-session.ensures.ok in
     let start = c.in_ok-session.session in
-    let is : c.from_residual-in_err-into_pattern.result ≡ Err (placeless NoMemory) = search rules in
+    let is : c.from_residual-in_err-into_pattern.result ≡ Err (placeless NoMemory) =
+    err_is _ _ c.from_residual-in_err-into_pattern.ensures.1 ∙ ap (λ (r : Refusal). Err (placeless r)) c.in_err-into_pattern.ensures.closed.0 in
     rw is (stops c.args.bytes.now c.args.run.now opened.meaning start.rule (cells_of start) opened.accepted NoMemory (inl refl) (λ full. cc))
 
 pub returns-clause-ok : goal.returns-clause-ok

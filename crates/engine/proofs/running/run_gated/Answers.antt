@@ -1,7 +1,8 @@
-use Rattle.std.proofs.Common.{◌≡◌, ℕ, ◌+◌, ◌≤◌, Err, rules, refl, sym, ◌∙◌, ap, subst}
+use Rattle.std.proofs.Common.{◌≡◌, ℕ, ◌+◌, ◌≤◌, Err, refl, sym, ◌∙◌, ap, subst}
 use Rattle.std.proofs.result.Match.{err_is}
 use Rattle.plane.specs.Fault.{placeless}
 use Rattle.plane.specs.declared.range.TheConstants.{GENERATION_LIMIT}
+use Rattle.plane.specs.declared.refusal.Refusal.{Refusal}
 use Rattle.plane.specs.declared.refusal.Refusal.TheVariants.{NoMemory}
 use Rattle.plane.specs.Device.{AppendsBeginning, HasFailed}
 use Rattle.std.specs.Io.KnownBytes.{Appends}
@@ -52,7 +53,8 @@ pub returns-in_err-summary : goal.returns-in_err-summary
 returns-in_err-summary g c =
     let opened = c.in_ok-session.ensures.ok in
     let start = c.in_ok-session.session in
-    let is : c.from_residual-in_err-summary.result ≡ Err (placeless NoMemory) = search rules in
+    let is : c.from_residual-in_err-summary.result ≡ Err (placeless NoMemory) =
+    err_is _ _ c.from_residual-in_err-summary.ensures.1 ∙ ap (λ (r : Refusal). Err (placeless r)) c.in_err-summary.ensures.memory in
     rw is (refused_counting c.args.bytes.now c.args.options.now opened.meaning start.rule (cells_of start) (accepted_as c.run-run.ensures opened.accepted)
     _ _ start.generation (cells_of c.run_reported.new.session) _ opened.generation c.in_ok-counted.ensures.later.cells c.in_ok-counted.ensures.reported refl refl c.in_ok-counted.ensures.unfailed)
 

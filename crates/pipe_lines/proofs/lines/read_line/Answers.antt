@@ -63,3 +63,18 @@ loop-length-preserved g c =
       c.in_ok-fill.ensures.unfailed ∙ c.loop-length.invariant.1,
       reads_on g.S.Source.reads IsUnbroken begun.taken begun.is.unbroken c.loop-length.invariant.2 c.in_ok-fill.ensures.read,
     )
+
+pub returns-in_err-fill-clause-reads : goal.returns-in_err-fill-clause-reads
+returns-in_err-fill-clause-reads g c =
+    let begun = c.loop-length.invariant.0 in
+    reads_on g.S.Source.reads IsUnbroken begun.taken begun.is.unbroken c.loop-length.invariant.2 c.in_err-fill.ensures.read
+
+pub returns-then-not-branch-clause-reads : goal.returns-then-not-branch-clause-reads
+returns-then-not-branch-clause-reads g c =
+    let begun = c.loop-length.invariant.0 in
+    reads_on g.S.Source.reads IsUnbroken begun.taken begun.is.unbroken c.loop-length.invariant.2 c.in_ok-fill.ensures.read
+
+pub returns-then-count-pending-clause-reads : goal.returns-then-count-pending-clause-reads
+returns-then-count-pending-clause-reads g c =
+    let begun = c.loop-length.invariant.0 in
+    reads_on g.S.Source.reads IsUnbroken begun.taken begun.is.unbroken c.loop-length.invariant.2 c.in_ok-fill.ensures.read

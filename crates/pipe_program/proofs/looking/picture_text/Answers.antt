@@ -4,12 +4,20 @@ use Rattle.engine.specs.Pattern.{plane_of}
 use Rattle.engine.specs.Sessions.{cells_of}
 use Rattle.engine.specs.declared.pattern.Pattern.{Pattern}
 use Rattle.plane.proofs.Same.{plane_equal}
-use Rattle.view_program.proofs.RowsOfBlocks.{picture_drawn, shades-length}
+use Rattle.view_program.proofs.RowsOfBlocks.{columns_fit, picture_drawn, rows_fit, shades-length}
 use Rattle.pipe_program.proofs.ShownPatterns.{picture_of_cells}
 use Rattle.pipe_program.proofs.looking.picture_text.Goals as goal
 
 pub zoomed-requires-clause-shades : goal.zoomed-requires-clause-shades
 zoomed-requires-clause-shades c = ap length c.as_slice.ensures.value ∙ shades-length _ _ _ c.in_ok-drawing.drawing c.in_ok-drawing.ensures.drawn
+
+pub zoomed-requires-clause-width : goal.zoomed-requires-clause-width
+zoomed-requires-clause-width c =
+    columns_fit (plane_of c.in_ok-pattern.pattern.now) c.args.shown c.args.size c.in_ok-drawing.drawing c.in_ok-drawing.ensures.drawn c.requires
+
+pub zoomed-requires-clause-height : goal.zoomed-requires-clause-height
+zoomed-requires-clause-height c =
+    rows_fit (plane_of c.in_ok-pattern.pattern.now) c.args.shown c.args.size c.in_ok-drawing.drawing c.in_ok-drawing.ensures.drawn c.requires
 
 pub returns-clause-ok : goal.returns-clause-ok
 returns-clause-ok c =

@@ -1,5 +1,7 @@
-use Rattle.std.proofs.Common.{◌≡◌, ◌∙◌, Err, ap, arith, refl, rules, subst, sym, inl, inr}
+use Rattle.std.proofs.Common.{◌≡◌, ◌∙◌, Err, ap, arith, refl, subst, sym, inl, inr}
+use Rattle.std.proofs.result.Match.{err_is}
 use Rattle.plane.specs.declared.refusal.Refusal.TheVariants.{NoMemory}
+use Rattle.plane.proofs.Same.{same_trans}
 use Rattle.engine.specs.States.{IsByRule, is_there}
 use Rattle.universe.specs.Advances.{IsAdvance}
 use Rattle.universe.specs.declared.advances.Advance.{Advance}
@@ -8,6 +10,9 @@ use Rattle.engine.proofs.session.Session.advance_within.Goals as goal
 
 pub advance-requires-clause-held : goal.advance-requires-clause-held
 advance-requires-clause-held g c κs within = held_at_work c.args.self.now c.in_ok-universe.universe c.args.generations c.in_ok-universe.ensures.same c.requires.held
+
+pub advance-requires-clause-short : goal.advance-requires-clause-short
+advance-requires-clause-short g c κs within = λ some. c.requires.short (λ none. some (same_trans c.in_ok-universe.ensures.same.cells none))
 
 pub returns-in-Done-clause-ok : goal.returns-in-Done-clause-ok
 returns-in-Done-clause-ok g c =
@@ -21,12 +26,12 @@ returns-in-Stuck-clause-refused g c =
 
 pub returns-in_err-universe-clause-refused : goal.returns-in_err-universe-clause-refused
 returns-in_err-universe-clause-refused g c =
-    let is : c.from_residual.result ≡ Err NoMemory = search rules in
+    let is : c.from_residual.result ≡ Err NoMemory = err_is _ _ c.from_residual.ensures.1 ∙ ap Err c.in_err-universe.ensures.memory in
     rw is (inr (refl, record { comments = refl; rule = refl; generation = refl; closed = ap is_there c.take_universe.ensures.lost }))
 
 pub returns-in_err-later-clause-refused : goal.returns-in_err-later-clause-refused
 returns-in_err-later-clause-refused g c =
-    let is : c.from_residual-in_err-later.result ≡ Err NoMemory = search rules in
+    let is : c.from_residual-in_err-later.result ≡ Err NoMemory = err_is _ _ c.from_residual-in_err-later.ensures.1 in
     rw is (inr (refl, record { comments = refl; rule = refl; generation = refl; closed = ap is_there c.take_universe.ensures.lost }))
 
 pub invariant_of-self-in-Done : goal.invariant_of-self-in-Done

@@ -42,3 +42,10 @@ returns-in_err-root-clause-full g c =
 
 pub returns-in_err-opened-clause-refusal : goal.returns-in_err-opened-clause-refusal
 returns-in_err-opened-clause-refusal g c = sent_on _ c.from_residual.result NoMemory c.from_residual.ensures.1 (inl refl)
+
+pub invariant_of-opened-2 : goal.invariant_of-opened-2
+invariant_of-opened-2 g c =
+    let fresh = c.in_ok-opened.opened in
+    let keeps = c.build-made.ensures.adds.keeps in
+    let back = is_back fresh.table fresh.desk c.leave.result _ _ c.at-at.ensures.book keeps c.leave.ensures.desk in
+    record { of_table = back.of_table }

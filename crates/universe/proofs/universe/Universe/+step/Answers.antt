@@ -3,7 +3,7 @@ use Rattle.std.proofs.lemmas.Nat.{one_shl, pow_pos}
 use Rattle.universe.specs.Advances.{IsAdvance}
 use Rattle.universe.specs.Later.{IsAttempt, IsFullAtLimit, IsSameUniverse}
 use Rattle.universe.specs.declared.attempts.Attempt.{Attempt}
-use Rattle.universe.proofs.Advancing.{advance_again, by_count, halves_on, stuck_below}
+use Rattle.universe.proofs.Advancing.{advance_again, by_count, halves_on, stuck_below, stuck_in_half}
 use Rattle.universe.proofs.Halves.{ok_then, two_halves}
 use Rattle.universe.proofs.Onward.{held_on, may_step, none_later, same_universe, still_same, stuck_at_once, step_at_exponent}
 use Rattle.universe.proofs.universe.Universe.+step.Goals as goal
@@ -62,3 +62,8 @@ step_by_halves-with_earlier-requires g t c =
     let below = stuck_below c.in-Done.middle (2 ^ half) c.in_ok-second.second c.in_ok-second.ensures in
     let small : 2 ^ half ≤ 2 ^ 62 = pow_mono {i = half} {j = 62} (omega (arith, low)) in
     omega (arith, power, below, small)
+
+pub step_by_halves-returns-in_default : goal.step_by_halves-returns-in_default
+step_by_halves-returns-in_default g t c =
+    let some = c.requires.exponent.0 in
+    stuck_in_half c.args.self c.args.exponent c.in_ok-stuck.stuck (omega (arith, some)) c.in_default.not-Done c.in_ok-stuck.ensures

@@ -10,7 +10,7 @@ use Rattle.universe.specs.Cells.{live_cells, rule_of}
 use Rattle.universe.specs.Later.{IsLater}
 use Rattle.universe.proofs.Advancing.{by_count, stuck_below, stuck_on_part}
 use Rattle.universe.proofs.Later.{all_done, blank, empty_stays, low_exponent, next_within}
-use Rattle.universe.proofs.Onward.{held_on, later_on}
+use Rattle.universe.proofs.Onward.{held_on, later_on, none_later, same_universe}
 use Rattle.universe.proofs.universe.Universe.advance.Goals as goal
 
 pub returns-then-is_empty-clause-ok : goal.returns-then-is_empty-clause-ok
@@ -109,3 +109,6 @@ returns-clause-ok g c =
 
 pub returns-clause-no_step : goal.returns-clause-no_step
 returns-clause-no_step g c = λ none. absurd (false≢true (c.if-is_empty.ensures.1 none))
+
+pub steps-init : goal.steps-init
+steps-init g c = record { later = none_later (same_universe c.args.self); counted = refl }

@@ -1,5 +1,6 @@
-use Rattle.std.proofs.Common.{◌^◌, ap, subst, arith, pow_mono}
+use Rattle.std.proofs.Common.{◌^◌, ap, sym, subst, arith, pow_mono}
 use Rattle.std.specs.Prelude.{Option, IfSome}
+use Rattle.node_sweep.specs.Blank.{AreBlank}
 use Rattle.table_core.specs.declared.key.Key.{Key}
 use Rattle.table_core.specs.declared.shape.Shape.{Shape}
 use Rattle.universe.specs.Planning.{IsPlanned}
@@ -59,3 +60,11 @@ pub returns-in_ok-universe-in-None : goal.returns-in_ok-universe-in-None
 returns-in_ok-universe-in-None g c =
     let now = subst (λ (k : Key). IsOpenedAt c.close-start.result k.exponent c.make_room.new.self c.in_ok-universe-in-None.universe) c.key.ensures c.in_ok-universe-in-None.ensures in
     reopened {old = c.args.self} c.close-start.result c.close-start.ensures.cells c.close-start.ensures.key c.make_room.ensures.limit now
+
+pub copy-requires : goal.copy-requires
+copy-requires g c =
+    let own = key_at c.args.self.here in
+    let most = c.args.shape.bits in
+    let planned = subst (λ (o : Option Planned). IfSome o (IsPlanned own most)) c.in-Some.is c.in_ok-planned.ensures in
+    let pairs = 2 ^ c.in-Some.planned.shape.bits in
+    subst (λ (k : Key). AreBlank k pairs c.in-Some.planned.blank) (sym c.close-start.ensures.key) planned.blank
