@@ -32,14 +32,38 @@ pub(crate) fn opened<R: Abort + AllocGlobal>(
     Session::open(rt.alloc(), file.as_bytes(), rule, pairs)
 }
 
-// The RLE file of a session's generation.
-fn written<R: AllocGlobal + Threads + Sync>(
+// Asserts the RLE file of a session's generation.
+fn assert_writes<R: Abort + AllocGlobal + Threads + Sync>(
     rt: &R,
     session: &mut Session,
-) -> Result<ShortWrites, Fail> {
+    text: &str,
+) -> Result<(), Fail> {
     let mut file = ShortWrites::new(rt.alloc(), usize::MAX, 0)?;
     session.write(rt, rt.alloc(), Some(Format::Rle), &mut file)?;
-    Ok(file)
+    assert_eq!(rt; file.text(), text);
+    Ok(())
+}
+
+// The same after more generations.
+fn assert_writes_after<R: Abort + AllocGlobal + Threads + Sync>(
+    rt: &R,
+    session: &mut Session,
+    more: u64,
+    text: &str,
+) -> Result<(), Fail> {
+    session.advance(&one_worker(rt), more)?;
+    assert_writes(rt, session, text)
+}
+
+// Asserts that a row has one run: its first column and its length.
+fn assert_one_run<R: Abort>(
+    rt: &R,
+    runs: Result<Vec<(i64, u64)>, Refusal>,
+    run: (i64, u64),
+) -> Result<(), Refusal> {
+    let runs = runs?;
+    assert_eq!(rt; runs.as_slice(), &[run][..]);
+    Ok(())
 }
 
 // The glider so many generations later: its box, the run of each of its rows, and its file.
@@ -102,75 +126,99 @@ const LOOKS: [Look; 4] = [
     },
 ];
 
+// Asserts how many cells a session has, their box and their first row.
+fn assert_sums_up<R: Abort + AllocGlobal>(rt: &R, session: &mut Session, look: &Look) {
+    let alloc = rt.alloc();
+    assert_eq!(rt; session.population(alloc), Ok(5));
+    assert_eq!(rt; session.bounds(alloc), Ok(Some(look.bounds)));
+    assert_eq!(rt; session.first_row(-7), Ok(Some(look.bounds.top)));
+}
+
 // Asserts what a session shows of the glider.
 fn assert_shows<R: Abort + AllocGlobal + Threads + Sync>(
     rt: &R,
     session: &mut Session,
     look: &Look,
 ) -> Result<(), Fail> {
-    let alloc = rt.alloc();
-    assert_eq!(rt; session.population(alloc)?, 5);
-    assert_eq!(rt; session.bounds(alloc)?, Some(look.bounds));
-    assert_eq!(rt; session.first_row(-7)?, Some(look.bounds.top));
-    for (row, first, count) in look.runs {
-        let runs = session.row_runs(alloc, row)?;
-        assert_eq!(rt; runs.as_slice(), &[(first, count)][..]);
+    assert_sums_up(rt, session, look);
+    for (row, first, count) in &look.runs {
+        assert_one_run(rt, session.row_runs(rt.alloc(), *row), (*first, *count))?;
     }
     // At rest it is asked once more, and goes on afterwards.
-    assert_eq!(rt; session.population(alloc)?, 5);
-    assert_eq!(rt; session.bounds(alloc)?, Some(look.bounds));
-    assert_eq!(rt; written(rt, session)?.text(), look.text);
+    assert_sums_up(rt, session, look);
+    assert_writes(rt, session, look.text)
+}
+
+// Asserts what a session shows on its way, from look to look.
+fn assert_goes_on<R: Abort + AllocGlobal + Threads + Sync>(
+    rt: &R,
+    session: &mut Session,
+    looks: &[Look],
+) -> Result<(), Fail> {
+    for look in looks {
+        session.advance(&one_worker(rt), look.more)?;
+        assert_shows(rt, session, look)?;
+    }
     Ok(())
 }
 
 #[test]
 fn a_session_is_looked_at_on_its_way(rt: HostRuntime) -> Result<(), Fail> {
     let mut session = opened(&rt, FAR_GLIDER.file, None, PLAIN.pairs)?;
-    for look in &LOOKS {
-        session.advance(&one_worker(&rt), look.more)?;
-        assert_shows(&rt, &mut session, look)?;
-    }
+    assert_goes_on(&rt, &mut session, &LOOKS)?;
     let pattern = session.into_pattern(rt.alloc())?;
-    assert_eq!(rt; pattern.bounds(rt.alloc())?, Some(LOOKS[3].bounds));
+    assert_eq!(rt; pattern.bounds(rt.alloc()), Ok(Some(LOOKS[3].bounds)));
     Ok(())
+}
+
+// Asserts that a session of the glider does not go so far.
+fn assert_stays<R: Abort + AllocGlobal + Threads + Sync>(
+    rt: &R,
+    session: &mut Session,
+    more: u64,
+) -> Result<(), Fail> {
+    let advanced = session.advance(&one_worker(rt), more);
+    assert_eq!(rt; (advanced, session.generation()), (Err(Refusal::TooFar), 0));
+    assert_shows(rt, session, &LOOKS[0])
 }
 
 #[test]
 fn a_session_that_would_leave_the_range_stays(rt: HostRuntime) -> Result<(), Fail> {
     let mut session = opened(&rt, FAR_GLIDER.file, None, PLAIN.pairs)?;
-    for more in [1 << 62, u64::MAX] {
-        assert_eq!(rt;
-            session.advance(&one_worker(&rt), more),
-            Err(Refusal::TooFar)
-        );
-        assert_eq!(rt; session.generation(), 0);
-        assert_shows(&rt, &mut session, &LOOKS[0])?;
-    }
-    session.advance(&one_worker(&rt), 4)?;
-    assert_shows(&rt, &mut session, &LOOKS[1])
+    assert_stays(&rt, &mut session, 1 << 62)?;
+    assert_stays(&rt, &mut session, u64::MAX)?;
+    assert_goes_on(&rt, &mut session, &LOOKS[..2])
+}
+
+// Asserts that a session of the R-pentomino does not come 5000 generations further, and has the
+// cells of the one that it says.
+fn assert_is_stuck<R: Abort + AllocGlobal + Threads + Sync>(
+    rt: &R,
+    session: &mut Session,
+    rule: Rule,
+) -> Result<(), Fail> {
+    let advanced = session.advance(&one_worker(rt), 5000);
+    let generation = session.generation();
+    assert_eq!(rt; advanced, Err(Refusal::NodesFull));
+    assert!(rt; generation > 0 && generation < 5000);
+    let options = Options {
+        gens: generation,
+        rule: Some(rule),
+        format: RLE.format,
+        ..PLAIN
+    };
+    let run = Ended::of(rt, R_PENTOMINO.file, &options)?;
+    assert_writes(rt, session, run.file.text())
 }
 
 // Where its tables are too small for the next generation, it has the cells of the one that it says.
 // By this rule no cell dies.
 #[test]
 fn a_session_in_few_slots_keeps_its_last_generation(rt: HostRuntime) -> Result<(), Fail> {
-    let rule = Some(Rule::read(b"B3/S012345678")?);
-    let mut session = opened(&rt, R_PENTOMINO.file, rule, 1024)?;
-    for _ in 0..2 {
-        let advanced = session.advance(&one_worker(&rt), 5000);
-        assert_eq!(rt; advanced, Err(Refusal::NodesFull));
-        let generation = session.generation();
-        assert!(rt; generation > 0 && generation < 5000);
-        let options = Options {
-            gens: generation,
-            rule,
-            format: RLE.format,
-            ..PLAIN
-        };
-        let run = Ended::of(&rt, R_PENTOMINO.file, &options)?;
-        assert_eq!(rt; written(&rt, &mut session)?.text(), run.file.text());
-    }
-    Ok(())
+    let rule = Rule::read(b"B3/S012345678")?;
+    let mut session = opened(&rt, R_PENTOMINO.file, Some(rule), 1024)?;
+    assert_is_stuck(&rt, &mut session, rule)?;
+    assert_is_stuck(&rt, &mut session, rule)
 }
 
 #[test]
@@ -179,74 +227,104 @@ fn a_session_goes_by_the_rule_that_is_given(rt: HostRuntime) -> Result<(), Fail>
     let file = "#C kept\nx = 1, y = 1, rule = B3/S23\no!";
     let mut session = opened(&rt, file, Some(rule), PLAIN.pairs)?;
     assert_eq!(rt; session.rule(), rule);
-    session.advance(&one_worker(&rt), 1)?;
-    assert_eq!(rt; session.population(rt.alloc())?, 8);
     let text = "#CXRLE Pos=-1,-1 Gen=1\n#C kept\nx = 3, y = 3, rule = B1/S\n3o$obo$3o!\n";
-    assert_eq!(rt; written(&rt, &mut session)?.text(), text);
+    assert_writes_after(&rt, &mut session, 1, text)?;
+    assert_eq!(rt; session.population(rt.alloc()), Ok(8));
     Ok(())
 }
 
-// Asserts what a snapshot of the glider shows, with its file by the session's rule.
-fn assert_is_glider<R: Abort + AllocGlobal + Threads + Sync>(
+// A snapshot of a session after more generations.
+fn snapshot_after<R: AllocGlobal + Threads + Sync>(
+    rt: &R,
+    session: &mut Session,
+    more: u64,
+) -> Result<Pattern, Refusal> {
+    session.advance(&one_worker(rt), more)?;
+    session.snapshot(rt.alloc())
+}
+
+// Asserts the RLE file of a snapshot, with the comments and the rule of its session.
+fn assert_snapshot_writes<R: Abort + AllocGlobal + Threads + Sync>(
     rt: &R,
     snapshot: &Pattern,
     session: &Session,
     generation: u64,
-    look: &Look,
+    text: &str,
 ) -> Result<(), Fail> {
-    let alloc = rt.alloc();
-    assert_eq!(rt; snapshot.population(alloc)?, 5);
-    assert_eq!(rt; snapshot.bounds(alloc)?, Some(look.bounds));
-    for (row, first, count) in look.runs {
-        let runs = snapshot.row_runs(alloc, row)?;
-        assert_eq!(rt; runs.as_slice(), &[(first, count)][..]);
-    }
     let heading = Heading {
         comments: session.comments(),
         rule: session.rule(),
         generation,
     };
-    let mut file = ShortWrites::new(alloc, usize::MAX, 0)?;
-    snapshot.write(rt, alloc, Some(Format::Rle), heading, &mut file)?;
-    assert_eq!(rt; file.text(), look.text);
+    let mut file = ShortWrites::new(rt.alloc(), usize::MAX, 0)?;
+    snapshot.write(rt, rt.alloc(), Some(Format::Rle), heading, &mut file)?;
+    assert_eq!(rt; file.text(), text);
     Ok(())
+}
+
+// Asserts what a snapshot shows of the glider.
+fn assert_is_glider<R: Abort + AllocGlobal>(
+    rt: &R,
+    snapshot: &Pattern,
+    look: &Look,
+) -> Result<(), Refusal> {
+    let alloc = rt.alloc();
+    assert_eq!(rt; snapshot.population(alloc), Ok(5));
+    assert_eq!(rt; snapshot.bounds(alloc), Ok(Some(look.bounds)));
+    for (row, first, count) in &look.runs {
+        assert_one_run(rt, snapshot.row_runs(alloc, *row), (*first, *count))?;
+    }
+    Ok(())
+}
+
+// Asserts that a snapshot of the second look stays while its session comes to the third.
+fn assert_snapshot_stays<R: Abort + AllocGlobal + Threads + Sync>(
+    rt: &R,
+    session: &mut Session,
+) -> Result<(), Fail> {
+    let second = &LOOKS[1];
+    let snapshot = snapshot_after(rt, session, second.more)?;
+    assert_shows(rt, session, second)?;
+    assert_goes_on(rt, session, &LOOKS[2..3])?;
+    assert_is_glider(rt, &snapshot, second)?;
+    assert_snapshot_writes(rt, &snapshot, session, 4, second.text)
 }
 
 #[test]
 fn a_snapshot_stays_when_its_session_goes_on(rt: HostRuntime) -> Result<(), Fail> {
     let mut session = opened(&rt, FAR_GLIDER.file, None, PLAIN.pairs)?;
-    session.advance(&one_worker(&rt), 4)?;
-    let snapshot = session.snapshot(rt.alloc())?;
-    assert_shows(&rt, &mut session, &LOOKS[1])?;
-    session.advance(&one_worker(&rt), 996)?;
-    assert_is_glider(&rt, &snapshot, &session, 4, &LOOKS[1])?;
-    assert_shows(&rt, &mut session, &LOOKS[2])?;
-    drop(snapshot);
-    session.advance(&one_worker(&rt), (1 << 40) - 1000)?;
-    assert_shows(&rt, &mut session, &LOOKS[3])
+    assert_snapshot_stays(&rt, &mut session)?;
+    assert_goes_on(&rt, &mut session, &LOOKS[3..])
+}
+
+// Asserts what a snapshot shows of the settled R-pentomino, so many generations on.
+fn assert_settles<R: Abort + AllocGlobal + Threads + Sync>(
+    rt: &R,
+    session: &mut Session,
+    more: u64,
+) -> Result<(), Fail> {
+    let settled = snapshot_after(rt, session, more)?;
+    assert_eq!(rt; settled.population(rt.alloc()), Ok(116));
+    assert_snapshot_writes(rt, &settled, session, SETTLED.generations, SETTLED.text)
+}
+
+// Asserts it of a session from which a snapshot was taken on its way, and what that shows.
+fn assert_snapshots<R: Abort + AllocGlobal + Threads + Sync>(
+    rt: &R,
+    session: &mut Session,
+) -> Result<(), Fail> {
+    let earlier = snapshot_after(rt, session, 100)?;
+    assert_settles(rt, session, SETTLED.generations - 100)?;
+    assert_eq!(rt; earlier.population(rt.alloc()), Ok(121));
+    assert_writes_after(rt, session, 0, SETTLED.text)
 }
 
 // Whether its table has grown or is the smallest, a snapshot has the cells.
 #[test]
 fn a_snapshot_of_any_table_has_the_cells(rt: HostRuntime) -> Result<(), Fail> {
-    for pairs in [1024, 4096, PLAIN.pairs] {
-        let mut session = opened(&rt, R_PENTOMINO.file, None, pairs)?;
-        session.advance(&one_worker(&rt), 100)?;
-        let earlier = session.snapshot(rt.alloc())?;
-        session.advance(&one_worker(&rt), SETTLED.generations - 100)?;
-        let settled = session.snapshot(rt.alloc())?;
-        assert_eq!(rt; earlier.population(rt.alloc())?, 121);
-        assert_eq!(rt; settled.population(rt.alloc())?, 116);
-        let heading = Heading {
-            comments: session.comments(),
-            rule: session.rule(),
-            generation: session.generation(),
-        };
-        let mut file = ShortWrites::new(rt.alloc(), usize::MAX, 0)?;
-        settled.write(&rt, rt.alloc(), RLE.format, heading, &mut file)?;
-        assert_eq!(rt; file.text(), SETTLED.text);
-        session.advance(&one_worker(&rt), 0)?;
-        assert_eq!(rt; written(&rt, &mut session)?.text(), SETTLED.text);
+    for pairs in &[1024, 4096, PLAIN.pairs] {
+        let mut session = opened(&rt, R_PENTOMINO.file, None, *pairs)?;
+        assert_snapshots(&rt, &mut session)?;
     }
     Ok(())
 }

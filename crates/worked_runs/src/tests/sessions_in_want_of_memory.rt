@@ -60,34 +60,43 @@ fn given<R: Abort + Print, T>(
     }
 }
 
-// Asserts what a session shows, which each look leaves as it was. A look that was refused is right
-// at the second try: one allocation fails.
-fn assert_looks<R: Abort + AllocGlobal + Print>(
+// How many cells a session has, at the second try where the first one was refused: one allocation
+// fails.
+fn population_of<R: Abort + AllocGlobal + Print>(
     rt: &R,
     session: &mut Session,
-    stop: &Stop,
-) -> Result<(), Fail> {
-    let alloc = rt.alloc();
-    let population = match given(rt, session.population(alloc), "count")? {
-        Some(population) => population,
-        None => session.population(alloc)?,
-    };
-    assert_eq!(rt; population, stop.population);
-    let bounds = match given(rt, session.bounds(alloc), "find the box")? {
-        Some(bounds) => bounds,
-        None => session.bounds(alloc)?,
-    };
-    assert_eq!(rt; bounds.map(|bounds| bounds.top), Some(stop.top));
-    assert_eq!(rt; session.first_row(i64::MIN)?, Some(stop.top));
-    let runs = match given(rt, session.row_runs(alloc, stop.top), "show a row")? {
-        Some(runs) => runs,
-        None => session.row_runs(alloc, stop.top)?,
-    };
-    assert_eq!(rt; runs.as_slice(), &[stop.run][..]);
-    Ok(())
+) -> Result<u128, Fail> {
+    match given(rt, session.population(rt.alloc()), "count")? {
+        Some(population) => Ok(population),
+        None => Ok(session.population(rt.alloc())?),
+    }
 }
 
-// A snapshot, at the second try where the first one was refused.
+// The first row of its box, likewise.
+fn top_of<R: Abort + AllocGlobal + Print>(
+    rt: &R,
+    session: &mut Session,
+) -> Result<Option<i64>, Fail> {
+    let bounds = match given(rt, session.bounds(rt.alloc()), "find the box")? {
+        Some(bounds) => bounds,
+        None => session.bounds(rt.alloc())?,
+    };
+    Ok(bounds.map(|bounds| bounds.top))
+}
+
+// The runs of a row, likewise.
+fn runs_of<R: Abort + AllocGlobal + Print>(
+    rt: &R,
+    session: &mut Session,
+    row: i64,
+) -> Result<Vec<(i64, u64)>, Fail> {
+    match given(rt, session.row_runs(rt.alloc(), row), "show a row")? {
+        Some(runs) => Ok(runs),
+        None => Ok(session.row_runs(rt.alloc(), row)?),
+    }
+}
+
+// A snapshot, likewise.
 fn snapshot_of<R: Abort + AllocGlobal + Print>(
     rt: &R,
     session: &mut Session,
@@ -98,27 +107,62 @@ fn snapshot_of<R: Abort + AllocGlobal + Print>(
     }
 }
 
+// Asserts what a session shows, which each look leaves as it was.
+fn assert_looks<R: Abort + AllocGlobal + Print>(
+    rt: &R,
+    session: &mut Session,
+    stop: &Stop,
+) -> Result<(), Fail> {
+    assert_eq!(rt; population_of(rt, session)?, stop.population);
+    assert_eq!(rt; top_of(rt, session)?, Some(stop.top));
+    assert_eq!(rt; session.first_row(i64::MIN), Ok(Some(stop.top)));
+    assert_eq!(rt; runs_of(rt, session, stop.top)?.as_slice(), &[stop.run][..]);
+    assert_eq!(rt;
+        snapshot_of(rt, session)?.first_row(i64::MIN),
+        Some(stop.top)
+    );
+    Ok(())
+}
+
+// Asserts that each look at a closed session is refused.
+fn assert_not_seen<R: Abort + AllocGlobal>(rt: &R, session: &mut Session) {
+    let alloc = rt.alloc();
+    assert_eq!(rt; session.population(alloc), Err(Refusal::NoMemory));
+    assert_eq!(rt; session.bounds(alloc), Err(Refusal::NoMemory));
+    assert_eq!(rt; session.summary(alloc), Err(Refusal::NoMemory));
+    assert_eq!(rt; session.first_row(0), Err(Refusal::NoMemory));
+    assert_eq!(rt;
+        session.row_runs(alloc, 0).map(drop),
+        Err(Refusal::NoMemory)
+    );
+    assert_eq!(rt; session.snapshot(alloc).map(drop), Err(Refusal::NoMemory));
+}
+
+// Asserts that it writes nothing.
+fn assert_not_written<R: Abort + AllocGlobal + Threads + Sync>(
+    rt: &R,
+    session: &mut Session,
+    file: &mut ShortWrites,
+) {
+    let shown = session.write_window(PLAIN.window, file);
+    assert_eq!(rt; shown, Err(Refusal::NoMemory));
+    let written = session.write(rt, rt.alloc(), RLE.format, file);
+    assert_eq!(rt; written, Err(Refusal::NoMemory));
+    assert_eq!(rt; file.text(), "");
+}
+
 // Asserts that each call of a closed session is refused.
 fn assert_closed<R: Abort + AllocGlobal + Threads + Sync>(
     rt: &R,
     mut session: Session,
     file: &mut ShortWrites,
 ) {
-    let alloc = rt.alloc();
-    let refused = Err(Refusal::NoMemory);
     let advanced = session.advance(&one_worker(rt), 0);
-    assert_eq!(rt; advanced, refused);
-    assert_eq!(rt; session.population(alloc).map(drop), refused);
-    assert_eq!(rt; session.bounds(alloc).map(drop), refused);
-    assert_eq!(rt; session.summary(alloc).map(drop), refused);
-    assert_eq!(rt; session.first_row(0).map(drop), refused);
-    assert_eq!(rt; session.row_runs(alloc, 0).map(drop), refused);
-    assert_eq!(rt; session.write_window(PLAIN.window, file), refused);
-    let written = session.write(rt, alloc, RLE.format, file);
-    assert_eq!(rt; written, refused);
-    assert_eq!(rt; file.text(), "");
-    assert_eq!(rt; session.snapshot(alloc).map(drop), refused);
-    assert_eq!(rt; session.into_pattern(alloc).map(drop), refused);
+    assert_eq!(rt; advanced, Err(Refusal::NoMemory));
+    assert_not_seen(rt, &mut session);
+    assert_not_written(rt, &mut session, file);
+    let pattern = session.into_pattern(rt.alloc());
+    assert_eq!(rt; pattern.map(drop), Err(Refusal::NoMemory));
 }
 
 // Takes a session on. Where that is refused, it is as it was, and comes there at the second try; or
@@ -141,29 +185,47 @@ fn advances<R: Abort + AllocGlobal + Print + Threads + Sync>(
     Ok(true)
 }
 
+// Takes a session from stop to stop. `false` is answered where it is closed on its way.
+fn reaches_the_last_stop<R: Abort + AllocGlobal + Print + Threads + Sync>(
+    rt: &R,
+    session: &mut Session,
+) -> Result<bool, Fail> {
+    for stop in &STOPS {
+        if !advances(rt, session, stop.more)? {
+            return Ok(false);
+        }
+        assert_looks(rt, session, stop)?;
+    }
+    Ok(true)
+}
+
+// Asserts the file of the last stop, likewise at the second try.
+fn assert_settled<R: Abort + AllocGlobal + Print + Threads + Sync>(
+    rt: &R,
+    session: &mut Session,
+    file: &mut ShortWrites,
+) -> Result<(), Fail> {
+    let written = session.write(rt, rt.alloc(), RLE.format, file);
+    if given(rt, written, "write")?.is_none() {
+        assert_eq!(rt; file.text(), "");
+        session.write(rt, rt.alloc(), RLE.format, file)?;
+    }
+    assert_eq!(rt; file.text(), SETTLED.text);
+    Ok(())
+}
+
 #[test]
 fn a_session_in_want_of_memory_is_as_it_was_or_closed(rt: HostRuntime) -> Result<(), Fail> {
-    let alloc = rt.alloc();
-    let Ok(mut file) = ShortWrites::new(alloc, usize::MAX, 0) else {
+    let Ok(mut file) = ShortWrites::new(rt.alloc(), usize::MAX, 0) else {
         return Ok(println!(rt; "no file")?);
     };
     let Ok(mut session) = opened(&rt, R_PENTOMINO.file, None, PLAIN.pairs) else {
         return Ok(println!(rt; "no session")?);
     };
-    for stop in &STOPS {
-        if !advances(&rt, &mut session, stop.more)? {
-            assert_closed(&rt, session, &mut file);
-            return Ok(());
-        }
-        assert_looks(&rt, &mut session, stop)?;
-        let snapshot = snapshot_of(&rt, &mut session)?;
-        assert_eq!(rt; snapshot.first_row(i64::MIN), Some(stop.top));
+    if reaches_the_last_stop(&rt, &mut session)? {
+        assert_settled(&rt, &mut session, &mut file)
+    } else {
+        assert_closed(&rt, session, &mut file);
+        Ok(())
     }
-    let written = session.write(&rt, alloc, RLE.format, &mut file);
-    if given(&rt, written, "write")?.is_none() {
-        assert_eq!(rt; file.text(), "");
-        session.write(&rt, alloc, RLE.format, &mut file)?;
-    }
-    assert_eq!(rt; file.text(), SETTLED.text);
-    Ok(())
 }

@@ -57,7 +57,7 @@ fn assert_same_cells<R: AllocGlobal + Abort>(
     others: &RootedStill,
 ) -> Result<(), Fail> {
     let bounds = cells.bounds(rt.alloc())?;
-    assert_eq!(rt; bounds, others.bounds(rt.alloc())?);
+    assert_eq!(rt; others.bounds(rt.alloc()), Ok(bounds));
     let picture = drawn(rt.alloc(), cells, -128, 256)?;
     let other = drawn(rt.alloc(), others, -128, 256)?;
     assert!(rt; picture.bytes() == other.bytes());

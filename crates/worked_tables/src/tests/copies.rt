@@ -166,22 +166,28 @@ fn expansions_at(rt: &(impl Abort + AllocGlobal), words: Still) -> Result<u64, F
 
 // A step whose square has its result is recalled after a collection, and made anew after a sweep,
 // in tables of the same size and of half of it.
+fn assert_recalled<R: Abort + AllocGlobal + Threads + Sync>(
+    rt: &R,
+    pairs: u32,
+) -> Result<(), Fail> {
+    let copying = Copying {
+        keep: COLLECTED,
+        pairs,
+        workers: 2,
+    };
+    let copied = make_and_copy(rt, Made::Step, 262144, 10, copying)?;
+    let (collected, _) = copied.made?;
+    assert_eq!(rt; expansions_at(rt, collected)?, 0);
+    assert!(rt; Shape::is_pair_count(pairs));
+    let (swept, _) = sweep(rt.alloc(), &copied.words, copied.root, pairs)?;
+    assert!(rt; expansions_at(rt, swept)? > 0);
+    Ok(())
+}
+
 #[test]
 fn a_step_is_recalled_after_a_collection(rt: HostRuntime) -> Result<(), Fail> {
-    for pairs in [131072, 262144] {
-        let copying = Copying {
-            keep: COLLECTED,
-            pairs,
-            workers: 2,
-        };
-        let copied = make_and_copy(&rt, Made::Step, 262144, 10, copying)?;
-        let (collected, _) = copied.made?;
-        assert_eq!(rt; expansions_at(&rt, collected)?, 0);
-        assert!(rt; Shape::is_pair_count(pairs));
-        let (swept, _) = sweep(rt.alloc(), &copied.words, copied.root, pairs)?;
-        assert!(rt; expansions_at(&rt, swept)? > 0);
-    }
-    Ok(())
+    assert_recalled(&rt, 131072)?;
+    assert_recalled(&rt, 262144)
 }
 
 /// What is finished after a step of the R-pentomino.
@@ -247,27 +253,31 @@ fn nothing_is_lost_in_a_larger_table(rt: HostRuntime) -> Result<(), Fail> {
 
 // A step of 2^7 generations has come far where more than 100 squares of level 4 are known, and one
 // of 2^8 where as many of level 5 are.
+fn assert_come_far<R: Abort + AllocGlobal + Threads + Sync>(
+    rt: &R,
+    made: Made,
+    exponent: u8,
+    is_far: bool,
+) -> Result<(), Fail> {
+    let (table, desk) = empty_table(rt.alloc(), 16 * PAIRS, exponent)?;
+    let mut at = table.at(desk);
+    assert!(rt; at.exponent() <= 62);
+    let root = make(&mut at, made)?;
+    let workers = Workers {
+        runtime: rt,
+        alloc: rt.alloc(),
+        count: 1,
+    };
+    let shape = table.key().shape;
+    let plan = CopyPlan::of_table(&workers, &table, root, Keep::Everything, shape)?;
+    assert_eq!(rt; has_come_far(&plan, exponent), is_far);
+    Ok(())
+}
+
 #[test]
 fn many_small_squares_show_how_far_a_step_has_come(rt: HostRuntime) -> Result<(), Fail> {
-    for (made, exponent, is_far) in [
-        (Made::LargerLeaves, 7, true),
-        (Made::LargerLeaves, 8, false),
-        (Made::SmallerLeaves, 7, false),
-        (Made::LargerLeaves, 6, false),
-    ] {
-        let (table, desk) = empty_table(rt.alloc(), 16 * PAIRS, exponent)?;
-        let mut at = table.at(desk);
-        assert!(rt; at.exponent() <= 62);
-        let root = make(&mut at, made)?;
-        let workers = Workers {
-            runtime: &rt,
-            alloc: rt.alloc(),
-            count: 1,
-        };
-        let keep = Keep::Everything;
-        let shape = table.key().shape;
-        let plan = CopyPlan::of_table(&workers, &table, root, keep, shape)?;
-        assert_eq!(rt; has_come_far(&plan, exponent), is_far);
-    }
-    Ok(())
+    assert_come_far(&rt, Made::LargerLeaves, 7, true)?;
+    assert_come_far(&rt, Made::LargerLeaves, 8, false)?;
+    assert_come_far(&rt, Made::SmallerLeaves, 7, false)?;
+    assert_come_far(&rt, Made::LargerLeaves, 6, false)
 }

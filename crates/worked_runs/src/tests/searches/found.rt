@@ -1,10 +1,10 @@
 //! Periods that are found, and patterns that have none.
 
-use crate::tests::searches::searched::{PAIRS, opened, searched};
+use crate::tests::searches::searched::searched_in;
 use period_search::{Candidates, Period};
+use plane::Fault;
 use sample_patterns::{BLINKER, R_PENTOMINO};
 use std::process::Abort;
-use std::test::Fail;
 use std::thread::Threads;
 
 const GLIDER: &str = "x = 3, y = 3\nbo$2bo$3o!";
@@ -157,9 +157,8 @@ fn assert_found<R: Abort + AllocGlobal + Threads + Sync>(
     rt: &R,
     row: &Row,
     workers: usize,
-) -> Result<(), Fail> {
-    let mut session = opened(rt, row.file, None, PAIRS)?;
-    let found = searched(rt, &mut session, row.candidates, workers)?;
+) -> Result<(), Fault> {
+    let (found, generation) = searched_in(rt, row.file, row.candidates, workers)?;
     let wanted = row.period.map(|(generations, right, down)| Period {
         generations,
         right,
@@ -167,16 +166,16 @@ fn assert_found<R: Abort + AllocGlobal + Threads + Sync>(
     });
     assert_eq!(rt;
         (row.file, row.candidates, found),
-        (row.file, row.candidates, wanted)
+        (row.file, row.candidates, Ok(wanted))
     );
     if let Some(period) = wanted {
-        assert_eq!(rt; session.generation(), period.generations);
+        assert_eq!(rt; generation, period.generations);
     }
     Ok(())
 }
 
 #[test]
-fn finds_the_least_period(rt: HostRuntime) -> Result<(), Fail> {
+fn finds_the_least_period(rt: HostRuntime) -> Result<(), Fault> {
     for row in &ROWS {
         assert_found(&rt, row, 1)?;
     }
@@ -184,7 +183,7 @@ fn finds_the_least_period(rt: HostRuntime) -> Result<(), Fail> {
 }
 
 #[test]
-fn two_workers_find_the_same(rt: HostRuntime) -> Result<(), Fail> {
+fn two_workers_find_the_same(rt: HostRuntime) -> Result<(), Fault> {
     for row in &ROWS {
         assert_found(&rt, row, 2)?;
     }

@@ -1,8 +1,9 @@
 //! Searches that are refused.
 
-use crate::tests::searches::searched::{PAIRS, opened, searched};
+use crate::tests::searches::searched::{searched, searched_in};
+use crate::tests::sessions::opened;
 use period_search::{Candidates, Period};
-use plane::Refusal;
+use plane::{Fault, Refusal};
 use rule_text::Rule;
 use sample_patterns::R_PENTOMINO;
 use std::test::Fail;
@@ -16,22 +17,20 @@ const LAST_BLOCK_BUT_ONE: &str = "#CXRLE Pos=4611686018427387901,0\nx = 2, y = 2
 const LAST_GLIDER: &str = "#CXRLE Pos=4611686018427387900,0\nx = 3, y = 3\nbo$2bo$3o!";
 
 #[test]
-fn refuses_what_leaves_the_range(rt: HostRuntime) -> Result<(), Fail> {
-    let mut session = opened(&rt, LAST_BLOCK, None, PAIRS)?;
-    let found = searched(&rt, &mut session, Candidates::UpTo(1000), 1);
-    assert_eq!(rt; (found, session.generation()), (Err(Refusal::TooFar), 0));
-    let mut session = opened(&rt, LAST_BLOCK_BUT_ONE, None, PAIRS)?;
-    let found = searched(&rt, &mut session, Candidates::UpTo(1000), 1);
+fn refuses_what_leaves_the_range(rt: HostRuntime) -> Result<(), Fault> {
+    let all = Candidates::UpTo(1000);
+    let too_far = Err(Refusal::TooFar);
+    assert_eq!(rt; searched_in(&rt, LAST_BLOCK, all, 1)?, (too_far, 0));
     let still = Period {
         generations: 1,
         right: 0,
         down: 0,
     };
+    let (found, _) = searched_in(&rt, LAST_BLOCK_BUT_ONE, all, 1)?;
     assert_eq!(rt; found, Ok(Some(still)));
     // It comes to the last column after three generations, and the fourth may be beyond it.
-    let mut session = opened(&rt, LAST_GLIDER, None, PAIRS)?;
-    let found = searched(&rt, &mut session, Candidates::UpTo(1000), 1);
-    assert_eq!(rt; found, Err(Refusal::TooFar));
+    let (found, _) = searched_in(&rt, LAST_GLIDER, all, 1)?;
+    assert_eq!(rt; found, too_far);
     Ok(())
 }
 
@@ -41,11 +40,9 @@ const LATE_PENTOMINO: &str = "#CXRLE Gen=9223372036854775000\nx = 3, y = 3\nb2o$
 // What was tried before is no answer: no power of two up to 512 is a period of it, and 1024
 // generations are too many.
 #[test]
-fn refuses_a_divisor_beyond_the_last_generation(rt: HostRuntime) -> Result<(), Fail> {
-    let mut session = opened(&rt, LATE_PENTOMINO, None, PAIRS)?;
-    let found = searched(&rt, &mut session, Candidates::DivisorsOf(1024), 1);
-    let there = session.generation();
-    assert_eq!(rt; (found, there), (Err(Refusal::TooFar), 9223372036854775512));
+fn refuses_a_divisor_beyond_the_last_generation(rt: HostRuntime) -> Result<(), Fault> {
+    let ended = searched_in(&rt, LATE_PENTOMINO, Candidates::DivisorsOf(1024), 1)?;
+    assert_eq!(rt; ended, (Err(Refusal::TooFar), 9223372036854775512));
     Ok(())
 }
 

@@ -1,26 +1,12 @@
 //! Searches in files.
 
+use crate::tests::rows::PLAIN;
+use crate::tests::sessions::opened;
 use engine::{OpenGate, Session, Team};
 use period_search::{Candidates, Period, least_period};
 use plane::{Fault, Refusal};
-use rule_text::Rule;
 use std::process::Abort;
 use std::thread::Threads;
-use table_core::Shape;
-
-/// As many pair slots as the programs take where words do not say it.
-pub(crate) const PAIRS: u32 = 4194304;
-
-/// A session of a file, by the rule that is given or else the file's.
-pub(crate) fn opened<R: Abort + AllocGlobal>(
-    rt: &R,
-    file: &str,
-    rule: Option<Rule>,
-    pairs: u32,
-) -> Result<Session, Fault> {
-    assert!(rt; Shape::is_pair_count(pairs));
-    Session::open(rt.alloc(), file.as_bytes(), rule, pairs)
-}
 
 /// The answer of a search in a session, by so many workers, 1 to 64. The divisors of 0 are not tried.
 pub(crate) fn searched<R: Abort + AllocGlobal + Threads + Sync>(
@@ -38,4 +24,16 @@ pub(crate) fn searched<R: Abort + AllocGlobal + Threads + Sync>(
         gate: &OpenGate,
     };
     least_period(&team, session, candidates)
+}
+
+/// The answer of a search in a file, and the generation of its session then.
+pub(crate) fn searched_in<R: Abort + AllocGlobal + Threads + Sync>(
+    rt: &R,
+    file: &str,
+    candidates: Candidates,
+    workers: usize,
+) -> Result<(Result<Option<Period>, Refusal>, u64), Fault> {
+    let mut session = opened(rt, file, None, PLAIN.pairs)?;
+    let found = searched(rt, &mut session, candidates, workers);
+    Ok((found, session.generation()))
 }
