@@ -19,6 +19,11 @@ fn assert_none<R: Abort, T: Copy + PartialEq + Debug>(rt: &R, first: Option<T>) 
     assert_eq!(rt; first, None);
 }
 
+// Fails where these are not the same, and says what both are.
+fn assert_same<R: Abort, T: Copy + PartialEq + Debug>(rt: &R, found: T, wanted: T) {
+    assert_eq!(rt; found, wanted);
+}
+
 // The bytes of a text, if there is one.
 fn bytes_of(text: Option<&str>) -> Option<&[u8]> {
     match text {

@@ -1,16 +1,15 @@
 //! Sets of cells, the range, windows, and devices that fail.
 
 use crate::tests::books::rule_of;
-use crate::tests::places::{Place, cell_at, cells_at};
-use crate::tests::rows::assert_no_row;
+use crate::tests::places::{Place, cell_at, cells_at, next_of};
+use crate::tests::rows::{assert_no_row, assert_same};
 use plane::{
     Bounds, COORDINATE_LIMIT, Cell, CellSet, Counted, FailAt, Failed, Fault, GENERATION_LIMIT,
     Memory, Refusal, Sink, Source, Window, reach,
 };
-use std::alloc::Global;
+use std::alloc::{AllocError, Global};
 use std::io;
 use std::io::{Error, ErrorKind, Read, Write};
-use std::test::Fail;
 
 // The cells as x and y, in their order.
 fn listed(alloc: Global, cells: &CellSet) -> Result<Vec<(i64, i64)>, Refusal> {
@@ -26,9 +25,7 @@ fn listed(alloc: Global, cells: &CellSet) -> Result<Vec<(i64, i64)>, Refusal> {
 // The cells of the next generation, by the rule that the text says.
 fn next(alloc: Global, text: &str, places: &[Place]) -> Result<Vec<(i64, i64)>, Refusal> {
     let cells = cells_at(alloc, places)?;
-    reach(cells.bounds(), 0, 1)?;
-    let next = cells.next(alloc, &rule_of(text)?)?;
-    listed(alloc, &next)
+    listed(alloc, &next_of(alloc, &cells, &rule_of(text)?)?)
 }
 
 // A rule's text, some cells, and the cells of the next generation, in the order of reading.
@@ -69,35 +66,32 @@ fn next_generations(rt: HostRuntime) {
     assert_no_row(&rt, first_wrong_next(rt.alloc(), NEXT));
 }
 
-// The cells at these places as they are listed, whether (3, 1) and (1, 3) are among them, and their
-// box.
-type Shown = (Vec<(i64, i64)>, bool, bool, Option<Bounds>);
-
-fn shown(alloc: Global, places: &[Place]) -> Result<Shown, Refusal> {
-    let cells = cells_at(alloc, places)?;
+// Whether (3, 1) and (1, 3) are among the cells, and their box.
+fn shown(cells: &CellSet) -> (bool, bool, Option<Bounds>) {
     let has = cells.contains(cell_at((3, 1)));
     let has_mirrored = cells.contains(cell_at((1, 3)));
-    Ok((listed(alloc, &cells)?, has, has_mirrored, cells.bounds()))
+    (has, has_mirrored, cells.bounds())
 }
 
 #[test]
-fn sets_of_cells(rt: HostRuntime) -> Result<(), Fail> {
-    let (listed, has, has_mirrored, bounds) = shown(rt.alloc(), &[(3, 1), (-2, 4), (3, 1)])?;
-    assert_eq!(rt; listed.as_slice(), [(3, 1), (-2, 4)].as_slice());
+fn sets_of_cells(rt: HostRuntime) -> Result<(), Refusal> {
+    let cells = cells_at(rt.alloc(), &[(3, 1), (-2, 4), (3, 1)])?;
+    let listed = listed(rt.alloc(), &cells)?;
+    assert_same(&rt, listed.as_slice(), &[(3, 1), (-2, 4)]);
     let wanted = Bounds {
         left: -2,
         top: 1,
         right: 3,
         bottom: 4,
     };
-    assert_eq!(rt; (has, has_mirrored, bounds), (true, false, Some(wanted)));
+    assert_same(&rt, shown(&cells), (true, false, Some(wanted)));
     Ok(())
 }
 
 #[test]
 fn a_set_of_no_cells(rt: HostRuntime) {
     let none = CellSet::new(rt.alloc());
-    assert_eq!(rt; (none.is_empty(), none.bounds()), (true, None));
+    assert_same(&rt, (none.is_empty(), none.bounds()), (true, None));
 }
 
 const LAST: Bounds = Bounds {
@@ -217,7 +211,7 @@ fn written_to_four_bytes(alloc: Global) -> Result<(Answers, u64, bool), Refusal>
 #[test]
 fn memory_takes_what_it_has_room_for(rt: HostRuntime) {
     let wanted = ([Ok(3), Err(Failed)], 1, true);
-    assert_eq!(rt; written_to_four_bytes(rt.alloc()), Ok(wanted));
+    assert_same(&rt, written_to_four_bytes(rt.alloc()), Ok(wanted));
 }
 
 // What two reads answer of which the second fails, and what the next one answers and what it
@@ -238,7 +232,7 @@ fn read_with_one_failure(alloc: Global) -> Result<Reads, Refusal> {
 #[test]
 fn source_that_fails_once(rt: HostRuntime) {
     let wanted = ([Ok(2), Err(Failed)], Ok(1), *b"cb");
-    assert_eq!(rt; read_with_one_failure(rt.alloc()), Ok(wanted));
+    assert_same(&rt, read_with_one_failure(rt.alloc()), Ok(wanted));
 }
 
 // What two writes answer of which the first fails, and whether only the second is held.
@@ -251,7 +245,7 @@ fn written_with_one_failure(alloc: Global) -> Result<(Answers, bool), Refusal> {
 #[test]
 fn sink_that_fails_once(rt: HostRuntime) {
     let wanted = ([Err(Failed), Ok(1)], true);
-    assert_eq!(rt; written_with_one_failure(rt.alloc()), Ok(wanted));
+    assert_same(&rt, written_with_one_failure(rt.alloc()), Ok(wanted));
 }
 
 // A reader and a writer that is interrupted at every other call, and otherwise moves one byte.
@@ -294,9 +288,10 @@ impl Write for Halting {
 fn counts_failed_reads(rt: HostRuntime) {
     let mut source = Counted::new(Halting { calls: 0 });
     let read = two_reads(&mut source, &mut [0; 2]);
-    assert_eq!(rt;
+    assert_same(
+        &rt,
         (read, Source::failures(&source)),
-        ([Err(Failed), Ok(1)], 1)
+        ([Err(Failed), Ok(1)], 1),
     );
 }
 
@@ -304,11 +299,15 @@ fn counts_failed_reads(rt: HostRuntime) {
 fn counts_failed_writes(rt: HostRuntime) {
     let mut sink = Counted::new(Halting { calls: 0 });
     let written = two_writes(&mut sink, b"ab", b"ab");
-    assert_eq!(rt; (written, Sink::failures(&sink)), ([Err(Failed), Ok(1)], 1));
+    assert_same(
+        &rt,
+        (written, Sink::failures(&sink)),
+        ([Err(Failed), Ok(1)], 1),
+    );
 }
 
 #[test]
-fn faults_have_numbers_and_names(rt: HostRuntime) -> Result<(), Fail> {
+fn faults_have_numbers_and_names(rt: HostRuntime) -> Result<(), AllocError> {
     let fault = Fault {
         refusal: Refusal::BadCount,
         place: Some(13),
@@ -318,9 +317,10 @@ fn faults_have_numbers_and_names(rt: HostRuntime) -> Result<(), Fail> {
         place: None,
     };
     let shown = format!(in rt.alloc(); "{fault}, {too_far}")?;
-    assert_eq!(rt;
+    assert_same(
+        &rt,
         shown.as_str(),
-        "refused 7 at 13: BadCount, refused 14: TooFar"
+        "refused 7 at 13: BadCount, refused 14: TooFar",
     );
     Ok(())
 }

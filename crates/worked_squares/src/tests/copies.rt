@@ -5,9 +5,10 @@ ghost use Rattle.std.specs.Prelude.{IfOk};
 ghost use Rattle.squares.specs.Book.{IsKnown};
 
 use crate::tests::books::book_of;
+use crate::tests::rows::assert_same;
 use plane::Refusal;
 use rule_text::Rule;
-use squares::{Sq, Squares, copy_between, copy_square, join_leaves};
+use squares::{PlainBook, Sq, Squares, copy_between, copy_square, join_leaves};
 use std::alloc::Global;
 
 // The calls of a book that read or make squares.
@@ -31,6 +32,20 @@ const NO_CALLS: Calls = Calls {
     read_parts: 0,
     leaf: 0,
     quad: 0,
+};
+
+const READ: Calls = Calls {
+    read_bits: 5,
+    read_parts: 4,
+    leaf: 0,
+    quad: 0,
+};
+
+const MADE: Calls = Calls {
+    read_bits: 0,
+    read_parts: 0,
+    leaf: 5,
+    quad: 4,
 };
 
 impl<B: Squares> Squares for Counting<B> {
@@ -90,59 +105,63 @@ fn with_shared_quarters<S: Squares>(book: &mut S) -> Result<Sq, Refusal>
     book.quad([quarter, quarter, quarter, quarter])
 }
 
+fn life_book(alloc: Global) -> Result<PlainBook, Refusal> {
+    book_of(alloc, "B3/S23", 0)
+}
+
+fn counting_book(alloc: Global) -> Result<Counting<PlainBook>, Refusal> {
+    let inner = life_book(alloc)?;
+    Ok(Counting {
+        inner,
+        calls: NO_CALLS,
+    })
+}
+
+fn copy_from(
+    alloc: Global,
+    from: &mut PlainBook,
+    to: &mut Counting<PlainBook>,
+) -> Result<(), Refusal> {
+    let sq = with_shared_quarters(from)?;
+    copy_square(alloc, from, sq, to)?;
+    Ok(())
+}
+
 // The calls that a copy takes in the book to which it goes.
 fn calls_of_a_copy(alloc: Global) -> Result<Calls, Refusal> {
-    let mut from = book_of(alloc, "B3/S23", 0)?;
-    let sq = with_shared_quarters(&mut from)?;
-    let mut to = Counting {
-        inner: book_of(alloc, "B3/S23", 0)?,
-        calls: NO_CALLS,
-    };
-    copy_square(alloc, &from, sq, &mut to)?;
+    let mut from = life_book(alloc)?;
+    let mut to = counting_book(alloc)?;
+    copy_from(alloc, &mut from, &mut to)?;
     Ok(to.calls)
 }
 
 // Four numbers are made, not 21: those of the square, its 4 quarters and their 16. The leaves are
 // not noted, so the three and the two of the smallest squares are made, but no empty one.
 #[test]
-fn a_copy_makes_each_number_once(rt: HostRuntime) -> Result<(), Refusal> {
-    let wanted = Calls {
-        leaf: 5,
-        quad: 4,
-        ..NO_CALLS
-    };
-    assert_eq!(rt; calls_of_a_copy(rt.alloc())?, wanted);
+fn a_copy_makes_each_number_once(rt: HostRuntime) {
+    assert_same(&rt, calls_of_a_copy(rt.alloc()), Ok(MADE));
+}
+
+// The square that is copied is made before the calls are counted.
+fn copy_both_counted(
+    alloc: Global,
+    from: &mut Counting<PlainBook>,
+    to: &mut Counting<PlainBook>,
+) -> Result<(), Refusal> {
+    let sq = with_shared_quarters(&mut from.inner)?;
+    copy_between(alloc, from, sq, to)?;
     Ok(())
 }
 
 // The calls that a copy takes in the book from which it comes, and in the other.
 fn calls_between(alloc: Global) -> Result<(Calls, Calls), Refusal> {
-    let mut from = book_of(alloc, "B3/S23", 0)?;
-    let sq = with_shared_quarters(&mut from)?;
-    let mut from = Counting {
-        inner: from,
-        calls: NO_CALLS,
-    };
-    let mut to = Counting {
-        inner: book_of(alloc, "B3/S23", 0)?,
-        calls: NO_CALLS,
-    };
-    copy_between(alloc, &mut from, sq, &mut to)?;
+    let mut from = counting_book(alloc)?;
+    let mut to = counting_book(alloc)?;
+    copy_both_counted(alloc, &mut from, &mut to)?;
     Ok((from.calls, to.calls))
 }
 
 #[test]
-fn a_copy_reads_each_number_once(rt: HostRuntime) -> Result<(), Refusal> {
-    let read = Calls {
-        read_bits: 5,
-        read_parts: 4,
-        ..NO_CALLS
-    };
-    let made = Calls {
-        leaf: 5,
-        quad: 4,
-        ..NO_CALLS
-    };
-    assert_eq!(rt; calls_between(rt.alloc())?, (read, made));
-    Ok(())
+fn a_copy_reads_each_number_once(rt: HostRuntime) {
+    assert_same(&rt, calls_between(rt.alloc()), Ok((READ, MADE)));
 }

@@ -4,10 +4,10 @@ ghost use Rattle.std.specs.Prelude.{IfOk};
 ghost use Rattle.squares.specs.Book.{IsKnown};
 
 use crate::tests::books::{book_of, root_of_cells, rule_of};
-use crate::tests::places::cell_at;
+use crate::tests::places::{cell_at, next_of};
 use crate::tests::rows::assert_no_row;
 use hashlife_step::{Tally, future, pad, plan, step, trim};
-use plane::{CellSet, Refusal, reach};
+use plane::{CellSet, Refusal};
 use rule_text::Rule;
 use sample_patterns::BLINKER_LEAVES;
 use squares::{Look, PlainBook, Sq, Squares, join_leaves};
@@ -255,11 +255,6 @@ fn soup(alloc: Global, seed: u32) -> Result<CellSet, Refusal> {
     Ok(cells)
 }
 
-fn next(alloc: Global, cells: &CellSet, rule: &Rule) -> Result<CellSet, Refusal> {
-    reach(cells.bounds(), 0, 1)?;
-    cells.next(alloc, rule)
-}
-
 // The cells after so many single generations.
 fn later(
     alloc: Global,
@@ -269,7 +264,7 @@ fn later(
 ) -> Result<CellSet, Refusal> {
     let rule = rule_of(text)?;
     for _ in 0..generations {
-        cells = next(alloc, &cells, &rule)?;
+        cells = next_of(alloc, &cells, &rule)?;
     }
     Ok(cells)
 }

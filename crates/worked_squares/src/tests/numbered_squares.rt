@@ -1,12 +1,13 @@
 //! Squares and their numbers, from cells, runs and leaves.
 
-use crate::tests::books::{book_of, root_of_cells};
-use crate::tests::places::{Place, cells_at};
+use crate::tests::books::{book_of, root_at};
+use crate::tests::places::Place;
+use crate::tests::rows::assert_same;
 use plane::{Cell, Refusal};
 use sample_patterns::BLINKER_LEAVES;
 use squares::{Num, PlainBook, Sq, Squares, centre, copy_square, join_leaves, runs_to_square};
 use std::alloc::Global;
-use std::test::Fail;
+use std::process::Abort;
 
 // A glider, as its cells, as runs and as the bits of a leaf.
 const GLIDER: [Place; 5] = [(1, 0), (2, 1), (0, 2), (1, 2), (2, 2)];
@@ -24,18 +25,18 @@ fn life_book(alloc: Global) -> Result<PlainBook, Refusal> {
 }
 
 // The glider's squares by its runs, by its cells and by its leaf.
-fn gliders(alloc: Global) -> Result<[Sq; 3], Refusal> {
-    let mut book = life_book(alloc)?;
-    let of_runs = runs_to_square(alloc, &mut book, &GLIDER_RUNS)?;
-    let of_cells = root_of_cells(alloc, &mut book, &cells_at(alloc, &GLIDER)?)?;
-    let square = join_leaves(&mut book, [0, 0, 0, GLIDER_BITS])?;
+fn gliders(alloc: Global, book: &mut PlainBook) -> Result<[Sq; 3], Refusal> {
+    let of_runs = runs_to_square(alloc, book, &GLIDER_RUNS)?;
+    let of_cells = root_at(alloc, book, &GLIDER)?;
+    let square = join_leaves(book, [0, 0, 0, GLIDER_BITS])?;
     Ok([of_runs, of_cells, square])
 }
 
 #[test]
-fn cells_and_runs_make_one_square(rt: HostRuntime) -> Result<(), Fail> {
-    let squares = gliders(rt.alloc())?;
-    assert_eq!(rt; squares, [squares[2]; 3]);
+fn cells_and_runs_make_one_square(rt: HostRuntime) -> Result<(), Refusal> {
+    let mut book = life_book(rt.alloc())?;
+    let squares = gliders(rt.alloc(), &mut book)?;
+    assert_same(&rt, squares, [squares[2]; 3]);
     Ok(())
 }
 
@@ -54,24 +55,28 @@ const LEVELS: [(Cell, u64, u8); 7] = [
     (Cell { y: 0, x: FIRST }, 1, 63),
 ];
 
-#[test]
-fn levels_of_runs(rt: HostRuntime) -> Result<(), Fail> {
-    let mut book = life_book(rt.alloc())?;
+fn assert_levels<R: Abort>(rt: &R, alloc: Global, book: &mut PlainBook) -> Result<(), Refusal> {
     for (cell, count, level) in LEVELS {
-        let square = runs_to_square(rt.alloc(), &mut book, &[(cell, count)])?;
-        assert_eq!(rt; square.level, level);
+        let square = runs_to_square(alloc, book, &[(cell, count)])?;
+        assert_same(rt, square.level, level);
     }
     Ok(())
 }
 
 #[test]
-fn no_runs_make_the_empty_square(rt: HostRuntime) -> Result<(), Fail> {
+fn levels_of_runs(rt: HostRuntime) -> Result<(), Refusal> {
+    let mut book = life_book(rt.alloc())?;
+    assert_levels(&rt, rt.alloc(), &mut book)
+}
+
+#[test]
+fn no_runs_make_the_empty_square(rt: HostRuntime) -> Result<(), Refusal> {
     let mut book = life_book(rt.alloc())?;
     let none = Sq {
         level: 4,
         num: Num(0),
     };
-    assert_eq!(rt; runs_to_square(rt.alloc(), &mut book, &[]), Ok(none));
+    assert_same(&rt, runs_to_square(rt.alloc(), &mut book, &[]), Ok(none));
     Ok(())
 }
 
@@ -119,35 +124,30 @@ fn squares_of_nine<S: Squares>(book: &mut S) -> Result<[Sq; 9], Refusal> {
     Ok(squares)
 }
 
-// The nine squares and the centre, and the squares that they have to be.
-fn inner_and_wanted(alloc: Global) -> Result<([Sq; 9], Sq, [Sq; 9]), Refusal> {
-    let mut book = life_book(alloc)?;
-    let (squares, middle) = inner_squares(alloc, &mut book)?;
-    Ok((squares, middle, squares_of_nine(&mut book)?))
-}
-
 #[test]
-fn nine_squares_and_the_centre(rt: HostRuntime) -> Result<(), Fail> {
-    let (squares, middle, wanted) = inner_and_wanted(rt.alloc())?;
-    assert_eq!(rt; (squares, middle), (wanted, wanted[4]));
+fn nine_squares_and_the_centre(rt: HostRuntime) -> Result<(), Refusal> {
+    let mut book = life_book(rt.alloc())?;
+    let inner = inner_squares(rt.alloc(), &mut book);
+    let wanted = squares_of_nine(&mut book)?;
+    assert_same(&rt, inner, Ok((wanted, wanted[4])));
     Ok(())
 }
 
 // The glider's square, made in one book and copied into another that has other squares, and the
 // glider's square that the other makes.
-fn copied(alloc: Global) -> Result<(Sq, Sq), Refusal> {
-    let mut from = life_book(alloc)?;
-    let mut to = life_book(alloc)?;
-    join_leaves(&mut to, [5, 6, 7, 8])?;
-    let square = join_leaves(&mut from, [0, 0, 0, GLIDER_BITS])?;
-    let copy = copy_square(alloc, &from, square, &mut to)?;
-    Ok((copy, join_leaves(&mut to, [0, 0, 0, GLIDER_BITS])?))
+fn copied(alloc: Global, from: &mut PlainBook, to: &mut PlainBook) -> Result<(Sq, Sq), Refusal> {
+    join_leaves(to, [5, 6, 7, 8])?;
+    let square = join_leaves(from, [0, 0, 0, GLIDER_BITS])?;
+    let copy = copy_square(alloc, from, square, to)?;
+    Ok((copy, join_leaves(to, [0, 0, 0, GLIDER_BITS])?))
 }
 
 #[test]
-fn a_copy_in_another_book(rt: HostRuntime) -> Result<(), Fail> {
-    let (copy, square) = copied(rt.alloc())?;
-    assert_eq!(rt; copy, square);
+fn a_copy_in_another_book(rt: HostRuntime) -> Result<(), Refusal> {
+    let mut from = life_book(rt.alloc())?;
+    let mut to = life_book(rt.alloc())?;
+    let (copy, square) = copied(rt.alloc(), &mut from, &mut to)?;
+    assert_same(&rt, copy, square);
     Ok(())
 }
 
@@ -165,30 +165,30 @@ fn results_of_nothing(book: &mut PlainBook) -> (Option<Sq>, Option<Sq>) {
 }
 
 #[test]
-fn the_empty_square_has_a_result(rt: HostRuntime) -> Result<(), Fail> {
+fn the_empty_square_has_a_result(rt: HostRuntime) -> Result<(), Refusal> {
     let mut book = life_book(rt.alloc())?;
     let empty = Sq {
         level: 4,
         num: Num(0),
     };
-    assert_eq!(rt; results_of_nothing(&mut book), (Some(empty), Some(empty)));
+    let results = results_of_nothing(&mut book);
+    assert_same(&rt, results, (Some(empty), Some(empty)));
     Ok(())
 }
 
 // Three live cells in a row in the middle of a square of level 4, and the leaf at its centre.
 const BLINKER_CENTRE: u64 = 0x38000000;
 
-// The blinker's centre, and the square that it has to be.
-fn centre_and_wanted(alloc: Global) -> Result<(Sq, Sq), Refusal> {
-    let mut book = life_book(alloc)?;
-    let blinker = join_leaves(&mut book, BLINKER_LEAVES)?;
-    let middle = centre(&mut book, blinker)?;
-    Ok((middle, book.leaf(BLINKER_CENTRE)?))
+fn centre_of_blinker(book: &mut PlainBook) -> Result<Sq, Refusal> {
+    let blinker = join_leaves(book, BLINKER_LEAVES)?;
+    centre(book, blinker)
 }
 
 #[test]
-fn the_centre_of_level_four(rt: HostRuntime) -> Result<(), Fail> {
-    let (middle, wanted) = centre_and_wanted(rt.alloc())?;
-    assert_eq!(rt; middle, wanted);
+fn the_centre_of_level_four(rt: HostRuntime) -> Result<(), Refusal> {
+    let mut book = life_book(rt.alloc())?;
+    let middle = centre_of_blinker(&mut book);
+    let wanted = book.leaf(BLINKER_CENTRE)?;
+    assert_same(&rt, middle, Ok(wanted));
     Ok(())
 }

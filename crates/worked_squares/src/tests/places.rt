@@ -2,7 +2,8 @@
 
 ghost use Rattle.plane.specs.Range.{IsInRange};
 
-use plane::{Cell, CellSet, Refusal};
+use plane::{Cell, CellSet, Refusal, reach};
+use rule_text::Rule;
 use std::alloc::Global;
 
 /// A place as x and y.
@@ -23,4 +24,10 @@ pub(crate) fn cells_at(alloc: Global, places: &[Place]) -> Result<CellSet, Refus
         cells.insert(cell_at(*place))?;
     }
     Ok(cells)
+}
+
+/// The next generation of the cells.
+pub(crate) fn next_of(alloc: Global, cells: &CellSet, rule: &Rule) -> Result<CellSet, Refusal> {
+    reach(cells.bounds(), 0, 1)?;
+    cells.next(alloc, rule)
 }

@@ -4,8 +4,8 @@ ghost use Rattle.std.specs.Prelude.{◌≤◌, IfOk};
 ghost use Rattle.squares.specs.Book.{IsKnown};
 ghost use Rattle.viewport.specs.Blocks.{IsBlockRange};
 
-use crate::tests::books::{book_of, root_of_cells};
-use crate::tests::places::{Place, cells_at};
+use crate::tests::books::{book_of, root_at};
+use crate::tests::places::Place;
 use crate::tests::views::shared;
 use pattern_picture::block_shades;
 use plane::Refusal;
@@ -38,8 +38,7 @@ fn shades_at(alloc: Global, places: &[Place], blocks: Blocks) -> Result<Vec<u8>,
     requires rows { IsBlockRange blocks.exponent blocks.top blocks.height }
 {
     let mut book = book_of(alloc, "B3/S23", 0)?;
-    let cells = cells_at(alloc, places)?;
-    let sq = root_of_cells(alloc, &mut book, &cells)?;
+    let sq = root_at(alloc, &mut book, places)?;
     block_shades(alloc, &book, sq, blocks)
 }
 

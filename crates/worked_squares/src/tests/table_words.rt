@@ -4,7 +4,7 @@ ghost use Rattle.std.specs.Prelude.{◌≡◌};
 ghost use Rattle.table_core.specs.Events.{index_of};
 
 use crate::tests::books::rule_of;
-use crate::tests::rows::assert_no_row;
+use crate::tests::rows::{assert_no_row, assert_same};
 use plane::Refusal;
 use table_core::{
     Event, Key, Kind, LARGEST_PAIR_COUNT, SHARD_LEN, Shape, pair_word, parts, result_word, step,
@@ -90,8 +90,12 @@ fn first_slots_of_largest() -> Option<(u32, u32)> {
 
 #[test]
 fn smallest_and_largest_table(rt: HostRuntime) {
-    assert_eq!(rt; result_index_and_word_count(), Some((1857, 2305)));
-    assert_eq!(rt; first_slots_of_largest(), Some((41_475_558, 165_902_235)));
+    assert_same(&rt, result_index_and_word_count(), Some((1857, 2305)));
+    assert_same(
+        &rt,
+        first_slots_of_largest(),
+        Some((41_475_558, 165_902_235)),
+    );
 }
 
 // A number, and whether a table has so many pair slots.
@@ -138,14 +142,16 @@ fn head_by(text: &str) -> Option<u64> {
 
 #[test]
 fn words_are_spelled(rt: HostRuntime) {
-    assert_eq!(rt; head_by("B3/S23"), Some(5_249_032));
-    assert_eq!(rt;
+    assert_same(&rt, head_by("B3/S23"), Some(5_249_032));
+    assert_same(
+        &rt,
         (pair_word(3, 5), result_word(0)),
-        (0x3_0000_0005, 0x1_0000_0000)
+        (0x3_0000_0005, 0x1_0000_0000),
     );
-    assert_eq!(rt;
+    assert_same(
+        &rt,
         (parts(0x3_0000_0005), parts(result_word(159))),
-        ((3, 5), (1, 159))
+        ((3, 5), (1, 159)),
     );
 }
 
@@ -202,9 +208,10 @@ fn steps_of_two_desks(rt: HostRuntime) {
         (look(0, 160), 0),
     ];
     assert_no_row(&rt, first_wrong_step(&mut words, &steps));
-    assert_eq!(rt;
+    assert_same(
+        &rt,
         (words[159], words[833], words[1857], count_written(&words)),
-        (1, 0x9F_0000_0000, 0x1_0000_0000, 3)
+        (1, 0x9F_0000_0000, 0x1_0000_0000, 3),
     );
 }
 
@@ -271,9 +278,10 @@ fn a_full_shard_gives_each_word_one_number(rt: HostRuntime) {
     for word in (1..=257).chain(1..=257) {
         let expected = number_in_shard(&mut shard, word);
         let number = numbered_by_two(shape, &mut words, word);
-        assert_eq!(rt;
+        assert_same(
+            &rt,
             (word, number, expected.is_none()),
-            (word, Ok(expected), word == 257)
+            (word, Ok(expected), word == 257),
         );
     }
 }

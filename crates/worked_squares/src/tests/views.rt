@@ -3,13 +3,12 @@
 ghost use Rattle.std.specs.Prelude.{◌≤◌, IfOk};
 ghost use Rattle.squares.specs.Book.{IsKnown};
 
-use crate::tests::books::{book_of, root_of_cells};
-use crate::tests::places::{Place, cells_at};
-use crate::tests::rows::assert_no_row;
+use crate::tests::books::{book_of, root_at};
+use crate::tests::places::Place;
+use crate::tests::rows::{assert_no_row, assert_same};
 use plane::{Bounds, FailAt, Memory, Refusal, Sink, Window};
 use squares::{Look, PlainBook, Sq, Squares};
 use std::alloc::Global;
-use std::test::Fail;
 use viewport::{bounds, first_row, picture, population, population_at, row_runs};
 
 /// The square of this level that has the leaf everywhere.
@@ -158,7 +157,7 @@ fn first_wrong_runs(alloc: Global, rows: &[Runs]) -> Result<Option<usize>, Refus
 }
 
 #[test]
-fn rows(rt: HostRuntime) -> Result<(), Fail> {
+fn rows(rt: HostRuntime) -> Result<(), Refusal> {
     assert_no_row(&rt, first_wrong_runs(rt.alloc(), ROWS)?);
     Ok(())
 }
@@ -178,7 +177,7 @@ fn first_rows_of_largest(alloc: Global) -> Result<[Option<i64>; 3], Refusal> {
 #[test]
 fn first_rows_of_the_largest_square(rt: HostRuntime) {
     let wanted = [Some(LOW), Some(HIGH), None];
-    assert_eq!(rt; first_rows_of_largest(rt.alloc()), Ok(wanted));
+    assert_same(&rt, first_rows_of_largest(rt.alloc()), Ok(wanted));
 }
 
 // The first row and column of a window, and how many columns and rows it has.
@@ -211,9 +210,8 @@ fn draw<W: Sink>(
     sides: Sides,
     sink: &mut W,
 ) -> Result<(), Refusal> {
-    let cells = cells_at(alloc, places)?;
     let mut book = empty_book(alloc)?;
-    let sq = root_of_cells(alloc, &mut book, &cells)?;
+    let sq = root_at(alloc, &mut book, places)?;
     draw_windows(&book, sq, &[sides], sink)
 }
 
@@ -241,38 +239,38 @@ const PICTURES: &[(&[Place], Sides, &str)] = &[
 ];
 
 fn drawing_of(alloc: Global, places: &[Place], sides: Sides) -> Result<Memory, Refusal> {
-    let Ok(mut drawn) = Memory::with_room(alloc, 100) else {
-        return Err(Refusal::NoMemory);
-    };
+    let mut drawn = Memory::with_room(alloc, 100)?;
     draw(alloc, places, sides, &mut drawn)?;
     Ok(drawn)
 }
 
-fn first_wrong_picture(
-    alloc: Global,
-    rows: &[(&[Place], Sides, &str)],
-) -> Result<Option<usize>, Refusal> {
+fn is_drawn(alloc: Global, places: &[Place], sides: Sides, text: &str) -> Result<bool, Refusal> {
+    let drawn = drawing_of(alloc, places, sides)?;
+    Ok(drawn.bytes() == text.as_bytes())
+}
+
+fn first_wrong_picture(alloc: Global, rows: &[(&[Place], Sides, &str)]) -> Option<usize> {
     for (row, (places, sides, text)) in rows.iter().enumerate() {
-        if drawing_of(alloc, places, *sides)?.bytes() != text.as_bytes() {
-            return Ok(Some(row));
+        if is_drawn(alloc, places, *sides, text) != Ok(true) {
+            return Some(row);
         }
     }
-    Ok(None)
+    None
 }
 
 #[test]
-fn pictures(rt: HostRuntime) -> Result<(), Fail> {
-    assert_no_row(&rt, first_wrong_picture(rt.alloc(), PICTURES)?);
-    Ok(())
+fn pictures(rt: HostRuntime) {
+    assert_no_row(&rt, first_wrong_picture(rt.alloc(), PICTURES));
 }
 
 #[test]
-fn picture_that_is_not_taken(rt: HostRuntime) -> Result<(), Fail> {
+fn picture_that_is_not_taken(rt: HostRuntime) -> Result<(), Refusal> {
     let mut drawn = FailAt::new(Memory::with_room(rt.alloc(), 100)?, 2);
     let outcome = draw(rt.alloc(), &BLINKER, (0, -1, 3, 3), &mut drawn);
-    assert_eq!(rt;
+    assert_same(
+        &rt,
         (outcome, drawn.inner().bytes()),
-        (Err(Refusal::WriteFailed), b".*.\n".as_slice())
+        (Err(Refusal::WriteFailed), b".*.\n".as_slice()),
     );
     Ok(())
 }
@@ -294,24 +292,26 @@ fn count_live(bytes: &[u8]) -> usize {
 }
 
 #[test]
-fn corners_of_the_largest_square(rt: HostRuntime) -> Result<(), Fail> {
+fn corners_of_the_largest_square(rt: HostRuntime) -> Result<(), Refusal> {
     let mut drawn = Memory::with_room(rt.alloc(), 100)?;
     let outcome = draw_largest(rt.alloc(), &CORNERS, &mut drawn);
-    assert_eq!(rt;
+    assert_same(
+        &rt,
         (outcome, drawn.bytes()),
-        (Ok(()), b"**\n*.\n*.\n..\n".as_slice())
+        (Ok(()), b"**\n*.\n*.\n..\n".as_slice()),
     );
     Ok(())
 }
 
 #[test]
-fn widest_window(rt: HostRuntime) -> Result<(), Fail> {
+fn widest_window(rt: HostRuntime) -> Result<(), Refusal> {
     let mut drawn = Memory::with_room(rt.alloc(), 3000)?;
     let outcome = draw_largest(rt.alloc(), &WIDE, &mut drawn);
     let bytes = drawn.bytes();
-    assert_eq!(rt;
+    assert_same(
+        &rt,
         (outcome, bytes.len(), count_live(bytes)),
-        (Ok(()), 2 * 1025, 2 * 1024)
+        (Ok(()), 2 * 1025, 2 * 1024),
     );
     Ok(())
 }

@@ -5,6 +5,7 @@
 //! makes the Nth allocation of the last test fail, and is run for each N from 1 up to the first at
 //! which it prints no line of its own.
 
+use super::assert_same;
 use pattern_writers::write_rle;
 use plane::{Cell, CellSet, Memory, Refusal};
 use rle_reader::RleFile;
@@ -71,10 +72,21 @@ fn assert_text<R: Threads + Sync + Abort>(
     alloc: Global,
     cells: &CellSet,
     text: &str,
-) -> Result<(), Fail> {
+) -> Result<(), Refusal> {
     let (outcome, file) = written(rt, alloc, cells)?;
-    assert_eq!(rt; (outcome, file.bytes()), (Ok(()), text.as_bytes()));
+    assert_same(rt, (outcome, file.bytes()), (Ok(()), text.as_bytes()));
     Ok(())
+}
+
+// The cells at these places have this text.
+fn assert_text_at<R: Threads + Sync + Abort>(
+    rt: &R,
+    alloc: Global,
+    places: &[Place],
+    text: &str,
+) -> Result<(), Refusal> {
+    let cells = cells_at(alloc, places)?;
+    assert_text(rt, alloc, &cells, text)
 }
 
 // Cells, and their text.
@@ -102,9 +114,9 @@ const TEXTS: &[Text] = &[
 ];
 
 #[test]
-fn texts_of_few_rows(rt: HostRuntime) -> Result<(), Fail> {
+fn texts_of_few_rows(rt: HostRuntime) -> Result<(), Refusal> {
     for (places, text) in TEXTS {
-        assert_text(&rt, rt.alloc(), &cells_at(rt.alloc(), places)?, text)?;
+        assert_text_at(&rt, rt.alloc(), places, text)?;
     }
     Ok(())
 }
@@ -115,31 +127,54 @@ const COLUMN: &str = "#CXRLE Pos=0,0 Gen=0\nx = 1, y = 100, rule = B3/S23\n\
      o$o$o$o$o$o$o$o$o$o$o$o$o$o$o$o$o$o$o$o$o$o$o$o$o$o$o$o$o$o!\n";
 
 #[test]
-fn one_cell_in_each_of_100_rows(rt: HostRuntime) -> Result<(), Fail> {
-    assert_text(&rt, rt.alloc(), &column(rt.alloc(), 100)?, COLUMN)
+fn one_cell_in_each_of_100_rows(rt: HostRuntime) -> Result<(), Refusal> {
+    let cells = column(rt.alloc(), 100)?;
+    assert_text(&rt, rt.alloc(), &cells, COLUMN)
 }
 
-// The cells have this text, or memory runs out before its first byte; then they have it at the
+// The text was written, or memory ran out before its first byte; then the cells have it at the
 // second try.
+fn assert_written_or_refused<R: Threads + Sync + Abort + Print>(
+    rt: &R,
+    alloc: Global,
+    cells: &CellSet,
+    text: &str,
+    written: (Result<(), Refusal>, &[u8]),
+) -> Result<(), Fail> {
+    if written.0 == Err(Refusal::NoMemory) {
+        println!(rt; "refused")?;
+        assert_same(rt, written.1, b"".as_slice());
+        return Ok(assert_text(rt, alloc, cells, text)?);
+    }
+    assert_same(rt, written, (Ok(()), text.as_bytes()));
+    Ok(())
+}
+
+fn assert_cells_or_refused<R: Threads + Sync + Abort + Print>(
+    rt: &R,
+    alloc: Global,
+    cells: &CellSet,
+    text: &str,
+) -> Result<(), Fail> {
+    match written(rt, alloc, cells) {
+        Ok((outcome, file)) => {
+            assert_written_or_refused(rt, alloc, cells, text, (outcome, file.bytes()))
+        }
+        Err(_) => Ok(println!(rt; "no square")?),
+    }
+}
+
+// The cells have this text, unless memory runs out.
 fn assert_text_or_refused<R: Threads + Sync + Abort + Print>(
     rt: &R,
     alloc: Global,
     cells: Result<CellSet, Refusal>,
     text: &str,
 ) -> Result<(), Fail> {
-    let Ok(cells) = cells else {
-        return Ok(println!(rt; "no cells")?);
-    };
-    let Ok((outcome, file)) = written(rt, alloc, &cells) else {
-        return Ok(println!(rt; "no square")?);
-    };
-    if outcome == Err(Refusal::NoMemory) {
-        println!(rt; "refused")?;
-        assert_eq!(rt; file.bytes(), b"".as_slice());
-        return assert_text(rt, alloc, &cells, text);
+    match cells {
+        Ok(cells) => assert_cells_or_refused(rt, alloc, &cells, text),
+        Err(_) => Ok(println!(rt; "no cells")?),
     }
-    assert_eq!(rt; (outcome, file.bytes()), (Ok(()), text.as_bytes()));
-    Ok(())
 }
 
 #[test]

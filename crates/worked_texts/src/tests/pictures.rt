@@ -5,21 +5,21 @@ ghost use Rattle.std.specs.Prelude.{◌≤◌, length};
 mod cells;
 mod shades;
 
-use plane::Memory;
+use plane::{Memory, Refusal};
 use png_writer::Image;
 use std::alloc::Global;
-use std::test::Fail;
 
-/// The length of a picture's file, and the checksum of its last chunk of pixels.
-pub(crate) fn length_and_checksum(alloc: Global, image: &Image) -> Result<(usize, u32), Fail>
+/// The length of a picture's file, and the checksum of its last chunk of pixels, if the file is
+/// long enough for one.
+pub(crate) fn length_and_checksum(
+    alloc: Global,
+    image: &Image,
+) -> Result<(usize, Option<u32>), Refusal>
     requires { 1 ≤ length image.now.rows }
 {
     let mut file = Memory::with_room(alloc, 140_000)?;
     image.write(&mut file)?;
-    let Some(checksum) = checksum_of_pixels(file.bytes()) else {
-        return Err("the file is too short")?;
-    };
-    Ok((file.bytes().len(), checksum))
+    Ok((file.bytes().len(), checksum_of_pixels(file.bytes())))
 }
 
 // It stands before the last chunk, which has twelve bytes.

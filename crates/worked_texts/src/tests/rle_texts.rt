@@ -1,6 +1,6 @@
 //! RLE texts, and what they are read as.
 
-use super::{are_only, assert_none, bytes_of};
+use super::{are_only, assert_none, assert_same, bytes_of};
 use plane::{Cell, Refusal};
 use rle_reader::RleFile;
 use std::alloc::Global;
@@ -156,17 +156,22 @@ fn accepts(rt: HostRuntime) {
     assert_none(&rt, first_refused(ACCEPTED));
 }
 
+// The refusal of the beginning of so many bytes of `x = 1, y = 1\n3o!`, and its place.
+fn refused_beginning(length: usize) -> Option<(Refusal, u64)> {
+    match length {
+        0 => Some((Refusal::NotAPattern, 0)),
+        1..=11 => Some((Refusal::BadHeader, 0)),
+        14 => Some((Refusal::BadCount, 13)),
+        _ => None,
+    }
+}
+
 #[test]
 fn reads_every_beginning(rt: HostRuntime) {
     let text = "x = 1, y = 1\n3o!".as_bytes();
     for length in 0..text.len() + 1 {
-        let wanted = match length {
-            0 => Some((Refusal::NotAPattern, 0)),
-            1..=11 => Some((Refusal::BadHeader, 0)),
-            14 => Some((Refusal::BadCount, 13)),
-            _ => None,
-        };
-        assert_eq!(rt; (length, refused(&text[..length])), (length, wanted));
+        let answer = refused(&text[..length]);
+        assert_same(&rt, (length, answer), (length, refused_beginning(length)));
     }
 }
 

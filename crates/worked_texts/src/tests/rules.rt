@@ -1,7 +1,8 @@
 //! Texts of rules, and what they are read as.
 
-use super::assert_none;
+use super::{assert_none, assert_same};
 use rule_text::{Rule, RuleFault};
+use std::alloc::{AllocError, Global};
 
 // What a text of a rule is read as: its canonical text and its code.
 const RULES: &[(&str, &str, u32)] = &[
@@ -80,17 +81,24 @@ fn names_faults(rt: HostRuntime) {
     assert_none(&rt, faulty_otherwise(FAULTS));
 }
 
-#[test]
-fn says_faults(rt: HostRuntime) {
+fn messages(alloc: Global) -> Result<String, AllocError> {
     let bad_rule = RuleFault::BadRule;
     let birth_on_zero = RuleFault::BirthOnZero;
-    let messages = format!(in rt.alloc(); "{bad_rule}, {birth_on_zero}").expect(&rt, "memory");
-    assert_eq!(rt; messages.as_str(), "not a rule, birth on zero neighbours");
+    format!(in alloc; "{bad_rule}, {birth_on_zero}")
+}
+
+#[test]
+fn says_faults(rt: HostRuntime) {
+    assert_same(
+        &rt,
+        messages(rt.alloc()).as_deref(),
+        Ok("not a rule, birth on zero neighbours"),
+    );
 }
 
 #[test]
 fn leaves_blanks_out(rt: HostRuntime) {
-    assert_eq!(rt; Rule::read(b" \tB3/S23V\t "), Rule::read(b"23/3v"));
+    assert_same(&rt, Rule::read(b" \tB3/S23V\t "), Rule::read(b"23/3v"));
 }
 
 // How long the canonical text of a rule is.
@@ -103,7 +111,7 @@ fn text_length(text: &str) -> Option<usize> {
 
 #[test]
 fn longest_text(rt: HostRuntime) {
-    assert_eq!(rt; text_length("B12345678/S012345678"), Some(20));
+    assert_same(&rt, text_length("B12345678/S012345678"), Some(20));
 }
 
 // Whether a dead and a live cell with so many live neighbours live on by the rule of Life.
@@ -114,13 +122,20 @@ fn fates(count: u8) -> Option<(bool, bool)> {
     }
 }
 
+// The first number of live neighbours with other fates, and these.
+fn fated_otherwise() -> Option<(u8, Option<(bool, bool)>)> {
+    for count in 0..9 {
+        let found = fates(count);
+        if found != Some((count == 3, count == 2 || count == 3)) {
+            return Some((count, found));
+        }
+    }
+    None
+}
+
 #[test]
 fn lives_by_its_digits(rt: HostRuntime) {
-    for count in 0..9 {
-        let born = count == 3;
-        let survives = count == 2 || count == 3;
-        assert_eq!(rt; (count, fates(count)), (count, Some((born, survives))));
-    }
+    assert_none(&rt, fated_otherwise());
 }
 
 // How many neighbours a cell has by the rule of a text.
@@ -134,6 +149,6 @@ fn most_neighbours(text: &str) -> Option<u8> {
 #[test]
 fn counts_neighbours(rt: HostRuntime) {
     for (text, most) in [("/", 8), ("/V", 4), ("/H", 6)] {
-        assert_eq!(rt; (text, most_neighbours(text)), (text, Some(most)));
+        assert_same(&rt, (text, most_neighbours(text)), (text, Some(most)));
     }
 }

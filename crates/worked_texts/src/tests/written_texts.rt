@@ -3,6 +3,7 @@
 ghost use Rattle.std.specs.Prelude.{◌≤◌, IfOk};
 ghost use Rattle.squares.specs.Book.{IsKnown};
 
+use super::{assert_none, assert_same};
 use pattern_writers::{write_mc, write_rle};
 use plane::{FailAt, Memory, Refusal, Sink};
 use rle_reader::RleFile;
@@ -69,6 +70,23 @@ fn build(book: &mut PlainBook, square: Square) -> Result<Sq, Refusal>
 // What stands before the comments of each text.
 const OPENING: &[u8] = b"[M2] (lifebatch 1)\n#R B3/S23\n#G 4\n";
 
+// Writes the macrocell text of a square, with the kept comments or with none.
+fn write_square<R: Threads + Sync>(
+    rt: &R,
+    alloc: Global,
+    square: Square,
+    commented: bool,
+    file: &mut Memory,
+) -> Result<(), Refusal> {
+    let text = if commented { COMMENTED } else { NO_COMMENTS };
+    let (Ok(rule), Ok(read)) = (Rule::read(b"23/3"), RleFile::open(text)) else {
+        return Err(Refusal::BadRule);
+    };
+    let mut book = PlainBook::new(alloc, rule, 0);
+    let sq = build(&mut book, square)?;
+    write_mc(rt, alloc, &book, sq, read.comments(), &rule, 4, file)
+}
+
 // Whether this, behind the preamble, is the macrocell text of a square, with the kept comments or
 // with none.
 fn has_text<R: Threads + Sync>(
@@ -77,14 +95,10 @@ fn has_text<R: Threads + Sync>(
     square: Square,
     commented: bool,
     wanted: &str,
-) -> Option<bool> {
-    let rule = Rule::read(b"23/3").ok()?;
-    let mut book = PlainBook::new(alloc, rule, 0);
-    let sq = build(&mut book, square).ok()?;
-    let read = RleFile::open(if commented { COMMENTED } else { NO_COMMENTS }).ok()?;
-    let mut file = Memory::with_room(alloc, 1000).ok()?;
-    write_mc(rt, alloc, &book, sq, read.comments(), &rule, 4, &mut file).ok()?;
-    Some(file.bytes().strip_prefix(OPENING) == Some(wanted.as_bytes()))
+) -> Result<bool, Refusal> {
+    let mut file = Memory::with_room(alloc, 1000)?;
+    write_square(rt, alloc, square, commented, &mut file)?;
+    Ok(file.bytes().strip_prefix(OPENING) == Some(wanted.as_bytes()))
 }
 
 // A square, whether there are comments, and the comments and nodes.
@@ -130,7 +144,7 @@ const TEXTS: &[Text] = &[
 // The first text that a square does not have.
 fn first_missing<R: Threads + Sync>(rt: &R, alloc: Global, rows: &[Text]) -> Option<&'static str> {
     for (square, commented, wanted) in rows {
-        if has_text(rt, alloc, *square, *commented, wanted) != Some(true) {
+        if has_text(rt, alloc, *square, *commented, wanted) != Ok(true) {
             return Some(*wanted);
         }
     }
@@ -139,33 +153,37 @@ fn first_missing<R: Threads + Sync>(rt: &R, alloc: Global, rows: &[Text]) -> Opt
 
 #[test]
 fn macrocell_texts(rt: HostRuntime) {
-    assert_eq!(rt; first_missing(&rt, rt.alloc(), TEXTS), None);
+    assert_none(&rt, first_missing(&rt, rt.alloc(), TEXTS));
+}
+
+// What is answered where a macrocell text is written, and then where an RLE text is.
+fn write_both<R: Threads + Sync, S: Sink>(
+    rt: &R,
+    alloc: Global,
+    file: &mut S,
+) -> Result<[Result<(), Refusal>; 2], Refusal> {
+    let (Ok(rule), Ok(read)) = (Rule::read(b"23/3"), RleFile::open(NO_COMMENTS)) else {
+        return Err(Refusal::BadRule);
+    };
+    let mut book = PlainBook::new(alloc, rule, 0);
+    let sq = build(&mut book, Square::Alone([1; 4]))?;
+    let first = write_mc(rt, alloc, &book, sq, read.comments(), &rule, 0, file);
+    let second = write_rle(rt, alloc, &book, sq, read.comments(), &rule, 0, file);
+    Ok([first, second])
 }
 
 // What is answered where the first write fails, and then where none does, and how many have failed.
 fn answers_of_writers<R: Threads + Sync>(
     rt: &R,
     alloc: Global,
-) -> Option<(Result<(), Refusal>, Result<(), Refusal>, u64)> {
-    let (Ok(rule), Ok(read), Ok(memory)) = (
-        Rule::read(b"23/3"),
-        RleFile::open(NO_COMMENTS),
-        Memory::with_room(alloc, 1000),
-    ) else {
-        return None;
-    };
-    let mut book = PlainBook::new(alloc, rule, 0);
-    let sq = build(&mut book, Square::Alone([1; 4])).ok()?;
-    let mut file = FailAt::new(memory, 1);
-    let first = write_mc(rt, alloc, &book, sq, read.comments(), &rule, 0, &mut file);
-    let second = write_rle(rt, alloc, &book, sq, read.comments(), &rule, 0, &mut file);
-    Some((first, second, file.failures()))
+) -> Result<([Result<(), Refusal>; 2], u64), Refusal> {
+    let mut file = FailAt::new(Memory::with_room(alloc, 1000)?, 1);
+    let answers = write_both(rt, alloc, &mut file)?;
+    Ok((answers, file.failures()))
 }
 
 #[test]
 fn a_failed_write_is_answered(rt: HostRuntime) {
-    assert_eq!(rt;
-        answers_of_writers(&rt, rt.alloc()),
-        Some((Err(Refusal::WriteFailed), Ok(()), 1))
-    );
+    let wanted = ([Err(Refusal::WriteFailed), Ok(())], 1);
+    assert_same(&rt, answers_of_writers(&rt, rt.alloc()), Ok(wanted));
 }

@@ -4,14 +4,15 @@ ghost use Rattle.std.specs.Prelude.{◌≡◌, ◌≤◌, ◌*◌, length, IfOk,
 ghost use Rattle.pattern_picture.specs.Scale.{IsShown, IsSize};
 ghost use Rattle.png_writer.specs.Picture.{IsSide};
 
+use crate::tests::assert_same;
 use crate::tests::pictures::length_and_checksum;
 use pattern_picture::Drawing;
-use plane::Bounds;
+use plane::{Bounds, Refusal};
 use png_writer::{IMAGE_SIDE_LIMIT, Image};
 use rule_text::Rule;
 use squares::{PlainBook, join_leaves};
+use std::alloc::Global;
 use std::process::Abort;
-use std::test::Fail;
 
 // The cells of the quarters, as bits: 36 of them live.
 const LEAVES: [u64; 4] = [
@@ -27,20 +28,29 @@ fn assert_drawn<R: Abort + AllocGlobal>(
     shown: Bounds,
     size: u32,
     expected: (usize, u32),
-) -> Result<(), Fail>
+) -> Result<(), Refusal>
     requires shown { IsShown shown }
     requires size { IsSize size }
 {
-    let mut book = PlainBook::new(rt.alloc(), Rule::dead(), 0);
-    let sq = join_leaves(&mut book, LEAVES)?;
-    let drawing = Drawing::of(rt.alloc(), &book, sq, shown, size)?;
+    let drawing = drawing_of(rt.alloc(), shown, size)?;
     let image = image_of(rt, &drawing)?;
-    assert_eq!(rt; length_and_checksum(rt.alloc(), &image)?, expected);
+    let (length, checksum) = expected;
+    let found = length_and_checksum(rt.alloc(), &image);
+    assert_same(rt, found, Ok((length, Some(checksum))));
     Ok(())
 }
 
+fn drawing_of(alloc: Global, shown: Bounds, size: u32) -> Result<Drawing, Refusal>
+    requires shown { IsShown shown }
+    requires size { IsSize size }
+{
+    let mut book = PlainBook::new(alloc, Rule::dead(), 0);
+    let sq = join_leaves(&mut book, LEAVES)?;
+    Drawing::of(alloc, &book, sq, shown, size)
+}
+
 // The pixels of a drawing.
-fn image_of<R: Abort + AllocGlobal>(rt: &R, drawing: &Drawing) -> Result<Image, Fail>
+fn image_of<R: Abort + AllocGlobal>(rt: &R, drawing: &Drawing) -> Result<Image, Refusal>
     ensures { IfOk result (λ image. 1 ≤ length image.rows) }
 {
     let (zoom, width, height) = (
@@ -53,8 +63,7 @@ fn image_of<R: Abort + AllocGlobal>(rt: &R, drawing: &Drawing) -> Result<Image, 
         drawing.shades.len() as u64,
         u64::from(width) * u64::from(height)
     );
-    let shades = drawing.shades.as_slice();
-    Ok(Image::zoomed(rt.alloc(), shades, width, height, zoom)?)
+    Image::zoomed(rt.alloc(), drawing.shades.as_slice(), width, height, zoom)
 }
 
 // Whether a picture may have so many blocks on a side, each of so many pixels.
@@ -77,7 +86,7 @@ const fn sides(left: i64, top: i64, right: i64, bottom: i64) -> Bounds
 }
 
 #[test]
-fn cells_as_squares_of_pixels(rt: HostRuntime) -> Result<(), Fail> {
+fn cells_as_squares_of_pixels(rt: HostRuntime) -> Result<(), Refusal> {
     let all = sides(-8, -8, 7, 7);
     assert_drawn(&rt, all, 16, (109, 0xdfe9_b4f3))?;
     assert_drawn(&rt, all, 37, (128, 0xe63a_e817))?;
@@ -87,7 +96,7 @@ fn cells_as_squares_of_pixels(rt: HostRuntime) -> Result<(), Fail> {
 }
 
 #[test]
-fn blocks_as_pixels(rt: HostRuntime) -> Result<(), Fail> {
+fn blocks_as_pixels(rt: HostRuntime) -> Result<(), Refusal> {
     let far = 1 << 62;
     assert_drawn(&rt, sides(-8, -8, 8, 7), 16, (101, 0xfbc1_3687))?;
     assert_drawn(&rt, sides(-100, -100, 100, 99), 16, (82, 0x20c0_b365))?;
