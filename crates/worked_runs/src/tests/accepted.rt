@@ -3,7 +3,7 @@
 use crate::tests::ended::Ended;
 use crate::tests::rows::{
     BLINKER, COMMENTED_GLIDER, FAR_GLIDER, FAR_REPLICATOR, PLAIN, R_PENTOMINO, RLE, Row,
-    assert_rows, assert_told,
+    assert_ends, assert_rows, assert_told,
 };
 use engine::{Format, Options};
 use rule_text::Rule;
@@ -226,7 +226,7 @@ pub(crate) const FAR_GLIDERS: &[Row] = &[
 // generation once.
 #[test]
 fn writes_patterns(rt: HostRuntime) -> Result<(), AllocError> {
-    for rows in [PATTERNS, LIMITS, LONG_ROWS, STEPS] {
+    for rows in &[PATTERNS, LIMITS, LONG_ROWS, STEPS] {
         assert_rows(&rt, rows)?;
     }
     Ok(())
@@ -242,15 +242,14 @@ fn runs_far(rt: HostRuntime) -> Result<(), AllocError> {
 fn runs_by_another_rule(rt: HostRuntime) -> Result<(), AllocError> {
     let file = "x = 1, y = 1, rule = B03/S23\no!";
     let text = "#CXRLE Pos=0,0 Gen=0\nx = 1, y = 1, rule = B3/S23\no!\n";
-    for workers in [1, 2] {
+    for workers in 1..=2 {
         let options = Options {
             rule: Rule::read(b"b3s23").ok(),
             format: Some(Format::Rle),
             workers,
             ..PLAIN
         };
-        let end = Ended::of(&rt, file, &options)?;
-        assert_told(&rt, file, &end, (None, "0: 1\n", text));
+        assert_ends(&rt, file, &options, (None, "0: 1\n", text))?;
     }
     Ok(())
 }

@@ -1,7 +1,7 @@
 //! Files that are cut off, hold bytes that no text has, or say more than there is room for.
 
 use crate::tests::ended::Ended;
-use crate::tests::rows::{PLAIN, RLE, Row, assert_rows, assert_told};
+use crate::tests::rows::{PLAIN, RLE, Row, assert_ends, assert_rows, assert_told};
 use plane::{Fault, Refusal};
 use sample_patterns::chain;
 use std::alloc::{AllocError, Global};
@@ -28,13 +28,25 @@ fn beginning_told(length: usize) -> (Option<Fault>, &'static str) {
     }
 }
 
+// Runs bytes that are made of a text, and compares how the run ended, the report and what was
+// written with what they are to be.
+fn assert_bytes_end<R: Abort + AllocGlobal + Threads + Sync>(
+    rt: &R,
+    text: &str,
+    file: &[u8],
+    wanted: (Option<Fault>, &str, &str),
+) -> Result<(), AllocError> {
+    let end = Ended::of_bytes(rt, file, &PLAIN)?;
+    assert_told(rt, text, &end, wanted);
+    Ok(())
+}
+
 #[test]
 fn runs_every_beginning_of_a_file(rt: HostRuntime) -> Result<(), AllocError> {
     let file = THREE_CELLS.as_bytes();
     for length in 0..file.len() + 1 {
-        let end = Ended::of_bytes(&rt, &file[..length], &PLAIN)?;
         let (fault, report) = beginning_told(length);
-        assert_eq!(rt; (length, end.told()), (length, (fault, report, "")));
+        assert_bytes_end(&rt, THREE_CELLS, &file[..length], (fault, report, ""))?;
     }
     Ok(())
 }
@@ -80,13 +92,9 @@ fn assert_strange<R: Abort + AllocGlobal + Threads + Sync>(
     place: usize,
     wanted: Fault,
 ) -> Result<(), AllocError> {
-    for byte in STRANGE {
-        let file = with_byte(rt.alloc(), text, place, byte)?;
-        let end = Ended::of_bytes(rt, file.as_slice(), &PLAIN)?;
-        assert_eq!(rt;
-            (text, place, byte, end.told()),
-            (text, place, byte, (Some(wanted), "", ""))
-        );
+    for byte in &STRANGE {
+        let file = with_byte(rt.alloc(), text, place, *byte)?;
+        assert_bytes_end(rt, text, file.as_slice(), (Some(wanted), "", ""))?;
     }
     Ok(())
 }
@@ -132,10 +140,8 @@ fn refuses_numbers_that_are_too_large(rt: HostRuntime) -> Result<(), AllocError>
 #[test]
 fn runs_a_file_of_the_most_cells(rt: HostRuntime) -> Result<(), AllocError> {
     let file = "x = 1, y = 1\n268435456o!";
-    let end = Ended::of(&rt, file, &RLE.options())?;
     let text = "#CXRLE Pos=0,0 Gen=0\nx = 268435456, y = 1, rule = B3/S23\n268435456o!\n";
-    assert_told(&rt, file, &end, (None, "0: 268435456\n", text));
-    Ok(())
+    assert_ends(&rt, file, &RLE.options(), (None, "0: 268435456\n", text))
 }
 
 // The last lines of chains, and how they run: the cell lies at (0,0), or where columns and rows
@@ -181,8 +187,8 @@ const CHAINS: &[(&str, Row)] = &[
 fn runs_a_chain_to_the_largest_level(rt: HostRuntime) -> Result<(), AllocError> {
     for (last, row) in CHAINS {
         let file = chain(rt.alloc(), last)?;
-        let end = Ended::of(&rt, file.as_str(), &row.options())?;
-        assert_told(&rt, last, &end, (row.fault(), row.report, row.text));
+        let wanted = (row.fault(), row.report, row.text);
+        assert_ends(&rt, file.as_str(), &row.options(), wanted)?;
     }
     Ok(())
 }

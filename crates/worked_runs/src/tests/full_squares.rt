@@ -1,9 +1,7 @@
 //! Squares whose cells are all live.
 
-use crate::tests::ended::Ended;
 use crate::tests::macrocell::FULL;
-use crate::tests::rows::{MACROCELL, RLE, Row, assert_told};
-use engine::Options;
+use crate::tests::rows::{MACROCELL, RLE, Row, assert_ends, assert_row};
 use plane::Refusal;
 use std::alloc::{AllocError, Global};
 
@@ -72,14 +70,7 @@ pub(crate) fn full_square(alloc: Global, line_behind: &str) -> Result<String, Al
 fn counts_the_cells_of_full_squares(rt: HostRuntime) -> Result<(), AllocError> {
     for (line_behind, row) in SQUARES {
         let file = full_square(rt.alloc(), line_behind)?;
-        for (quiet, report) in [(false, row.report), (true, "")] {
-            let options = Options {
-                quiet,
-                ..row.options()
-            };
-            let end = Ended::of(&rt, file.as_str(), &options)?;
-            assert_told(&rt, line_behind, &end, (row.fault(), report, ""));
-        }
+        assert_row(&rt, file.as_str(), row)?;
     }
     Ok(())
 }
@@ -87,9 +78,8 @@ fn counts_the_cells_of_full_squares(rt: HostRuntime) -> Result<(), AllocError> {
 #[test]
 fn writes_a_full_square_by_the_lines_that_it_has(rt: HostRuntime) -> Result<(), AllocError> {
     let file = full_square(rt.alloc(), "62 59")?;
-    let end = Ended::of(&rt, file.as_str(), &MACROCELL.options())?;
-    let report = "0: 5316911983139663491615228241121378304\n";
     let written = file_of(rt.alloc(), HEAD, nodes_before("62 59"))?;
-    assert_told(&rt, "62 59", &end, (None, report, written.as_str()));
-    Ok(())
+    let report = "0: 5316911983139663491615228241121378304\n";
+    let wanted = (None, report, written.as_str());
+    assert_ends(&rt, file.as_str(), &MACROCELL.options(), wanted)
 }

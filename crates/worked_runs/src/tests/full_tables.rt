@@ -2,15 +2,15 @@
 //! no output. Which of both is said where it is known.
 
 use crate::tests::accepted::{FAR_GLIDERS, LIMITS, LONG_ROWS, PATTERNS, STEPS};
-use crate::tests::ended::Ended;
 use crate::tests::full_squares::full_square;
 use crate::tests::macrocell::{self, WRITTEN};
 use crate::tests::nodes::{FULL, GLIDER, REPORTED, SETTLED};
 use crate::tests::refused::REFUSED;
 use crate::tests::rows::{
-    COMMENTED_GLIDER, FAR_REPLICATOR, MACROCELL, NEAR_REPLICATOR, RLE, Row, assert_reported,
-    assert_told, assert_whole_or_refused,
+    COMMENTED_GLIDER, FAR_REPLICATOR, MACROCELL, NEAR_REPLICATOR, RLE, Row, assert_ends,
+    assert_ends_or_is_full, assert_reported_by_each,
 };
+use engine::Options;
 use plane::Refusal;
 use sample_patterns::many_leaves;
 use std::alloc::AllocError;
@@ -39,8 +39,8 @@ fn assert_room<R: Abort + AllocGlobal + Threads + Sync>(
 ) -> Result<(), AllocError> {
     for row in rows {
         let few = in_the_fewest(row, 1);
-        let end = Ended::of(rt, few.file, &few.options())?;
-        assert_told(rt, few.file, &end, (few.fault(), few.report, few.text));
+        let wanted = (few.fault(), few.report, few.text);
+        assert_ends(rt, few.file, &few.options(), wanted)?;
     }
     Ok(())
 }
@@ -53,9 +53,7 @@ fn assert_whole_or_full<R: Abort + AllocGlobal + Threads + Sync>(
     workers: usize,
 ) -> Result<(), AllocError> {
     for row in rows {
-        let few = in_the_fewest(row, workers);
-        let end = Ended::of(rt, few.file, &few.options())?;
-        let _ = assert_whole_or_refused(rt, &few, &end, Refusal::NodesFull);
+        assert_ends_or_is_full(rt, &in_the_fewest(row, workers))?;
     }
     Ok(())
 }
@@ -75,7 +73,7 @@ pub(crate) fn short_runs() -> [&'static [Row]; 7] {
 
 #[test]
 fn runs_each_pattern_in_the_fewest_slots(rt: HostRuntime) -> Result<(), AllocError> {
-    for rows in short_runs() {
+    for rows in &short_runs() {
         assert_room(&rt, rows)?;
         assert_whole_or_full(&rt, rows, 2)?;
     }
@@ -84,7 +82,7 @@ fn runs_each_pattern_in_the_fewest_slots(rt: HostRuntime) -> Result<(), AllocErr
 
 #[test]
 fn runs_far_in_the_fewest_slots(rt: HostRuntime) -> Result<(), AllocError> {
-    for rows in [FAR_GLIDERS, &[GLIDER, COMMENTED_GLIDER, NEAR_REPLICATOR]] {
+    for rows in &[FAR_GLIDERS, &[GLIDER, COMMENTED_GLIDER, NEAR_REPLICATOR]] {
         assert_room(&rt, rows)?;
         assert_whole_or_full(&rt, rows, 2)?;
     }
@@ -96,7 +94,7 @@ fn runs_far_in_the_fewest_slots(rt: HostRuntime) -> Result<(), AllocError> {
 // full, so no count of squares says how it ends.
 #[test]
 fn runs_a_replicator_in_the_fewest_slots_or_not(rt: HostRuntime) -> Result<(), AllocError> {
-    for workers in [1, 2] {
+    for workers in 1..=2 {
         assert_whole_or_full(&rt, &[FAR_REPLICATOR], workers)?;
     }
     Ok(())
@@ -142,15 +140,24 @@ const FULL_SQUARES: &[(&str, Row)] = &[
     ),
 ];
 
+// Runs a file as a row asks, in the fewest slots, with one worker and with two.
+fn assert_in_the_fewest<R: Abort + AllocGlobal + Threads + Sync>(
+    rt: &R,
+    file: &str,
+    row: &Row,
+) -> Result<(), AllocError> {
+    for workers in 1..=2 {
+        let few = in_the_fewest(row, workers);
+        assert_ends(rt, file, &few.options(), (few.fault(), few.report, ""))?;
+    }
+    Ok(())
+}
+
 #[test]
 fn runs_full_squares_in_the_fewest_slots(rt: HostRuntime) -> Result<(), AllocError> {
     for (line_behind, row) in FULL_SQUARES {
         let file = full_square(rt.alloc(), line_behind)?;
-        for workers in [1, 2] {
-            let few = in_the_fewest(row, workers);
-            let end = Ended::of(&rt, file.as_str(), &few.options())?;
-            assert_told(&rt, line_behind, &end, (few.fault(), few.report, ""));
-        }
+        assert_in_the_fewest(&rt, file.as_str(), row)?;
     }
     Ok(())
 }
@@ -158,13 +165,9 @@ fn runs_full_squares_in_the_fewest_slots(rt: HostRuntime) -> Result<(), AllocErr
 #[test]
 fn refuses_65536_leaves_in_the_fewest_slots(rt: HostRuntime) -> Result<(), AllocError> {
     let file = many_leaves(rt.alloc())?;
-    for workers in [1, 2] {
-        let few = Row {
-            pairs: 1024,
-            workers,
-            ..MACROCELL
-        };
-        assert_reported(&rt, file.as_str(), &few.options(), Some(FULL), "")?;
-    }
-    Ok(())
+    let few = Options {
+        pairs: 1024,
+        ..MACROCELL.options()
+    };
+    assert_reported_by_each(&rt, file.as_str(), &few, Some(FULL), "")
 }

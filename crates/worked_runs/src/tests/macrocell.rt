@@ -1,8 +1,7 @@
 //! Runs of macrocell files, and runs that write them.
 
-use crate::tests::ended::Ended;
 use crate::tests::rows::{
-    MACROCELL, PLAIN, RLE, Row, SHARED_LEAF, SHARED_LEAF_AGAIN, assert_rows, assert_told,
+    MACROCELL, PLAIN, RLE, Row, SHARED_LEAF, SHARED_LEAF_AGAIN, assert_ends, assert_rows,
 };
 use engine::Options;
 use plane::Refusal;
@@ -253,9 +252,8 @@ fn assert_written_again<R: Abort + AllocGlobal + Threads + Sync>(
             format: row.format,
             ..PLAIN
         };
-        let end = Ended::of(rt, row.text, &options)?;
         let last = row.report.split_inclusive('\n').last().unwrap_or("");
-        assert_told(rt, row.text, &end, (None, last, row.text));
+        assert_ends(rt, row.text, &options, (None, last, row.text))?;
     }
     Ok(())
 }

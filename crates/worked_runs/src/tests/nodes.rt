@@ -3,13 +3,15 @@
 
 use crate::tests::ended::Ended;
 use crate::tests::rows::{
-    FAR_GLIDER, FAR_REPLICATOR, PLAIN, R_PENTOMINO, RLE, Row, assert_reported, assert_rows,
+    FAR_GLIDER, FAR_REPLICATOR, PLAIN, R_PENTOMINO, RLE, Row, assert_reported,
+    assert_reported_by_each, assert_rows,
 };
 use engine::Options;
 use plane::{Fault, Refusal};
 use sample_patterns::{leaves_in_a_row, many_leaves};
 use std::alloc::{AllocError, Global};
 use std::process::Abort;
+use std::thread::Threads;
 
 pub(crate) const FULL: Fault = Fault {
     refusal: Refusal::NodesFull,
@@ -142,67 +144,58 @@ fn push_centres(text: &mut String, row: u8, worth: u32) -> Result<(), AllocError
     Ok(())
 }
 
-// The cells of the 160 leaves are counted.
+// Runs the 160 leaves for no generation in the fewest slots: the cells are counted.
+fn assert_counts<R: Abort + AllocGlobal + Threads + Sync>(
+    rt: &R,
+    file: &str,
+    workers: usize,
+) -> Result<(), AllocError> {
+    let few = Row {
+        pairs: 1024,
+        workers,
+        ..RLE
+    };
+    let end = Ended::of(rt, file, &few.options())?;
+    assert!(rt; end.is_summed_up_by(0, 562));
+    assert_eq!(rt; end.report.text(), "0: 562\n");
+    Ok(())
+}
+
 #[test]
 fn counts_the_cells_of_160_leaves(rt: HostRuntime) -> Result<(), AllocError> {
     let file = spread_leaves(rt.alloc())?;
-    for workers in [1, 2] {
-        let none = Options {
-            pairs: 1024,
-            workers,
-            ..RLE.options()
-        };
-        let end = Ended::of(&rt, file.as_str(), &none)?;
-        assert!(rt; end.is_summed_up_by(0, 562));
-        assert_eq!(rt; end.report.text(), "0: 562\n");
-    }
-    Ok(())
+    assert_counts(&rt, file.as_str(), 1)?;
+    assert_counts(&rt, file.as_str(), 2)
 }
 
 // After one generation by this rule there are at least 320 different leaves, which have no room.
 #[test]
 fn refuses_the_first_generation_of_160_leaves(rt: HostRuntime) -> Result<(), AllocError> {
     let file = spread_leaves(rt.alloc())?;
-    for workers in [1, 2] {
-        let few = Options {
-            gens: 1,
-            pairs: 1024,
-            workers,
-            ..RLE.options()
-        };
-        assert_reported(&rt, file.as_str(), &few, Some(FULL), "0: 562\n")?;
-        let many = Options {
-            pairs: PLAIN.pairs,
-            format: None,
-            ..few
-        };
-        assert_reported(&rt, file.as_str(), &many, None, "0: 562\n1: 1736\n")?;
-    }
-    Ok(())
+    let few = Options {
+        gens: 1,
+        pairs: 1024,
+        ..RLE.options()
+    };
+    assert_reported_by_each(&rt, file.as_str(), &few, Some(FULL), "0: 562\n")?;
+    let many = Options { gens: 1, ..PLAIN };
+    assert_reported_by_each(&rt, file.as_str(), &many, None, "0: 562\n1: 1736\n")
 }
 
 // The words 1 to 65535 have 16 * 2^15 bits, and 65536 has one.
 #[test]
 fn counts_the_cells_of_65536_leaves(rt: HostRuntime) -> Result<(), AllocError> {
     let file = many_leaves(rt.alloc())?;
-    for workers in [1, 2] {
-        let options = Options { workers, ..PLAIN };
-        assert_reported(&rt, file.as_str(), &options, None, "0: 524289\n")?;
-    }
-    Ok(())
+    assert_reported_by_each(&rt, file.as_str(), &PLAIN, None, "0: 524289\n")
 }
 
 // There is room for 16384 leaves in 65536 slots for pairs.
 #[test]
 fn refuses_65536_leaves(rt: HostRuntime) -> Result<(), AllocError> {
     let file = many_leaves(rt.alloc())?;
-    for workers in [1, 2] {
-        let options = Options {
-            pairs: 65536,
-            workers,
-            ..RLE.options()
-        };
-        assert_reported(&rt, file.as_str(), &options, Some(FULL), "")?;
-    }
-    Ok(())
+    let options = Options {
+        pairs: 65536,
+        ..RLE.options()
+    };
+    assert_reported_by_each(&rt, file.as_str(), &options, Some(FULL), "")
 }

@@ -1,7 +1,6 @@
 //! Pictures of windows, behind the lines of the report.
 
-use crate::tests::ended::Ended;
-use crate::tests::rows::{PLAIN, assert_told};
+use crate::tests::rows::{PLAIN, assert_ends};
 use engine::{Format, Options};
 use plane::{Fault, Refusal, Window};
 use sample_patterns::BLINKER;
@@ -87,15 +86,13 @@ fn assert_pictured<R: Abort + AllocGlobal + Threads + Sync>(
     rt: &R,
     row: &Pictured,
 ) -> Result<(), Fail> {
-    for workers in [1, 2] {
-        for (quiet, report) in [(false, row.report), (true, row.picture)] {
-            let options = Options {
-                workers,
-                ..asked(row.generations, row.window, quiet)?
-            };
-            let end = Ended::of(rt, row.file, &options)?;
-            assert_told(rt, row.file, &end, (None, report, ""));
-        }
+    let loud = asked(row.generations, row.window, false)?;
+    let quiet = asked(row.generations, row.window, true)?;
+    for workers in 1..=2 {
+        let loud = Options { workers, ..loud };
+        assert_ends(rt, row.file, &loud, (None, row.report, ""))?;
+        let quiet = Options { workers, ..quiet };
+        assert_ends(rt, row.file, &quiet, (None, row.picture, ""))?;
     }
     Ok(())
 }
@@ -118,8 +115,7 @@ fn assert_pictured_in_the_fewest<R: Abort + AllocGlobal + Threads + Sync>(
         pairs: 1024,
         ..asked(row.generations, row.window, false)?
     };
-    let end = Ended::of(rt, row.file, &options)?;
-    assert_told(rt, row.file, &end, (None, row.report, ""));
+    assert_ends(rt, row.file, &options, (None, row.report, ""))?;
     Ok(())
 }
 
@@ -138,11 +134,10 @@ fn draws_the_window_before_the_box_is_refused(rt: HostRuntime) -> Result<(), Fai
         ..asked(0, (2147483646, 0, 2, 1), false)?
     };
     let file = "x = 1, y = 1\no2147483646bo!";
-    let end = Ended::of(&rt, file, &options)?;
     let too_large = Fault {
         refusal: Refusal::BoxTooLarge,
         place: None,
     };
-    assert_told(&rt, file, &end, (Some(too_large), "0: 2\n.*\n", ""));
+    assert_ends(&rt, file, &options, (Some(too_large), "0: 2\n.*\n", ""))?;
     Ok(())
 }

@@ -192,21 +192,53 @@ pub(crate) fn assert_whole_or_refused<R: Abort>(
     true
 }
 
-/// Runs rows, with their reports and without, and compares what is written with what they say.
+/// Runs a file, and compares how the run ended, the report and what was written with what they are
+/// to be.
+pub(crate) fn assert_ends<R: Abort + AllocGlobal + Threads + Sync>(
+    rt: &R,
+    file: &str,
+    options: &Options,
+    wanted: (Option<Fault>, &str, &str),
+) -> Result<(), AllocError> {
+    let end = Ended::of(rt, file, options)?;
+    assert_told(rt, file, &end, wanted);
+    Ok(())
+}
+
+/// Runs a file as a row asks, with its report and without, and compares what is written with what
+/// the row says.
+pub(crate) fn assert_row<R: Abort + AllocGlobal + Threads + Sync>(
+    rt: &R,
+    file: &str,
+    row: &Row,
+) -> Result<(), AllocError> {
+    let options = row.options();
+    assert_ends(rt, file, &options, (row.fault(), row.report, row.text))?;
+    let quiet = Options {
+        quiet: true,
+        ..options
+    };
+    assert_ends(rt, file, &quiet, (row.fault(), "", row.text))
+}
+
+/// The same for rows with their own files.
 pub(crate) fn assert_rows<R: Abort + AllocGlobal + Threads + Sync>(
     rt: &R,
     rows: &[Row],
 ) -> Result<(), AllocError> {
     for row in rows {
-        for (quiet, report) in [(false, row.report), (true, "")] {
-            let options = Options {
-                quiet,
-                ..row.options()
-            };
-            let end = Ended::of(rt, row.file, &options)?;
-            assert_told(rt, row.file, &end, (row.fault(), report, row.text));
-        }
+        assert_row(rt, row.file, row)?;
     }
+    Ok(())
+}
+
+/// Runs a row in few slots: it ends as the row says, or is refused since no slot is free.
+pub(crate) fn assert_ends_or_is_full<R: Abort + AllocGlobal + Threads + Sync>(
+    rt: &R,
+    row: &Row,
+) -> Result<(), AllocError> {
+    let end = Ended::of(rt, row.file, &row.options())?;
+    let _ = assert_whole_or_refused(rt, row, &end, Refusal::NodesFull);
     Ok(())
 }
 
@@ -232,5 +264,23 @@ pub(crate) fn assert_reported<R: Abort + AllocGlobal + Threads + Sync>(
 ) -> Result<(), AllocError> {
     let end = Ended::of(rt, file, options)?;
     assert_told(rt, "", &end, (fault, report, ""));
+    Ok(())
+}
+
+/// The same with one worker and with two.
+pub(crate) fn assert_reported_by_each<R: Abort + AllocGlobal + Threads + Sync>(
+    rt: &R,
+    file: &str,
+    options: &Options,
+    fault: Option<Fault>,
+    report: &str,
+) -> Result<(), AllocError> {
+    for workers in 1..=2 {
+        let options = Options {
+            workers,
+            ..*options
+        };
+        assert_reported(rt, file, &options, fault, report)?;
+    }
     Ok(())
 }

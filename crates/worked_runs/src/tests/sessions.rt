@@ -32,15 +32,20 @@ pub(crate) fn opened<R: Abort + AllocGlobal>(
     Session::open(rt.alloc(), file.as_bytes(), rule, pairs)
 }
 
+// Asserts that a file was written, and what it holds.
+fn assert_holds<R: Abort>(rt: &R, written: Result<(), Refusal>, file: &ShortWrites, text: &str) {
+    assert_eq!(rt; (written, file.text()), (Ok(()), text));
+}
+
 // Asserts the RLE file of a session's generation.
 fn assert_writes<R: Abort + AllocGlobal + Threads + Sync>(
     rt: &R,
     session: &mut Session,
     text: &str,
-) -> Result<(), Fail> {
+) -> Result<(), Refusal> {
     let mut file = ShortWrites::new(rt.alloc(), usize::MAX, 0)?;
-    session.write(rt, rt.alloc(), Some(Format::Rle), &mut file)?;
-    assert_eq!(rt; file.text(), text);
+    let written = session.write(rt, rt.alloc(), Some(Format::Rle), &mut file);
+    assert_holds(rt, written, &file, text);
     Ok(())
 }
 
@@ -50,7 +55,7 @@ fn assert_writes_after<R: Abort + AllocGlobal + Threads + Sync>(
     session: &mut Session,
     more: u64,
     text: &str,
-) -> Result<(), Fail> {
+) -> Result<(), Refusal> {
     session.advance(&one_worker(rt), more)?;
     assert_writes(rt, session, text)
 }
@@ -128,10 +133,13 @@ const LOOKS: [Look; 4] = [
 
 // Asserts how many cells a session has, their box and their first row.
 fn assert_sums_up<R: Abort + AllocGlobal>(rt: &R, session: &mut Session, look: &Look) {
-    let alloc = rt.alloc();
-    assert_eq!(rt; session.population(alloc), Ok(5));
-    assert_eq!(rt; session.bounds(alloc), Ok(Some(look.bounds)));
-    assert_eq!(rt; session.first_row(-7), Ok(Some(look.bounds.top)));
+    let population = session.population(rt.alloc());
+    let bounds = session.bounds(rt.alloc());
+    let first_row = session.first_row(-7);
+    assert_eq!(rt;
+        (population, bounds, first_row),
+        (Ok(5), Ok(Some(look.bounds)), Ok(Some(look.bounds.top)))
+    );
 }
 
 // Asserts what a session shows of the glider.
@@ -139,7 +147,7 @@ fn assert_shows<R: Abort + AllocGlobal + Threads + Sync>(
     rt: &R,
     session: &mut Session,
     look: &Look,
-) -> Result<(), Fail> {
+) -> Result<(), Refusal> {
     assert_sums_up(rt, session, look);
     for (row, first, count) in &look.runs {
         assert_one_run(rt, session.row_runs(rt.alloc(), *row), (*first, *count))?;
@@ -154,7 +162,7 @@ fn assert_goes_on<R: Abort + AllocGlobal + Threads + Sync>(
     rt: &R,
     session: &mut Session,
     looks: &[Look],
-) -> Result<(), Fail> {
+) -> Result<(), Refusal> {
     for look in looks {
         session.advance(&one_worker(rt), look.more)?;
         assert_shows(rt, session, look)?;
@@ -163,7 +171,7 @@ fn assert_goes_on<R: Abort + AllocGlobal + Threads + Sync>(
 }
 
 #[test]
-fn a_session_is_looked_at_on_its_way(rt: HostRuntime) -> Result<(), Fail> {
+fn a_session_is_looked_at_on_its_way(rt: HostRuntime) -> Result<(), Fault> {
     let mut session = opened(&rt, FAR_GLIDER.file, None, PLAIN.pairs)?;
     assert_goes_on(&rt, &mut session, &LOOKS)?;
     let pattern = session.into_pattern(rt.alloc())?;
@@ -176,18 +184,19 @@ fn assert_stays<R: Abort + AllocGlobal + Threads + Sync>(
     rt: &R,
     session: &mut Session,
     more: u64,
-) -> Result<(), Fail> {
+) -> Result<(), Refusal> {
     let advanced = session.advance(&one_worker(rt), more);
     assert_eq!(rt; (advanced, session.generation()), (Err(Refusal::TooFar), 0));
     assert_shows(rt, session, &LOOKS[0])
 }
 
 #[test]
-fn a_session_that_would_leave_the_range_stays(rt: HostRuntime) -> Result<(), Fail> {
+fn a_session_that_would_leave_the_range_stays(rt: HostRuntime) -> Result<(), Fault> {
     let mut session = opened(&rt, FAR_GLIDER.file, None, PLAIN.pairs)?;
     assert_stays(&rt, &mut session, 1 << 62)?;
     assert_stays(&rt, &mut session, u64::MAX)?;
-    assert_goes_on(&rt, &mut session, &LOOKS[..2])
+    assert_goes_on(&rt, &mut session, &LOOKS[..2])?;
+    Ok(())
 }
 
 // Asserts that a session of the R-pentomino does not come 5000 generations further, and has the
@@ -196,7 +205,7 @@ fn assert_is_stuck<R: Abort + AllocGlobal + Threads + Sync>(
     rt: &R,
     session: &mut Session,
     rule: Rule,
-) -> Result<(), Fail> {
+) -> Result<(), Refusal> {
     let advanced = session.advance(&one_worker(rt), 5000);
     let generation = session.generation();
     assert_eq!(rt; advanced, Err(Refusal::NodesFull));
@@ -218,7 +227,21 @@ fn a_session_in_few_slots_keeps_its_last_generation(rt: HostRuntime) -> Result<(
     let rule = Rule::read(b"B3/S012345678")?;
     let mut session = opened(&rt, R_PENTOMINO.file, Some(rule), 1024)?;
     assert_is_stuck(&rt, &mut session, rule)?;
-    assert_is_stuck(&rt, &mut session, rule)
+    assert_is_stuck(&rt, &mut session, rule)?;
+    Ok(())
+}
+
+// Asserts the rule of a session of one cell, and that eight cells live a generation later.
+fn assert_goes_by<R: Abort + AllocGlobal + Threads + Sync>(
+    rt: &R,
+    session: &mut Session,
+    rule: Rule,
+) -> Result<(), Refusal> {
+    assert_eq!(rt; session.rule(), rule);
+    let text = "#CXRLE Pos=-1,-1 Gen=1\n#C kept\nx = 3, y = 3, rule = B1/S\n3o$obo$3o!\n";
+    assert_writes_after(rt, session, 1, text)?;
+    assert_eq!(rt; session.population(rt.alloc()), Ok(8));
+    Ok(())
 }
 
 #[test]
@@ -226,10 +249,7 @@ fn a_session_goes_by_the_rule_that_is_given(rt: HostRuntime) -> Result<(), Fail>
     let rule = Rule::read(b"B1/S")?;
     let file = "#C kept\nx = 1, y = 1, rule = B3/S23\no!";
     let mut session = opened(&rt, file, Some(rule), PLAIN.pairs)?;
-    assert_eq!(rt; session.rule(), rule);
-    let text = "#CXRLE Pos=-1,-1 Gen=1\n#C kept\nx = 3, y = 3, rule = B1/S\n3o$obo$3o!\n";
-    assert_writes_after(&rt, &mut session, 1, text)?;
-    assert_eq!(rt; session.population(rt.alloc()), Ok(8));
+    assert_goes_by(&rt, &mut session, rule)?;
     Ok(())
 }
 
@@ -250,15 +270,15 @@ fn assert_snapshot_writes<R: Abort + AllocGlobal + Threads + Sync>(
     session: &Session,
     generation: u64,
     text: &str,
-) -> Result<(), Fail> {
+) -> Result<(), Refusal> {
     let heading = Heading {
         comments: session.comments(),
         rule: session.rule(),
         generation,
     };
     let mut file = ShortWrites::new(rt.alloc(), usize::MAX, 0)?;
-    snapshot.write(rt, rt.alloc(), Some(Format::Rle), heading, &mut file)?;
-    assert_eq!(rt; file.text(), text);
+    let written = snapshot.write(rt, rt.alloc(), Some(Format::Rle), heading, &mut file);
+    assert_holds(rt, written, &file, text);
     Ok(())
 }
 
@@ -268,33 +288,45 @@ fn assert_is_glider<R: Abort + AllocGlobal>(
     snapshot: &Pattern,
     look: &Look,
 ) -> Result<(), Refusal> {
-    let alloc = rt.alloc();
-    assert_eq!(rt; snapshot.population(alloc), Ok(5));
-    assert_eq!(rt; snapshot.bounds(alloc), Ok(Some(look.bounds)));
+    let population = snapshot.population(rt.alloc());
+    let bounds = snapshot.bounds(rt.alloc());
+    assert_eq!(rt; (population, bounds), (Ok(5), Ok(Some(look.bounds))));
     for (row, first, count) in &look.runs {
-        assert_one_run(rt, snapshot.row_runs(alloc, *row), (*first, *count))?;
+        assert_one_run(rt, snapshot.row_runs(rt.alloc(), *row), (*first, *count))?;
     }
     Ok(())
+}
+
+// Asserts that a snapshot of a look stays while its session comes to the next ones.
+fn assert_stays_at<R: Abort + AllocGlobal + Threads + Sync>(
+    rt: &R,
+    snapshot: &Pattern,
+    look: &Look,
+    session: &mut Session,
+    next: &[Look],
+) -> Result<(), Refusal> {
+    assert_shows(rt, session, look)?;
+    assert_goes_on(rt, session, next)?;
+    assert_is_glider(rt, snapshot, look)?;
+    assert_snapshot_writes(rt, snapshot, session, 4, look.text)
 }
 
 // Asserts that a snapshot of the second look stays while its session comes to the third.
 fn assert_snapshot_stays<R: Abort + AllocGlobal + Threads + Sync>(
     rt: &R,
     session: &mut Session,
-) -> Result<(), Fail> {
+) -> Result<(), Refusal> {
     let second = &LOOKS[1];
     let snapshot = snapshot_after(rt, session, second.more)?;
-    assert_shows(rt, session, second)?;
-    assert_goes_on(rt, session, &LOOKS[2..3])?;
-    assert_is_glider(rt, &snapshot, second)?;
-    assert_snapshot_writes(rt, &snapshot, session, 4, second.text)
+    assert_stays_at(rt, &snapshot, second, session, &LOOKS[2..3])
 }
 
 #[test]
-fn a_snapshot_stays_when_its_session_goes_on(rt: HostRuntime) -> Result<(), Fail> {
+fn a_snapshot_stays_when_its_session_goes_on(rt: HostRuntime) -> Result<(), Fault> {
     let mut session = opened(&rt, FAR_GLIDER.file, None, PLAIN.pairs)?;
     assert_snapshot_stays(&rt, &mut session)?;
-    assert_goes_on(&rt, &mut session, &LOOKS[3..])
+    assert_goes_on(&rt, &mut session, &LOOKS[3..])?;
+    Ok(())
 }
 
 // Asserts what a snapshot shows of the settled R-pentomino, so many generations on.
@@ -302,7 +334,7 @@ fn assert_settles<R: Abort + AllocGlobal + Threads + Sync>(
     rt: &R,
     session: &mut Session,
     more: u64,
-) -> Result<(), Fail> {
+) -> Result<(), Refusal> {
     let settled = snapshot_after(rt, session, more)?;
     assert_eq!(rt; settled.population(rt.alloc()), Ok(116));
     assert_snapshot_writes(rt, &settled, session, SETTLED.generations, SETTLED.text)
@@ -312,7 +344,7 @@ fn assert_settles<R: Abort + AllocGlobal + Threads + Sync>(
 fn assert_snapshots<R: Abort + AllocGlobal + Threads + Sync>(
     rt: &R,
     session: &mut Session,
-) -> Result<(), Fail> {
+) -> Result<(), Refusal> {
     let earlier = snapshot_after(rt, session, 100)?;
     assert_settles(rt, session, SETTLED.generations - 100)?;
     assert_eq!(rt; earlier.population(rt.alloc()), Ok(121));
@@ -321,7 +353,7 @@ fn assert_snapshots<R: Abort + AllocGlobal + Threads + Sync>(
 
 // Whether its table has grown or is the smallest, a snapshot has the cells.
 #[test]
-fn a_snapshot_of_any_table_has_the_cells(rt: HostRuntime) -> Result<(), Fail> {
+fn a_snapshot_of_any_table_has_the_cells(rt: HostRuntime) -> Result<(), Fault> {
     for pairs in &[1024, 4096, PLAIN.pairs] {
         let mut session = opened(&rt, R_PENTOMINO.file, None, *pairs)?;
         assert_snapshots(&rt, &mut session)?;

@@ -88,6 +88,18 @@ impl Ended {
     }
 }
 
+// Whether a run of a row, in which these calls fail, ends so.
+fn ends<R: Abort + AllocGlobal + Threads + Sync>(
+    rt: &R,
+    row: &Row,
+    most: usize,
+    calls: FailingCalls,
+    wanted: (Option<Refusal>, &str, &str),
+) -> Result<bool, AllocError> {
+    let ended = Ended::of(rt, row, most, calls)?;
+    Ok(ended.is(wanted.0, wanted.1, wanted.2))
+}
+
 // Whether a run ends as it should whose reader, which comes to its end in so many reads, fails at
 // this one, or at none.
 fn is_right<R: Abort + AllocGlobal + Threads + Sync>(
@@ -101,11 +113,12 @@ fn is_right<R: Abort + AllocGlobal + Threads + Sync>(
         read,
         ..FailingCalls::default()
     };
-    let ended = Ended::of(rt, row, most, calls)?;
-    if read >= 1 && read <= reads {
-        return Ok(ended.is(Some(Refusal::ReadFailed), "", ""));
-    }
-    Ok(ended.is(None, row.report, row.text))
+    let wanted = if read >= 1 && read <= reads {
+        (Some(Refusal::ReadFailed), "", "")
+    } else {
+        (None, row.report, row.text)
+    };
+    ends(rt, row, most, calls, wanted)
 }
 
 // The first read at which, if it fails, a run does not end as it should; 0, and one behind the
@@ -157,10 +170,8 @@ fn writers_that_fail_at_their_first_call_take_nothing(rt: HostRuntime) -> Result
             ..FailingCalls::default()
         };
         let failed = Some(Refusal::WriteFailed);
-        let without_report = Ended::of(&rt, row, usize::MAX, report)?;
-        let without_file = Ended::of(&rt, row, usize::MAX, file)?;
-        assert!(rt; without_report.is(failed, "", ""));
-        assert!(rt; without_file.is(failed, row.report, ""));
+        assert!(rt; ends(&rt, row, usize::MAX, report, (failed, "", ""))?);
+        assert!(rt; ends(&rt, row, usize::MAX, file, (failed, row.report, ""))?);
     }
     Ok(())
 }

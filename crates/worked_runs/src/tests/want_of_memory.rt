@@ -81,16 +81,16 @@ fn refuses_the_last_r_pentomino_for_want_of_memory(rt: HostRuntime) -> Result<()
 
 #[test]
 fn refuses_a_commented_glider_for_want_of_memory(rt: HostRuntime) -> Result<(), Fail> {
-    for row in [COMMENTED_GLIDER, COMMENTED_GLIDER_AS_MACROCELL] {
-        assert_runs_or_refuses(&rt, &row)?;
+    for row in &[COMMENTED_GLIDER, COMMENTED_GLIDER_AS_MACROCELL] {
+        assert_runs_or_refuses(&rt, row)?;
     }
     Ok(())
 }
 
 #[test]
 fn refuses_two_workers_for_want_of_memory(rt: HostRuntime) -> Result<(), Fail> {
-    for row in [R_PENTOMINO, NEAR_REPLICATOR] {
-        let row = Row { workers: 2, ..row };
+    for row in &[R_PENTOMINO, NEAR_REPLICATOR] {
+        let row = Row { workers: 2, ..*row };
         assert_runs_or_refuses(&rt, &row)?;
     }
     Ok(())

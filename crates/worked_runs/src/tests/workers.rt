@@ -1,14 +1,12 @@
 //! Runs with several workers: they write what one writes.
 
-use crate::tests::ended::Ended;
 use crate::tests::full_tables::short_runs;
 use crate::tests::nodes::{COLLECTED, REPORTED, SETTLED};
 use crate::tests::rows::{
-    FAR_GLIDER, FAR_REPLICATOR, Row, assert_rows, assert_rows_by, assert_whole_or_refused,
+    FAR_GLIDER, FAR_REPLICATOR, Row, assert_ends_or_is_full, assert_row, assert_rows_by,
 };
 use crate::tests::short_writes::ShortWrites;
 use engine::{Gate, run_gated};
-use plane::Refusal;
 use std::alloc::AllocError;
 use std::sync::atomic::{AtomicU64, Ordering};
 use std::test::Fail;
@@ -19,25 +17,34 @@ const LONG: &[Row] = &[SETTLED, COLLECTED, REPORTED, FAR_GLIDER, FAR_REPLICATOR]
 
 #[test]
 fn any_number_of_workers_writes_the_same(rt: HostRuntime) -> Result<(), AllocError> {
-    for workers in [1, 2, 4, 64] {
-        assert_rows_by(&rt, LONG, workers)?;
+    for workers in &[1, 2, 4, 64] {
+        assert_rows_by(&rt, LONG, *workers)?;
     }
     Ok(())
 }
 
 #[test]
 fn two_workers_answer_each_row(rt: HostRuntime) -> Result<(), AllocError> {
-    for rows in short_runs() {
+    for rows in &short_runs() {
         assert_rows_by(&rt, rows, 2)?;
     }
     Ok(())
 }
 
+fn settled_in(pairs: u32, workers: usize) -> Row {
+    Row {
+        pairs,
+        workers,
+        ..SETTLED
+    }
+}
+
 // One worker takes the same steps in each run, and has room in the fewest slots.
 #[test]
 fn one_worker_runs_in_few_slots(rt: HostRuntime) -> Result<(), AllocError> {
-    for pairs in [1024, 2048, 4096] {
-        assert_rows(&rt, &[Row { pairs, ..SETTLED }])?;
+    for pairs in &[1024, 2048, 4096] {
+        let row = settled_in(*pairs, 1);
+        assert_row(&rt, row.file, &row)?;
     }
     Ok(())
 }
@@ -46,16 +53,8 @@ fn one_worker_runs_in_few_slots(rt: HostRuntime) -> Result<(), AllocError> {
 // schedule decides.
 #[test]
 fn workers_run_in_few_slots(rt: HostRuntime) -> Result<(), AllocError> {
-    for workers in [2, 64] {
-        for pairs in [1024, 2048] {
-            let row = Row {
-                pairs,
-                workers,
-                ..SETTLED
-            };
-            let end = Ended::of(&rt, row.file, &row.options())?;
-            let _ = assert_whole_or_refused(&rt, &row, &end, Refusal::NodesFull);
-        }
+    for (workers, pairs) in &[(2, 1024), (2, 2048), (64, 1024), (64, 2048)] {
+        assert_ends_or_is_full(&rt, &settled_in(*pairs, *workers))?;
     }
     Ok(())
 }

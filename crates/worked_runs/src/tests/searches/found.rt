@@ -164,13 +164,11 @@ fn assert_found<R: Abort + AllocGlobal + Threads + Sync>(
         right,
         down,
     });
+    let reached = wanted.map_or(generation, |period| period.generations);
     assert_eq!(rt;
-        (row.file, row.candidates, found),
-        (row.file, row.candidates, Ok(wanted))
+        (row.file, row.candidates, found, generation),
+        (row.file, row.candidates, Ok(wanted), reached)
     );
-    if let Some(period) = wanted {
-        assert_eq!(rt; generation, period.generations);
-    }
     Ok(())
 }
 

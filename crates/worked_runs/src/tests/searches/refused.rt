@@ -19,18 +19,20 @@ const LAST_GLIDER: &str = "#CXRLE Pos=4611686018427387900,0\nx = 3, y = 3\nbo$2b
 #[test]
 fn refuses_what_leaves_the_range(rt: HostRuntime) -> Result<(), Fault> {
     let all = Candidates::UpTo(1000);
-    let too_far = Err(Refusal::TooFar);
-    assert_eq!(rt; searched_in(&rt, LAST_BLOCK, all, 1)?, (too_far, 0));
     let still = Period {
         generations: 1,
         right: 0,
         down: 0,
     };
-    let (found, _) = searched_in(&rt, LAST_BLOCK_BUT_ONE, all, 1)?;
-    assert_eq!(rt; found, Ok(Some(still)));
+    let (of_last, generation) = searched_in(&rt, LAST_BLOCK, all, 1)?;
+    let (of_last_but_one, _) = searched_in(&rt, LAST_BLOCK_BUT_ONE, all, 1)?;
     // It comes to the last column after three generations, and the fourth may be beyond it.
-    let (found, _) = searched_in(&rt, LAST_GLIDER, all, 1)?;
-    assert_eq!(rt; found, too_far);
+    let (of_glider, _) = searched_in(&rt, LAST_GLIDER, all, 1)?;
+    let too_far = Err(Refusal::TooFar);
+    assert_eq!(rt;
+        (of_last, generation, of_last_but_one, of_glider),
+        (too_far, 0, Ok(Some(still)), too_far)
+    );
     Ok(())
 }
 
