@@ -27,8 +27,8 @@ from collections.abc import Callable
 
 from common.check import PGREP, Check, can_run, end, sum_up
 from common.fake_kit import Repository, printed
-from common.launcher import crates_below
-from common.program import PERIOD, PIPE, PROGRAM, ROOT, VIEW
+from common.launcher import PROGRAMS, crates_below
+from common.program import ROOT
 from common.simulated_builds import MACHINES, look_after
 
 CHECK = Check(
@@ -65,7 +65,7 @@ def helps(it: Repository) -> bool:
     text_of_rt = rt.read_text()
     rt.write_text("#!/bin/sh\nexit 1\n")
     shown = []
-    for name in ("lifebatch", "lifeview", "lifeperiod", "lifepipe"):
+    for name in PROGRAMS:
         text = (it.folder / "launcher" / "help" / f"{name}.txt").read_text()
         for word in ("-h", "--help"):
             status, out, err = it.run(word, name=name)
@@ -85,7 +85,8 @@ def helps(it: Repository) -> bool:
 def own_help(_: Repository) -> bool:
     """Whether the texts are what the real programs show, if these are built."""
     equal = []
-    for name, program in (("lifebatch", PROGRAM), ("lifeview", VIEW), ("lifeperiod", PERIOD), ("lifepipe", PIPE)):
+    for name in PROGRAMS:
+        program = ROOT / "crates" / name / "out" / name
         if not can_run(program):
             print(f"    {name} is not built here, so its help is not compared with launcher/help/{name}.txt")
             continue
@@ -178,7 +179,7 @@ def unknown_program(it: Repository) -> bool:
     ran = subprocess.run(
         ["python3", it.folder / "launcher" / "build.py", "plane"], env=it.environment(), capture_output=True, text=True
     )
-    return ran.returncode == 2 and "lifebatch, lifeview, lifeperiod, lifepipe" in ran.stderr and it.logged() == []
+    return ran.returncode == 2 and ", ".join(PROGRAMS) in ran.stderr and it.logged() == []
 
 
 def without_the_kit(it: Repository) -> bool:
@@ -366,11 +367,7 @@ def told(it: Repository) -> tuple[int, str]:
 
 
 def simulated_machines(_: Repository) -> bool:
-    errors = sorted(
-        look_after(0.2, name, machine).error()
-        for name in ("lifebatch", "lifeview", "lifeperiod", "lifepipe")
-        for machine in MACHINES
-    )
+    errors = sorted(look_after(0.2, name, machine).error() for name in PROGRAMS for machine in MACHINES)
     close, median = sum(it <= 0.25 for it in errors), errors[len(errors) // 2]
     print(f"    {close} of {len(errors)} are; the error is {median:.0%} in the median, {errors[-1]:.0%} in the worst")
     return close >= 0.95 * len(errors)
@@ -378,16 +375,16 @@ def simulated_machines(_: Repository) -> bool:
 
 def records(it: Repository) -> bool:
     """The seconds of all programs' crates, once all are built."""
-    it.run()
+    first, *others = PROGRAMS
+    it.run(name=first)
     file, script = it.folder / "launcher" / "seconds.json", it.folder / "launcher" / "record_seconds.py"
     before = file.read_text()
     early = subprocess.run([script], capture_output=True, text=True)
-    others = (crate for name in ("lifeview", "lifeperiod", "lifepipe") for crate in crates_below(name))
-    missing = ", ".join(dict.fromkeys(it for it in others if it not in crates_below("lifebatch")))
+    above = (crate for name in others for crate in crates_below(name))
+    missing = ", ".join(dict.fromkeys(it for it in above if it not in crates_below(first)))
     is_kept = file.read_text() == before and f"no build has recorded {missing}: " in early.stderr
-    it.run(name="lifeview")
-    it.run(name="lifeperiod")
-    it.run(name="lifepipe")
+    for name in others:
+        it.run(name=name)
     late = subprocess.run([script], capture_output=True, text=True)
     found = json.loads(file.read_text())
     return (

@@ -1,14 +1,14 @@
 #!/usr/bin/env python3
 """Proves and builds a program of this repository, for the launcher of its name.
 
-    launcher/build.py lifebatch             prove and build lifebatch, lifeview, lifeperiod or lifepipe
-    launcher/build.py lifebatch --about     say about how long that takes, and build nothing
+    launcher/build.py NAME                  prove and build the program NAME
+    launcher/build.py NAME --about          say about how long that takes, and build nothing
     launcher/build.py --install PREFIX      build all programs, and put them below PREFIX, with man pages, completions,
                                             Golly's scripts and the Python package
     launcher/build.py --uninstall PREFIX    take away what was put there
 
 Crates are proved side by side, as many as cores and memory allow, each after those below it. For each proved crate the
-build writes a library of its statements, which is all that the crates above it read, in either program. Their checks
+build writes a library of its statements, which is all that the crates above it read, in any program. Their checks
 are shorter than over the libraries with proofs that `rt lib` keeps for editing, so the build calls the compiler of the
 kit, `rattle`, and not `rt`. An interrupted build keeps the libraries that it has made, and the next one resumes from
 them.

@@ -1,6 +1,6 @@
 # Starts the program $name of the repository $root in the caller's folder, with the caller's arguments and streams. If the
 # program is missing, or older than its code or contracts, it is proved and built first. A newer proof of the same contracts
-# does not change a proved program. The scripts ./lifebatch, ./lifeview, ./lifeperiod and ./lifepipe read this one, and set both names.
+# does not change a proved program. The script ./NAME of each program sets both and reads this one.
 set -u
 
 out=$root/crates/$name/out

@@ -5,6 +5,7 @@ import shutil
 import signal
 import subprocess
 
+from common.launcher import PROGRAMS
 from common.program import ROOT
 
 # How many seconds a call may take.
@@ -40,7 +41,7 @@ class Repository:
 
     def __init__(self, folder: pathlib.Path):
         self.folder, self.log = folder, folder / "log"
-        for name in ("lifebatch", "lifeview", "lifeperiod", "lifepipe", "crates.txt"):
+        for name in (*PROGRAMS, "crates.txt"):
             shutil.copy(ROOT / name, folder)
         for name in ("launcher", "crates", "golly", "docs", "python"):
             shutil.copytree(ROOT / name, folder / name, ignore=shutil.ignore_patterns("out", "proofs"))

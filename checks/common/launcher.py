@@ -6,11 +6,11 @@ from common.program import ROOT
 
 sys.path.append(str(ROOT / "launcher"))
 # They stand in a folder of their own.
-from crates import crates_below, lines_of_crates
+from crates import PROGRAMS, crates_below, lines_of_crates
 from pace import Pace, cores_of
 from plan import Plan
 
-__all__ = ["Pace", "Plan", "cores_of", "crates_below", "lines_of_crates", "malloc_settings"]
+__all__ = ["PROGRAMS", "Pace", "Plan", "cores_of", "crates_below", "lines_of_crates", "malloc_settings"]
 
 SETTING = re.compile(r'export (\w+)="\$\{\1-([^}"]+)\}"')
 
